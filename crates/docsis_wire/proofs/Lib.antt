@@ -1,0 +1,2 @@
+pub mod FrameHeads
+pub mod HeaderWords

@@ -1,0 +1,32 @@
+use Rattle.std.specs.Prelude.{◌≡◌, ℕ, ◌+◌, ◌*◌, ◌%◌, List, [], ◌∷◌, length, Bool, ◌==◌, ◌&&◌, ◌||◌, nat_lt, if◌then◌else◌}
+use Rattle.docsis_wire.specs.declared.frame.HeadRead.{HeadRead}
+use Rattle.docsis_wire.specs.declared.frame.HeadRead.TheVariants.{Short, Fill, Bad, Head}
+use Rattle.docsis_wire.specs.declared.frame.HeadFault.TheVariants.{NoLength, ExtendedTooLong}
+
+-- the frame control bytes of request frames
+abbrev pub has_no_length : ℕ → Bool
+has_no_length fc = fc == 0xC4 || fc == 0xC5 || fc == 0xC8 || fc == 0xC9
+
+-- the extended header's length, by EHDR_ON and MAC_PARM
+abbrev pub extended_len : ℕ → ℕ → ℕ
+extended_len fc parm = if fc % 2 == 1 then parm else 0
+
+-- what FC, MAC_PARM and LEN announce, where FC is not 0xFF
+abbrev pub front_of : ℕ → ℕ → ℕ → HeadRead
+front_of fc parm len =
+    if fc == 0 && parm == 0 && len == 0 then Fill
+    else (if has_no_length fc then Bad NoLength
+    else (if nat_lt 240 (extended_len fc parm) || nat_lt len (extended_len fc parm) then Bad ExtendedTooLong
+    else Head (extended_len fc parm) (6 + len)))
+
+-- what the front of some bytes announces: the table of the generic MAC header, read from its first line on
+abbrev pub head_of : List ℕ → HeadRead
+head_of [] = Short
+head_of (fc ∷ []) = if fc == 255 then Fill else Short
+head_of (fc ∷ parm ∷ []) = if fc == 255 then Fill else Short
+head_of (fc ∷ parm ∷ high ∷ []) = if fc == 255 then Fill else Short
+head_of (fc ∷ parm ∷ high ∷ low ∷ more) = if fc == 255 then Fill else front_of fc parm (high * 256 + low)
+
+-- a head that announces this frame's length
+abbrev pub IsHeadOf : List ℕ → HeadRead → Type 0
+IsHeadOf frame read = (ehdr : ℕ) × (read ≡ Head ehdr (length frame))

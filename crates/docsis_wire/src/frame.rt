@@ -1,0 +1,148 @@
+ghost use Rattle.std.specs.Prelude.{◌≡◌, ◌↔◌, ◌++◌, ℕ, List, length, take, IsTrue, ◌≤◌};
+ghost use Rattle.docsis_wire.specs.Frame.{IsFrame};
+ghost use Rattle.docsis_wire.specs.Head.{head_of, IsHeadOf};
+
+use thiserror::Error;
+
+/// Extended headers are at most this long, in bytes (this project's profile).
+const EHDR_MAX: u8 = 240;
+
+/// Why bytes that are no fill do not begin as a frame does.
+#[derive(Clone, Copy, Debug, PartialEq, Eq, Error)]
+pub enum HeadFault {
+    /// FC 0xC4, 0xC5, 0xC8 or 0xC9: a request frame, whose LEN is no length (this project's profile).
+    #[error("the frame control byte announces no length")]
+    NoLength,
+    /// An extended header above 240 bytes, or longer than LEN.
+    #[error("the extended header is too long")]
+    ExtendedTooLong,
+}
+
+/// What the front of some bytes announces.
+#[derive(Clone, Copy, Debug, PartialEq, Eq)]
+pub enum HeadRead {
+    /// More bytes have to come before anything can be told.
+    Short,
+    /// Fill: from here to the segment's end there is no frame (this project's profile).
+    Fill,
+    Bad(HeadFault),
+    /// A frame of `total` bytes, 6 to 65,541, with `ehdr` bytes of extended header, 0 to 240.
+    Head { ehdr: u8, total: u32 },
+}
+
+/// Reads the generic MAC header at the front (CM-SP-MULPIv3.0, generic MAC frame format). It looks at no
+/// more than four bytes.
+pub fn read_head(bytes: &[u8]) -> HeadRead
+    ensures table { result ≡ head_of bytes.now }
+    // Whatever stands behind a frame, its head is read, and its length with it.
+    ensures frame { (frame more : List ℕ) → IsFrame frame → bytes.now ≡ frame ++ more → IsHeadOf frame result }
+    // As many bytes as are announced are a frame, once they are there.
+    ensures whole { (ehdr total : ℕ) → result ≡ HeadRead.Head ehdr total → total ≤ length bytes.now → IsFrame (take total bytes.now) }
+{
+    match bytes {
+        [0xFF, ..] => HeadRead::Fill,
+        [fc, parm, high, low, ..] => read_front(*fc, *parm, u16::from_be_bytes([*high, *low])),
+        _ => HeadRead::Short,
+    }
+}
+
+ghost use Rattle.docsis_wire.specs.Head.{front_of};
+
+/// What FC, MAC_PARM and LEN announce where FC is not 0xFF.
+fn read_front(fc: u8, parm: u8, len: u16) -> HeadRead
+    ensures { result ≡ front_of fc parm len }
+{
+    if fc == 0 && parm == 0 && len == 0 {
+        return HeadRead::Fill;
+    }
+    if matches!(fc, 0xC4 | 0xC5 | 0xC8 | 0xC9) {
+        return HeadRead::Bad(HeadFault::NoLength);
+    }
+    let ehdr = if fc % 2 == 1 { parm } else { 0 };
+    if ehdr > EHDR_MAX || u16::from(ehdr) > len {
+        return HeadRead::Bad(HeadFault::ExtendedTooLong);
+    }
+    HeadRead::Head {
+        ehdr,
+        total: 6 + u32::from(len),
+    }
+}
+
+/// Whether the bytes are one whole frame and nothing else.
+pub fn well_formed(bytes: &[u8]) -> bool
+    ensures { IsTrue result ↔ IsFrame bytes.now }
+{
+    match read_head(bytes) {
+        HeadRead::Head { total, .. } => total as usize == bytes.len(),
+        _ => false,
+    }
+}
+
+#[cfg(test)]
+mod tests {
+    use super::*;
+
+    const HEADS: [(&str, &[u8], HeadRead); 11] = [
+        (
+            "a management frame with nothing behind its header",
+            &[0xc2, 0, 0, 0],
+            HeadRead::Head { ehdr: 0, total: 6 },
+        ),
+        (
+            "the longest extended header and the longest frame",
+            &[0x01, 0xf0, 0xff, 0xff],
+            HeadRead::Head {
+                ehdr: 240,
+                total: 65_541,
+            },
+        ),
+        ("fill of zeros", &[0, 0, 0, 0], HeadRead::Fill),
+        ("fill of ones", &[0xff], HeadRead::Fill),
+        (
+            "fill of ones before other bytes",
+            &[0xff, 0, 0, 2],
+            HeadRead::Fill,
+        ),
+        ("three zeros", &[0, 0, 0], HeadRead::Short),
+        ("no bytes", &[], HeadRead::Short),
+        (
+            "a queue depth request",
+            &[0xc8, 0, 0, 0],
+            HeadRead::Bad(HeadFault::NoLength),
+        ),
+        (
+            "a request frame with an extended header that is too long",
+            &[0xc5, 0xf1, 0xff, 0xff],
+            HeadRead::Bad(HeadFault::NoLength),
+        ),
+        (
+            "an extended header of 241 bytes",
+            &[0x01, 0xf1, 0xff, 0xff],
+            HeadRead::Bad(HeadFault::ExtendedTooLong),
+        ),
+        (
+            "an extended header longer than LEN",
+            &[0x01, 0x02, 0, 0x01],
+            HeadRead::Bad(HeadFault::ExtendedTooLong),
+        ),
+    ];
+
+    #[test]
+    fn reads_heads(rt: HostRuntime) {
+        for (name, bytes, head) in HEADS {
+            assert_eq!(rt; read_head(bytes), head, "{name}");
+        }
+    }
+
+    #[test]
+    fn tells_frames(rt: HostRuntime) {
+        let frame: [u8; 8] = [0, 0, 0, 2, 0x11, 0x11, 0xaa, 0xbb];
+        let extended: [u8; 9] = [0x01, 0x01, 0, 0x03, 0xe0, 0x22, 0x22, 0xcc, 0xdd];
+        assert!(rt; well_formed(&frame));
+        assert!(rt; well_formed(&extended));
+        assert!(rt; !well_formed(&frame[..7]), "one byte short");
+        assert!(rt; !well_formed(&extended[..8]), "one byte short, extended");
+        assert!(rt; !well_formed(&[0, 0, 0, 0, 0x11, 0x11]), "fill");
+        assert!(rt; !well_formed(&[]), "nothing");
+    }
+}
