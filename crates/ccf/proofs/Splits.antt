@@ -1,0 +1,73 @@
+-- Bytes split into frames and a rest, one frame more.
+use Rattle.std.proofs.Common.{◌≡◌, ℕ, ◌==◌, false, true, List, [], ◌∷◌, ◌++◌, length, take, drop, refl, sym, ap, subst, ◌∙◌, inl, inr, ◌⊎◌}
+use Rattle.std.specs.List.{concat, AllByRecursion}
+use Rattle.std.proofs.lemmas.Bool.{false≢true, eq-eqb}
+use Rattle.std.proofs.lemmas.List.{append-nil, append_assoc, take-append-drop}
+use Rattle.std.proofs.lemmas.List.Folds.{concat-append}
+use Rattle.docsis_wire.specs.Frame.{IsFrame}
+use Rattle.ccf.specs.Walk.{Walks}
+use Rattle.ccf.specs.Feed.{GoesOn, Completes, FeedsAs}
+
+-- what holds of each of some and of one more holds of each of all
+pub AllByRecursion-push : {X : Type 0} (P : X → Type 0) (xs : List X) (y : X) → AllByRecursion P xs → P y → AllByRecursion P (xs ++ y ∷ [])
+AllByRecursion-push P [] y all here = (here, tt)
+AllByRecursion-push P (x ∷ xs) y all here = (all.0, AllByRecursion-push P xs y all.1 here)
+
+-- the bytes of some frames and one more
+pub concat-push : (frames : List (List ℕ)) (frame : List ℕ) → concat (frames ++ frame ∷ []) ≡ concat frames ++ frame
+concat-push frames frame = concat-append frames (frame ∷ []) ∙ ap (λ t. concat frames ++ t) (append-nil frame)
+
+-- a rest that is split at its front splits the whole one frame further on
+pub split_further : (bytes : List ℕ) (frames : List (List ℕ)) (rest frame behind : List ℕ) → bytes ≡ concat frames ++ rest → rest ≡ frame ++ behind → bytes ≡ concat (frames ++ frame ∷ []) ++ behind
+split_further bytes frames rest frame behind whole split =
+    whole ∙ ap (λ t. concat frames ++ t) split ∙ sym (append_assoc (concat frames) frame behind) ∙ ap (λ t. t ++ behind) (sym (concat-push frames frame))
+
+-- a walk that goes one frame further has one frame more, and the rest behind it
+pub walk_further : (bytes : List ℕ) (frames after : List (List ℕ)) (rest frame front behind : List ℕ) (n : ℕ)
+    → bytes ≡ concat frames ++ rest → AllByRecursion IsFrame frames → IsFrame (take n rest)
+    → front ≡ take n rest → behind ≡ drop n rest → frame ≡ front → after ≡ frames ++ frame ∷ []
+    → (bytes ≡ concat after ++ behind) × AllByRecursion IsFrame after
+walk_further bytes frames after rest frame front behind n whole each is_frame front_is behind_is frame_is after_is =
+    let taken : frame ≡ take n rest = frame_is ∙ front_is in
+    let split : rest ≡ frame ++ behind = sym (take-append-drop n rest) ∙ ap (λ t. t ++ drop n rest) (sym taken) ∙ ap (λ t. frame ++ t) (sym behind_is) in (
+      split_further bytes frames rest frame behind whole split ∙ ap (λ t. concat t ++ behind) (sym after_is),
+      let P : List (List ℕ) → Type 0 = AllByRecursion IsFrame in
+          subst P (sym after_is) (AllByRecursion-push IsFrame frames frame each (subst IsFrame (sym taken) is_frame)),
+    )
+
+-- bytes of which a test says that they are some
+pub not_empty : (bytes : List ℕ) (n : ℕ) → n ≡ length bytes → (n == 0) ≡ false → bytes ≡ [] → ⊥
+not_empty [] n size test e = false≢true (sym test ∙ eq-eqb n 0 size)
+not_empty (b ∷ bs) n size test e = cc
+
+-- the case of a feed where no MAC header begins and something is unfinished
+pub FeedsAs-go_on : (before payload bytes : List ℕ) (frames : List (List ℕ)) (after : List ℕ) → (before ≡ [] → ⊥)
+    → bytes ≡ before ++ payload → GoesOn bytes frames after → FeedsAs false before 0 payload frames after
+FeedsAs-go_on [] payload bytes frames after some is goes_on = absurd (some refl)
+FeedsAs-go_on (b ∷ bs) payload bytes frames after some is goes_on = let P : List ℕ → Type 0 = λ t. GoesOn t frames after in subst P is goes_on
+
+-- the frame at the front of what was unfinished is delivered
+pub GoesOn-delivers : (bytes frame : List ℕ) (n : ℕ) (frames none : List (List ℕ)) (after : List ℕ) → IsFrame (take n bytes)
+    → frame ≡ take n bytes → none ≡ [] → frames ≡ none ++ frame ∷ [] → after ≡ [] → GoesOn bytes frames after
+GoesOn-delivers bytes frame n frames none after is_frame taken is_none frames_are nothing =
+    inl record {
+      frame = frame;
+      skipped = drop n bytes;
+      whole = sym (take-append-drop n bytes) ∙ ap (λ t. t ++ drop n bytes) (sym taken);
+      is_frame = subst IsFrame (sym taken) is_frame;
+      delivered = frames_are ∙ ap (λ t. t ++ frame ∷ []) is_none;
+      nothing_left = nothing;
+    }
+
+-- the case of a feed where a MAC header begins and something is unfinished
+pub FeedsAs-complete : (before payload bytes rest : List ℕ) (pointer : ℕ) (frames : List (List ℕ)) (after : List ℕ) → (before ≡ [] → ⊥)
+    → bytes ≡ before ++ take pointer payload → rest ≡ drop pointer payload → Completes bytes rest frames after → FeedsAs true before pointer payload frames after
+FeedsAs-complete [] payload bytes rest pointer frames after some is rest_is completes = absurd (some refl)
+FeedsAs-complete (b ∷ bs) payload bytes rest pointer frames after some is rest_is completes =
+    let P : List ℕ → List ℕ → Type 0 = λ s t. Completes s t frames after in subst (P (b ∷ bs ++ take pointer payload)) rest_is (let Q : List ℕ → Type 0 = λ s. P s rest in subst Q is completes)
+
+-- what was unfinished is put in front of the walked frames if it is a frame
+pub Completes-either : (bytes behind : List ℕ) (walked frames : List (List ℕ)) (after : List ℕ)
+    → (IsFrame bytes × (frames ≡ bytes ∷ walked)) ⊎ ((IsFrame bytes → ⊥) × (frames ≡ walked)) → Walks behind walked after → Completes bytes behind frames after
+Completes-either bytes behind walked frames after (inl h) walks = record { done = bytes ∷ []; walked = walked; delivered = h.1; is_done = inl (h.0, refl); walks = walks }
+Completes-either bytes behind walked frames after (inr h) walks = record { done = []; walked = walked; delivered = h.1; is_done = inr (h.0, refl); walks = walks }

@@ -1,0 +1,145 @@
+ghost use Rattle.std.specs.Prelude.{◌≡◌, ◌+◌, ◌≤◌, ◌↔◌, ℕ, true, false, List, [], length, vec_len, IsTrue, IfOk, OnErr};
+ghost use Rattle.std.specs.List.{concat};
+ghost use Rattle.docsis_wire.specs.Ready.{IsReady};
+ghost use Rattle.ccf.specs.Feed.{Feeds, FeedsAs};
+
+use crate::front::{Front, front_of, walk};
+use docsis_wire::{Bytes, Segment, well_formed};
+use std::alloc::{AllocError, Global};
+use std::marker::Model;
+use std::mem;
+
+/// What one segment completed.
+#[derive(Debug, Drop)]
+pub struct Fed {
+    /// The frames whose last byte came with the segment, whole, in order.
+    pub frames: Vec<Bytes>,
+    /// How many bytes were dropped: fill, malformed bytes, and what could not be joined.
+    pub skipped: usize,
+}
+
+/// Joins the segments of one service flow, fed in order, into frames. Contracts see the bytes that are
+/// unfinished: the front of a frame whose other bytes have not come.
+#[derive(Debug, Drop)]
+pub struct Joiner {
+    unfinished: Vec<u8>,
+}
+
+impl Model for Joiner {
+    ghost Value = { List ℕ };
+
+    ghost view = { λ joiner. joiner.unfinished.items };
+}
+
+impl Joiner {
+    /// A joiner with nothing unfinished. It takes no memory.
+    pub fn new(alloc: Global) -> Joiner
+        ensures { result ≡ [] }
+    {
+        Joiner {
+            unfinished: Vec::new(alloc),
+        }
+    }
+
+    /// Takes the next segment of the flow (CM-SP-MULPIv3.0, continuous concatenation and fragmentation).
+    /// Where memory is wanted nothing changes, and the same segment may be fed again.
+    pub fn feed(&mut self, alloc: Global, segment: &Segment) -> Result<Fed, AllocError>
+        requires { IsReady segment.now }
+        ensures fed { IfOk result (λ fed. Feeds self.old segment.now fed.frames.items self.new) }
+        ensures skipped { IfOk result
+            (λ fed. fed.skipped + length (concat fed.frames.items) + length self.new
+            ≡ length self.old + length segment.now.payload) }
+        ensures refused { OnErr result (self.new ≡ self.old) }
+    {
+        let payload = segment.payload.as_slice();
+        if !segment.head.pfi {
+            return go_on(&mut self.unfinished, alloc, payload);
+        }
+        let pointer = usize::from(segment.head.pointer);
+        complete(&mut self.unfinished, alloc, payload, pointer)
+    }
+
+    /// Whether nothing is unfinished.
+    pub fn is_idle(&self) -> bool
+        ensures { IsTrue result ↔ (self.now ≡ []) }
+    {
+        self.unfinished.is_empty()
+    }
+}
+
+/// Takes the payload of a segment in which no MAC header begins.
+fn go_on(unfinished: &mut Vec<u8>, alloc: Global, payload: &[u8]) -> Result<Fed, AllocError>
+    ensures fed { IfOk result
+        (λ fed. FeedsAs false unfinished.old.items 0 payload.now fed.frames.items unfinished.new.items) }
+    ensures skipped { IfOk result
+        (λ fed. fed.skipped + length (concat fed.frames.items) + vec_len unfinished.new
+        ≡ vec_len unfinished.old + length payload.now) }
+    ensures refused { OnErr result (unfinished.new.items ≡ unfinished.old.items) }
+{
+    let mut frames = Vec::new(alloc);
+    if unfinished.is_empty() {
+        return Ok(Fed {
+            frames,
+            skipped: payload.len(),
+        });
+    }
+    let kept = unfinished.len();
+    unfinished.extend_from_slice(payload)?;
+    let mut skipped = 0;
+    match front_of(unfinished) {
+        Front::Waits => {}
+        Front::Dropped => {
+            skipped = unfinished.len();
+            unfinished.clear();
+        }
+        Front::Whole(length) => {
+            if frames.reserve(1).is_err() {
+                unfinished.truncate(kept);
+                return Err(AllocError);
+            }
+            skipped = unfinished.len() - length;
+            unfinished.truncate(length);
+            frames.push_reserved(Bytes::from(mem::replace(unfinished, Vec::new(alloc))));
+        }
+    }
+    Ok(Fed { frames, skipped })
+}
+
+/// Takes the payload of a segment in which a MAC header begins at `pointer`.
+fn complete(
+    unfinished: &mut Vec<u8>,
+    alloc: Global,
+    payload: &[u8],
+    pointer: usize,
+) -> Result<Fed, AllocError>
+    requires { pointer ≤ length payload.now }
+    ensures fed { IfOk result
+        (λ fed. FeedsAs true unfinished.old.items pointer payload.now fed.frames.items unfinished.new.items) }
+    ensures skipped { IfOk result
+        (λ fed. fed.skipped + length (concat fed.frames.items) + vec_len unfinished.new
+        ≡ vec_len unfinished.old + length payload.now) }
+    ensures refused { OnErr result (unfinished.new.items ≡ unfinished.old.items) }
+{
+    let (front, behind) = payload.split_at(pointer);
+    // What may want memory comes first, so that a refusal leaves all as it was.
+    let walked = walk(alloc, behind)?;
+    let mut frames = walked.frames;
+    frames.reserve(1)?;
+    let next = Vec::from_slice(alloc, walked.unfinished)?;
+    if unfinished.is_empty() {
+        *unfinished = next;
+        return Ok(Fed {
+            frames,
+            skipped: walked.skipped + pointer,
+        });
+    }
+    unfinished.extend_from_slice(front)?;
+    let mut skipped = walked.skipped;
+    let done = mem::replace(unfinished, next);
+    if well_formed(&done) {
+        frames.insert(0, Bytes::from(done)).unwrap();
+    } else {
+        skipped += done.len();
+    }
+    Ok(Fed { frames, skipped })
+}
