@@ -1,0 +1,77 @@
+-- Each change that a call makes keeps a window lawful.
+use Rattle.std.proofs.Common.{◌≡◌, ◌≢◌, ℕ, ◌<◌, ◌≤◌, true, is_some, ⊎_elim, refl, ap, sym, subst, ◌∙◌, arith}
+use Rattle.std.specs.Ordering.{nat_cmp}
+use Rattle.std.specs.FinMap as map
+use Rattle.std.proofs.lemmas.Bool.{cases_eq}
+use Rattle.reorder.specs.declared.TheConstants.{SEQUENCE_NUMBERS, NUMBERS_AHEAD}
+use Rattle.reorder.specs.Number.{offset}
+use Rattle.reorder.specs.View.{WindowView, IsHeld, IsLawful, empty_window, with_item, moved_on, next_taken}
+use Rattle.reorder.proofs.Offsets.{following-in_range, offset-following}
+use Rattle.reorder.proofs.Items.{get-insert_other, get-remove_same, get-remove_other}
+
+module _ {T : Type 0} where
+  -- nothing is held, so that only the two numbers are asked about
+  pub empty_window-lawful : (first width : ℕ) → first < SEQUENCE_NUMBERS → 1 ≤ width → width ≤ NUMBERS_AHEAD → IsLawful {T = T} (empty_window first width)
+  empty_window-lawful first width in_range positive widest =
+      record {
+        expected_in_range = in_range;
+        width_positive = positive;
+        width_in_range = widest;
+        held_in_range = λ q h. let none = map.get-empty {X = T} nat_cmp q in absurd (cc);
+        held_within = λ q h. let none = map.get-empty {X = T} nat_cmp q in absurd (cc);
+      }
+
+  module _ (w : WindowView T) (lawful : IsLawful w) where
+    -- an item is put in less than the width ahead
+    pub with_item-lawful : (number : ℕ) (item : T) → number < SEQUENCE_NUMBERS → offset w.expected number < w.width → IsLawful (with_item w number item)
+    with_item-lawful number item in_range within =
+        record {
+          expected_in_range = lawful.expected_in_range;
+          width_positive = lawful.width_positive;
+          width_in_range = lawful.width_in_range;
+          held_in_range = λ q h.
+              ⊎_elim
+              (λ same. subst (λ n. n < SEQUENCE_NUMBERS) (sym same) in_range)
+              (λ differ. lawful.held_in_range q (ap is_some (sym (get-insert_other w.held number item q differ)) ∙ h))
+              (cases_eq q number);
+          held_within = λ q h.
+              ⊎_elim
+              (λ same. subst (λ n. offset w.expected n < w.width) (sym same) within)
+              (λ differ. lawful.held_within q (ap is_some (sym (get-insert_other w.held number item q differ)) ∙ h))
+              (cases_eq q number);
+        }
+
+    -- a held number is not the expected one, and so it comes one nearer
+    pub moved_on-lawful : ¬ (IsHeld w w.expected) → IsLawful (moved_on w)
+    moved_on-lawful free =
+        record {
+          expected_in_range = following-in_range w.expected;
+          width_positive = lawful.width_positive;
+          width_in_range = lawful.width_in_range;
+          held_in_range = lawful.held_in_range;
+          held_within = λ q h.
+              let differ : q ≢ w.expected = λ same. free (subst (λ n. IsHeld w n) same h) in
+              let nearer = offset-following w.expected q lawful.expected_in_range (lawful.held_in_range q h) differ in
+              let within = lawful.held_within q h in
+              omega arith;
+        }
+
+    -- whatever stays after a number was taken out was held before
+    held_before : (k q : ℕ) → IsHeld (record w { held = map.remove w.held k }) q → (q ≢ k) × IsHeld w q
+    held_before k q h =
+        let differ : q ≢ k = λ same. let none = get-remove_same w.held k in absurd (let at_k = subst (λ n. is_some (map.get (map.remove w.held k) n) ≡ true) same h in cc) in
+        (differ, ap is_some (sym (get-remove_other w.held k q differ)) ∙ h)
+
+  module _ (w : WindowView T) (lawful : IsLawful w) where
+    -- the expected number is not held once its item is taken out, and so the window may move on
+    pub next_taken-lawful : IsLawful (next_taken w)
+    next_taken-lawful =
+        let rest : WindowView T = record w { held = map.remove w.held w.expected } in
+        let rest_lawful : IsLawful rest = record {
+          expected_in_range = lawful.expected_in_range;
+          width_positive = lawful.width_positive;
+          width_in_range = lawful.width_in_range;
+          held_in_range = λ q h. lawful.held_in_range q (held_before w lawful w.expected q h).1;
+          held_within = λ q h. lawful.held_within q (held_before w lawful w.expected q h).1;
+        } in
+        moved_on-lawful rest rest_lawful (λ h. (held_before w lawful w.expected w.expected h).0 refl)

@@ -1,0 +1,45 @@
+-- When a window gives each answer, and what the window is after it.
+use Rattle.std.specs.Prelude.{◌≡◌, ℕ, ◌<◌, ◌≤◌, Option, None, Some}
+use Rattle.std.specs.FinMap as map
+use Rattle.reorder.specs.View.{WindowView, offset_in, IsHeld, with_item, moved_on, next_taken}
+use Rattle.reorder.specs.declared.TheConstants.{NUMBERS_AHEAD}
+use Rattle.reorder.specs.declared.answer.Verdict.{Verdict}
+use Rattle.reorder.specs.declared.answer.Verdict.TheVariants.{Late, Beyond, Repeat, NoMemory, Kept}
+use Rattle.reorder.specs.declared.answer.Declared.{Declared}
+use Rattle.reorder.specs.declared.answer.Declared.TheVariants.{NextIsHere, NothingHeld, Lost}
+
+module _ {T : Type 0} where
+  -- The verdict on an item that is offered under a number, in the order in which the causes are
+  -- looked for. Every verdict but `Kept` hands the item back. `NoMemory` and `Kept` come in one
+  -- case: there memory decides.
+  abbrev pub IsVerdict : WindowView T → ℕ → T → Verdict T → Type 0
+  IsVerdict w number item (Late back) = (NUMBERS_AHEAD ≤ offset_in w number) × (back ≡ item)
+  IsVerdict w number item (Beyond back) =
+      (offset_in w number < NUMBERS_AHEAD) × (w.width ≤ offset_in w number) × (back ≡ item)
+  IsVerdict w number item (Repeat back) =
+      (offset_in w number < w.width) × IsHeld w number × (back ≡ item)
+  IsVerdict w number item (NoMemory back) =
+      (offset_in w number < w.width) × ¬ (IsHeld w number) × (back ≡ item)
+  IsVerdict w number item Kept = (offset_in w number < w.width) × ¬ (IsHeld w number)
+
+  -- only `Kept` changes anything
+  abbrev pub after_offer : WindowView T → ℕ → T → Verdict T → WindowView T
+  after_offer w number item Kept = with_item w number item
+  after_offer w number item _ = w
+
+  -- nothing taken, nothing changed
+  abbrev pub after_take_next : WindowView T → Option T → WindowView T
+  after_take_next w (Some _) = next_taken w
+  after_take_next w None = w
+
+  -- the answer to the decision that the expected number is lost
+  abbrev pub IsDeclared : WindowView T → Declared → Type 0
+  IsDeclared w NextIsHere = IsHeld w w.expected
+  IsDeclared w NothingHeld = map.len w.held ≡ 0
+  IsDeclared w (Lost number) =
+      ¬ (IsHeld w w.expected) × (0 < map.len w.held) × (number ≡ w.expected)
+
+  -- only `Lost` changes anything
+  abbrev pub after_declare : WindowView T → Declared → WindowView T
+  after_declare w (Lost _) = moved_on w
+  after_declare w _ = w

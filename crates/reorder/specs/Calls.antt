@@ -1,0 +1,53 @@
+-- Calls of a window one after another, and what two windows agree on.
+use Rattle.std.specs.Prelude.{◌≡◌, ℕ, List, [], ◌∷◌, sum_by, Option, None, Some}
+use Rattle.reorder.specs.View.{WindowView, held_at}
+use Rattle.reorder.specs.Answers.{after_offer, after_take_next, after_declare}
+use Rattle.reorder.specs.declared.answer.Verdict.{Verdict}
+use Rattle.reorder.specs.declared.answer.Verdict.TheVariants.{Late, Beyond, Repeat, NoMemory, Kept}
+use Rattle.reorder.specs.declared.answer.Declared.{Declared}
+use Rattle.reorder.specs.declared.answer.Declared.TheVariants.{NextIsHere, NothingHeld, Lost}
+
+-- a call that may change a window, with what it was given and what it answered
+pub data Call (T : Type 0) : Type 0 where
+  offer : ℕ → T → Verdict T → Call T
+  take_next : Option T → Call T
+  declare : Declared → Call T
+
+module _ {T : Type 0} where
+  -- the window after the call
+  abbrev pub after_call : WindowView T → Call T → WindowView T
+  after_call w (offer number item verdict) = after_offer w number item verdict
+  after_call w (take_next taken) = after_take_next w taken
+  after_call w (declare declared) = after_declare w declared
+
+  -- the window after the calls, made in turn
+  abbrev pub after_calls : WindowView T → List (Call T) → WindowView T
+  after_calls w [] = w
+  after_calls w (call ∷ calls) = after_calls (after_call w call) calls
+
+  -- a number passes when its item is taken or it is declared lost
+  abbrev pub passed_by : Call T → ℕ
+  passed_by (offer _ _ _) = 0
+  passed_by (take_next (Some _)) = 1
+  passed_by (take_next None) = 0
+  passed_by (declare (Lost _)) = 1
+  passed_by (declare NextIsHere) = 0
+  passed_by (declare NothingHeld) = 0
+
+  -- how many numbers passed in all
+  abbrev pub numbers_passed : List (Call T) → ℕ
+  numbers_passed calls = sum_by passed_by calls
+
+  -- the same number is expected, the width is the same, and each number has the same item or none
+  pub record Agree (v w : WindowView T) : Type 0 where
+    pub same_expected : v.expected ≡ w.expected
+    pub same_width : v.width ≡ w.width
+    pub same_items : (number : ℕ) → held_at v number ≡ held_at w number
+
+  -- the verdict where memory is ample
+  abbrev pub with_memory : Verdict T → Verdict T
+  with_memory (Late back) = Late back
+  with_memory (Beyond back) = Beyond back
+  with_memory (Repeat back) = Repeat back
+  with_memory (NoMemory _) = Kept
+  with_memory Kept = Kept

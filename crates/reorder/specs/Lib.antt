@@ -1,0 +1,4 @@
+pub mod Number
+pub mod View
+pub mod Answers
+pub mod Calls

@@ -1,0 +1,41 @@
+/* Loaded before the C library, refuses one request for memory: the one whose number REFUSE_GROWTH gives, counted from 1.
+ * When it does so it makes the file that REFUSE_MET names. */
+#include <errno.h>
+#include <fcntl.h>
+#include <stddef.h>
+#include <stdlib.h>
+#include <unistd.h>
+
+extern void *__libc_malloc(size_t);
+extern void *__libc_calloc(size_t, size_t);
+extern void *__libc_realloc(void *, size_t);
+extern void *__libc_memalign(size_t, size_t);
+
+static long asked;
+
+static int refused(void)
+{
+    const char *number = getenv("REFUSE_GROWTH");
+    const char *met = getenv("REFUSE_MET");
+    if (number == NULL || __sync_add_and_fetch(&asked, 1) != strtol(number, NULL, 10))
+        return 0;
+    if (met != NULL)
+        close(open(met, O_WRONLY | O_CREAT, 0600));
+    errno = ENOMEM;
+    return 1;
+}
+
+void *malloc(size_t size) { return refused() ? NULL : __libc_malloc(size); }
+void *calloc(size_t count, size_t size) { return refused() ? NULL : __libc_calloc(count, size); }
+void *realloc(void *old, size_t size) { return refused() ? NULL : __libc_realloc(old, size); }
+void *memalign(size_t align, size_t size) { return refused() ? NULL : __libc_memalign(align, size); }
+void *aligned_alloc(size_t align, size_t size) { return memalign(align, size); }
+
+int posix_memalign(void **to, size_t align, size_t size)
+{
+    void *made = memalign(align, size);
+    if (made == NULL)
+        return ENOMEM;
+    *to = made;
+    return 0;
+}
