@@ -10,3 +10,5 @@ pub mod Front
 pub mod Feed
 pub mod Join
 pub mod Filter
+pub mod Completed
+pub mod Unfinished

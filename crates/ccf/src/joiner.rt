@@ -123,9 +123,8 @@ fn complete(
     let (front, behind) = payload.split_at(pointer);
     // What may want memory comes first, so that a refusal leaves all as it was.
     let walked = walk(alloc, behind)?;
-    let mut frames = walked.frames;
-    frames.reserve(1)?;
     let next = Vec::from_slice(alloc, walked.unfinished)?;
+    let mut frames = walked.frames;
     if unfinished.is_empty() {
         *unfinished = next;
         return Ok(Fed {
@@ -133,6 +132,7 @@ fn complete(
             skipped: walked.skipped + pointer,
         });
     }
+    frames.reserve(1)?;
     unfinished.extend_from_slice(front)?;
     let mut skipped = walked.skipped;
     let done = mem::replace(unfinished, next);

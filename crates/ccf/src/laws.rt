@@ -1,6 +1,17 @@
-// Each definition determines its answer: there is one reading of the same bytes.
-ghost use Rattle.std.specs.Prelude.{◌≡◌, ℕ, Option, List};
+// Laws about the definitions. Each determines its answer: there is one reading of the same bytes. And what
+// a modem cut up by the rules is joined again: each segment completes just the frames that end in it, but
+// for those of which an earlier segment was lost.
+ghost use Rattle.std.specs.Prelude.{◌≡◌, ◌↔◌, ◌+◌, ◌<◌, ◌≤◌, ℕ, Option, Some, List, [], length, slice_get, map, take};
+ghost use Rattle.std.specs.List.{AllByRecursion};
 ghost use Rattle.docsis_wire.specs.declared.segment.Segment.{Segment};
+ghost use Rattle.docsis_wire.specs.Frame.{IsFrame};
+ghost use Rattle.docsis_wire.specs.Ready.{IsReady};
+ghost use Rattle.docsis_wire.specs.Stream.{place_of, EndsIn};
+ghost use Rattle.docsis_wire.specs.Cut.{IsLawfulCut};
+ghost use Rattle.docsis_wire.specs.Span.{IsInSpan, IsSettledOf, IsWhollyKept};
+ghost use Rattle.ccf.specs.Completed.{IsCompletedBy};
+ghost use Rattle.ccf.specs.Filter.{FiltersTo};
+ghost use Rattle.ccf.specs.Unfinished.{IsLeftUnfinished};
 ghost use Rattle.ccf.specs.Walk.{Walks};
 ghost use Rattle.ccf.specs.Feed.{GoesOn, IsDoneWith, Feeds};
 ghost use Rattle.ccf.specs.Join.{Joins};
@@ -33,4 +44,60 @@ pub fn one_feed()
 pub fn one_joining()
     ensures { (before : List ℕ) (settled : List (Option Segment)) (frames others : List (List ℕ)) (after rest : List ℕ)
         → Joins before settled frames after → Joins before settled others rest → (frames ≡ others) × (after ≡ rest) }
+{}
+
+/// Each segment of a lawful cut points to a place within its payload, where it points to one at all.
+pub fn cut_segments_are_ready()
+    ensures { (frames chunks : List (List ℕ)) (first fill i : ℕ) (segments : List Segment) (segment : Segment)
+        → IsLawfulCut frames first fill chunks segments → slice_get segments i ≡ Some segment → IsReady segment }
+{}
+
+/// A frame that lies wholly in the first n chunks has in its span exactly the chunks that end behind its
+/// first byte and begin before its end.
+pub fn span_by_places()
+    ensures { (frames chunks : List (List ℕ)) (j n i : ℕ)
+        → AllByRecursion IsFrame frames → j < length frames → place_of frames (j + 1) ≤ place_of chunks n
+        → IsInSpan frames chunks j i
+        ↔ ((place_of chunks i < place_of frames (j + 1)) × (place_of frames j < place_of chunks (i + 1))) }
+{}
+
+/// What is unfinished after the segments of a cut: at most three zeros of fill where a frame ends, and within
+/// a frame its front, or nothing where a segment was lost since the frame began.
+pub fn what_is_unfinished()
+    ensures { (frames chunks : List (List ℕ)) (first fill : ℕ) (segments : List Segment)
+        (settled : List (Option Segment)) (joined : List (List ℕ)) (after : List ℕ)
+        → IsLawfulCut frames first fill chunks segments → IsSettledOf segments settled
+        → Joins [] settled joined after
+        → IsLeftUnfinished frames chunks fill settled (length settled) after }
+{}
+
+/// The next segment of a cut completes exactly the frames whose last byte it carries and of whose span no
+/// earlier segment was lost.
+pub fn each_feed()
+    ensures { (frames chunks : List (List ℕ)) (first fill : ℕ) (segments : List Segment)
+        (settled : List (Option Segment)) (joined : List (List ℕ)) (before after : List ℕ)
+        (segment : Segment) (fed : List (List ℕ))
+        → IsLawfulCut frames first fill chunks segments → IsSettledOf segments settled
+        → slice_get segments (length settled) ≡ Some segment
+        → Joins [] settled joined before → Feeds before segment fed after
+        → FiltersTo (IsCompletedBy frames chunks settled (length settled)) frames fed }
+{}
+
+/// Where no segment was lost, segment n of a cut completes exactly the frames whose last byte it carries.
+pub fn each_feed_without_loss()
+    ensures { (frames chunks : List (List ℕ)) (first fill n : ℕ) (segments : List Segment)
+        (joined : List (List ℕ)) (before after : List ℕ) (segment : Segment) (fed : List (List ℕ))
+        → IsLawfulCut frames first fill chunks segments → slice_get segments n ≡ Some segment
+        → Joins [] (map Some (take n segments)) joined before → Feeds before segment fed after
+        → FiltersTo (λ j. EndsIn frames chunks j n) frames fed }
+{}
+
+/// The segments of a cut that were kept join to exactly the frames that end in what is settled and of whose
+/// span no segment was lost.
+pub fn frames_of_a_settled_list()
+    ensures { (frames chunks : List (List ℕ)) (first fill : ℕ) (segments : List Segment)
+        (settled : List (Option Segment)) (joined : List (List ℕ)) (after : List ℕ)
+        → IsLawfulCut frames first fill chunks segments → IsSettledOf segments settled
+        → Joins [] settled joined after
+        → FiltersTo (IsWhollyKept frames chunks settled) frames joined }
 {}

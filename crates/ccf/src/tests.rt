@@ -108,7 +108,7 @@ fn segment(rt: &impl Abort, alloc: Global, bytes: &[u8]) -> Result<Segment, Allo
     })
 }
 
-fn are(frames: &[Bytes], wanted: &[&[u8]]) -> bool {
+fn same_bytes(frames: &[Bytes], wanted: &[&[u8]]) -> bool {
     frames.len() == wanted.len()
         && frames
             .iter()
@@ -127,7 +127,10 @@ fn joins(rt: HostRuntime) -> Result<(), Fail> {
             assert!(rt; ready(&next), "{name}");
             let fed = joiner.feed(rt.alloc(), &next)?;
             let frames = joining.frames.get(i).ok_or("no frames")?;
-            assert!(rt; are(&fed.frames, frames), "{name}, segment {i}: {fed:?}");
+            assert!(rt;
+                same_bytes(&fed.frames, frames),
+                "{name}, segment {i}: {fed:?}"
+            );
             assert_eq!(rt;
                 Some(&fed.skipped),
                 joining.skipped.get(i),
@@ -139,20 +142,114 @@ fn joins(rt: HostRuntime) -> Result<(), Fail> {
     Ok(())
 }
 
+/// A segment with so many bytes of payload behind the given ones.
+fn long_segment(
+    rt: &impl Abort,
+    alloc: Global,
+    head: &[u8],
+    more: usize,
+) -> Result<Segment, AllocError> {
+    let mut bytes = Vec::from_slice(alloc, head)?;
+    for _ in 0..more {
+        bytes.push(0x11)?;
+    }
+    segment(rt, alloc, &bytes)
+}
+
+#[test]
+fn joins_the_longest_frame(rt: HostRuntime) -> Result<(), Fail> {
+    let alloc = rt.alloc();
+    let mut joiner = Joiner::new(alloc);
+    // 65,541 bytes with an extended header of 240, in three segments, and a short frame behind them.
+    let first = long_segment(
+        &rt,
+        alloc,
+        &[0x80, 0, 0, 0, 0, 0, 0, 0, 1, 240, 0xff, 0xff],
+        30_000,
+    )?;
+    let second = long_segment(&rt, alloc, &[0, 0, 0, 8, 0, 0, 0, 0], 30_000)?;
+    let mut third = Vec::from_slice(alloc, &[0x80 | 0x15, 0xa1, 0, 0x10, 0, 0, 0, 0])?;
+    for _ in 0..5537 {
+        third.push(0x22)?;
+    }
+    third.extend_from_slice(PLAIN)?;
+    for (next, wanted) in [(first, 0), (second, 0), (segment(&rt, alloc, &third)?, 2)] {
+        assert!(rt; ready(&next));
+        let fed = joiner.feed(alloc, &next)?;
+        assert_eq!(rt; fed.frames.len(), wanted);
+        assert_eq!(rt; fed.skipped, 0);
+        if let [longest, plain] = fed.frames.as_slice() {
+            assert_eq!(rt; longest.len(), 65_541);
+            assert_eq!(rt; longest.as_slice().last(), Some(&0x22));
+            assert_eq!(rt; plain.as_slice(), PLAIN);
+        }
+    }
+    assert!(rt; joiner.is_idle());
+    Ok(())
+}
+
+#[test]
+fn joins_many_frames_of_one_segment(rt: HostRuntime) -> Result<(), Fail> {
+    let alloc = rt.alloc();
+    let mut bytes = Vec::from_slice(alloc, &[0x80, 0, 0, 0, 0, 0, 0, 0])?;
+    for _ in 0..1000 {
+        bytes.extend_from_slice(PLAIN)?;
+    }
+    let next = segment(&rt, alloc, &bytes)?;
+    assert!(rt; ready(&next));
+    let fed = Joiner::new(alloc).feed(alloc, &next)?;
+    assert_eq!(rt; fed.frames.len(), 1000);
+    assert!(rt; fed.frames.iter().all(|frame| frame.as_slice() == PLAIN));
+    assert_eq!(rt; fed.skipped, 0);
+    Ok(())
+}
+
+#[test]
+fn keeps_what_a_low_pointer_begins(rt: HostRuntime) -> Result<(), Fail> {
+    let alloc = rt.alloc();
+    let mut joiner = Joiner::new(alloc);
+    let low = [0x80, 2, 0, 8, 0, 0, 0, 0, 0x11, 0xaa, 0xbb, 1, 1, 0, 3];
+    // The five bytes that stay, bb01010003, announce a frame of 262 bytes.
+    let rest = long_segment(&rt, alloc, &[0, 0, 0, 0x10, 0, 0, 0, 0], 257)?;
+    for (next, wanted) in [
+        (segment(&rt, alloc, FIRST)?, 0),
+        (segment(&rt, alloc, &low)?, 0),
+        (rest, 1),
+    ] {
+        assert!(rt; ready(&next));
+        let fed = joiner.feed(alloc, &next)?;
+        assert_eq!(rt; fed.frames.len(), wanted);
+        if let [frame] = fed.frames.as_slice() {
+            assert_eq!(rt; frame.len(), 262);
+            assert!(rt; frame.as_slice().starts_with(&[0xbb, 1, 1, 0, 3]));
+        }
+    }
+    Ok(())
+}
+
 mod refusals {
     use super::*;
 
     /// Makes a segment, and once more where the first call was refused memory.
-    fn made(rt: &(impl Print + Abort), alloc: Global, bytes: &[u8]) -> Result<Segment, Fail> {
-        if let Ok(made) = segment(rt, alloc, bytes) {
-            return Ok(made);
+    fn segment_again(
+        rt: &(impl Print + Abort),
+        alloc: Global,
+        bytes: &[u8],
+    ) -> Result<Segment, Fail> {
+        if let Ok(first) = segment(rt, alloc, bytes) {
+            return Ok(first);
         }
         println!(rt; "refused")?;
         Ok(segment(rt, alloc, bytes)?)
     }
 
     /// Feeds a segment, and once more where the first call was refused memory.
-    fn fed(rt: &impl Print, alloc: Global, joiner: &mut Joiner, next: &Segment) -> Result<Fed, Fail>
+    fn feed_twice(
+        rt: &impl Print,
+        alloc: Global,
+        joiner: &mut Joiner,
+        next: &Segment,
+    ) -> Result<Fed, Fail>
         requires { IsReady next.now }
     {
         if let Ok(fed) = joiner.feed(alloc, next) {
@@ -166,11 +263,11 @@ mod refusals {
     fn feed_again(rt: HostRuntime) -> Result<(), Fail> {
         let mut joiner = Joiner::new(rt.alloc());
         for (i, bytes) in [FIRST, SECOND, THIRD].iter().enumerate() {
-            let next = made(&rt, rt.alloc(), bytes)?;
+            let next = segment_again(&rt, rt.alloc(), bytes)?;
             assert!(rt; ready(&next));
-            let fed = fed(&rt, rt.alloc(), &mut joiner, &next)?;
+            let fed = feed_twice(&rt, rt.alloc(), &mut joiner, &next)?;
             let wanted: [&[&[u8]]; 3] = [&[], &[PLAIN], &[EXTENDED]];
-            assert!(rt; are(&fed.frames, wanted[i]), "segment {i}: {fed:?}");
+            assert!(rt; same_bytes(&fed.frames, wanted[i]), "segment {i}: {fed:?}");
             assert_eq!(rt; fed.skipped, 0, "segment {i}");
         }
         assert!(rt; joiner.is_idle());

@@ -1,2 +1,5 @@
 pub mod FrameHeads
 pub mod HeaderWords
+pub mod Places
+pub mod Spans
+pub mod Pointing
