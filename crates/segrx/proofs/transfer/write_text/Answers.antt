@@ -1,0 +1,12 @@
+use Rattle.std.proofs.Common.{rules}
+use Rattle.segrx.proofs.KnownBytes.{AppendsBefore-more}
+use Rattle.segrx.proofs.Parts.{take-rest}
+use Rattle.segrx.proofs.transfer.write_text.Goals as goal
+
+pub loop-rest-preserved : goal.loop-rest-preserved
+loop-rest-preserved g c = record {
+  went =
+      AppendsBefore-more (g.W.Write.contents c.args.writer.now.inner) (g.W.Write.contents c.loop-rest.writer.inner) (g.W.Write.contents c.write.new.self.inner)
+      c.args.text.now c.loop-rest.rest.now _ c.in-Ok.count c.loop-rest.invariant.went c.in-Ok.ensures.bytes (take-rest c.in-Ok.count c.loop-rest.rest.now);
+  sound = search rules;
+}

@@ -1,0 +1,10 @@
+pub mod Device
+pub mod Lines
+pub mod Texts
+pub mod Field
+pub mod Transfer
+pub mod LineFault
+pub mod JoinLine
+pub mod Join
+pub mod Program
+pub mod Command

@@ -1,0 +1,130 @@
+ghost use Rattle.std.specs.Prelude.{◌≡◌, ◌<◌, ◌≤◌, ◌++◌, length, true, OnOk, OnErr};
+ghost use Rattle.std.specs.Io.KnownBytes.{Appends};
+ghost use Rattle.segrx.specs.Device.{inner_of, has_failed};
+ghost use Rattle.segrx.specs.Transfer.{AppendsFront};
+ghost use Rattle.segrx.specs.Texts.{kind_text, fault_text, fault_line, status_of};
+
+use crate::device::Device;
+use crate::text_line::TextLine;
+use crate::transfer::write_text;
+use std::io::Write;
+use thiserror::Error;
+
+/// Why a line of an input cannot be read. Where a line has several faults, the first of these is told.
+#[derive(Clone, Copy, Debug, PartialEq, Eq)]
+pub enum TraceKind {
+    /// Too few or too many words.
+    FieldCount,
+    /// A hexadecimal field is none.
+    NotHex,
+    /// A segment has fewer than the eight bytes of its header.
+    TooShort,
+    /// A segment's pointer leads past its payload.
+    PointerPast,
+}
+
+impl TraceKind {
+    /// The words for it in a fault's line.
+    pub fn text(self) -> &'static str
+        ensures { result.now ≡ kind_text self }
+    {
+        match self {
+            TraceKind::FieldCount => "wrong number of fields",
+            TraceKind::NotHex => "not hexadecimal",
+            TraceKind::TooShort => "too short",
+            TraceKind::PointerPast => "pointer past the end",
+        }
+    }
+}
+
+/// A line that cannot be read.
+#[derive(Clone, Copy, Debug, PartialEq, Eq, Error)]
+#[error("line {line}: {}", .kind.text())]
+pub struct TraceFault {
+    /// Lines are numbered from 1, skipped ones included.
+    pub line: u64,
+    pub kind: TraceKind,
+}
+
+/// Why an engine, or the program, could not do its work.
+#[derive(Clone, Copy, Debug, PartialEq, Eq, Error)]
+pub enum EngineFault {
+    /// A line of the input cannot be read.
+    #[error(transparent)]
+    Trace(TraceFault),
+    /// A growth was refused.
+    #[error("out of memory")]
+    OutOfMemory,
+    /// The reader failed, or gave more than 268,435,456 bytes.
+    #[error("read failed")]
+    Read,
+    /// The writer failed.
+    #[error("write failed")]
+    Write,
+    /// The program does not know its words.
+    #[error("usage")]
+    Usage,
+}
+
+/// The writer that a fault's line was to go to failed.
+#[derive(Clone, Copy, Debug, PartialEq, Eq, Error)]
+#[error("write failed")]
+pub struct WriteFault;
+
+/// The exit status of a fault: 1 to 4.
+pub fn status(fault: &EngineFault) -> u8
+    ensures { result ≡ status_of fault.now }
+{
+    match fault {
+        EngineFault::Trace(_) => 1,
+        EngineFault::Usage => 2,
+        EngineFault::OutOfMemory => 3,
+        EngineFault::Read | EngineFault::Write => 4,
+    }
+}
+
+/// Puts the words for a fault behind the program's name.
+fn push_fault(line: &mut TextLine, fault: &EngineFault)
+    requires { length line.old ≤ 8 }
+    ensures text { line.new ≡ line.old ++ fault_text fault.now }
+    ensures room { length line.new < 64 }
+{
+    match fault {
+        EngineFault::Trace(fault) => {
+            line.push_text("line ");
+            line.push_number(fault.line);
+            line.push_text(": ");
+            line.push_text(fault.kind.text());
+        }
+        EngineFault::OutOfMemory => line.push_text("out of memory"),
+        EngineFault::Read => line.push_text("read failed"),
+        EngineFault::Write => line.push_text("write failed"),
+        EngineFault::Usage => line.push_text("usage"),
+    }
+}
+
+/// The line that tells a fault, with its line feed.
+fn line_of(fault: &EngineFault) -> TextLine
+    ensures { result ≡ fault_line fault.now }
+{
+    let mut line = TextLine::new();
+    line.push_text("segrx: ");
+    push_fault(&mut line, fault);
+    line.push(b'\n');
+    line
+}
+
+/// Writes the line that tells a fault.
+pub fn write_fault<W: Write>(fault: &EngineFault, writer: &mut Device<W>) -> Result<(), WriteFault>
+    ensures written { OnOk result (Appends (W.contents (inner_of writer.old))
+        (W.contents (inner_of writer.new)) (fault_line fault.now)) }
+    ensures sound { OnOk result (has_failed writer.new ≡ has_failed writer.old) }
+    ensures front { OnErr result (AppendsFront (W.contents (inner_of writer.old))
+        (W.contents (inner_of writer.new)) (fault_line fault.now)) }
+    ensures failed { OnErr result (has_failed writer.new ≡ true) }
+{
+    match write_text(writer, line_of(fault).as_slice()) {
+        Ok(()) => Ok(()),
+        Err(_) => Err(WriteFault),
+    }
+}

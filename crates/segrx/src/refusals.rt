@@ -1,0 +1,77 @@
+// A growth that is refused, at one place of each call. Each test takes want of memory as lawful there, says
+// so by the word `refused`, and calls again; with nothing refused it says nothing.
+use crate::command::{Command, UsageFault, read_words};
+use crate::device::Device;
+use crate::fault::EngineFault;
+use crate::join::join_text;
+use crate::program::program;
+use std::alloc::Global;
+use std::test::Fail;
+
+/// Three segments that split the headers of two frames, and the frames.
+const SEGMENTS: &[u8; 85] =
+    b"80000000000000000000000211\n800300080000000011aabb01010003\n0000001000000000e02222ccdd\n";
+
+const FRAMES: &[u8; 36] = b"000000021111aabb\n01010003e02222ccdd\n";
+
+/// Joins the segments into an array that is just large enough for their frames.
+fn join(alloc: Global, text: &mut [u8]) -> Result<(), EngineFault> {
+    let mut reader = Device::new(SEGMENTS.as_slice());
+    let mut writer = Device::new(text);
+    let done = join_text(alloc, &mut reader, &mut writer);
+    reader.into_inner();
+    writer.into_inner();
+    done
+}
+
+#[test]
+fn join_text_is_refused(rt: HostRuntime) -> Result<(), Fail> {
+    let mut text = [0u8; 36];
+    let mut done = join(rt.alloc(), &mut text);
+    if done == Err(EngineFault::OutOfMemory) {
+        println!(rt; "refused")?;
+        assert_eq!(rt; text.as_slice(), [0u8; 36].as_slice());
+        done = join(rt.alloc(), &mut text);
+    }
+    assert_eq!(rt; done, Ok(()));
+    assert_eq!(rt; text.as_slice(), FRAMES.as_slice());
+    Ok(())
+}
+
+#[test]
+fn read_words_is_refused(rt: HostRuntime) -> Result<(), Fail> {
+    let words = ["segrx", "--help"];
+    let mut read = read_words(rt.alloc(), &words);
+    if let Err(UsageFault::OutOfMemory) = read {
+        println!(rt; "refused")?;
+        read = read_words(rt.alloc(), &words);
+    }
+    match read {
+        Ok(Command::Help(text)) => assert!(rt; !text.is_empty()),
+        _ => assert!(rt; false, "no help"),
+    }
+    Ok(())
+}
+
+/// Runs the program on the segments, and gives its status.
+fn run(alloc: Global, out: &mut [u8], err: &mut [u8]) -> u8 {
+    program(alloc, &["segrx", "join"], SEGMENTS.as_slice(), out, err)
+}
+
+#[test]
+fn program_is_refused(rt: HostRuntime) -> Result<(), Fail> {
+    let mut out = [0u8; 36];
+    let mut err = [0u8; 21];
+    let mut status = run(rt.alloc(), &mut out, &mut err);
+    if status == 3 {
+        println!(rt; "refused")?;
+        assert_eq!(rt; err.as_slice(), b"segrx: out of memory\n".as_slice());
+        assert_eq!(rt; out.as_slice(), [0u8; 36].as_slice());
+        err = [0; 21];
+        status = run(rt.alloc(), &mut out, &mut err);
+    }
+    assert_eq!(rt; status, 0);
+    assert_eq!(rt; out.as_slice(), FRAMES.as_slice());
+    assert_eq!(rt; err.as_slice(), [0u8; 21].as_slice());
+    Ok(())
+}
