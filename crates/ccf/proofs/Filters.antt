@@ -66,3 +66,12 @@ FiltersFrom-either P Q k (x ∷ xs) chosen more apart (inr h) (inl g) =
     inl (inr g.0, chosen ++ g.1, ap (λ t. t ++ more) nothing ∙ g.2 ∙ ap (λ t. x ∷ t ++ g.1) (sym nothing), FiltersFrom-either P Q (k + 1) xs chosen g.1 apart h.1 g.3)
 FiltersFrom-either P Q k (x ∷ xs) chosen more apart (inr h) (inr g) =
     inr (neither (P k) (Q k) h.0 g.0, FiltersFrom-either P Q (k + 1) xs chosen more apart h.1 g.1)
+
+-- the items at whose index the fact holds are these and no others
+pub FiltersFrom-once : {X : Type 0} (P : ℕ → Type 0) (k : ℕ) (xs chosen others : List X) → FiltersFrom P k xs chosen → FiltersFrom P k xs others → chosen ≡ others
+FiltersFrom-once P k [] chosen others h g = h ∙ sym g
+FiltersFrom-once P k (x ∷ xs) chosen others (inl h) (inl g) =
+    h.2 ∙ ap (λ t. x ∷ t) (FiltersFrom-once P (k + 1) xs h.1 g.1 h.3 g.3) ∙ sym g.2
+FiltersFrom-once P k (x ∷ xs) chosen others (inl h) (inr g) = absurd (g.0 h.0)
+FiltersFrom-once P k (x ∷ xs) chosen others (inr h) (inl g) = absurd (h.0 g.0)
+FiltersFrom-once P k (x ∷ xs) chosen others (inr h) (inr g) = FiltersFrom-once P (k + 1) xs chosen others h.1 g.1

@@ -1,18 +1,20 @@
 -- A settled list in which nothing is lost.
-use Rattle.std.proofs.Common.{◌≡◌, ℕ, zero, suc, ◌<◌, ◌≤◌, Option, Some, List, [], ◌∷◌, length, take, map, refl, ap, ◌∙◌, subst, arith, length-take-le}
+use Rattle.std.proofs.Common.{◌≡◌, ℕ, zero, suc, ◌<◌, ◌≤◌, ◌+◌, Option, Some, List, [], ◌∷◌, length, take, map, refl, sym, inl, inr, ap, ◌∙◌, subst, arith, length-take-le}
 use Rattle.std.specs.List.{slice_get}
-use Rattle.std.proofs.lemmas.List.{length-map}
+use Rattle.std.proofs.lemmas.Bool.{cases_lt}
+use Rattle.std.proofs.lemmas.List.{length-map, take_all}
 use Rattle.std.proofs.lemmas.Option.{slice_get_within}
 use Rattle.docsis_wire.specs.declared.segment.Segment.{Segment}
-use Rattle.docsis_wire.specs.Stream.{EndsIn}
+use Rattle.docsis_wire.specs.Stream.{EndsIn, place_of}
 use Rattle.docsis_wire.specs.Cut.{IsLawfulCut}
-use Rattle.docsis_wire.specs.Span.{IsSettledOf, IsKept}
+use Rattle.docsis_wire.specs.Span.{IsInSpan, IsSettledOf, IsKept, IsWhollyKept}
+use Rattle.docsis_wire.proofs.Places.{place_of-le}
 use Rattle.ccf.specs.Feed.{Feeds}
 use Rattle.ccf.specs.Join.{Joins}
 use Rattle.ccf.specs.Filter.{FiltersTo}
 use Rattle.ccf.specs.Completed.{IsCompletedBy}
 use Rattle.ccf.proofs.Filters.{FiltersFrom-same}
-use Rattle.ccf.proofs.Settling.{completed_by_feed}
+use Rattle.ccf.proofs.Settling.{completed_by_feed, frames_of_settled}
 
 -- each item is the segment at its index
 segment_at : (segments : List Segment) (n i : ℕ) (segment : Segment) → slice_get (map Some (take n segments)) i ≡ Some (Some segment) → slice_get segments i ≡ Some segment
@@ -49,3 +51,29 @@ completed_without_loss frames chunks first fill n segments joined before after s
     (λ j low high p. p.ends)
     (λ j low high p. record { ends = p; kept = λ i below in_span. kept_at segments n i (omega arith) (omega arith) })
     completed)
+
+-- the span of a frame that lies in the first chunks lies in them
+within_cut : (frames chunks : List (List ℕ)) (j m i n : ℕ) → m ≤ n → place_of frames (j + 1) ≤ place_of chunks m → IsInSpan frames chunks j i → i < n
+within_cut frames chunks j m i n short within in_span =
+    elim (cases_lt i n) [
+      | inl h ↦ h
+      | inr h ↦ absurd (omega (arith, place_of-le chunks m in_span.later (omega (arith, in_span.to)), in_span.shares_later.chunk_from, in_span.shares_later.frame_to))
+    ]
+
+-- the frames of a whole cut of which nothing was lost
+pub frames_without_loss : (frames chunks : List (List ℕ)) (first fill : ℕ) (segments : List Segment) (joined : List (List ℕ)) (after : List ℕ)
+    → IsLawfulCut frames first fill chunks segments → Joins [] (map Some segments) joined after
+    → FiltersTo (λ j. place_of frames (j + 1) ≤ place_of chunks (length chunks)) frames joined
+frames_without_loss frames chunks first fill segments joined after cut h =
+    let n = length segments in
+    let settled : List (Option Segment) = map Some (take n segments) in
+    let all : settled ≡ map Some segments = ap (map Some) (take_all n segments (omega arith)) in
+    let size : length settled ≡ length chunks = length-kept segments n (omega arith) ∙ cut.same_length in
+    let is_settled : IsSettledOf segments settled = record { within = omega (arith, cut.same_length); kept = segment_at segments n } in
+    let joins : Joins [] settled joined after = (let P : List (Option Segment) → Type 0 = λ s. Joins [] s joined after in subst P (sym all) h) in
+    let chosen = frames_of_settled frames chunks first fill segments settled joined after cut is_settled joins in
+    subst (λ m. FiltersTo (λ j. place_of frames (j + 1) ≤ place_of chunks m) frames joined) size
+    (FiltersFrom-same (IsWhollyKept frames chunks settled) (λ j. place_of frames (j + 1) ≤ place_of chunks (length settled)) 0 frames joined
+    (λ j low high p. p.within)
+    (λ j low high p. record { within = p; kept = λ i in_span. kept_at segments n i (within_cut frames chunks j (length settled) i n (omega arith) p in_span) (omega arith) })
+    chosen)

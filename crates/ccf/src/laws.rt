@@ -1,7 +1,7 @@
 // Laws about the definitions. Each determines its answer: there is one reading of the same bytes. And what
 // a modem cut up by the rules is joined again: each segment completes just the frames that end in it, but
 // for those of which an earlier segment was lost.
-ghost use Rattle.std.specs.Prelude.{◌≡◌, ◌↔◌, ◌+◌, ◌<◌, ◌≤◌, ℕ, Option, Some, List, [], length, slice_get, map, take};
+ghost use Rattle.std.specs.Prelude.{◌≡◌, ◌↔◌, ◌+◌, ◌<◌, ◌≤◌, ℕ, Bool, true, Option, Some, List, [], length, slice_get, map, take};
 ghost use Rattle.std.specs.List.{AllByRecursion};
 ghost use Rattle.docsis_wire.specs.declared.segment.Segment.{Segment};
 ghost use Rattle.docsis_wire.specs.Frame.{IsFrame};
@@ -100,4 +100,18 @@ pub fn frames_of_a_settled_list()
         → IsLawfulCut frames first fill chunks segments → IsSettledOf segments settled
         → Joins [] settled joined after
         → FiltersTo (IsWhollyKept frames chunks settled) frames joined }
+{}
+
+/// Where no segment of a cut was lost, they join to exactly the frames that lie wholly in its chunks.
+pub fn frames_of_a_whole_cut()
+    ensures { (frames chunks : List (List ℕ)) (first fill : ℕ) (segments : List Segment)
+        (joined : List (List ℕ)) (after : List ℕ)
+        → IsLawfulCut frames first fill chunks segments → Joins [] (map Some segments) joined after
+        → FiltersTo (λ j. place_of frames (j + 1) ≤ place_of chunks (length chunks)) frames joined }
+{}
+
+/// The items at whose index a fact holds are these and no others.
+pub fn one_filter()
+    ensures { (p : ℕ → Bool) (items chosen others : List (List ℕ))
+        → FiltersTo (λ j. p j ≡ true) items chosen → FiltersTo (λ j. p j ≡ true) items others → chosen ≡ others }
 {}

@@ -13,6 +13,7 @@ mod tests;
 
 pub use joiner::{Fed, Joiner};
 pub use laws::{
-    cut_segments_are_ready, each_feed, each_feed_without_loss, frames_of_a_settled_list, one_end,
-    one_feed, one_going_on, one_joining, one_walk, span_by_places, what_is_unfinished,
+    cut_segments_are_ready, each_feed, each_feed_without_loss, frames_of_a_settled_list,
+    frames_of_a_whole_cut, one_end, one_feed, one_filter, one_going_on, one_joining, one_walk,
+    span_by_places, what_is_unfinished,
 };

@@ -8,7 +8,7 @@ use Rattle.docsis_wire.specs.declared.frame.HeadRead.TheVariants.{Short, Fill, B
 use Rattle.docsis_wire.specs.declared.frame.HeadFault.TheVariants.{NoLength, ExtendedTooLong}
 use Rattle.docsis_wire.specs.Words.{two_bytes}
 use Rattle.docsis_wire.specs.Frame.{IsFrame, IsFrameControl, IsExtendedHeader}
-use Rattle.docsis_wire.specs.Head.{head_of, front_of, has_no_length, extended_len, IsHeadOf}
+use Rattle.docsis_wire.specs.Head.{head_of, head_of_fields, has_no_length, extended_len, IsHeadOf}
 
 -- MAC_PARM is the extended header's length where there is one
 extended_len-is : (fc parm : ℕ) (ehdr : List ℕ) → IsExtendedHeader fc parm ehdr → extended_len fc parm ≡ length ehdr
@@ -21,8 +21,8 @@ extended_le fc parm ehdr (inl h) = h.2
 extended_le fc parm ehdr (inr h) = rw h.1 (omega arith)
 
 -- lawful fields announce a frame of 6 + LEN bytes
-front_of-lawful : (fc parm len ehdr : ℕ) → extended_len fc parm ≡ ehdr → ehdr ≤ 240 → ehdr ≤ len → IsFrameControl fc → fc + parm + len ≢ 0 → front_of fc parm len ≡ Head ehdr (6 + len)
-front_of-lawful fc parm len ehdr e small within control some =
+head_of_fields-lawful : (fc parm len ehdr : ℕ) → extended_len fc parm ≡ ehdr → ehdr ≤ 240 → ehdr ≤ len → IsFrameControl fc → fc + parm + len ≢ 0 → head_of_fields fc parm len ≡ Head ehdr (6 + len)
+head_of_fields-lawful fc parm len ehdr e small within control some =
     let not_zero : (fc == 0 && parm == 0 && len == 0) ≡ false = grind (arith, nat_tests) in
     let has_length : has_no_length fc ≡ false = grind (arith, nat_tests, control.not_c4, control.not_c5, control.not_c8, control.not_c9) in
     let fits : (nat_lt 240 (extended_len fc parm) || nat_lt len (extended_len fc parm)) ≡ false = rw e (grind (arith, nat_tests)) in
@@ -35,11 +35,11 @@ length-frame frame h = ap length h.spelled ∙ simp length-append (omega (arith,
 -- whatever stands behind a frame, its head is read, and its length with it
 pub head_of-frame : (frame more : List ℕ) → IsFrame frame → IsHeadOf frame (head_of (frame ++ more))
 head_of-frame frame more h =
-    let front = front_of-lawful h.fc h.parm h.len (length h.ehdr) (extended_len-is h.fc h.parm h.ehdr h.ehdr_is) (extended_le h.fc h.parm h.ehdr h.ehdr_is) (omega (arith, h.len_is)) h.fc_is h.not_fill in
-    let read : head_of (frame ++ more) ≡ front_of h.fc h.parm (h.len / 256 * 256 + h.len % 256) =
+    let front = head_of_fields-lawful h.fc h.parm h.len (length h.ehdr) (extended_len-is h.fc h.parm h.ehdr h.ehdr_is) (extended_le h.fc h.parm h.ehdr h.ehdr_is) (omega (arith, h.len_is)) h.fc_is h.not_fill in
+    let read : head_of (frame ++ more) ≡ head_of_fields h.fc h.parm (h.len / 256 * 256 + h.len % 256) =
     ap (λ bytes. head_of (bytes ++ more)) h.spelled ∙ cond-false (h.fc == 255) _ _ (grind (arith, nat_tests, h.fc_is.not_ff)) in (
       length h.ehdr,
-      read ∙ ap (front_of h.fc h.parm) (div-add-mod' h.len 256) ∙ front ∙ ap (Head (length h.ehdr)) (sym (length-frame frame h)),
+      read ∙ ap (head_of_fields h.fc h.parm) (div-add-mod' h.len 256) ∙ front ∙ ap (Head (length h.ehdr)) (sym (length-frame frame h)),
     )
 
 -- a test that chose something else than z was false
@@ -57,7 +57,7 @@ record Announces (fc parm len ehdr total : ℕ) : Type 0 where
   total_is : total ≡ 6 + len
 
 -- fields that announce a frame are lawful
-Announces-from_front : (fc parm len ehdr total : ℕ) → fc ≢ 0xFF → front_of fc parm len ≡ Head ehdr total → Announces fc parm len ehdr total
+Announces-from_front : (fc parm len ehdr total : ℕ) → fc ≢ 0xFF → head_of_fields fc parm len ≡ Head ehdr total → Announces fc parm len ehdr total
 Announces-from_front fc parm len ehdr total not_ff e =
     let found = Head (extended_len fc parm) (6 + len) in
     let too_long = nat_lt 240 (extended_len fc parm) || nat_lt len (extended_len fc parm) in
@@ -124,7 +124,7 @@ IsFrame-from_head (fc ∷ []) ehdr total in_range e enough = let q = (not_chosen
 IsFrame-from_head (fc ∷ parm ∷ []) ehdr total in_range e enough = let q = (not_chosen (fc == 255) Fill Short (Head ehdr total) (λ q. cc) e).1 in absurd cc
 IsFrame-from_head (fc ∷ parm ∷ high ∷ []) ehdr total in_range e enough = let q = (not_chosen (fc == 255) Fill Short (Head ehdr total) (λ q. cc) e).1 in absurd cc
 IsFrame-from_head (fc ∷ parm ∷ high ∷ low ∷ more) ehdr total in_range e enough =
-    let front = not_chosen (fc == 255) Fill (front_of fc parm (high * 256 + low)) (Head ehdr total) (λ q. cc) e in
+    let front = not_chosen (fc == 255) Fill (head_of_fields fc parm (high * 256 + low)) (Head ehdr total) (λ q. cc) e in
     let h = Announces-from_front fc parm (high * 256 + low) ehdr total (eqb-false fc 255 front.0) front.1 in
     let len = high * 256 + low in
     let four : total ≡ suc (suc (suc (suc (2 + len)))) = omega (arith, h.total_is) in

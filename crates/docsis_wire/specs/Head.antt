@@ -1,4 +1,4 @@
-use Rattle.std.specs.Prelude.{◌≡◌, ℕ, ◌+◌, ◌*◌, ◌%◌, List, [], ◌∷◌, length, Bool, ◌==◌, ◌&&◌, ◌||◌, nat_lt, if◌then◌else◌}
+use Rattle.std.specs.Prelude.{◌≡◌, ◌≢◌, ◌<◌, Some, slice_get, ℕ, ◌+◌, ◌*◌, ◌%◌, List, [], ◌∷◌, length, Bool, ◌==◌, ◌&&◌, ◌||◌, nat_lt, if◌then◌else◌}
 use Rattle.docsis_wire.specs.declared.frame.HeadRead.{HeadRead}
 use Rattle.docsis_wire.specs.declared.frame.HeadRead.TheVariants.{Short, Fill, Bad, Head}
 use Rattle.docsis_wire.specs.declared.frame.HeadFault.TheVariants.{NoLength, ExtendedTooLong}
@@ -12,8 +12,8 @@ abbrev pub extended_len : ℕ → ℕ → ℕ
 extended_len fc parm = if fc % 2 == 1 then parm else 0
 
 -- what FC, MAC_PARM and LEN announce, where FC is not 0xFF
-abbrev pub front_of : ℕ → ℕ → ℕ → HeadRead
-front_of fc parm len =
+abbrev pub head_of_fields : ℕ → ℕ → ℕ → HeadRead
+head_of_fields fc parm len =
     if fc == 0 && parm == 0 && len == 0 then Fill
     else (if has_no_length fc then Bad NoLength
     else (if nat_lt 240 (extended_len fc parm) || nat_lt len (extended_len fc parm) then Bad ExtendedTooLong
@@ -25,8 +25,12 @@ head_of [] = Short
 head_of (fc ∷ []) = if fc == 255 then Fill else Short
 head_of (fc ∷ parm ∷ []) = if fc == 255 then Fill else Short
 head_of (fc ∷ parm ∷ high ∷ []) = if fc == 255 then Fill else Short
-head_of (fc ∷ parm ∷ high ∷ low ∷ more) = if fc == 255 then Fill else front_of fc parm (high * 256 + low)
+head_of (fc ∷ parm ∷ high ∷ low ∷ more) = if fc == 255 then Fill else head_of_fields fc parm (high * 256 + low)
 
 -- a head that announces this frame's length
 abbrev pub IsHeadOf : List ℕ → HeadRead → Type 0
 IsHeadOf frame read = (ehdr : ℕ) × (read ≡ Head ehdr (length frame))
+
+-- too few bytes to tell anything: fewer than four, of which the first, if there is one, is not 0xFF
+abbrev pub IsShort : List ℕ → Type 0
+IsShort bytes = (length bytes < 4) × (slice_get bytes 0 ≢ Some 255)

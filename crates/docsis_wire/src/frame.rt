@@ -1,6 +1,6 @@
 ghost use Rattle.std.specs.Prelude.{◌≡◌, ◌↔◌, ◌++◌, ℕ, List, length, take, IsTrue, ◌≤◌};
 ghost use Rattle.docsis_wire.specs.Frame.{IsFrame};
-ghost use Rattle.docsis_wire.specs.Head.{head_of, IsHeadOf};
+ghost use Rattle.docsis_wire.specs.Head.{head_of, IsShort, IsHeadOf};
 
 use thiserror::Error;
 
@@ -34,10 +34,13 @@ pub enum HeadRead {
 /// more than four bytes.
 pub fn read_head(bytes: &[u8]) -> HeadRead
     ensures table { result ≡ head_of bytes.now }
+    ensures short { (result ≡ HeadRead.Short) ↔ IsShort bytes.now }
     // Whatever stands behind a frame, its head is read, and its length with it.
-    ensures frame { (frame more : List ℕ) → IsFrame frame → bytes.now ≡ frame ++ more → IsHeadOf frame result }
+    ensures frame { (frame more : List ℕ) → IsFrame frame
+        → bytes.now ≡ frame ++ more → IsHeadOf frame result }
     // As many bytes as are announced are a frame, once they are there.
-    ensures whole { (ehdr total : ℕ) → result ≡ HeadRead.Head ehdr total → total ≤ length bytes.now → IsFrame (take total bytes.now) }
+    ensures whole { (ehdr total : ℕ) → result ≡ HeadRead.Head ehdr total
+        → total ≤ length bytes.now → IsFrame (take total bytes.now) }
 {
     match bytes {
         [0xFF, ..] => HeadRead::Fill,
@@ -46,11 +49,11 @@ pub fn read_head(bytes: &[u8]) -> HeadRead
     }
 }
 
-ghost use Rattle.docsis_wire.specs.Head.{front_of};
+ghost use Rattle.docsis_wire.specs.Head.{head_of_fields};
 
 /// What FC, MAC_PARM and LEN announce where FC is not 0xFF.
 fn read_front(fc: u8, parm: u8, len: u16) -> HeadRead
-    ensures { result ≡ front_of fc parm len }
+    ensures { result ≡ head_of_fields fc parm len }
 {
     if fc == 0 && parm == 0 && len == 0 {
         return HeadRead::Fill;
