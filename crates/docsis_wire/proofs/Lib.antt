@@ -1,5 +1,13 @@
 pub mod FrameHeads
 pub mod HeaderWords
 pub mod Places
+pub mod Cursors
+pub mod Starts
+pub mod Chunks
+pub mod Lawful
+pub mod Made
+pub mod OneFault
+pub mod OneCut
 pub mod Spans
 pub mod Pointing
+pub mod Stretches

@@ -17,7 +17,7 @@ place_of-le (p ∷ ps) (suc i) (suc j) h =
     omega (arith, length-append p (concat (take i ps)), length-append p (concat (take j ps)))
 
 -- a piece ends where it begins and its length further on
-place_of-suc : (pieces : List (List ℕ)) (i : ℕ) (piece : List ℕ) → slice_get pieces i ≡ Some piece → place_of pieces (suc i) ≡ place_of pieces i + length piece
+pub place_of-suc : (pieces : List (List ℕ)) (i : ℕ) (piece : List ℕ) → slice_get pieces i ≡ Some piece → place_of pieces (suc i) ≡ place_of pieces i + length piece
 place_of-suc [] i piece e = absurd cc
 place_of-suc (p ∷ ps) zero piece e =
     let is : p ≡ piece = cc in

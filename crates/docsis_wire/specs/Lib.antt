@@ -6,3 +6,5 @@ pub mod Head
 pub mod Stream
 pub mod Cut
 pub mod Span
+pub mod Cursor
+pub mod Pieces

@@ -39,6 +39,29 @@ pub fn read_segment(bytes: &[u8]) -> Option<SegmentHeader>
     })
 }
 
+/// The eight bytes of a segment header (CM-SP-MULPIv3.0, segment header format). `read_segment` reads the
+/// same header of them.
+pub fn write_segment(head: &SegmentHeader) -> [u8; 8]
+    ensures { result ≡ header_bytes head.now }
+{
+    let pfi = if head.pfi { PFI } else { 0 };
+    let reserved = if head.reserved { RESERVED } else { 0 };
+    let [b0, b1] = two_bytes(pfi | reserved | head.pointer);
+    let [b2, b3] = two_bytes((head.sequence << 3) | u16::from(head.cluster));
+    let [b4, b5] = two_bytes(head.request);
+    let [b6, b7] = two_bytes(head.hcs);
+    [b0, b1, b2, b3, b4, b5, b6, b7]
+}
+
+ghost use Rattle.docsis_wire.specs.Words.{two_bytes};
+
+/// A word of a segment header, the more significant byte first.
+fn two_bytes(word: u16) -> [u8; 2]
+    ensures { result ≡ two_bytes word }
+{
+    word.to_be_bytes()
+}
+
 ghost use Rattle.docsis_wire.specs.Ready.{IsReady};
 
 /// Whether the segment's pointer, where it means anything, stays within the payload.
@@ -106,6 +129,15 @@ mod tests {
         for reading in &READINGS {
             let name = reading.name;
             assert_eq!(rt; read_segment(&reading.bytes), Some(reading.head), "{name}");
+        }
+        Ok(())
+    }
+
+    #[test]
+    fn writes_headers(rt: HostRuntime) -> Result<(), Fail> {
+        for reading in &READINGS {
+            let name = reading.name;
+            assert_eq!(rt; write_segment(&reading.head), reading.bytes, "{name}");
         }
         Ok(())
     }

@@ -1,0 +1,66 @@
+-- A cursor moves over the frames' stream.
+use Rattle.std.proofs.Common.{◌≡◌, ℕ, suc, ◌+◌, ◌-◌, ◌<◌, ◌≤◌, inl, inr, Some, List, length, ◌++◌, get_or, take, drop, slice_get, refl, sym, ap, ◌∙◌, arith}
+use Rattle.std.specs.List.{concat, AllByRecursion}
+use Rattle.std.proofs.lemmas.List.{append_assoc, drop-drop, take_at, take_rest, length-drop}
+use Rattle.std.proofs.lemmas.Option.{slice_get_read, slice_get_cases}
+use Rattle.docsis_wire.specs.declared.cursor.Cursor.{Cursor}
+use Rattle.docsis_wire.specs.Frame.{IsFrame}
+use Rattle.docsis_wire.specs.Cursor.{place_at, IsPlaced, chunk_at}
+use Rattle.docsis_wire.proofs.FrameHeads.{length-frame}
+use Rattle.docsis_wire.proofs.Places.{place_of-next}
+use Rattle.docsis_wire.proofs.Stretches.{AllByRecursion-at, behind_place, front_of-append, take-split, place_of-le_all, place_of-all}
+
+-- the frame that was read at an index, by its bytes
+pub frame_found : (frames : List (List ℕ)) (k : ℕ) (frame bytes : List ℕ) → k < length frames → frame ≡ get_or frames k frame → bytes ≡ frame → slice_get frames k ≡ Some bytes
+frame_found frames k frame bytes within read same = slice_get_read frames (length frames) k frame refl within read ∙ ap Some (sym same)
+
+-- a frame has bytes
+pub some_bytes : (frames : List (List ℕ)) (k : ℕ) (frame : List ℕ) → AllByRecursion IsFrame frames → slice_get frames k ≡ Some frame → 0 < length frame
+some_bytes frames k frame each e = let h = AllByRecursion-at IsFrame frames k frame each e in omega (arith, length-frame frame h)
+
+-- a frame's rest stands at the cursor
+rest_of-frame : (frames : List (List ℕ)) (at : Cursor) (frame : List ℕ) → slice_get frames at.frame ≡ Some frame → at.offset ≤ length frame
+    → drop (place_at frames at) (concat frames) ≡ take (length frame - at.offset) (drop at.offset frame) ++ concat (drop (suc at.frame) frames)
+rest_of-frame frames at frame e within =
+    behind_place frames at.frame at.offset frame e within ∙ ap (λ t. t ++ concat (drop (suc at.frame) frames)) (sym (take_rest frame at.offset))
+
+-- what of a frame's rest is taken is the front of what stands at the cursor
+pub part_of-frame : (frames : List (List ℕ)) (at : Cursor) (frame : List ℕ) (most : ℕ) → slice_get frames at.frame ≡ Some frame → at.offset ≤ length frame
+    → take most (take (length frame - at.offset) (drop at.offset frame)) ≡ chunk_at frames at (length (take most (take (length frame - at.offset) (drop at.offset frame))))
+part_of-frame frames at frame most e within =
+    front_of-append (drop (place_at frames at) (concat frames)) (take (length frame - at.offset) (drop at.offset frame)) (concat (drop (suc at.frame) frames)) most (rest_of-frame frames at frame e within)
+
+-- a frame's whole rest is the front of what stands at the cursor
+pub rest_of-chunk : (frames : List (List ℕ)) (at : Cursor) (frame : List ℕ) → slice_get frames at.frame ≡ Some frame → at.offset ≤ length frame
+    → take (length frame - at.offset) (drop at.offset frame) ≡ chunk_at frames at (length (take (length frame - at.offset) (drop at.offset frame)))
+rest_of-chunk frames at frame e within =
+    let rest = take (length frame - at.offset) (drop at.offset frame) in
+    sym (ap (take (length rest)) (rest_of-frame frames at frame e within) ∙ take_at rest (concat (drop (suc at.frame) frames)) (length rest) refl)
+
+-- a frame's rest has the frame's other bytes
+pub length-rest : (frame : List ℕ) (n : ℕ) → length (take (length frame - n) (drop n frame)) ≡ length frame - n
+length-rest frame n = ap length (take_rest frame n) ∙ length-drop n frame
+
+-- a cursor stands within the stream
+pub place_at-le : (frames : List (List ℕ)) (at : Cursor) → IsPlaced frames at → place_at frames at ≤ length (concat frames)
+place_at-le frames at placed =
+    elim (slice_get_cases frames at.frame).1 [
+      | inl h ↦ omega (arith, placed.before h.0 h.2, place_of-next frames at.frame h.0 h.2, place_of-le_all frames (at.frame + 1))
+      | inr h ↦ omega (arith, placed.behind (omega (arith, placed.within, h.0)), place_of-le_all frames at.frame)
+    ]
+
+-- a chunk is its front and what comes behind that
+chunk_at-split : (frames : List (List ℕ)) (at to : Cursor) (n left : ℕ) → n ≤ left → place_at frames to ≡ place_at frames at + n
+    → chunk_at frames at left ≡ chunk_at frames at n ++ chunk_at frames to (left - n)
+chunk_at-split frames at to n left within moved =
+    let rest : List ℕ = drop (place_at frames at) (concat frames) in
+    let whole : n + (left - n) ≡ left = omega arith in
+    ap (λ m. take m rest) (sym whole) ∙ take-split rest n (left - n)
+    ∙ ap (λ t. take n rest ++ take (left - n) t) (drop-drop n (place_at frames at) (concat frames) ∙ ap (λ p. drop p (concat frames)) (sym moved))
+
+-- bytes that are put behind others are taken off what has to come
+pub copied_further : (frames : List (List ℕ)) (at to : Cursor) (n left : ℕ) (payload after part all : List ℕ) → n ≤ left → place_at frames to ≡ place_at frames at + n
+    → after ≡ payload ++ part → part ≡ chunk_at frames at n → payload ++ chunk_at frames at left ≡ all → after ++ chunk_at frames to (left - n) ≡ all
+copied_further frames at to n left payload after part all within moved after_is part_is whole =
+    ap (λ t. t ++ chunk_at frames to (left - n)) (after_is ∙ ap (λ t. payload ++ t) part_is) ∙ append_assoc payload (chunk_at frames at n) (chunk_at frames to (left - n))
+    ∙ ap (λ t. payload ++ t) (sym (chunk_at-split frames at to n left within moved)) ∙ whole
