@@ -3,7 +3,7 @@ use Rattle.std.proofs.Common.{◌≡◌, ℕ, ◌+◌, ◌/◌, ◌%◌, ◌<◌
 use Rattle.std.specs.Fmt.{decimal}
 use Rattle.std.proofs.lemmas.Fmt.{decimal_digit, decimal_step, length-decimal-le}
 use Rattle.segrx.specs.declared.fault.TraceKind.{TraceKind}
-use Rattle.segrx.specs.declared.fault.TraceKind.TheVariants.{FieldCount, NotHex, TooShort, PointerPast}
+use Rattle.segrx.specs.declared.fault.TraceKind.TheVariants.{UnknownLine, FieldCount, BadNumber, NotHex, TooShort, PointerPast}
 use Rattle.segrx.specs.Texts.{kind_text}
 
 -- one digit is one byte
@@ -20,7 +20,9 @@ length-decimal n fits = length-decimal-le 20 n (lit< tt) (omega arith) fits
 
 -- the words for a kind of fault are 22 bytes at most
 pub length-kind_text : (kind : TraceKind) → length (kind_text kind) ≤ 22
+length-kind_text UnknownLine = lit≤ tt
 length-kind_text FieldCount = lit≤ tt
+length-kind_text BadNumber = lit≤ tt
 length-kind_text NotHex = lit≤ tt
 length-kind_text TooShort = lit≤ tt
 length-kind_text PointerPast = lit≤ tt

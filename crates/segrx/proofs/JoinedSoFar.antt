@@ -62,12 +62,12 @@ JoinedSoFar-none input = record {
 }
 
 -- the lines of an input, with one line more above the rest
-one_line_more : {lines rest : List (List ℕ)} (above : List (List ℕ)) (line : List ℕ) (below : List (List ℕ))
+pub one_line_more : {lines rest : List (List ℕ)} (above : List (List ℕ)) (line : List ℕ) (below : List (List ℕ))
     → lines ≡ above ++ rest → rest ≡ line ∷ below → lines ≡ (above ++ line ∷ []) ++ below
 one_line_more above line below split next = split ∙ ap (λ rest. above ++ rest) next ∙ sym (append_assoc above (line ∷ []) below)
 
 -- and their number
-one_more : {number : ℕ} (above : List (List ℕ)) (line : List ℕ) → number ≡ length above → number + 1 ≡ length (above ++ line ∷ [])
+pub one_more : {number : ℕ} (above : List (List ℕ)) (line : List ℕ) → number ≡ length above → number + 1 ≡ length (above ++ line ∷ [])
 one_more above line is = omega (arith, is, length-append above (line ∷ []))
 
 -- one more line was joined

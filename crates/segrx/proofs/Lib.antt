@@ -6,3 +6,7 @@ pub mod Digits
 pub mod OneSegment
 pub mod OneAnswer
 pub mod AskedWords
+pub mod CutSoFar
+pub mod HexText
+pub mod Numbers
+pub mod FirstBytes

@@ -1,7 +1,7 @@
 -- What reading a line's only field makes of the line.
 use Rattle.std.proofs.Common.{◌≡◌, ℕ, List, [], ◌∷◌, Result, Ok, Err, Option, Some, None, sym, subst}
 use Rattle.docsis_wire.specs.declared.segment.Segment.{Segment}
-use Rattle.segrx.specs.declared.fault.TraceKind.TheVariants.{FieldCount, NotHex, TooShort, PointerPast}
+use Rattle.segrx.specs.declared.fault.TraceKind.TheVariants.{UnknownLine, FieldCount, BadNumber, NotHex, TooShort, PointerPast}
 use Rattle.segrx.specs.declared.line_fault.LineFault.{LineFault}
 use Rattle.segrx.specs.declared.line_fault.LineFault.TheVariants.{Kind, OutOfMemory}
 use Rattle.segrx.specs.Lines.{fields_of}
@@ -14,7 +14,9 @@ pub ReadsLine-from_bytes : (line field bytes : List ℕ) (r : Result (Option Seg
 ReadsLine-from_bytes line field bytes (Ok None) alone spelled read = absurd read
 ReadsLine-from_bytes line field bytes (Ok (Some segment)) alone spelled read =
     record { field = field; alone = alone; spelled = subst (SpellsBytes field) (sym read.0) spelled; ready = read.1 }
+ReadsLine-from_bytes line field bytes (Err (Kind UnknownLine)) alone spelled read = absurd read
 ReadsLine-from_bytes line field bytes (Err (Kind FieldCount)) alone spelled read = absurd read
+ReadsLine-from_bytes line field bytes (Err (Kind BadNumber)) alone spelled read = absurd read
 ReadsLine-from_bytes line field bytes (Err (Kind NotHex)) alone spelled read = absurd read
 ReadsLine-from_bytes line field bytes (Err (Kind TooShort)) alone spelled read =
     record { field = field; bytes = bytes; alone = alone; spelled = spelled; short = read }

@@ -6,7 +6,7 @@ use Rattle.docsis_wire.specs.Ready.{IsReady}
 use Rattle.hex.specs.Hex.{decode_of}
 use Rattle.hex.specs.declared.error.FromHexError.TheVariants.{OddLength}
 use Rattle.segrx.specs.declared.fault.TraceKind.{TraceKind}
-use Rattle.segrx.specs.declared.fault.TraceKind.TheVariants.{FieldCount, NotHex, TooShort, PointerPast}
+use Rattle.segrx.specs.declared.fault.TraceKind.TheVariants.{UnknownLine, FieldCount, BadNumber, NotHex, TooShort, PointerPast}
 use Rattle.segrx.specs.declared.fault.TraceFault.{TraceFault}
 use Rattle.segrx.specs.Lines.{fields_of}
 use Rattle.segrx.specs.Field.{SpellsBytes}
@@ -45,6 +45,8 @@ not_two_fields : (line field : List ℕ) → fields_of line ≡ field ∷ [] →
 not_two_fields line field alone many = let one : length (fields_of line) ≡ 1 = ap length alone in omega arith
 
 not_skipped_and_faulty : (line : List ℕ) (kind : TraceKind) → IsSkipped line → HasFault line kind → ⊥
+not_skipped_and_faulty line UnknownLine a b = absurd b
+not_skipped_and_faulty line BadNumber a b = absurd b
 not_skipped_and_faulty line FieldCount a b = let none : length (fields_of line) ≡ 0 = ap length a in omega arith
 not_skipped_and_faulty line NotHex a b = let no : [] ≡ b.field ∷ [] = sym a ∙ b.alone in cc no
 not_skipped_and_faulty line TooShort a b = let no : [] ≡ b.field ∷ [] = sym a ∙ b.alone in cc no
@@ -55,6 +57,8 @@ segment_long : (s : Segment) → 8 ≤ length (segment_bytes s)
 segment_long s = omega arith
 
 not_carried_and_faulty : (line : List ℕ) (s : Segment) (kind : TraceKind) → Carries line s → HasFault line kind → ⊥
+not_carried_and_faulty line s UnknownLine a b = absurd b
+not_carried_and_faulty line s BadNumber a b = absurd b
 not_carried_and_faulty line s FieldCount a b = not_two_fields line a.field a.alone b
 not_carried_and_faulty line s NotHex a b =
     b.no_bytes (segment_bytes s, subst (λ f. SpellsBytes f (segment_bytes s)) (one_field line a.field b.field a.alone b.alone) a.spelled)
@@ -80,6 +84,16 @@ too_few line a b =
 
 -- a line has no two kinds of fault
 one_kind : (line : List ℕ) (kind other : TraceKind) → HasFault line kind → HasFault line other → kind ≡ other
+one_kind line UnknownLine other a b = absurd a
+one_kind line BadNumber other a b = absurd a
+one_kind line FieldCount UnknownLine a b = absurd b
+one_kind line FieldCount BadNumber a b = absurd b
+one_kind line NotHex UnknownLine a b = absurd b
+one_kind line NotHex BadNumber a b = absurd b
+one_kind line TooShort UnknownLine a b = absurd b
+one_kind line TooShort BadNumber a b = absurd b
+one_kind line PointerPast UnknownLine a b = absurd b
+one_kind line PointerPast BadNumber a b = absurd b
 one_kind line FieldCount FieldCount a b = refl
 one_kind line FieldCount NotHex a b = absurd (not_two_fields line b.field b.alone a)
 one_kind line FieldCount TooShort a b = absurd (not_two_fields line b.field b.alone a)

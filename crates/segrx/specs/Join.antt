@@ -1,19 +1,15 @@
 -- What `join` answers for an input.
-use Rattle.std.specs.Prelude.{◌≡◌, ℕ, ◌+◌, List, [], ◌∷◌, ◌++◌, length, map, flat_map, Some, Option, true, IfSome, ◌⊎◌}
+use Rattle.std.specs.Prelude.{◌≡◌, ℕ, ◌+◌, List, [], ◌∷◌, ◌++◌, length, map, flat_map, Some, ◌⊎◌}
 use Rattle.docsis_wire.specs.declared.segment.Segment.{Segment}
 use Rattle.ccf.specs.Join.{Joins}
 use Rattle.hex.specs.Hex.{encode_lower}
 use Rattle.segrx.specs.declared.fault.TraceFault.{TraceFault}
 use Rattle.segrx.specs.declared.fault.EngineFault.{EngineFault}
-use Rattle.segrx.specs.declared.fault.EngineFault.TheVariants.{Trace, OutOfMemory, Read, Write, Usage}
+use Rattle.segrx.specs.declared.fault.EngineFault.TheVariants.{Trace, Cut, OutOfMemory, Read, Write, Usage}
 use Rattle.segrx.specs.Lines.{lines_of}
 use Rattle.segrx.specs.JoinLine.{IsSkipped, Carries, HasFault}
 use Rattle.segrx.specs.declared.line_fault.LineFault.{LineFault}
 use Rattle.segrx.specs.declared.line_fault.LineFault.TheVariants as line_fault
-use Rattle.segrx.specs.declared.device.Device.{Device}
-use Rattle.segrx.specs.Device.{has_failed}
-use Rattle.segrx.specs.Transfer.{AppendsFront, IsReadFault}
-use Rattle.std.specs.Io.KnownBytes.{Appends}
 use Rattle.ccf.specs.Feed.{Feeds}
 
 -- the segments that some lines carry, in order; skipped lines carry none
@@ -51,6 +47,7 @@ pub record IsFirstFault (input : List ℕ) (fault : TraceFault) : Type 0 where
 -- why an input was not joined: its first fault, or want of memory
 abbrev pub IsJoinFault : List ℕ → EngineFault → Type 0
 IsJoinFault input (Trace fault) = IsFirstFault input fault
+IsJoinFault input (Cut fault) = ⊥
 IsJoinFault input OutOfMemory = Unit {0}
 IsJoinFault input Read = ⊥
 IsJoinFault input Write = ⊥
@@ -67,19 +64,3 @@ JoinsLine line before text after text' =
     (IsSkipped line × (after ≡ before) × (text' ≡ text))
     ⊎ ((segment : Segment) × (frames : List (List ℕ)) × Carries line segment × Feeds before segment frames after
     × (text' ≡ text ++ flat_map frame_line frames))
-
--- known bytes grew by exactly the text that stands for an input
-abbrev pub WritesJoined : Option (List ℕ) → Option (List ℕ) → List ℕ → Type 0
-WritesJoined old new input = (text : List ℕ) × IsJoined input text × Appends old new text
-
--- known bytes grew by a front of the text that stands for an input
-abbrev pub WritesFront : Option (List ℕ) → Option (List ℕ) → List ℕ → Type 0
-WritesFront old new input = (text : List ℕ) × IsJoined input text × AppendsFront old new text
-
--- why the known input of this reader was not joined into this writer
-abbrev pub HasCause : {R W : Type 0} → Option (List ℕ) → Device R → Device W → EngineFault → Type 0
-HasCause known reader writer (Trace fault) = IfSome known (λ input. IsFirstFault input fault)
-HasCause known reader writer OutOfMemory = Unit {0}
-HasCause known reader writer Read = IsReadFault reader
-HasCause known reader writer Write = has_failed writer ≡ true
-HasCause known reader writer Usage = ⊥

@@ -4,7 +4,7 @@ use Rattle.docsis_wire.specs.declared.segment.Segment.{Segment}
 use Rattle.docsis_wire.specs.Header.{header_bytes}
 use Rattle.docsis_wire.specs.Ready.{IsReady}
 use Rattle.segrx.specs.declared.fault.TraceKind.{TraceKind}
-use Rattle.segrx.specs.declared.fault.TraceKind.TheVariants.{FieldCount, NotHex, TooShort, PointerPast}
+use Rattle.segrx.specs.declared.fault.TraceKind.TheVariants.{UnknownLine, FieldCount, BadNumber, NotHex, TooShort, PointerPast}
 use Rattle.segrx.specs.declared.line_fault.LineFault.{LineFault}
 use Rattle.segrx.specs.declared.line_fault.LineFault.TheVariants.{Kind, OutOfMemory}
 use Rattle.segrx.specs.Lines.{fields_of}
@@ -50,7 +50,9 @@ pub record PointsPast (line : List ℕ) : Type 0 where
 -- The faults of a line. No line has two of them, so that the least is the one that it has: with a wrong number of fields there is no
 -- field to look at, what is no hexadecimal field has no bytes, and too few bytes have no header.
 abbrev pub HasFault : List ℕ → TraceKind → Type 0
+HasFault line UnknownLine = ⊥
 HasFault line FieldCount = 1 < length (fields_of line)
+HasFault line BadNumber = ⊥
 HasFault line NotHex = IsNotHex line
 HasFault line TooShort = IsTooShort line
 HasFault line PointerPast = PointsPast line
@@ -66,7 +68,9 @@ ReadsLine line (Err OutOfMemory) = Unit {0}
 abbrev pub ReadsBytes : List ℕ → Result (Option Segment) LineFault → Type 0
 ReadsBytes bytes (Ok None) = ⊥
 ReadsBytes bytes (Ok (Some segment)) = (segment_bytes segment ≡ bytes) × IsReady segment
+ReadsBytes bytes (Err (Kind UnknownLine)) = ⊥
 ReadsBytes bytes (Err (Kind FieldCount)) = ⊥
+ReadsBytes bytes (Err (Kind BadNumber)) = ⊥
 ReadsBytes bytes (Err (Kind NotHex)) = ⊥
 ReadsBytes bytes (Err (Kind TooShort)) = length bytes < 8
 ReadsBytes bytes (Err (Kind PointerPast)) = (segment : Segment) × (segment_bytes segment ≡ bytes) × ¬ IsReady segment

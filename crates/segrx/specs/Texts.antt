@@ -2,20 +2,32 @@
 use Rattle.std.specs.Prelude.{ℕ, List, [], ◌∷◌, ◌++◌, codes}
 use Rattle.std.specs.Fmt.{decimal}
 use Rattle.segrx.specs.declared.fault.TraceKind.{TraceKind}
-use Rattle.segrx.specs.declared.fault.TraceKind.TheVariants.{FieldCount, NotHex, TooShort, PointerPast}
+use Rattle.segrx.specs.declared.fault.TraceKind.TheVariants.{UnknownLine, FieldCount, BadNumber, NotHex, TooShort, PointerPast}
 use Rattle.segrx.specs.declared.fault.EngineFault.{EngineFault}
-use Rattle.segrx.specs.declared.fault.EngineFault.TheVariants.{Trace, OutOfMemory, Read, Write, Usage}
+use Rattle.segrx.specs.declared.fault.EngineFault.TheVariants.{Trace, Cut, OutOfMemory, Read, Write, Usage}
+use Rattle.docsis_wire.specs.declared.pieces.CutFault.{CutFault}
+use Rattle.docsis_wire.specs.declared.pieces.CutFault.TheVariants as cut_fault
 
 -- the words for a kind of fault
 abbrev pub kind_text : TraceKind → List ℕ
+kind_text UnknownLine = codes "unknown line"
 kind_text FieldCount = codes "wrong number of fields"
+kind_text BadNumber = codes "bad number"
 kind_text NotHex = codes "not hexadecimal"
 kind_text TooShort = codes "too short"
 kind_text PointerPast = codes "pointer past the end"
 
+-- the words for a fault of a cut
+abbrev pub cut_fault_text : CutFault → List ℕ
+cut_fault_text (cut_fault.BadFrame k) = codes "frame " ++ decimal k ++ codes " is not a frame"
+cut_fault_text (cut_fault.FillInsideFrame k) = codes "piece " ++ decimal k ++ codes " has fill inside a frame"
+cut_fault_text (cut_fault.PointerTooFar k) = codes "piece " ++ decimal k ++ codes " has a pointer past 16383"
+cut_fault_text cut_fault.OutOfMemory = codes "out of memory"
+
 -- what stands behind the program's name in a fault's line
 abbrev pub fault_text : EngineFault → List ℕ
 fault_text (Trace fault) = codes "line " ++ decimal fault.line ++ codes ": " ++ kind_text fault.kind
+fault_text (Cut fault) = cut_fault_text fault
 fault_text OutOfMemory = codes "out of memory"
 fault_text Read = codes "read failed"
 fault_text Write = codes "write failed"
@@ -28,6 +40,10 @@ fault_line fault = codes "segrx: " ++ fault_text fault ++ 10 ∷ []
 -- the exit status of a fault
 abbrev pub status_of : EngineFault → ℕ
 status_of (Trace fault) = 1
+status_of (Cut (cut_fault.BadFrame k)) = 1
+status_of (Cut (cut_fault.FillInsideFrame k)) = 1
+status_of (Cut (cut_fault.PointerTooFar k)) = 1
+status_of (Cut cut_fault.OutOfMemory) = 3
 status_of Usage = 2
 status_of OutOfMemory = 3
 status_of Read = 4

@@ -1,20 +1,26 @@
-ghost use Rattle.std.specs.Prelude.{◌≡◌, ◌<◌, ◌≤◌, ◌++◌, length, true, OnOk, OnErr};
+ghost use Rattle.std.specs.Prelude.{◌≡◌, ◌+◌, ◌<◌, ◌≤◌, ◌++◌, length, true, OnOk, OnErr};
 ghost use Rattle.std.specs.Io.KnownBytes.{Appends};
+ghost use Rattle.std.specs.Fmt.{decimal};
 ghost use Rattle.segrx.specs.Device.{inner_of, has_failed};
 ghost use Rattle.segrx.specs.Transfer.{AppendsFront};
-ghost use Rattle.segrx.specs.Texts.{kind_text, fault_text, fault_line, status_of};
+ghost use Rattle.segrx.specs.Texts.{kind_text, cut_fault_text, fault_text, fault_line, status_of};
 
 use crate::device::Device;
 use crate::text_line::TextLine;
 use crate::transfer::write_text;
+use docsis_wire::CutFault;
 use std::io::Write;
 use thiserror::Error;
 
 /// Why a line of an input cannot be read. Where a line has several faults, the first of these is told.
 #[derive(Clone, Copy, Debug, PartialEq, Eq)]
 pub enum TraceKind {
+    /// The first word is none of the command's.
+    UnknownLine,
     /// Too few or too many words.
     FieldCount,
+    /// A number field is no number in its range.
+    BadNumber,
     /// A hexadecimal field is none.
     NotHex,
     /// A segment has fewer than the eight bytes of its header.
@@ -29,7 +35,9 @@ impl TraceKind {
         ensures { result.now ≡ kind_text self }
     {
         match self {
+            TraceKind::UnknownLine => "unknown line",
             TraceKind::FieldCount => "wrong number of fields",
+            TraceKind::BadNumber => "bad number",
             TraceKind::NotHex => "not hexadecimal",
             TraceKind::TooShort => "too short",
             TraceKind::PointerPast => "pointer past the end",
@@ -52,6 +60,9 @@ pub enum EngineFault {
     /// A line of the input cannot be read.
     #[error(transparent)]
     Trace(TraceFault),
+    /// Frames cannot be cut into their pieces. Want of memory is told as `OutOfMemory`.
+    #[error(transparent)]
+    Cut(CutFault),
     /// A growth was refused.
     #[error("out of memory")]
     OutOfMemory,
@@ -76,10 +87,39 @@ pub fn status(fault: &EngineFault) -> u8
     ensures { result ≡ status_of fault.now }
 {
     match fault {
-        EngineFault::Trace(_) => 1,
+        EngineFault::OutOfMemory | EngineFault::Cut(CutFault::OutOfMemory) => 3,
+        EngineFault::Trace(_) | EngineFault::Cut(_) => 1,
         EngineFault::Usage => 2,
-        EngineFault::OutOfMemory => 3,
         EngineFault::Read | EngineFault::Write => 4,
+    }
+}
+
+/// Puts a number between two texts at the end.
+fn push_counted(line: &mut TextLine, before: &str, number: u64, behind: &str)
+    requires { length line.old + length before.now + length behind.now ≤ 44 }
+    ensures text { line.new ≡ line.old ++ (before.now ++ decimal number ++ behind.now) }
+    ensures room { length line.new ≤ length line.old + length before.now + length behind.now + 20 }
+{
+    line.push_text(before);
+    line.push_number(number);
+    line.push_text(behind);
+}
+
+/// Puts the words for a fault of a cut behind the program's name.
+fn push_cut_fault(line: &mut TextLine, fault: &CutFault)
+    requires { length line.old ≤ 8 }
+    ensures text { line.new ≡ line.old ++ cut_fault_text fault.now }
+    ensures room { length line.new < 64 }
+{
+    match fault {
+        CutFault::BadFrame(k) => push_counted(line, "frame ", *k as u64, " is not a frame"),
+        CutFault::FillInsideFrame(k) => {
+            push_counted(line, "piece ", *k as u64, " has fill inside a frame");
+        }
+        CutFault::PointerTooFar(k) => {
+            push_counted(line, "piece ", *k as u64, " has a pointer past 16383");
+        }
+        CutFault::OutOfMemory => line.push_text("out of memory"),
     }
 }
 
@@ -96,6 +136,7 @@ fn push_fault(line: &mut TextLine, fault: &EngineFault)
             line.push_text(": ");
             line.push_text(fault.kind.text());
         }
+        EngineFault::Cut(fault) => push_cut_fault(line, fault),
         EngineFault::OutOfMemory => line.push_text("out of memory"),
         EngineFault::Read => line.push_text("read failed"),
         EngineFault::Write => line.push_text("write failed"),

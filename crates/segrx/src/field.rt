@@ -1,10 +1,11 @@
-ghost use Rattle.std.specs.Prelude.{◌≡◌, ◌∷◌, [], MatchOption, IfOk};
+ghost use Rattle.std.specs.Prelude.{◌≡◌, ◌∷◌, ◌++◌, [], MatchOption, IfOk, OnOk};
+ghost use Rattle.hex.specs.Hex.{encode_lower};
 ghost use Rattle.segrx.specs.Lines.{fields_of, words_of};
 ghost use Rattle.segrx.specs.Field.{SpellsBytes, IsHex};
 
 use crate::lines::split_word;
 use hex::FromHexError;
-use std::alloc::Global;
+use std::alloc::{AllocError, Global};
 use thiserror::Error;
 
 /// Why a hexadecimal field was not read.
@@ -44,4 +45,12 @@ pub fn read_hex(alloc: Global, field: &[u8]) -> Result<Vec<u8>, FieldFault>
         Err(FromHexError::OutOfMemory) => Err(FieldFault::OutOfMemory),
         Err(_) => Err(FieldFault::NotHex),
     }
+}
+
+/// Puts the lower-case digits of some bytes behind a text.
+pub fn append_hex(alloc: Global, text: &mut Vec<u8>, bytes: &[u8]) -> Result<(), AllocError>
+    ensures { OnOk result (text.new.items ≡ text.old.items ++ encode_lower bytes.now) }
+{
+    let digits = hex::encode(alloc, bytes)?;
+    text.extend_from_slice(digits.as_bytes())
 }

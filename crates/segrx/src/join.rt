@@ -2,10 +2,12 @@ ghost use Rattle.std.specs.Prelude.{◌≡◌, ◌≢◌, ◌++◌, false, flat_
 ghost use Rattle.std.specs.Io.KnownBytes.{Keeps};
 ghost use Rattle.segrx.specs.Device.{inner_of, has_failed, IsFresh};
 ghost use Rattle.segrx.specs.Transfer.{IsRead};
-ghost use Rattle.segrx.specs.Join.{IsJoined, IsJoinFault, JoinsLine, IsLineFault, WritesJoined, WritesFront, HasCause, frame_line};
+ghost use Rattle.segrx.specs.Join.{IsJoined, IsJoinFault, JoinsLine, IsLineFault, frame_line};
+ghost use Rattle.segrx.specs.Engine.{WritesText, WritesFront, HasCause};
 
 use crate::device::Device;
 use crate::fault::EngineFault;
+use crate::field::append_hex;
 use crate::join_line::read_join_line;
 use crate::line_fault::LineFault;
 use crate::lines::split_line;
@@ -20,8 +22,7 @@ fn append_frames(alloc: Global, text: &mut Vec<u8>, frames: &[Bytes]) -> Result<
     ensures { OnOk result (text.new.items ≡ text.old.items ++ flat_map frame_line frames.now) }
 {
     for frame in frames {
-        let digits = hex::encode(alloc, frame.as_slice())?;
-        text.extend_from_slice(digits.as_bytes())?;
+        append_hex(alloc, text, frame.as_slice())?;
         text.push(b'\n')?;
     }
     Ok(())
@@ -83,14 +84,18 @@ pub fn join_text<R: Read, W: Write>(
     // Where the reader's bytes are known: exactly their text is written, a front of it where the
     // writer fails, and nothing on any other fault.
     ensures written { OnOk result (IfSome (R.remaining (inner_of reader.old))
-        (WritesJoined (W.contents (inner_of writer.old)) (W.contents (inner_of writer.new)))) }
+        (WritesText IsJoined
+        (W.contents (inner_of writer.old)) (W.contents (inner_of writer.new)))) }
     ensures write_fault { result ≡ Err EngineFault.Write
-        → IfSome (R.remaining (inner_of reader.old)) (WritesFront (W.contents (inner_of writer.old)) (W.contents (inner_of writer.new))) }
+        → IfSome (R.remaining (inner_of reader.old))
+        (WritesFront IsJoined
+        (W.contents (inner_of writer.old)) (W.contents (inner_of writer.new))) }
     ensures nothing_written { IfErr result (λ fault. fault ≢ EngineFault.Write
         → Keeps (W.contents (inner_of writer.old)) (W.contents (inner_of writer.new))) }
 
     // Each fault has its cause, and without a fault there is none.
-    ensures cause { IfErr result (HasCause (R.remaining (inner_of reader.old)) reader.new writer.new) }
+    ensures cause { IfErr result (HasCause IsJoinFault
+        (R.remaining (inner_of reader.old)) reader.new writer.new) }
     ensures no_cause { OnOk result (IsRead reader.new × (has_failed writer.new ≡ false)) }
     ensures read_first { IfErr result (λ fault. fault ≢ EngineFault.Read
         → fault ≢ EngineFault.OutOfMemory → IsRead reader.new) }

@@ -8,7 +8,7 @@ use docsis_wire::{Bytes, Segment, read_segment, ready};
 use std::alloc::Global;
 
 /// How many bytes of a segment its header takes.
-const HEADER_BYTES: usize = 8;
+pub const HEADER_BYTES: usize = 8;
 
 /// The segment of a line that has one hexadecimal field, or nothing for a line that is skipped.
 pub fn read_join_line(alloc: Global, line: &[u8]) -> Result<Option<Segment>, LineFault>

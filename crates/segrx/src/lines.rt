@@ -1,6 +1,8 @@
 ghost use Rattle.std.specs.Prelude.{◌≡◌, ◌<◌, ◌+◌, ◌==◌, List, [], ◌∷◌, length, MatchOption, not, position};
 ghost use Rattle.segrx.specs.Lines.{lines_of, words_of, is_line_feed, is_separator};
 
+use memchr::{memchr, memchr3};
+
 /// Whether a byte separates words: a space, a tab or a carriage return.
 fn separates(byte: u8) -> bool
     ensures { result ≡ is_separator byte }
@@ -12,7 +14,7 @@ fn separates(byte: u8) -> bool
 fn line_end(text: &[u8]) -> Option<usize>
     ensures { result ≡ position is_line_feed text.now }
 {
-    text.iter().position(|byte| *byte == b'\n')
+    memchr(b'\n', text)
 }
 
 /// The place of the first byte of a word.
@@ -26,7 +28,7 @@ fn word_start(line: &[u8]) -> Option<usize>
 fn word_end(line: &[u8]) -> Option<usize>
     ensures { result ≡ position is_separator line.now }
 {
-    line.iter().position(|byte| separates(*byte))
+    memchr3(b' ', b'\t', b'\r', line)
 }
 
 /// The first line of a text, without its line feed, and what stands behind that.

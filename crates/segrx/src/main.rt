@@ -1,11 +1,16 @@
 // A receiver of DOCSIS 3.0 upstream service flows that are bonded over several channels, as a program.
 //
-// `join` reads one segment in hexadecimal a line and prints one frame a line. What matters most: `join_text`
-// writes exactly the text that stands for the lines it reads, or answers the first faulty line and its least
-// kind of fault, and then writes nothing.
+// `join` reads one segment in hexadecimal a line and prints one frame a line. `cut` reads frames and pieces,
+// one a line, and prints one segment a line. What matters most: `join_text` and `cut_text` write exactly the
+// text that stands for the lines they read, or answer the first faulty line and its least kind of fault, and
+// then write nothing. Where no line is at fault, `cut_text` answers the first fault of the frames and pieces.
 #![tactic(auto)]
 
 pub mod command;
+pub mod cut;
+pub mod cut_line;
+#[cfg(test)]
+mod cut_tests;
 pub mod device;
 pub mod fault;
 pub mod field;
@@ -14,6 +19,7 @@ pub mod join_line;
 pub mod laws;
 pub mod line_fault;
 pub mod lines;
+pub mod number;
 pub mod program;
 #[cfg(test)]
 mod refusals;

@@ -4,6 +4,7 @@ ghost use Rattle.segrx.specs.Texts.{status_of};
 ghost use Rattle.segrx.specs.Program.{IsStatus};
 
 use crate::command::{Command, UsageFault, read_words};
+use crate::cut::cut_text;
 use crate::device::Device;
 use crate::fault::{EngineFault, status, write_fault};
 use crate::join::join_text;
@@ -24,6 +25,7 @@ fn obey<S: AsStr, R: Read, W: Write>(
 {
     match read_words(alloc, words) {
         Ok(Command::Join) => join_text(alloc, reader, out),
+        Ok(Command::Cut { first, fill }) => cut_text(alloc, first, fill, reader, out),
         Ok(Command::Help(text)) => write_text(out, text.as_bytes()),
         Err(UsageFault::Usage) => Err(EngineFault::Usage),
         Err(UsageFault::OutOfMemory) => Err(EngineFault::OutOfMemory),

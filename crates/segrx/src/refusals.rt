@@ -1,10 +1,12 @@
 // A growth that is refused, at one place of each call. Each test takes want of memory as lawful there, says
 // so by the word `refused`, and calls again; with nothing refused it says nothing.
 use crate::command::{Command, UsageFault, read_words};
+use crate::cut::cut_text;
 use crate::device::Device;
 use crate::fault::EngineFault;
 use crate::join::join_text;
 use crate::program::program;
+use docsis_wire::FillByte;
 use std::alloc::Global;
 use std::test::Fail;
 
@@ -35,6 +37,34 @@ fn join_text_is_refused(rt: HostRuntime) -> Result<(), Fail> {
     }
     assert_eq!(rt; done, Ok(()));
     assert_eq!(rt; text.as_slice(), FRAMES.as_slice());
+    Ok(())
+}
+
+/// The frames, and pieces that cut them into the segments.
+const FRAMES_AND_PIECES: &[u8; 78] =
+    b"frame 000000021111aabb\npiece 5 0\nframe 01010003e02222ccdd\npiece 7 0\npiece 5 0\n";
+
+/// Cuts the frames into an array that is just large enough for their segments.
+fn cut(alloc: Global, text: &mut [u8]) -> Result<(), EngineFault> {
+    let mut reader = Device::new(FRAMES_AND_PIECES.as_slice());
+    let mut writer = Device::new(text);
+    let done = cut_text(alloc, 0, FillByte::Zero, &mut reader, &mut writer);
+    reader.into_inner();
+    writer.into_inner();
+    done
+}
+
+#[test]
+fn cut_text_is_refused(rt: HostRuntime) -> Result<(), Fail> {
+    let mut text = [0u8; 85];
+    let mut done = cut(rt.alloc(), &mut text);
+    if done == Err(EngineFault::OutOfMemory) {
+        println!(rt; "refused")?;
+        assert_eq!(rt; text.as_slice(), [0u8; 85].as_slice());
+        done = cut(rt.alloc(), &mut text);
+    }
+    assert_eq!(rt; done, Ok(()));
+    assert_eq!(rt; text.as_slice(), SEGMENTS.as_slice());
     Ok(())
 }
 

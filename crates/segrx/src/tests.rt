@@ -4,6 +4,7 @@ use crate::fault::{EngineFault, TraceFault, TraceKind, WriteFault, status, write
 use crate::join::join_text;
 use crate::program::program;
 use crate::transfer::INPUT_MAX;
+use docsis_wire::CutFault;
 use std::alloc::Global;
 use std::io;
 use std::io::{Error, ErrorKind, Read, Write};
@@ -376,6 +377,36 @@ fn writes_the_lines_of_faults(rt: HostRuntime) {
             1,
             "segrx: line 18446744073709551615: pointer past the end\n",
         ),
+        (
+            faulty(1, TraceKind::UnknownLine),
+            1,
+            "segrx: line 1: unknown line\n",
+        ),
+        (
+            faulty(2, TraceKind::BadNumber),
+            1,
+            "segrx: line 2: bad number\n",
+        ),
+        (
+            EngineFault::Cut(CutFault::BadFrame(0)),
+            1,
+            "segrx: frame 0 is not a frame\n",
+        ),
+        (
+            EngineFault::Cut(CutFault::FillInsideFrame(usize::MAX)),
+            1,
+            "segrx: piece 18446744073709551615 has fill inside a frame\n",
+        ),
+        (
+            EngineFault::Cut(CutFault::PointerTooFar(12)),
+            1,
+            "segrx: piece 12 has a pointer past 16383\n",
+        ),
+        (
+            EngineFault::Cut(CutFault::OutOfMemory),
+            3,
+            "segrx: out of memory\n",
+        ),
         (EngineFault::Usage, 2, "segrx: usage\n"),
         (EngineFault::OutOfMemory, 3, "segrx: out of memory\n"),
         (EngineFault::Read, 4, "segrx: read failed\n"),
@@ -406,6 +437,7 @@ fn tells_a_fault_that_cannot_be_written(rt: HostRuntime) {
 #[derive(Clone, Copy, Debug, PartialEq, Eq)]
 enum Asked {
     Join,
+    Cut,
     /// Whether there is a text.
     Help(bool),
     Usage,
@@ -415,6 +447,7 @@ enum Asked {
 fn what_is_asked(alloc: Global, words: &[&str]) -> Asked {
     match read_words(alloc, words) {
         Ok(Command::Join) => Asked::Join,
+        Ok(Command::Cut { first: _, fill: _ }) => Asked::Cut,
         Ok(Command::Help(text)) => Asked::Help(!text.is_empty()),
         Err(UsageFault::Usage) => Asked::Usage,
         Err(UsageFault::OutOfMemory) => Asked::OutOfMemory,
@@ -438,7 +471,7 @@ fn reads_its_words(rt: HostRuntime) {
         ("-h", Asked::Help(true)),
         ("--help", Asked::Help(true)),
         ("frob", Asked::Usage),
-        ("cut", Asked::Usage),
+        ("cut", Asked::Cut),
         ("replay", Asked::Usage),
         ("run", Asked::Usage),
         ("help", Asked::Usage),

@@ -1,0 +1,170 @@
+ghost use Rattle.std.specs.Prelude.{◌≡◌, ◌≢◌, ◌<◌, ◌++◌, false, flat_map, IfOk, IfErr, IfSome, OnOk};
+ghost use Rattle.std.specs.Io.KnownBytes.{Keeps};
+ghost use Rattle.segrx.specs.Device.{inner_of, has_failed, IsFresh};
+ghost use Rattle.segrx.specs.Transfer.{IsRead};
+ghost use Rattle.segrx.specs.Engine.{WritesText, WritesFront, HasCause};
+ghost use Rattle.segrx.specs.Lines.{lines_of};
+ghost use Rattle.segrx.specs.Cut.{ReadAsPieces, TakesLine, IsCutLineFault, IsReadingFault, IsCutInto, IsCuttingFault, IsCutText, IsCutFault, segment_line};
+
+use crate::cut_line::{CutLine, read_cut_line};
+use crate::device::Device;
+use crate::fault::EngineFault;
+use crate::field::append_hex;
+use crate::join_line::HEADER_BYTES;
+use crate::line_fault::LineFault;
+use crate::lines::split_line;
+use crate::transfer::{read_input, write_text};
+use docsis_wire::{Bytes, CutFault, FillByte, Piece, Segment, cut, write_segment};
+use std::alloc::{AllocError, Global};
+use std::io::{Read, Write};
+
+/// Puts what a line carries behind the frames or the pieces.
+fn take_line(
+    alloc: Global,
+    frames: &mut Vec<Bytes>,
+    pieces: &mut Vec<Piece>,
+    line: &[u8],
+) -> Result<(), LineFault>
+    ensures taken { OnOk result (TakesLine line.now frames.old.items pieces.old.items
+        frames.new.items pieces.new.items) }
+    ensures fault { IfErr result (IsCutLineFault line.now) }
+{
+    match read_cut_line(alloc, line)? {
+        CutLine::Skipped => Ok(()),
+        CutLine::Frame(frame) => frames.push(frame).or(Err(LineFault::OutOfMemory)),
+        CutLine::Piece(piece) => pieces.push(piece).or(Err(LineFault::OutOfMemory)),
+    }
+}
+
+/// The frames and the pieces of an input, each in their order.
+#[derive(Drop)]
+struct CutInput {
+    frames: Vec<Bytes>,
+    pieces: Vec<Piece>,
+}
+
+/// The frames and the pieces that the lines of an input carry. The input is given back to the memory.
+fn read_cut_input(alloc: Global, input: Vec<u8>) -> Result<CutInput, EngineFault>
+    ensures read { IfOk result
+        (λ read. ReadAsPieces (lines_of input.items) read.frames.items read.pieces.items) }
+    ensures fault { IfErr result (IsReadingFault input.items) }
+{
+    let mut frames = Vec::new(alloc);
+    let mut pieces = Vec::new(alloc);
+    let mut rest = input.as_slice();
+    let mut above = 0u64;
+    while !rest.is_empty() {
+        let (line, behind) = split_line(rest);
+        if let Err(fault) = take_line(alloc, &mut frames, &mut pieces, line) {
+            return Err(fault.at(above + 1));
+        }
+        rest = behind;
+        above += 1;
+    }
+    Ok(CutInput { frames, pieces })
+}
+
+/// The segments that the frames are cut into. Frames and pieces are given back to the memory.
+fn cut_input(
+    alloc: Global,
+    read: CutInput,
+    first: u16,
+    fill: FillByte,
+) -> Result<Vec<Segment>, EngineFault>
+    requires { first < 8192 }
+    ensures cut { IfOk result
+        (λ segments. IsCutInto first fill read.frames.items read.pieces.items segments.items) }
+    ensures fault { IfErr result (IsCuttingFault read.frames.items read.pieces.items) }
+{
+    match cut(alloc, &read.frames, &read.pieces, first, fill) {
+        Ok(segments) => Ok(segments),
+        Err(CutFault::OutOfMemory) => Err(EngineFault::OutOfMemory),
+        Err(fault) => Err(EngineFault::Cut(fault)),
+    }
+}
+
+/// How many bytes the lines of some segments have. It stays at its greatest value.
+fn text_length(segments: &[Segment]) -> usize {
+    let mut length = 0usize;
+    for segment in segments {
+        let bytes = segment.payload.len().saturating_add(HEADER_BYTES);
+        length = length.saturating_add(bytes.saturating_mul(2).saturating_add(1));
+    }
+    length
+}
+
+/// Puts a segment's line behind a text.
+fn append_segment(alloc: Global, text: &mut Vec<u8>, segment: &Segment) -> Result<(), AllocError>
+    ensures { OnOk result (text.new.items ≡ text.old.items ++ segment_line segment.now) }
+{
+    append_hex(alloc, text, &write_segment(&segment.head))?;
+    append_hex(alloc, text, segment.payload.as_slice())?;
+    text.push(b'\n')?;
+    Ok(())
+}
+
+/// A line for each segment.
+fn segment_lines(alloc: Global, segments: &[Segment]) -> Result<Vec<u8>, AllocError>
+    ensures { IfOk result (λ text. text.items ≡ flat_map segment_line segments.now) }
+{
+    let mut text = Vec::with_capacity(alloc, text_length(segments))?;
+    for segment in segments {
+        append_segment(alloc, &mut text, segment)?;
+    }
+    Ok(text)
+}
+
+/// The text that stands for an input of `cut`: the segments that its frames are cut into, one a line. The
+/// first one has the number `first`, 0 to 8191.
+pub fn cut_lines(
+    alloc: Global,
+    input: Vec<u8>,
+    first: u16,
+    fill: FillByte,
+) -> Result<Vec<u8>, EngineFault>
+    requires { first < 8192 }
+    ensures text { IfOk result (λ text. IsCutText first fill input.items text.items) }
+    ensures fault { IfErr result (IsCutFault input.items) }
+{
+    let read = read_cut_input(alloc, input)?;
+    let segments = cut_input(alloc, read, first, fill)?;
+    segment_lines(alloc, &segments).or(Err(EngineFault::OutOfMemory))
+}
+
+/// Cuts the frames that a reader gives into the pieces that it gives, and writes the segments, each a line
+/// of hexadecimal. The first one has the number `first`, 0 to 8191, and what a piece has of fill is this
+/// byte. It reads all, then makes the whole text, and then writes it.
+pub fn cut_text<R: Read, W: Write>(
+    alloc: Global,
+    first: u16,
+    fill: FillByte,
+    reader: &mut Device<R>,
+    writer: &mut Device<W>,
+) -> Result<(), EngineFault>
+    requires first { first < 8192 }
+    requires reader { IsFresh reader.old }
+    requires writer { IsFresh writer.old }
+
+    // Where the reader's bytes are known: exactly their text is written, a front of it where the
+    // writer fails, and nothing on any other fault.
+    ensures written { OnOk result (IfSome (R.remaining (inner_of reader.old))
+        (WritesText (IsCutText first fill)
+        (W.contents (inner_of writer.old)) (W.contents (inner_of writer.new)))) }
+    ensures write_fault { result ≡ Err EngineFault.Write
+        → IfSome (R.remaining (inner_of reader.old))
+        (WritesFront (IsCutText first fill)
+        (W.contents (inner_of writer.old)) (W.contents (inner_of writer.new))) }
+    ensures nothing_written { IfErr result (λ fault. fault ≢ EngineFault.Write
+        → Keeps (W.contents (inner_of writer.old)) (W.contents (inner_of writer.new))) }
+
+    // Each fault has its cause, and without a fault there is none.
+    ensures cause { IfErr result (HasCause IsCutFault
+        (R.remaining (inner_of reader.old)) reader.new writer.new) }
+    ensures no_cause { OnOk result (IsRead reader.new × (has_failed writer.new ≡ false)) }
+    ensures read_first { IfErr result (λ fault. fault ≢ EngineFault.Read
+        → fault ≢ EngineFault.OutOfMemory → IsRead reader.new) }
+{
+    let input = read_input(alloc, reader)?;
+    let text = cut_lines(alloc, input, first, fill)?;
+    write_text(writer, &text)
+}
