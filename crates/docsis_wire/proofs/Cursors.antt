@@ -8,7 +8,7 @@ use Rattle.docsis_wire.specs.Frame.{IsFrame}
 use Rattle.docsis_wire.specs.Cursor.{place_at, IsPlaced, chunk_at}
 use Rattle.docsis_wire.proofs.FrameHeads.{length-frame}
 use Rattle.docsis_wire.proofs.Places.{place_of-next}
-use Rattle.docsis_wire.proofs.Stretches.{AllByRecursion-at, behind_place, front_of-append, take-split, place_of-le_all, place_of-all}
+use Rattle.docsis_wire.proofs.Stretches.{AllByRecursion-at, behind_place, front_of-append, take-split, place_of-le_all}
 
 -- the frame that was read at an index, by its bytes
 pub frame_found : (frames : List (List ℕ)) (k : ℕ) (frame bytes : List ℕ) → k < length frames → frame ≡ get_or frames k frame → bytes ≡ frame → slice_get frames k ≡ Some bytes

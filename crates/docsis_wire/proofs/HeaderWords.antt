@@ -2,6 +2,7 @@
 use Rattle.std.proofs.Common.{◌≡◌, ℕ, suc, zero, ◌+◌, ◌*◌, ◌/◌, ◌%◌, ◌<◌, nat_eq, Bool, true, false, List, [], ◌∷◌, ◌++◌, length, take, get_or, Option, Some, None, IsSome, IfSome, refl, ap, ◌∙◌, subst, arith, bit_and, bit_or, ◌≤◌, ◌↔◌}
 use Rattle.std.specs.Int.{w16, from_be_bytes, to_be_bytes, byte_at}
 use Rattle.std.proofs.lemmas.Bool.{eq-eqb, ne_eqb, false≢true}
+use Rattle.std.proofs.lemmas.List.{take_all}
 use Rattle.std.proofs.lemmas.Nat.{and_mask, or_shifted}
 use Rattle.std.proofs.lemmas.Nat.Bits.{and_pow}
 use Rattle.std.proofs.Props.{props}
@@ -178,7 +179,13 @@ header_bytes-inj g h e =
     same_header g h cc
 
 -- what is read of a header's bytes is the header
-pub read_back : (read : Option SegmentHeader) (h : SegmentHeader) (bytes : List ℕ) → bytes ≡ header_bytes h
-    → IsSome read ↔ (8 ≤ length bytes) → IfSome read (λ g. header_bytes g ≡ take 8 bytes) → read ≡ Some h
-read_back None h bytes e found spelled = absurd (false≢true (found.1 (rw e (omega arith))))
-read_back (Some g) h bytes e found spelled = ap Some (header_bytes-inj g h (spelled ∙ ap (take 8) e))
+pub read_back : (head : SegmentHeader) (answer : Option SegmentHeader) → IsSome answer ↔ (8 ≤ length (header_bytes head))
+    → IfSome answer (λ read. header_bytes read ≡ take 8 (header_bytes head)) → answer ≡ Some head
+read_back head None found spelled = absurd (false≢true (found.1 (omega arith)))
+read_back head (Some read) found spelled = ap Some (header_bytes-inj read head spelled)
+
+-- and what is read of eight bytes is written as them
+pub written_back : (bytes : List ℕ) (answer : Option SegmentHeader) → length bytes ≡ 8 → IsSome answer ↔ (8 ≤ length bytes)
+    → IfSome answer (λ read. header_bytes read ≡ take 8 bytes) → (head : SegmentHeader) × (answer ≡ Some head) × (header_bytes head ≡ bytes)
+written_back bytes None eight found spelled = absurd (false≢true (found.1 (omega (arith, eight))))
+written_back bytes (Some head) eight found spelled = (head, refl, spelled ∙ take_all 8 bytes (omega (arith, eight)))

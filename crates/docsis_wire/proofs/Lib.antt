@@ -8,6 +8,7 @@ pub mod Lawful
 pub mod Made
 pub mod OneFault
 pub mod OneCut
+pub mod NoFault
 pub mod Spans
 pub mod Pointing
 pub mod Stretches

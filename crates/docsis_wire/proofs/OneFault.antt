@@ -44,7 +44,7 @@ fill_first frames pieces k i h g =
     subst P (sym same) g.fill_lawful h.here
 
 -- frames and pieces are told one thing
-one_fault : (frames : List (List ℕ)) (pieces : List Piece) (e d : CutFault) → Tells frames pieces e → Tells frames pieces d → e ≡ d
+pub one_fault : (frames : List (List ℕ)) (pieces : List Piece) (e d : CutFault) → Tells frames pieces e → Tells frames pieces d → e ≡ d
 one_fault frames pieces (BadFrame k) (BadFrame i) h g = ap BadFrame (one_bad frames k i h g)
 one_fault frames pieces (BadFrame k) (FillInsideFrame i) h g = absurd (none_bad frames k g.each h)
 one_fault frames pieces (BadFrame k) (PointerTooFar i) h g = absurd (none_bad frames k g.each h)

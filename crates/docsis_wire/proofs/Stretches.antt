@@ -1,7 +1,7 @@
 -- Stretches of byte strings that stand end to end: what stands before a place and behind it.
-use Rattle.std.proofs.Common.{◌≡◌, ℕ, suc, zero, ◌+◌, ◌≤◌, Some, List, [], ◌∷◌, ◌++◌, length, take, drop, slice_get, refl, sym, ap, ◌∙◌, subst, add-one, arith}
+use Rattle.std.proofs.Common.{◌≡◌, ℕ, suc, zero, ◌+◌, ◌≤◌, Some, List, [], ◌∷◌, ◌++◌, length, take, drop, slice_get, refl, sym, ap, ◌∙◌, subst, arith}
 use Rattle.std.specs.List.{concat, AllByRecursion}
-use Rattle.std.proofs.lemmas.List.{append-nil, length-append, take-append-drop, take_all, drop_at, drop-drop, drop-append-le, drop-take, take-take, take-append-le, take_min, length-take}
+use Rattle.std.proofs.lemmas.List.{length-append, take-append-drop, take_all, drop_at, drop-drop, drop-append-le, drop-take, take-take, take-append-le, take_min, length-take}
 use Rattle.std.proofs.lemmas.List.Folds.{concat-append}
 use Rattle.docsis_wire.specs.Stream.{place_of}
 

@@ -25,6 +25,7 @@ pub enum HeadRead {
     Short,
     /// Fill: from here to the segment's end there is no frame (this project's profile).
     Fill,
+    /// Neither fill nor a frame's head: from here to the segment's end no frame can be told.
     Bad(HeadFault),
     /// A frame of `total` bytes, 6 to 65,541, with `ehdr` bytes of extended header, 0 to 240.
     Head { ehdr: u8, total: u32 },
@@ -84,6 +85,7 @@ pub fn well_formed(bytes: &[u8]) -> bool
 #[cfg(test)]
 mod tests {
     use super::*;
+    use std::test::Fail;
 
     const HEADS: [(&str, &[u8], HeadRead); 11] = [
         (
@@ -135,6 +137,24 @@ mod tests {
         for (name, bytes, head) in HEADS {
             assert_eq!(rt; read_head(bytes), head, "{name}");
         }
+    }
+
+    #[test]
+    fn says_what_is_wrong_with_a_head(rt: HostRuntime) -> Result<(), Fail> {
+        let texts = [
+            (
+                HeadFault::NoLength,
+                "the frame control byte announces no length",
+            ),
+            (
+                HeadFault::ExtendedTooLong,
+                "the extended header is too long",
+            ),
+        ];
+        for (fault, text) in texts {
+            assert_eq!(rt; fault.to_string(rt.alloc())?.as_str(), text);
+        }
+        Ok(())
     }
 
     #[test]

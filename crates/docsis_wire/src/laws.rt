@@ -1,34 +1,35 @@
-// A header and its eight bytes determine each other, and the pieces determine the cut.
-ghost use Rattle.std.specs.Prelude.{◌≡◌, ℕ, List};
+//! A header and its eight bytes determine each other, and the pieces determine the cut, or its one fault.
+//!
+//! Each function states a law in its contract and does nothing.
+ghost use Rattle.std.specs.Prelude.{◌≡◌, ◌≤◌, ◌↔◌, ℕ, Option, Some, IsSome, IfSome, List, length, take};
 ghost use Rattle.docsis_wire.specs.declared.header.SegmentHeader.{SegmentHeader};
 ghost use Rattle.docsis_wire.specs.declared.pieces.Piece.{Piece};
+ghost use Rattle.docsis_wire.specs.declared.pieces.CutFault.{CutFault};
 ghost use Rattle.docsis_wire.specs.declared.segment.Segment.{Segment};
 ghost use Rattle.docsis_wire.specs.Header.{header_bytes};
 ghost use Rattle.docsis_wire.specs.Cut.{IsLawfulCut};
-ghost use Rattle.docsis_wire.specs.Pieces.{chunks_of, ArePieceSegments};
-
-use crate::header::SegmentHeader;
-use crate::segment::{read_segment, write_segment};
+ghost use Rattle.docsis_wire.specs.Pieces.{chunks_of, ArePieceSegments, IsCuttable, Tells};
 
 /// The same eight bytes are the bytes of one header only.
 pub fn one_header()
     ensures { (head other : SegmentHeader) → header_bytes head ≡ header_bytes other → head ≡ other }
 {}
 
-/// A header is read back from the bytes that it was written as.
-pub fn header_read_back(head: &SegmentHeader) -> Option<SegmentHeader>
-    ensures { result ≡ Some head.now }
-{
-    read_segment(&write_segment(head))
-}
+/// What `read_segment` answers, by its contract, for the bytes that a header is written as is that header.
+pub fn header_read_back()
+    ensures { (head : SegmentHeader) (answer : Option SegmentHeader)
+        → IsSome answer ↔ (8 ≤ length (header_bytes head))
+        → IfSome answer (λ read. header_bytes read ≡ take 8 (header_bytes head))
+        → answer ≡ Some head }
+{}
 
-/// Eight bytes are written again from the header that was read of them.
-pub fn header_written_back(bytes: [u8; 8]) -> Option<[u8; 8]>
-    ensures { result ≡ Some bytes }
-{
-    let head = read_segment(&bytes)?;
-    Some(write_segment(&head))
-}
+/// The header that `read_segment` answers, by its contract, for eight bytes is written as those bytes.
+pub fn header_written_back()
+    ensures { (bytes : List ℕ) (answer : Option SegmentHeader) → length bytes ≡ 8
+        → IsSome answer ↔ (8 ≤ length bytes)
+        → IfSome answer (λ read. header_bytes read ≡ take 8 bytes)
+        → (head : SegmentHeader) × (answer ≡ Some head) × (header_bytes head ≡ bytes) }
+{}
 
 /// The pieces make one cut of the frames: neither a header nor a payload is left open.
 pub fn one_cut()
@@ -36,4 +37,17 @@ pub fn one_cut()
         → IsLawfulCut frames first fill (chunks_of frames pieces) segments → ArePieceSegments fill frames pieces segments
         → IsLawfulCut frames first fill (chunks_of frames pieces) others → ArePieceSegments fill frames pieces others
         → segments ≡ others }
+{}
+
+/// Frames and pieces have at most one first fault, and none where they can be cut.
+pub fn one_fault()
+    ensures { (frames : List (List ℕ)) (pieces : List Piece) (fault other : CutFault)
+        → Tells frames pieces fault → Tells frames pieces other → fault ≡ other }
+{}
+
+/// Where the pieces make a lawful cut of the frames, nothing is at fault.
+pub fn cut_without_fault()
+    ensures { (frames : List (List ℕ)) (pieces : List Piece) (first fill : ℕ) (segments : List Segment)
+        → IsLawfulCut frames first fill (chunks_of frames pieces) segments → ArePieceSegments fill frames pieces segments
+        → IsCuttable frames pieces }
 {}

@@ -181,9 +181,11 @@ fn make(
     Ok(segments)
 }
 
-/// Cuts the frames, end to end, into one segment for each piece. Segment k takes the next `bytes` bytes of
-/// piece k, or those that remain if that is less, and then `fill` bytes of fill. Its number is `first + k`
-/// modulo 8192, and `first` is 0 to 8191; its other fields are 0 but for PFI and the pointer
+/// Cuts the frames, end to end, into one segment for each piece. Of the bytes of the frames segment k takes
+/// as many of the next ones as piece k has in `bytes`, or those that remain if that is less, and behind them
+/// come as many bytes of fill as it has in `fill`. PFI is set exactly where a frame starts in the bytes that
+/// the segment took, and the pointer is then how many of them stand before the first such start; otherwise
+/// it is 0. The number is `first + k` modulo 8192, and `first` is 0 to 8191. All other fields are 0
 /// (CM-SP-MULPIv3.0, segment header format; fill by this project's profile).
 ///
 /// No frame, no piece, and a piece with no bytes are lawful; such a piece may have fill before the first

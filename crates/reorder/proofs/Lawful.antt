@@ -3,7 +3,6 @@ use Rattle.std.proofs.Common.{◌≡◌, ◌≢◌, ℕ, ◌<◌, ◌≤◌, tru
 use Rattle.std.specs.Ordering.{nat_cmp}
 use Rattle.std.specs.FinMap as map
 use Rattle.std.proofs.lemmas.Bool.{cases_eq}
-use Rattle.reorder.specs.declared.TheConstants.{SEQUENCE_NUMBERS, NUMBERS_AHEAD}
 use Rattle.reorder.specs.Number.{offset}
 use Rattle.reorder.specs.View.{WindowView, IsHeld, IsLawful, empty_window, with_item, moved_on, next_taken}
 use Rattle.reorder.proofs.Offsets.{following-in_range, offset-following}
@@ -11,7 +10,7 @@ use Rattle.reorder.proofs.Items.{get-insert_other, get-remove_same, get-remove_o
 
 module _ {T : Type 0} where
   -- nothing is held, so that only the two numbers are asked about
-  pub empty_window-lawful : (first width : ℕ) → first < SEQUENCE_NUMBERS → 1 ≤ width → width ≤ NUMBERS_AHEAD → IsLawful {T = T} (empty_window first width)
+  pub empty_window-lawful : (first width : ℕ) → first < 8192 → 1 ≤ width → width ≤ 4096 → IsLawful {T = T} (empty_window first width)
   empty_window-lawful first width in_range positive widest =
       record {
         expected_in_range = in_range;
@@ -23,7 +22,7 @@ module _ {T : Type 0} where
 
   module _ (w : WindowView T) (lawful : IsLawful w) where
     -- an item is put in less than the width ahead
-    pub with_item-lawful : (number : ℕ) (item : T) → number < SEQUENCE_NUMBERS → offset w.expected number < w.width → IsLawful (with_item w number item)
+    pub with_item-lawful : (number : ℕ) (item : T) → number < 8192 → offset w.expected number < w.width → IsLawful (with_item w number item)
     with_item-lawful number item in_range within =
         record {
           expected_in_range = lawful.expected_in_range;
@@ -31,7 +30,7 @@ module _ {T : Type 0} where
           width_in_range = lawful.width_in_range;
           held_in_range = λ q h.
               ⊎_elim
-              (λ same. subst (λ n. n < SEQUENCE_NUMBERS) (sym same) in_range)
+              (λ same. subst (λ n. n < 8192) (sym same) in_range)
               (λ differ. lawful.held_in_range q (ap is_some (sym (get-insert_other w.held number item q differ)) ∙ h))
               (cases_eq q number);
           held_within = λ q h.

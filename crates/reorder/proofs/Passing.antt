@@ -1,7 +1,6 @@
 -- The expected number after any calls, and how a number that passed stands to it.
 use Rattle.std.proofs.Common.{◌≡◌, ℕ, ◌+◌, ◌%◌, ◌<◌, ◌≤◌, List, [], ◌∷◌, Some, None, refl, ap, sym, ◌∙◌, arith}
 use Rattle.std.proofs.lemmas.List.Sums.{sum_by-cons}
-use Rattle.reorder.specs.declared.TheConstants.{SEQUENCE_NUMBERS, NUMBERS_AHEAD}
 use Rattle.reorder.specs.Number.{offset}
 use Rattle.reorder.specs.View.{WindowView, IsLawful}
 use Rattle.reorder.specs.Answers.{IsVerdict}
@@ -11,24 +10,24 @@ use Rattle.reorder.specs.declared.answer.Verdict.TheVariants.{Late, Beyond, Repe
 use Rattle.reorder.specs.declared.answer.Declared.TheVariants.{NextIsHere, NothingHeld, Lost}
 
 -- no number passed
-stays_put : (e : ℕ) → e < SEQUENCE_NUMBERS → e ≡ (e + 0) % SEQUENCE_NUMBERS
+stays_put : (e : ℕ) → e < 8192 → e ≡ (e + 0) % 8192
 stays_put e h = omega arith
 
 -- some numbers passed, and then some more
-passes_on : (e a b n : ℕ) → n ≡ (e + a) % SEQUENCE_NUMBERS → (n + b) % SEQUENCE_NUMBERS ≡ (e + (a + b)) % SEQUENCE_NUMBERS
+passes_on : (e a b n : ℕ) → n ≡ (e + a) % 8192 → (n + b) % 8192 ≡ (e + (a + b)) % 8192
 passes_on e a b n is = omega arith
 
 -- a number that passed lies behind while fewer than 4,096 others passed after it
-behind : (e k n : ℕ) → e < SEQUENCE_NUMBERS → k < NUMBERS_AHEAD → n ≡ (e + (1 + k)) % SEQUENCE_NUMBERS → NUMBERS_AHEAD ≤ offset n e
+behind : (e k n : ℕ) → e < 8192 → k < 4096 → n ≡ (e + (1 + k)) % 8192 → 4096 ≤ offset n e
 behind e k n h few is = omega arith
 
 -- and ahead as soon as they are 4,096
-ahead : (e n : ℕ) → e < SEQUENCE_NUMBERS → n ≡ (e + (1 + NUMBERS_AHEAD)) % SEQUENCE_NUMBERS → offset n e < NUMBERS_AHEAD
+ahead : (e n : ℕ) → e < 8192 → n ≡ (e + (1 + 4096)) % 8192 → offset n e < 4096
 ahead e n h is = omega arith
 
 module _ {T : Type 0} where
   -- a call moves the expected number on by the numbers that it passed
-  after_call-expected : (w : WindowView T) (call : Call T) → w.expected < SEQUENCE_NUMBERS → (after_call w call).expected ≡ (w.expected + passed_by call) % SEQUENCE_NUMBERS
+  after_call-expected : (w : WindowView T) (call : Call T) → w.expected < 8192 → (after_call w call).expected ≡ (w.expected + passed_by call) % 8192
   after_call-expected w (offer number item (Late _)) h = stays_put w.expected h
   after_call-expected w (offer number item (Beyond _)) h = stays_put w.expected h
   after_call-expected w (offer number item (Repeat _)) h = stays_put w.expected h
@@ -54,13 +53,13 @@ module _ {T : Type 0} where
   after_call-width w (declare NothingHeld) = refl
 
   -- so do all calls together
-  pub after_calls-expected : (w : WindowView T) (calls : List (Call T)) → w.expected < SEQUENCE_NUMBERS → (after_calls w calls).expected ≡ (w.expected + numbers_passed calls) % SEQUENCE_NUMBERS
+  pub after_calls-expected : (w : WindowView T) (calls : List (Call T)) → w.expected < 8192 → (after_calls w calls).expected ≡ (w.expected + numbers_passed calls) % 8192
   after_calls-expected w [] h = stays_put w.expected h
   after_calls-expected w (call ∷ calls) h =
       let first = after_call-expected w call h in
       after_calls-expected (after_call w call) calls (omega arith)
       ∙ passes_on w.expected (passed_by call) (numbers_passed calls) _ first
-      ∙ ap (λ n. (w.expected + n) % SEQUENCE_NUMBERS) (sym (sum_by-cons passed_by call calls))
+      ∙ ap (λ n. (w.expected + n) % 8192) (sym (sum_by-cons passed_by call calls))
 
   -- and so do all calls
   pub after_calls-width : (w : WindowView T) (calls : List (Call T)) → (after_calls w calls).width ≡ w.width
@@ -68,7 +67,7 @@ module _ {T : Type 0} where
   after_calls-width w (call ∷ calls) = after_calls-width (after_call w call) calls ∙ after_call-width w call
 
   -- behind the expected number there is one verdict
-  Late-behind : (w : WindowView T) (number : ℕ) (item : T) (verdict : Verdict T) → w.width ≤ NUMBERS_AHEAD → NUMBERS_AHEAD ≤ offset w.expected number → IsVerdict w number item verdict → verdict ≡ Late item
+  Late-behind : (w : WindowView T) (number : ℕ) (item : T) (verdict : Verdict T) → w.width ≤ 4096 → 4096 ≤ offset w.expected number → IsVerdict w number item verdict → verdict ≡ Late item
   Late-behind w number item (Late back) width far given = ap Late given.1
   Late-behind w number item (Beyond back) width far given = absurd (omega arith)
   Late-behind w number item (Repeat back) width far given = absurd (omega arith)
@@ -77,21 +76,21 @@ module _ {T : Type 0} where
 
   module _ (w : WindowView T) (call : Call T) (calls : List (Call T)) (lawful : IsLawful w) (passed : passed_by call ≡ 1) where
     -- where the expected number is then
-    moved : (after_calls w (call ∷ calls)).expected ≡ (w.expected + (1 + numbers_passed calls)) % SEQUENCE_NUMBERS
+    moved : (after_calls w (call ∷ calls)).expected ≡ (w.expected + (1 + numbers_passed calls)) % 8192
     moved =
         after_calls-expected w (call ∷ calls) lawful.expected_in_range
-        ∙ ap (λ n. (w.expected + n) % SEQUENCE_NUMBERS) (sum_by-cons passed_by call calls)
-        ∙ ap (λ n. (w.expected + (n + numbers_passed calls)) % SEQUENCE_NUMBERS) passed
+        ∙ ap (λ n. (w.expected + n) % 8192) (sum_by-cons passed_by call calls)
+        ∙ ap (λ n. (w.expected + (n + numbers_passed calls)) % 8192) passed
 
     -- and so the number that passed is late
-    pub passed_is_late : (item : T) (verdict : Verdict T) → numbers_passed calls < NUMBERS_AHEAD → IsVerdict (after_calls w (call ∷ calls)) w.expected item verdict → verdict ≡ Late item
+    pub passed_is_late : (item : T) (verdict : Verdict T) → numbers_passed calls < 4096 → IsVerdict (after_calls w (call ∷ calls)) w.expected item verdict → verdict ≡ Late item
     passed_is_late item verdict few given =
         let width = after_calls-width w (call ∷ calls) in
         let widest = lawful.width_in_range in
         Late-behind (after_calls w (call ∷ calls)) w.expected item verdict (omega arith) (behind w.expected (numbers_passed calls) _ lawful.expected_in_range few moved) given
 
     -- or, once it is half way round, is not
-    pub passed_lies_ahead : (item : T) → numbers_passed calls ≡ NUMBERS_AHEAD → ¬ (IsVerdict (after_calls w (call ∷ calls)) w.expected item (Late item))
+    pub passed_lies_ahead : (item : T) → numbers_passed calls ≡ 4096 → ¬ (IsVerdict (after_calls w (call ∷ calls)) w.expected item (Late item))
     passed_lies_ahead item enough given =
-        let near = ahead w.expected (after_calls w (call ∷ calls)).expected lawful.expected_in_range (moved ∙ ap (λ n. (w.expected + (1 + n)) % SEQUENCE_NUMBERS) enough) in
+        let near = ahead w.expected (after_calls w (call ∷ calls)).expected lawful.expected_in_range (moved ∙ ap (λ n. (w.expected + (1 + n)) % 8192) enough) in
         omega arith

@@ -2,7 +2,6 @@
 use Rattle.std.specs.Prelude.{◌≡◌, ℕ, ◌<◌, ◌≤◌, Option, None, Some}
 use Rattle.std.specs.FinMap as map
 use Rattle.reorder.specs.View.{WindowView, offset_in, IsHeld, with_item, moved_on, next_taken}
-use Rattle.reorder.specs.declared.TheConstants.{NUMBERS_AHEAD}
 use Rattle.reorder.specs.declared.answer.Verdict.{Verdict}
 use Rattle.reorder.specs.declared.answer.Verdict.TheVariants.{Late, Beyond, Repeat, NoMemory, Kept}
 use Rattle.reorder.specs.declared.answer.Declared.{Declared}
@@ -13,9 +12,9 @@ module _ {T : Type 0} where
   -- looked for. Every verdict but `Kept` hands the item back. `NoMemory` and `Kept` come in one
   -- case: there memory decides.
   abbrev pub IsVerdict : WindowView T → ℕ → T → Verdict T → Type 0
-  IsVerdict w number item (Late back) = (NUMBERS_AHEAD ≤ offset_in w number) × (back ≡ item)
+  IsVerdict w number item (Late back) = (4096 ≤ offset_in w number) × (back ≡ item)
   IsVerdict w number item (Beyond back) =
-      (offset_in w number < NUMBERS_AHEAD) × (w.width ≤ offset_in w number) × (back ≡ item)
+      (offset_in w number < 4096) × (w.width ≤ offset_in w number) × (back ≡ item)
   IsVerdict w number item (Repeat back) =
       (offset_in w number < w.width) × IsHeld w number × (back ≡ item)
   IsVerdict w number item (NoMemory back) =

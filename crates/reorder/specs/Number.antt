@@ -1,11 +1,10 @@
 -- Segment sequence numbers, which run from 0 to 8191 and then begin again.
 use Rattle.std.specs.Prelude.{ℕ, ◌+◌, ◌-◌, ◌%◌}
-use Rattle.reorder.specs.declared.TheConstants.{SEQUENCE_NUMBERS}
 
 -- how far a number lies ahead of the expected one, going up and round; 0 is the expected one itself
 abbrev pub offset : ℕ → ℕ → ℕ
-offset expected number = (number + SEQUENCE_NUMBERS - expected) % SEQUENCE_NUMBERS
+offset expected number = (number + 8192 - expected) % 8192
 
 -- the number after this one
 abbrev pub following : ℕ → ℕ
-following number = (number + 1) % SEQUENCE_NUMBERS
+following number = (number + 1) % 8192

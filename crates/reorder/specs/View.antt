@@ -4,7 +4,6 @@ use Rattle.std.specs.Ordering.{nat_cmp}
 use Rattle.std.specs.Coded.{Coded, code_by, coded×, coded_ℕ}
 use Rattle.std.specs.FinMap as map
 use Rattle.reorder.specs.Number.{offset, following}
-use Rattle.reorder.specs.declared.TheConstants.{SEQUENCE_NUMBERS, NUMBERS_AHEAD}
 
 -- The number that is expected, how many numbers from it on may be held, and the held items by their
 -- numbers. The key is the number and not its offset, so that what is held stays as it is when the
@@ -44,10 +43,10 @@ module _ {T : Type 0} where
 
   -- what every window keeps
   pub record IsLawful (w : WindowView T) : Type 0 where
-    pub expected_in_range : w.expected < SEQUENCE_NUMBERS
+    pub expected_in_range : w.expected < 8192
     pub width_positive : 1 ≤ w.width
-    pub width_in_range : w.width ≤ NUMBERS_AHEAD
-    pub held_in_range : (number : ℕ) → IsHeld w number → number < SEQUENCE_NUMBERS
+    pub width_in_range : w.width ≤ 4096
+    pub held_in_range : (number : ℕ) → IsHeld w number → number < 8192
     pub held_within : (number : ℕ) → IsHeld w number → offset_in w number < w.width
 
   -- a window that holds nothing

@@ -9,8 +9,6 @@ ghost use Rattle.reorder.specs.Calls.{Agree, with_memory};
 ghost use Rattle.reorder.specs.declared.answer.Verdict.{Verdict};
 ghost use Rattle.reorder.specs.declared.answer.Declared.{Declared};
 
-use crate::NUMBERS_AHEAD;
-
 /// An item that is kept under the expected number is the next one taken, and then the window is as
 /// it was but for the expected number, which is the following one.
 pub fn kept_is_taken_next<T>()
@@ -26,11 +24,11 @@ pub fn kept_is_taken_next<T>()
 pub fn passed_is_late<T>()
     ensures late { (w : WindowView T) (call : Call T) (calls : List (Call T))
         → (item : T) (verdict : Verdict T)
-        → IsLawful w → passed_by call ≡ 1 → numbers_passed calls < NUMBERS_AHEAD
+        → IsLawful w → passed_by call ≡ 1 → numbers_passed calls < 4096
         → IsVerdict (after_calls w (call ∷ calls)) w.expected item verdict
         → verdict ≡ Verdict.Late item }
     ensures ahead_again { (w : WindowView T) (call : Call T) (calls : List (Call T)) (item : T)
-        → IsLawful w → passed_by call ≡ 1 → numbers_passed calls ≡ NUMBERS_AHEAD
+        → IsLawful w → passed_by call ≡ 1 → numbers_passed calls ≡ 4096
         → ¬ (IsVerdict (after_calls w (call ∷ calls)) w.expected item (Verdict.Late item)) }
 {}
 

@@ -40,12 +40,12 @@ impl<T> Model for Window<T> {
 }
 
 impl<T> Window<T> {
-    /// A window that holds nothing and waits for `first`. It keeps `alloc` for what it will hold.
-    /// `Err` comes only for want of memory.
+    /// A window that holds nothing and waits for the number `first`, 0 to 8191. Its `width` is 1 to
+    /// 4096. It keeps `alloc` for what it will hold. `Err` comes only for want of memory.
     pub fn new(alloc: Global, first: u16, width: u16) -> Result<Window<T>, AllocError>
-        requires first_in_range { first < SEQUENCE_NUMBERS }
+        requires first_in_range { first < 8192 }
         requires width_positive { 1 ≤ width }
-        requires width_in_range { width ≤ NUMBERS_AHEAD }
+        requires width_in_range { width ≤ 4096 }
         ensures empty { IfOk result (λ window. window ≡ empty_window first width) }
         ensures lawful { IfOk result IsLawful }
     {
@@ -56,10 +56,12 @@ impl<T> Window<T> {
         })
     }
 
-    /// Takes the item in if its number is less than the width ahead and is not held yet. `NoMemory`
-    /// comes only where `Kept` would come otherwise; the same offer may then be made again.
+    /// Takes the item in if its number, 0 to 8191, is less than the width ahead and is not held yet.
+    /// Otherwise it answers, looked for in this order, `Late`, `Beyond` or `Repeat`. `NoMemory` comes
+    /// only where `Kept` would come otherwise; the same offer may then be made again. Only `Kept`
+    /// changes anything.
     pub fn offer(&mut self, number: u16, item: T) -> Verdict<T>
-        requires { number < SEQUENCE_NUMBERS }
+        requires { number < 8192 }
         ensures verdict { IsVerdict self.old number item result }
         ensures after { self.new ≡ after_offer self.old number item result }
         ensures lawful { IsLawful self.new }
@@ -81,7 +83,7 @@ impl<T> Window<T> {
         }
     }
 
-    /// The item that is held under the expected number.
+    /// The item that is held under the expected number, if there is one.
     pub fn next(&self) -> Option<&T>
         ensures item { option_copied result ≡ held_at self.now self.now.expected }
         ensures lawful { IsLawful self.now }
@@ -90,6 +92,7 @@ impl<T> Window<T> {
     }
 
     /// Takes out the item that is held under the expected number, and then expects the next number.
+    /// If there is none it answers `None` and changes nothing.
     pub fn take_next(&mut self) -> Option<T>
         ensures item { result ≡ held_at self.old self.old.expected }
         ensures after { self.new ≡ after_take_next self.old result }
@@ -101,7 +104,8 @@ impl<T> Window<T> {
     }
 
     /// Gives the expected number up as lost, if it is not held and something else is, and then
-    /// expects the next number. When to declare a number lost is for the caller to decide.
+    /// expects the next number. Otherwise it says why not, and changes nothing. When to declare a
+    /// number lost is for the caller to decide.
     pub fn declare(&mut self) -> Declared
         ensures answer { IsDeclared self.old result }
         ensures after { self.new ≡ after_declare self.old result }
@@ -136,15 +140,15 @@ impl<T> Window<T> {
 }
 
 fn offset_of(expected: u16, number: u16) -> u16
-    requires expected_in_range { expected < SEQUENCE_NUMBERS }
-    requires number_in_range { number < SEQUENCE_NUMBERS }
+    requires expected_in_range { expected < 8192 }
+    requires number_in_range { number < 8192 }
     ensures { result ≡ offset expected number }
 {
     (number + SEQUENCE_NUMBERS - expected) % SEQUENCE_NUMBERS
 }
 
 fn number_after(number: u16) -> u16
-    requires { number < SEQUENCE_NUMBERS }
+    requires { number < 8192 }
     ensures { result ≡ following number }
 {
     (number + 1) % SEQUENCE_NUMBERS

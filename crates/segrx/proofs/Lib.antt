@@ -4,7 +4,11 @@ pub mod LineReadings
 pub mod JoinedSoFar
 pub mod Digits
 pub mod OneSegment
+pub mod FirstFault
 pub mod OneAnswer
+pub mod OneCutLine
+pub mod OneCutAnswer
+pub mod OneCutFault
 pub mod AskedWords
 pub mod CutSoFar
 pub mod HexText

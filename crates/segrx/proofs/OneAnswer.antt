@@ -1,5 +1,5 @@
--- An input has one answer: its text, or its first fault.
-use Rattle.std.proofs.Common.{◌≡◌, ℕ, suc, ◌<◌, ◌≤◌, List, [], ◌∷◌, ◌++◌, length, Ok, Err, inl, inr, refl, sym, ap, ◌∙◌, subst, arith}
+-- An input of `join` has one answer: its text, or its first fault.
+use Rattle.std.proofs.Common.{◌≡◌, ℕ, ◌<◌, ◌≤◌, List, [], ◌∷◌, length, Ok, Err, inl, inr, refl, sym, ap, ◌∙◌, subst, arith}
 use Rattle.std.specs.Prelude.{codes}
 use Rattle.docsis_wire.specs.declared.segment.Segment.{Segment}
 use Rattle.docsis_wire.specs.Ready.{IsReady}
@@ -8,11 +8,12 @@ use Rattle.hex.specs.declared.error.FromHexError.TheVariants.{OddLength}
 use Rattle.segrx.specs.declared.fault.TraceKind.{TraceKind}
 use Rattle.segrx.specs.declared.fault.TraceKind.TheVariants.{UnknownLine, FieldCount, BadNumber, NotHex, TooShort, PointerPast}
 use Rattle.segrx.specs.declared.fault.TraceFault.{TraceFault}
-use Rattle.segrx.specs.Lines.{fields_of}
+use Rattle.segrx.specs.Lines.{lines_of, fields_of}
 use Rattle.segrx.specs.Field.{SpellsBytes}
 use Rattle.segrx.specs.JoinLine.{IsSkipped, Carries, HasFault, IsNotHex, IsTooShort, PointsPast, segment_bytes}
 use Rattle.segrx.specs.Join.{ReadAs, no_lines, skipped, carried, IsFirstFault}
 use Rattle.segrx.proofs.OneSegment.{segment_bytes-injective}
+use Rattle.segrx.proofs.FirstFault.{Reading, all_read, one_first, same_fault}
 
 -- ---- one field, one reading
 
@@ -20,7 +21,7 @@ use Rattle.segrx.proofs.OneSegment.{segment_bytes-injective}
 dash : (bytes : List ℕ) → decode_of (codes "-") ≡ Ok bytes → ⊥
 dash bytes h = let odd : decode_of (codes "-") ≡ Err OddLength = refl in let no : Ok bytes ≡ Err OddLength = sym h ∙ odd in cc no
 
-one_spelling : (field bytes other : List ℕ) → SpellsBytes field bytes → SpellsBytes field other → bytes ≡ other
+pub one_spelling : (field bytes other : List ℕ) → SpellsBytes field bytes → SpellsBytes field other → bytes ≡ other
 one_spelling field bytes other (inl a) (inl b) = a.1 ∙ sym b.1
 one_spelling field bytes other (inl a) (inr b) = absurd (dash other (subst (λ f. decode_of f ≡ Ok other) a.0 b))
 one_spelling field bytes other (inr a) (inl b) = absurd (dash bytes (subst (λ f. decode_of f ≡ Ok bytes) b.0 a))
@@ -132,37 +133,22 @@ one_reading (carried a more) (skipped b rest) = absurd (not_skipped_and_carried 
 one_reading (carried {segment = s} {segments = ss} a more) (carried {segment = t} b rest) =
     ap (λ x. x ∷ ss) (one_carried _ s t a b) ∙ ap (λ xs. t ∷ xs) (one_reading more rest)
 
--- lines that were all read have no fault
-pub read_without_fault : (above : List (List ℕ)) (line : List ℕ) (below lines : List (List ℕ)) (segments : List Segment) (kind : TraceKind)
-    → ReadAs lines segments → lines ≡ above ++ line ∷ below → HasFault line kind → ⊥
-read_without_fault [] line below lines segments kind read is fault = first_is_lawful kind (subst (λ xs. ReadAs xs segments) is read) fault
-read_without_fault (x ∷ above) line below lines segments kind read is fault =
-    let more = others_are_read (subst (λ xs. ReadAs xs segments) is read) in
-    read_without_fault above line below (above ++ line ∷ below) more.0 kind more.1 refl fault
+-- lines that `join` reads, and their faults
+abbrev join_reading : Reading
+join_reading = record {
+  Reads = λ lines. (segments : List Segment) × ReadAs lines segments;
+  Faulty = λ line. (kind : TraceKind) × HasFault line kind;
+  others = λ line lines read. others_are_read read.1;
+  first = λ line lines read fault. first_is_lawful fault.0 read.1 fault.1;
+}
 
--- the first line with a fault is the same each time
-one_first : (above over : List (List ℕ)) (line other : List ℕ) (below under : List (List ℕ)) (segments others : List Segment) (kind j : TraceKind)
-    → above ++ line ∷ below ≡ over ++ other ∷ under → ReadAs above segments → ReadAs over others → HasFault line kind → HasFault other j
-    → (length above ≡ length over) × (line ≡ other)
-one_first [] [] line other below under segments others kind j same read again fault other_fault = (refl, cc)
-one_first [] (y ∷ over) line other below under segments others kind j same read again fault other_fault =
-    let is : line ≡ y = cc in
-    absurd (first_is_lawful kind again (subst (λ l. HasFault l kind) is fault))
-one_first (x ∷ above) [] line other below under segments others kind j same read again fault other_fault =
-    let is : other ≡ x = cc in
-    absurd (first_is_lawful j read (subst (λ l. HasFault l j) is other_fault))
-one_first (x ∷ above) (y ∷ over) line other below under segments others kind j same read again fault other_fault =
-    let rest : above ++ line ∷ below ≡ over ++ other ∷ under = cc in
-    let more = others_are_read read in
-    let rest_more = others_are_read again in
-    let found = one_first above over line other below under more.0 rest_more.0 kind j rest more.1 rest_more.1 fault other_fault in
-    (ap suc found.0, found.1)
+-- lines that were all read have no fault
+pub read_without_fault : (input : List ℕ) (segments : List Segment) (fault : TraceFault) → ReadAs (lines_of input) segments → IsFirstFault input fault → ⊥
+read_without_fault input segments fault read h = all_read join_reading h.above h.line h.below (lines_of input) (segments, read) h.lines (fault.kind, h.kind)
 
 -- an input has one first fault
 pub one_first_fault : (input : List ℕ) (fault other : TraceFault) → IsFirstFault input fault → IsFirstFault input other → fault ≡ other
 one_first_fault input fault other a b =
-    let found = one_first a.above b.above a.line b.line a.below b.below a.segments b.segments fault.kind other.kind (sym a.lines ∙ b.lines) a.lawful b.lawful a.kind b.kind in
-    let number : fault.line ≡ other.line = omega (arith, a.number, b.number, found.0) in
-    let kind : fault.kind ≡ other.kind = one_kind b.line fault.kind other.kind (subst (λ l. HasFault l fault.kind) found.1 a.kind) b.kind in
-    let make : ℕ → TraceKind → TraceFault = λ line kind. record { line = line; kind = kind } in
-    ap (λ line. make line fault.kind) number ∙ ap (make other.line) kind
+    let found = one_first join_reading a.above b.above a.line b.line a.below b.below (sym a.lines ∙ b.lines) (a.segments, a.lawful) (b.segments, b.lawful)
+    (fault.kind, a.kind) (other.kind, b.kind) in
+    same_fault fault other (omega (arith, a.number, b.number, found.0)) (one_kind b.line fault.kind other.kind (subst (λ l. HasFault l fault.kind) found.1 a.kind) b.kind)

@@ -1,7 +1,10 @@
-// Each definition of `join` determines its answer: an input has one text, or one first fault.
-ghost use Rattle.std.specs.Prelude.{◌≡◌, ℕ, List};
+// The definitions of `join` and of `cut` determine their answers: an input has one text, or one first fault.
+ghost use Rattle.std.specs.Prelude.{◌≡◌, ◌≢◌, ℕ, List};
+ghost use Rattle.docsis_wire.specs.declared.pieces.FillByte.{FillByte};
 ghost use Rattle.segrx.specs.declared.fault.TraceFault.{TraceFault};
+ghost use Rattle.segrx.specs.declared.fault.EngineFault.{EngineFault};
 ghost use Rattle.segrx.specs.Join.{IsJoined, IsFirstFault};
+ghost use Rattle.segrx.specs.Cut.{IsCutText, IsCutFault};
 
 /// At most one text stands for an input.
 pub fn one_text()
@@ -22,3 +25,29 @@ pub fn text_or_fault()
     ensures { (input text : List ℕ) (fault : TraceFault)
         → IsJoined input text → IsFirstFault input fault → ⊥ }
 {}
+
+/// At most one text stands for an input of `cut`.
+pub fn one_cut_text()
+    ensures { (first : ℕ) (fill : FillByte) (input text other : List ℕ)
+        → IsCutText first fill input text → IsCutText first fill input other → text ≡ other }
+{
+    docsis_wire::one_cut();
+}
+
+/// An input of `cut` has at most one first fault, be it of a line or of the frames and the pieces.
+pub fn one_cut_fault()
+    ensures { (input : List ℕ) (fault other : EngineFault)
+        → IsCutFault input fault → fault ≢ EngineFault.OutOfMemory
+        → IsCutFault input other → other ≢ EngineFault.OutOfMemory → fault ≡ other }
+{
+    docsis_wire::one_fault();
+}
+
+/// No text stands for an input of `cut` that has a fault.
+pub fn cut_text_or_fault()
+    ensures { (first : ℕ) (fill : FillByte) (input text : List ℕ) (fault : EngineFault)
+        → IsCutText first fill input text → IsCutFault input fault → fault ≡ EngineFault.OutOfMemory }
+{
+    docsis_wire::cut_without_fault();
+    docsis_wire::one_fault();
+}

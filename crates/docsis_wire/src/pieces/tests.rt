@@ -433,6 +433,59 @@ fn points_no_further_than_a_pointer_can(rt: HostRuntime) -> Result<(), Fail> {
     Ok(())
 }
 
+/// Frames without payload end to end, in pieces of two bytes: three pieces a frame.
+#[test]
+fn cuts_into_many_pieces(rt: HostRuntime) -> Result<(), Fail> {
+    let mut frames = Vec::new(rt.alloc());
+    let mut pieces = Vec::new(rt.alloc());
+    for number in 0..2000_u32 {
+        let frame = Vec::from_slice(rt.alloc(), &[0, 1 + (number % 255) as u8, 0, 0, 0, 0])?;
+        frames.push(Bytes::from(frame))?;
+        for _ in 0..3 {
+            pieces.push(Piece { bytes: 2, fill: 0 })?;
+        }
+    }
+    let segments = cut(rt.alloc(), &frames, &pieces, 8000, FillByte::Ones)?;
+    assert_eq!(rt; segments.len(), 6000);
+    for (index, segment) in segments.iter().enumerate() {
+        let starts = index % 3 == 0;
+        assert_eq!(rt; segment.head.pfi, starts, "{index}");
+        assert_eq!(rt; segment.head.pointer, 0, "{index}");
+        assert_eq!(rt;
+            usize::from(segment.head.sequence),
+            (8000 + index) % 8192,
+            "{index}"
+        );
+        let mark = if starts {
+            1 + (index / 3 % 255) as u8
+        } else {
+            0
+        };
+        assert_eq!(rt; segment.payload.as_slice(), [0, mark].as_slice(), "{index}");
+    }
+    Ok(())
+}
+
+#[test]
+fn says_what_is_at_fault(rt: HostRuntime) -> Result<(), Fail> {
+    let texts = [
+        (CutFault::BadFrame(3), "frame 3 is not a frame"),
+        (
+            CutFault::FillInsideFrame(0),
+            "piece 0 has fill inside a frame",
+        ),
+        (
+            CutFault::PointerTooFar(12),
+            "piece 12 has a pointer past 16383",
+        ),
+        (CutFault::OutOfMemory, "out of memory"),
+    ];
+    for (fault, text) in texts {
+        assert_eq!(rt; fault.to_string(rt.alloc())?.as_str(), text);
+    }
+    Ok(())
+}
+
 mod refusals {
     use super::*;
 

@@ -1,7 +1,6 @@
 use Rattle.std.proofs.Common.{◌≡◌, ℕ, ◌<◌, Some, refl, ap, sym, subst, ◌∙◌, arith}
 use Rattle.std.specs.Ordering.{nat_cmp}
 use Rattle.std.specs.BTreeMap.{BTreeMap, Updates}
-use Rattle.reorder.specs.declared.TheConstants.{SEQUENCE_NUMBERS}
 use Rattle.reorder.specs.Number.{offset}
 use Rattle.reorder.specs.View.{WindowView, IsHeld, IsLawful, seen, with_item}
 use Rattle.reorder.specs.Answers.{IsVerdict, after_offer}
@@ -16,7 +15,7 @@ module _ {T : Type 0} (m n : BTreeMap ℕ T) (expected width : ℕ) (lawful : Is
   stays_lawful same = subst (λ es. IsLawful (seen expected width es)) (sym same) lawful
 
   -- an entry was put in
-  put_lawful : (number : ℕ) (item : T) → number < SEQUENCE_NUMBERS → offset expected number < width → Updates nat_cmp m n number (Some item) → IsLawful (seen expected width n.entries)
+  put_lawful : (number : ℕ) (item : T) → number < 8192 → offset expected number < width → Updates nat_cmp m n number (Some item) → IsLawful (seen expected width n.entries)
   put_lawful number item in_range within updates =
       subst (λ (w : WindowView T). IsLawful w) (sym (seen-put m n expected width number item updates)) (with_item-lawful _ lawful number item in_range within)
 
