@@ -9,6 +9,7 @@ pub mod OneAnswer
 pub mod OneCutLine
 pub mod OneCutAnswer
 pub mod OneCutFault
+pub mod Statuses
 pub mod AskedWords
 pub mod CutSoFar
 pub mod HexText

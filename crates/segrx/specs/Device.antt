@@ -25,14 +25,14 @@ RecordsRead old new r =
     (λ n. (has_failed new ≡ has_failed old) × (given_of new ≡ min (given_of old + n) (2 ^ 64 - 1)))
     (λ _. (has_failed new ≡ true) × (given_of new ≡ given_of old))
 
--- a write that took some bytes, or had none to take, is no failure; every other one is
+-- a write that took some bytes, or had none to take, is no failure; every other one is; none gives bytes
 abbrev pub RecordsWrite : {T E : Type 0} → Device T → Device T → List ℕ → Result ℕ E → Type 0
 RecordsWrite old new buf r =
     MatchResult r
     (λ n. ((n ≢ 0) → has_failed new ≡ has_failed old) × (buf ≡ [] → has_failed new ≡ has_failed old)
     × (n ≡ 0 → buf ≢ [] → has_failed new ≡ true))
-    (λ _. has_failed new ≡ true)
+    (λ _. has_failed new ≡ true) × (given_of new ≡ given_of old)
 
--- a flush fails where it answers an error
+-- a flush fails where it answers an error, and gives no bytes
 abbrev pub RecordsFlush : {T E : Type 0} → Device T → Device T → Result (Unit {0}) E → Type 0
-RecordsFlush old new r = MatchResult r (λ _. has_failed new ≡ has_failed old) (λ _. has_failed new ≡ true)
+RecordsFlush old new r = MatchResult r (λ _. has_failed new ≡ has_failed old) (λ _. has_failed new ≡ true) × (given_of new ≡ given_of old)

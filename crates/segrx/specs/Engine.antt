@@ -1,5 +1,5 @@
 -- What an engine writes for the input that it reads, and why it could not.
-use Rattle.std.specs.Prelude.{◌≡◌, ℕ, List, Option, true, IfSome}
+use Rattle.std.specs.Prelude.{◌≡◌, ◌≢◌, ℕ, List, [], Option, true, IfSome}
 use Rattle.std.specs.Io.KnownBytes.{Appends}
 use Rattle.segrx.specs.declared.device.Device.{Device}
 use Rattle.segrx.specs.declared.fault.EngineFault.{EngineFault}
@@ -11,9 +11,9 @@ use Rattle.segrx.specs.Transfer.{AppendsFront, IsReadFault}
 abbrev pub WritesText : (List ℕ → List ℕ → Type 0) → Option (List ℕ) → Option (List ℕ) → List ℕ → Type 0
 WritesText IsTextOf old new input = (text : List ℕ) × IsTextOf input text × Appends old new text
 
--- known bytes grew by a front of the text that stands for an input
+-- known bytes grew by a front of the text that stands for an input, and that text is not empty
 abbrev pub WritesFront : (List ℕ → List ℕ → Type 0) → Option (List ℕ) → Option (List ℕ) → List ℕ → Type 0
-WritesFront IsTextOf old new input = (text : List ℕ) × IsTextOf input text × AppendsFront old new text
+WritesFront IsTextOf old new input = (text : List ℕ) × IsTextOf input text × (text ≢ []) × AppendsFront old new text
 
 -- an input, the known one where it is known, has this fault
 abbrev pub IsFaultOfKnown : (List ℕ → EngineFault → Type 0) → Option (List ℕ) → EngineFault → Type 0

@@ -20,6 +20,10 @@ IsReadFault device = (has_failed device ≡ true) ⊎ (268435456 < given_of devi
 abbrev pub IsRead : {T : Type 0} → Device T → Type 0
 IsRead device = (has_failed device ≡ false) × (given_of device ≤ 268435456)
 
+-- a reader was read to its end: it did not fail and gave no more than an engine reads, and nothing is left of the bytes that it is known to have
+abbrev pub IsReadToEnd : {T : Type 0} → Device T → Option (List ℕ) → Type 0
+IsReadToEnd device left = IsRead device × IsAtEnd left
+
 -- a reader did not fail, and gave just these bytes as far as can be counted, no more than an engine reads
 abbrev pub IsCounted : {T : Type 0} → Device T → List ℕ → Type 0
 IsCounted device input = (has_failed device ≡ false) × (given_of device ≡ length input) × (length input ≤ 268435456)

@@ -1,5 +1,5 @@
-ghost use Rattle.std.specs.Prelude.{◌≡◌, ◌<◌, ◌↔◌, map, IsTrue, IfOk};
-ghost use Rattle.segrx.specs.Command.{AsksToJoin, IsWithinRange};
+ghost use Rattle.std.specs.Prelude.{◌≡◌, ◌<◌, ◌↔◌, map, IsTrue, IfOk, IfSome};
+ghost use Rattle.segrx.specs.Command.{AsksToJoin, AsksToCut, IsHelpWord, StandsBeforeHelp, Asks};
 
 use crate::number::read_number;
 use clap::error::ErrorKind;
@@ -79,7 +79,7 @@ fn command_line<'a>(alloc: Global) -> Result<clap::Command<'a>, AllocError> {
         .subcommand(cut_command(alloc)?)
 }
 
-/// Whether the words, the program's name first, ask for no more than to join.
+/// Whether the words, the program's name first, ask to join and for nothing else.
 fn asks_to_join<S: AsStr>(words: &[S]) -> bool
     ensures { IsTrue result ↔ AsksToJoin (map S.text words.now) }
 {
@@ -88,6 +88,36 @@ fn asks_to_join<S: AsStr>(words: &[S]) -> bool
         [_, word] => word.as_str() == "join",
         _ => false,
     }
+}
+
+/// Whether the words, the program's name first, begin with the command `cut`.
+fn asks_to_cut<S: AsStr>(words: &[S]) -> bool
+    ensures { IsTrue result ↔ AsksToCut (map S.text words.now) }
+{
+    match words {
+        [_, word, ..] => word.as_str() == "cut",
+        _ => false,
+    }
+}
+
+/// Whether a word asks for help.
+fn asks_for_help(word: &str) -> bool
+    ensures { IsTrue result ↔ IsHelpWord word.now }
+{
+    word == "-h" || word == "--help"
+}
+
+/// The words before the first one behind the program's name that asks for help.
+fn before_help<S: AsStr>(words: &[S]) -> Option<&[S]>
+    ensures { IfSome result
+        (λ before. StandsBeforeHelp (map S.text before.now) (map S.text words.now)) }
+{
+    for place in 1..words.len() {
+        if asks_for_help(words[place].as_str()) {
+            return Some(&words[..place]);
+        }
+    }
+    None
 }
 
 /// Whether a word is the `--` that ends the options.
@@ -118,25 +148,57 @@ fn read_cut(options: &ArgMatches<'_>) -> Result<(u16, FillByte), UsageFault>
     Ok((first, fill))
 }
 
-/// What the program's words ask for, its name first. No words at all are read as its name alone.
-pub fn read_words<'a, S: AsStr>(alloc: Global, words: &'a [S]) -> Result<Command, UsageFault>
-    ensures join { result ≡ Ok Command.Join → AsksToJoin (map S.text words.now) }
-    ensures range { IfOk result IsWithinRange }
+/// The first number and the fill of words that ask to cut and of which none asks for help.
+fn read_cut_words<'a, S: AsStr>(
+    alloc: Global,
+    words: &'a [S],
+) -> Result<(u16, FillByte), UsageFault>
+    ensures { IfOk result
+        (λ options. AsksToCut (map S.text words.now) × (options.0 < 8192)) }
 {
+    if !asks_to_cut(words) || ends_options(words) {
+        return Err(UsageFault::Usage);
+    }
     match command_line(alloc)?.try_get_matches_from(words) {
-        Ok(_) if asks_to_join(words) => Ok(Command::Join),
-        Ok(_) if ends_options(words) => Err(UsageFault::Usage),
         Ok(matches) => match matches.subcommand_matches("cut") {
-            Some(options) => {
-                let (first, fill) = read_cut(options)?;
-                Ok(Command::Cut { first, fill })
-            }
+            Some(options) => read_cut(options),
             None => Err(UsageFault::Usage),
         },
+        Err(error) if error.kind() == ErrorKind::OutOfMemory => Err(UsageFault::OutOfMemory),
+        Err(_) => Err(UsageFault::Usage),
+    }
+}
+
+/// The text that tells how the program is used, for words of which one asks for it.
+fn help_text<'a, S: AsStr>(alloc: Global, words: &'a [S]) -> Result<String, UsageFault> {
+    match command_line(alloc)?.try_get_matches_from(words) {
+        Ok(_) => Err(UsageFault::Usage),
         Err(error) => match error.kind() {
-            ErrorKind::DisplayHelp => Ok(Command::Help(error.to_string(alloc)?)),
+            ErrorKind::DisplayHelp => Ok(error.to_string(alloc)?),
             ErrorKind::OutOfMemory => Err(UsageFault::OutOfMemory),
             _ => Err(UsageFault::Usage),
         },
     }
+}
+
+/// What the program's words ask for, its name first. No words at all are read as its name alone.
+///
+/// `-h` or `--help` asks for help, whatever stands behind it, where the words before it are lawful. Words that
+/// ask for nothing that the program does are `Usage`: an unknown word or option, an option of another command,
+/// one that is repeated or has no value or one out of range, `help`, `--version` and `--`.
+pub fn read_words<'a, S: AsStr>(alloc: Global, words: &'a [S]) -> Result<Command, UsageFault>
+    ensures asked { IfOk result (Asks (map S.text words.now)) }
+    ensures join { AsksToJoin (map S.text words.now) → result ≡ Ok Command.Join }
+{
+    if asks_to_join(words) {
+        return Ok(Command::Join);
+    }
+    let Some(before) = before_help(words) else {
+        let (first, fill) = read_cut_words(alloc, words)?;
+        return Ok(Command::Cut { first, fill });
+    };
+    if !asks_to_join(before) {
+        read_cut_words(alloc, before)?;
+    }
+    Ok(Command::Help(help_text(alloc, words)?))
 }

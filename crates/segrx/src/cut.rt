@@ -1,7 +1,7 @@
 ghost use Rattle.std.specs.Prelude.{◌≡◌, ◌≢◌, ◌<◌, ◌++◌, false, flat_map, IfOk, IfErr, IfSome, OnOk};
 ghost use Rattle.std.specs.Io.KnownBytes.{Keeps};
 ghost use Rattle.segrx.specs.Device.{inner_of, has_failed, IsFresh};
-ghost use Rattle.segrx.specs.Transfer.{IsRead};
+ghost use Rattle.segrx.specs.Transfer.{IsReadToEnd};
 ghost use Rattle.segrx.specs.Engine.{WritesText, WritesFront, HasCause};
 ghost use Rattle.segrx.specs.Lines.{lines_of};
 ghost use Rattle.segrx.specs.Cut.{ReadAsPieces, TakesLine, IsCutLineFault, IsReadingFault, IsCutInto, IsCuttingFault, IsCutText, IsCutFault, segment_line};
@@ -133,7 +133,13 @@ pub fn cut_lines(
 
 /// Cuts the frames that a reader gives into the pieces that it gives, and writes the segments, each a line
 /// of hexadecimal. The first one has the number `first`, 0 to 8191, and what a piece has of fill is this
-/// byte. It reads all, then makes the whole text, and then writes it.
+/// byte. It reads all, at most 268,435,456 bytes, then makes the whole text, and then writes it; an empty one
+/// is not written.
+///
+/// `Read`: the reader failed or gave more. `Trace`: the first faulty line, `UnknownLine`, `FieldCount`,
+/// `BadNumber` or `NotHex`. `Cut`: no line is at fault, and this is the first fault of the frames and pieces.
+/// `OutOfMemory`: a growth was refused. Up to here nothing was written. `Write`: the writer failed, and a
+/// front of the text may have gone out.
 pub fn cut_text<R: Read, W: Write>(
     alloc: Global,
     first: u16,
@@ -160,9 +166,11 @@ pub fn cut_text<R: Read, W: Write>(
     // Each fault has its cause, and without a fault there is none.
     ensures cause { IfErr result (HasCause IsCutFault
         (R.remaining (inner_of reader.old)) reader.new writer.new) }
-    ensures no_cause { OnOk result (IsRead reader.new × (has_failed writer.new ≡ false)) }
+    ensures no_cause { OnOk result (IsReadToEnd reader.new (R.remaining (inner_of reader.new))
+        × (has_failed writer.new ≡ false)) }
     ensures read_first { IfErr result (λ fault. fault ≢ EngineFault.Read
-        → fault ≢ EngineFault.OutOfMemory → IsRead reader.new) }
+        → fault ≢ EngineFault.OutOfMemory
+        → IsReadToEnd reader.new (R.remaining (inner_of reader.new))) }
 {
     let input = read_input(alloc, reader)?;
     let text = cut_lines(alloc, input, first, fill)?;

@@ -306,6 +306,12 @@ fn reads_the_options_of_cut(rt: HostRuntime) {
         ("--first=1", "2", Asked::Usage),
         ("--first=1", "--", Asked::Usage),
         ("--first=1", "-h", Asked::Help),
+        ("-h", "--first=8192", Asked::Help),
+        ("--first=8192", "-h", Asked::Usage),
+        ("--first=+1", "--help", Asked::Usage),
+        ("--fill=two", "-h", Asked::Usage),
+        ("--fill=", "--help", Asked::Usage),
+        ("--first", "-h", Asked::Usage),
         ("--", "--first=1", Asked::Usage),
     ];
     for (word, next, want) in two {

@@ -1,7 +1,7 @@
 ghost use Rattle.std.specs.Prelude.{◌≡◌, ◌≢◌, ◌++◌, false, flat_map, IfOk, IfErr, IfSome, OnOk};
 ghost use Rattle.std.specs.Io.KnownBytes.{Keeps};
 ghost use Rattle.segrx.specs.Device.{inner_of, has_failed, IsFresh};
-ghost use Rattle.segrx.specs.Transfer.{IsRead};
+ghost use Rattle.segrx.specs.Transfer.{IsReadToEnd};
 ghost use Rattle.segrx.specs.Join.{IsJoined, IsJoinFault, JoinsLine, IsLineFault, frame_line};
 ghost use Rattle.segrx.specs.Engine.{WritesText, WritesFront, HasCause};
 
@@ -72,7 +72,11 @@ pub fn join_lines(alloc: Global, input: &[u8]) -> Result<Vec<u8>, EngineFault>
 }
 
 /// Joins the segments that a reader gives and writes their frames, each a line of hexadecimal. It reads
-/// all, then makes the whole text, and then writes it.
+/// all, at most 268,435,456 bytes, then makes the whole text, and then writes it; an empty one is not written.
+///
+/// `Read`: the reader failed or gave more. `Trace`: the first faulty line, `FieldCount`, `NotHex`, `TooShort`
+/// or `PointerPast`. `OutOfMemory`: a growth was refused. Up to here nothing was written. `Write`: the writer
+/// failed, and a front of the text may have gone out.
 pub fn join_text<R: Read, W: Write>(
     alloc: Global,
     reader: &mut Device<R>,
@@ -96,9 +100,11 @@ pub fn join_text<R: Read, W: Write>(
     // Each fault has its cause, and without a fault there is none.
     ensures cause { IfErr result (HasCause IsJoinFault
         (R.remaining (inner_of reader.old)) reader.new writer.new) }
-    ensures no_cause { OnOk result (IsRead reader.new × (has_failed writer.new ≡ false)) }
+    ensures no_cause { OnOk result (IsReadToEnd reader.new (R.remaining (inner_of reader.new))
+        × (has_failed writer.new ≡ false)) }
     ensures read_first { IfErr result (λ fault. fault ≢ EngineFault.Read
-        → fault ≢ EngineFault.OutOfMemory → IsRead reader.new) }
+        → fault ≢ EngineFault.OutOfMemory
+        → IsReadToEnd reader.new (R.remaining (inner_of reader.new))) }
 {
     let input = read_input(alloc, reader)?;
     let text = join_lines(alloc, &input)?;

@@ -1,7 +1,11 @@
-ghost use Rattle.std.specs.Prelude.{◌≡◌};
-ghost use Rattle.segrx.specs.Device.{IsFresh};
+ghost use Rattle.std.specs.Prelude.{◌≡◌, ◌≢◌, ◌⊎◌, map, OnOk, IfErr, IfSome};
+ghost use Rattle.segrx.specs.Device.{inner_of, IsFresh};
 ghost use Rattle.segrx.specs.Texts.{status_of};
-ghost use Rattle.segrx.specs.Program.{IsStatus};
+ghost use Rattle.segrx.specs.Engine.{HasCause};
+ghost use Rattle.segrx.specs.Command.{AsksToJoin};
+ghost use Rattle.segrx.specs.Join.{IsJoinFault};
+ghost use Rattle.segrx.specs.Cut.{IsCutFault};
+ghost use Rattle.segrx.specs.Program.{IsStatus, AsksToCutOnly, AsksForNothing, HasJoinedText, HasCutText, SaysOf};
 
 use crate::command::{Command, UsageFault, read_words};
 use crate::cut::cut_text;
@@ -22,6 +26,17 @@ fn obey<S: AsStr, R: Read, W: Write>(
 ) -> Result<(), EngineFault>
     requires reader { IsFresh reader.old }
     requires out { IsFresh out.old }
+    ensures joined { AsksToJoin (map S.text words.now) → OnOk result
+        (IfSome (R.remaining (inner_of reader.old)) HasJoinedText) }
+    ensures join_fault { AsksToJoin (map S.text words.now) → IfErr result
+        (HasCause IsJoinFault (R.remaining (inner_of reader.old)) reader.new out.new) }
+    ensures cut { AsksToCutOnly (map S.text words.now) → OnOk result
+        (IfSome (R.remaining (inner_of reader.old)) HasCutText) }
+    ensures cut_fault { AsksToCutOnly (map S.text words.now) → IfErr result
+        (λ fault. fault ≢ EngineFault.Usage
+        → HasCause IsCutFault (R.remaining (inner_of reader.old)) reader.new out.new fault) }
+    ensures usage { AsksForNothing (map S.text words.now)
+        → (result ≡ Err EngineFault.Usage) ⊎ (result ≡ Err EngineFault.OutOfMemory) }
 {
     match read_words(alloc, words) {
         Ok(Command::Join) => join_text(alloc, reader, out),
@@ -42,7 +57,8 @@ pub fn report<E: Write + Drop>(fault: &EngineFault, err: E) -> u8
     status(fault)
 }
 
-/// The whole program: it does what the words ask for, its name first, and answers the exit status.
+/// The whole program: it does what the words ask for, its name first, and answers the exit status, 0 to 4.
+/// A fault's line goes to `err`.
 pub fn program<S: AsStr, R: Read + Drop, O: Write + Drop, E: Write + Drop>(
     alloc: Global,
     words: &[S],
@@ -50,7 +66,15 @@ pub fn program<S: AsStr, R: Read + Drop, O: Write + Drop, E: Write + Drop>(
     out: O,
     err: E,
 ) -> u8
-    ensures { IsStatus result }
+    ensures status { IsStatus result }
+
+    // What the status says of the reader's bytes, where they are known.
+    ensures join { AsksToJoin (map S.text words.now)
+        → IfSome (R.remaining reader) (SaysOf HasJoinedText IsJoinFault result) }
+    ensures join_is_known { AsksToJoin (map S.text words.now) → result ≢ 2 }
+    ensures cut { AsksToCutOnly (map S.text words.now)
+        → IfSome (R.remaining reader) (SaysOf HasCutText IsCutFault result) }
+    ensures usage { AsksForNothing (map S.text words.now) → (result ≡ 2) ⊎ (result ≡ 3) }
 {
     let mut reader = Device::new(reader);
     let mut out = Device::new(out);

@@ -6,8 +6,9 @@ use crate::program::program;
 use crate::transfer::INPUT_MAX;
 use docsis_wire::CutFault;
 use std::alloc::Global;
-use std::io;
 use std::io::{Error, ErrorKind, Read, Write};
+use std::test::Fail;
+use std::{io, str};
 
 /// Three segments that split the headers of two frames.
 const SPLIT_HEADERS: &str =
@@ -58,7 +59,8 @@ enum Full {
     TakesNothing,
 }
 
-/// A writer that is interrupted before each byte, takes one byte a call, and is full after some bytes.
+/// A writer that is interrupted before each byte and before it flushes, takes one byte a call, and is full after
+/// some bytes.
 #[derive(Drop)]
 struct FitfulWriter<'a> {
     taken: &'a mut Vec<u8>,
@@ -98,6 +100,10 @@ impl Write for FitfulWriter<'_> {
     }
 
     fn flush(&mut self) -> io::Result<()> {
+        self.interrupted = !self.interrupted;
+        if self.interrupted {
+            return Err(Error::from(ErrorKind::Interrupted));
+        }
         if self.fails_to_flush {
             return Err(Error::from(ErrorKind::BrokenPipe));
         }
@@ -260,6 +266,7 @@ fn reads_on_after_interruptions(rt: HostRuntime) {
     let mut writer = Device::new(FitfulWriter::new(&mut written, 1000, Full::Fails));
     assert_eq!(rt; join_text(rt.alloc(), &mut reader, &mut writer), Ok(()));
     assert_eq!(rt; reader.given(), SPLIT_HEADERS.len() as u64);
+    assert_eq!(rt; writer.given(), 0);
     assert!(rt; !reader.failed() && !writer.failed());
     reader.into_inner();
     writer.into_inner();
@@ -334,23 +341,32 @@ fn writes_no_empty_text(rt: HostRuntime) {
     writer.into_inner();
 }
 
+/// What joining answers for an input of so many bytes, a long comment behind its front.
+fn joined_long(alloc: Global, front: &str, bytes: u64) -> (Result<(), EngineFault>, u64) {
+    let comment = io::repeat(b'#').take(bytes.saturating_sub(front.len() as u64));
+    let mut reader = Device::new(front.as_bytes().chain(comment));
+    let mut writer = Device::new(io::sink());
+    let done = join_text(alloc, &mut reader, &mut writer);
+    let given = reader.given();
+    reader.into_inner();
+    writer.into_inner();
+    (done, given)
+}
+
 #[test]
-fn reads_so_much_and_no_more(rt: HostRuntime) {
+fn reads_so_much(rt: HostRuntime) {
     let most = INPUT_MAX as u64;
-    for (case, bytes, want) in [
-        ("the greatest input", most, Ok(())),
-        ("one byte more", most + 1, Err(EngineFault::Read)),
-    ] {
-        // One long comment.
-        let mut reader = Device::new(io::repeat(b'#').take(bytes));
-        let mut writer = Device::new(io::sink());
-        let done = join_text(rt.alloc(), &mut reader, &mut writer);
-        assert_eq!(rt; done, want, "{case}");
-        assert_eq!(rt; reader.given(), bytes, "{case}");
-        assert!(rt; !reader.failed(), "{case}");
-        reader.into_inner();
-        writer.into_inner();
-    }
+    assert_eq!(rt; joined_long(rt.alloc(), "", most), (Ok(()), most));
+}
+
+#[test]
+fn reads_no_more(rt: HostRuntime) {
+    // The first line is at fault, which isn't told of an input that is too long.
+    let more = INPUT_MAX as u64 + 1;
+    assert_eq!(rt;
+        joined_long(rt.alloc(), "x\n", more),
+        (Err(EngineFault::Read), more)
+    );
 }
 
 #[test]
@@ -438,7 +454,7 @@ fn tells_a_fault_that_cannot_be_written(rt: HostRuntime) {
 enum Asked {
     Join,
     Cut,
-    /// Whether there is a text.
+    /// Whether the text tells how the program is used.
     Help(bool),
     Usage,
     OutOfMemory,
@@ -448,7 +464,7 @@ fn what_is_asked(alloc: Global, words: &[&str]) -> Asked {
     match read_words(alloc, words) {
         Ok(Command::Join) => Asked::Join,
         Ok(Command::Cut { first: _, fill: _ }) => Asked::Cut,
-        Ok(Command::Help(text)) => Asked::Help(!text.is_empty()),
+        Ok(Command::Help(text)) => Asked::Help(text.contains("Usage: segrx")),
         Err(UsageFault::Usage) => Asked::Usage,
         Err(UsageFault::OutOfMemory) => Asked::OutOfMemory,
     }
@@ -481,6 +497,10 @@ fn reads_its_words(rt: HostRuntime) {
         ("-", Asked::Usage),
         ("", Asked::Usage),
         ("JOIN", Asked::Usage),
+        ("-hx", Asked::Usage),
+        ("-h=1", Asked::Usage),
+        ("--help=1", Asked::Usage),
+        ("--hel", Asked::Usage),
         ("--first=1", Asked::Usage),
     ];
     for (word, want) in one {
@@ -563,13 +583,26 @@ fn runs_on_failing_devices(rt: HostRuntime) {
 }
 
 #[test]
-fn prints_help(rt: HostRuntime) {
-    let mut out = Vec::new(rt.alloc());
-    let mut err = Vec::new(rt.alloc());
-    let words = ["segrx", "-h"];
-    assert_eq!(rt;
-        program(rt.alloc(), &words, io::empty(), &mut out, &mut err),
-        0
-    );
-    assert!(rt; !out.is_empty() && err.is_empty());
+fn prints_help(rt: HostRuntime) -> Result<(), Fail> {
+    let table: [(&[&str], &[&str]); 3] = [
+        (&["segrx", "-h"], &["Usage: segrx ", "join", "cut", "\n"]),
+        (&["segrx", "join", "--help"], &["Usage: segrx join", "\n"]),
+        (
+            &["segrx", "cut", "-h"],
+            &["Usage: segrx cut", "--first", "--fill", "\n"],
+        ),
+    ];
+    for (words, parts) in table {
+        let mut out = Vec::new(rt.alloc());
+        let mut err = Vec::new(rt.alloc());
+        let status = program(rt.alloc(), words, io::empty(), &mut out, &mut err);
+        assert_eq!(rt; status, 0);
+        assert!(rt; err.is_empty());
+        let text = str::from_utf8(&out)?;
+        for part in parts {
+            assert!(rt; text.contains(*part), "{text}: {part}");
+        }
+        assert!(rt; text.ends_with("Print help\n"), "{text}");
+    }
+    Ok(())
 }

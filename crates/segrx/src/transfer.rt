@@ -1,7 +1,7 @@
-ghost use Rattle.std.specs.Prelude.{◌≡◌, ◌≢◌, ◌<◌, length, true, false, IfOk, IfErr, IfSome, OnOk, OnErr, vec_len};
+ghost use Rattle.std.specs.Prelude.{◌≡◌, ◌≢◌, ◌<◌, [], length, IsOk, true, false, IfOk, IfErr, IfSome, OnOk, OnErr, vec_len};
 ghost use Rattle.std.specs.Io.KnownBytes.{Appends};
 ghost use Rattle.segrx.specs.Device.{inner_of, has_failed, IsFresh};
-ghost use Rattle.segrx.specs.Transfer.{AppendsFront, IsCounted, IsRead, IsReadFault, ReadsMore};
+ghost use Rattle.segrx.specs.Transfer.{AppendsFront, IsCounted, IsReadToEnd, IsReadFault, ReadsMore};
 
 use crate::device::Device;
 use crate::fault::EngineFault;
@@ -53,7 +53,7 @@ pub fn read_input<R: Read>(alloc: Global, reader: &mut Device<R>) -> Result<Vec<
     requires { IsFresh reader.old }
     ensures whole { IfOk result
         (λ input. IfSome (R.remaining (inner_of reader.old)) (λ xs. input.items ≡ xs)) }
-    ensures read { OnOk result (IsRead reader.new) }
+    ensures read { OnOk result (IsReadToEnd reader.new (R.remaining (inner_of reader.new))) }
     ensures failed { result ≡ Err EngineFault.Read → IsReadFault reader.new }
     ensures only { IfErr result
         (λ fault. fault ≢ EngineFault.OutOfMemory → fault ≡ EngineFault.Read) }
@@ -66,10 +66,12 @@ pub fn read_input<R: Read>(alloc: Global, reader: &mut Device<R>) -> Result<Vec<
     Ok(input)
 }
 
-/// Writes a whole text. An empty one makes no write.
+/// Writes a whole text, and flushes. An empty one makes neither write nor flush. Where the writer fails, a front
+/// of the text may have gone out.
 pub fn write_text<W: Write>(writer: &mut Device<W>, text: &[u8]) -> Result<(), EngineFault>
     ensures written { OnOk result (Appends (W.contents (inner_of writer.old))
         (W.contents (inner_of writer.new)) text.now) }
+    ensures empty { text.now ≡ [] → IsOk result × (writer.new ≡ writer.old) }
     ensures sound { OnOk result (has_failed writer.new ≡ has_failed writer.old) }
     ensures front { OnErr result (AppendsFront (W.contents (inner_of writer.old))
         (W.contents (inner_of writer.new)) text.now) }

@@ -1,4 +1,4 @@
-use Rattle.std.proofs.Common.{◌≡◌, ℕ, Bool, true}
+use Rattle.std.proofs.Common.{◌≡◌, true}
 use Rattle.ccf.proofs.Filters.{FiltersFrom-once}
 use Rattle.ccf.proofs.laws.one_filter.Goals as goal
 

@@ -6,4 +6,5 @@ abbrev pub invariant-loop : goal.invariant-loop
 invariant-loop g l = record {
   kept : Keeps (g.W.Write.contents l.fn.self.inner) (g.W.Write.contents l.self.inner);
   failed : l.self.failed ≡ l.fn.self.failed;
+  given : l.self.given ≡ l.fn.self.given;
 }
