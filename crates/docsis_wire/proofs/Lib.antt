@@ -6,6 +6,7 @@ pub mod Starts
 pub mod Chunks
 pub mod Lawful
 pub mod Made
+pub mod OneByOne
 pub mod OneFault
 pub mod OneCut
 pub mod NoFault

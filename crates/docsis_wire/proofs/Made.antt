@@ -11,22 +11,10 @@ use Rattle.docsis_wire.specs.Stream.{place_of, IsBoundary}
 use Rattle.docsis_wire.specs.Cut.{Points, IsCutSegment, IsFillByte, IsLawfulCut}
 use Rattle.docsis_wire.specs.Cursor.{place_at, chunk_at}
 use Rattle.docsis_wire.specs.Pieces.{fill_byte, chunks_of, IsPieceSegment, ArePieceSegments, IsCuttable}
+use Rattle.docsis_wire.specs.Cutter.{IsMade, AreMade}
 use Rattle.docsis_wire.proofs.Places.{place_of-next}
 use Rattle.docsis_wire.proofs.Chunks.{length-chunks_from, chunks_from-front}
 use Rattle.docsis_wire.proofs.Lawful.{MovesOver, chunk_is_at, IsBoundary-from_lawful}
-
--- piece k made this segment of its chunk
-pub record IsMade (frames : List (List ℕ)) (pieces : List Piece) (first fill k : ℕ) (segment : Segment) : Type 0 where
-  pub piece : Piece
-  pub piece_is : slice_get pieces k ≡ Some piece
-  pub chunk : List ℕ
-  pub chunk_is : slice_get (chunks_of frames pieces) k ≡ Some chunk
-  pub cut : IsCutSegment frames first fill k (place_of (chunks_of frames pieces) k) chunk segment
-  pub named : IsPieceSegment fill piece chunk segment
-
--- each segment was made by the piece in its place
-abbrev pub AreMade : List (List ℕ) → List Piece → ℕ → ℕ → List Segment → Type 0
-AreMade frames pieces first fill segments = (k : ℕ) (segment : Segment) → slice_get segments k ≡ Some segment → IsMade frames pieces first fill k segment
 
 -- an element of a list and one more is one of the list, or the one more
 slice_get-push : {X : Type 0} (xs : List X) (y : X) (k : ℕ) (x : X) → slice_get (xs ++ y ∷ []) k ≡ Some x → (slice_get xs k ≡ Some x) ⊎ ((length xs ≡ k) × (y ≡ x))

@@ -8,3 +8,4 @@ pub mod Cut
 pub mod Span
 pub mod Cursor
 pub mod Pieces
+pub mod Cutter

@@ -1,14 +1,16 @@
 //! A header and its eight bytes determine each other, and the pieces determine the cut, or its one fault.
 //!
 //! Each function states a law in its contract and does nothing.
-ghost use Rattle.std.specs.Prelude.{◌≡◌, ◌≤◌, ◌↔◌, ℕ, Option, Some, IsSome, IfSome, List, length, take};
+ghost use Rattle.std.specs.Prelude.{◌≡◌, ◌≢◌, ◌≤◌, ◌↔◌, ℕ, Option, Some, IsSome, IfSome, List, [], ◌∷◌, ◌++◌, length, take};
 ghost use Rattle.docsis_wire.specs.declared.header.SegmentHeader.{SegmentHeader};
 ghost use Rattle.docsis_wire.specs.declared.pieces.Piece.{Piece};
 ghost use Rattle.docsis_wire.specs.declared.pieces.CutFault.{CutFault};
 ghost use Rattle.docsis_wire.specs.declared.segment.Segment.{Segment};
 ghost use Rattle.docsis_wire.specs.Header.{header_bytes};
 ghost use Rattle.docsis_wire.specs.Cut.{IsLawfulCut};
-ghost use Rattle.docsis_wire.specs.Pieces.{chunks_of, ArePieceSegments, IsCuttable, Tells};
+ghost use Rattle.docsis_wire.specs.declared.cutter.Cutter.{Cutter};
+ghost use Rattle.docsis_wire.specs.Cutter.{frames_of, pieces_of, IsUnderWay, IsSameCut, HasMade, GivesNext};
+ghost use Rattle.docsis_wire.specs.Pieces.{fill_byte, chunks_of, ArePieceSegments, IsCuttable, Tells};
 
 /// The same eight bytes are the bytes of one header only.
 pub fn one_header()
@@ -50,4 +52,18 @@ pub fn cut_without_fault()
     ensures { (frames : List (List ℕ)) (pieces : List Piece) (first fill : ℕ) (segments : List Segment)
         → IsLawfulCut frames first fill (chunks_of frames pieces) segments → ArePieceSegments fill frames pieces segments
         → IsCuttable frames pieces }
+{}
+
+/// Segments that a cutter made one after another until it gave none are the cut that it began with, a lawful one.
+pub fn made_one_by_one()
+    ensures none { (cutter : Cutter) → cutter.made ≡ 0 → IsSameCut cutter cutter × HasMade cutter [] }
+    ensures one_more { (begun before after : Cutter) (segments : List Segment) (segment : Segment)
+        → IsSameCut begun before → HasMade before segments → GivesNext before after (Some segment)
+        → IsSameCut begun after × HasMade after (segments ++ segment ∷ []) }
+    ensures all { (begun cutter after : Cutter) (segments : List Segment) (answer : Option Segment)
+        → IsSameCut begun cutter → IsUnderWay cutter → HasMade cutter segments
+        → GivesNext cutter after answer → ((segment : Segment) → answer ≢ Some segment)
+        → IsLawfulCut (frames_of begun) begun.first (fill_byte begun.fill)
+        (chunks_of (frames_of begun) (pieces_of begun)) segments
+        × ArePieceSegments (fill_byte begun.fill) (frames_of begun) (pieces_of begun) segments }
 {}

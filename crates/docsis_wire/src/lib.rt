@@ -8,6 +8,7 @@
 
 mod buffer;
 mod cursor;
+mod cutter;
 mod frame;
 mod header;
 mod laws;
@@ -15,10 +16,12 @@ mod pieces;
 mod segment;
 
 pub use buffer::Bytes;
+pub use cutter::{Cutter, cut};
 pub use frame::{HeadFault, HeadRead, read_head, well_formed};
 pub use header::SegmentHeader;
 pub use laws::{
-    cut_without_fault, header_read_back, header_written_back, one_cut, one_fault, one_header,
+    cut_without_fault, header_read_back, header_written_back, made_one_by_one, one_cut, one_fault,
+    one_header,
 };
-pub use pieces::{CutFault, FillByte, Piece, cut};
+pub use pieces::{CutFault, FillByte, Piece};
 pub use segment::{Segment, read_segment, ready, write_segment};

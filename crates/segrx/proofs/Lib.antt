@@ -12,6 +12,7 @@ pub mod OneCutFault
 pub mod Statuses
 pub mod AskedWords
 pub mod CutSoFar
+pub mod PrintedSoFar
 pub mod HexText
 pub mod Numbers
 pub mod FirstBytes

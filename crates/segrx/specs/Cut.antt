@@ -5,6 +5,8 @@ use Rattle.docsis_wire.specs.declared.pieces.Piece.{Piece}
 use Rattle.docsis_wire.specs.declared.pieces.FillByte.{FillByte}
 use Rattle.docsis_wire.specs.declared.pieces.CutFault.{CutFault}
 use Rattle.docsis_wire.specs.declared.pieces.CutFault.TheVariants as cut_fault
+use Rattle.docsis_wire.specs.declared.cutter.Cutter.{Cutter}
+use Rattle.docsis_wire.specs.Cutter.{frames_of, pieces_of}
 use Rattle.docsis_wire.specs.Cut.{IsLawfulCut}
 use Rattle.docsis_wire.specs.Pieces.{fill_byte, chunks_of, ArePieceSegments, IsFirstBadFrame, IsFirstFillInsideFrame, IsFirstPointerTooFar}
 use Rattle.hex.specs.Hex.{encode_lower}
@@ -35,6 +37,12 @@ pub record IsCutInto (first : ℕ) (fill : FillByte) (frames : List (List ℕ)) 
 -- a segment's line: its header and its payload as lower-case digits, and a line feed
 abbrev pub segment_line : Segment → List ℕ
 segment_line segment = encode_lower (segment_bytes segment) ++ 10 ∷ []
+
+-- a line for each segment of a whole cut
+pub record IsPrinted (cutter : Cutter) (text : List ℕ) : Type 0 where
+  pub segments : List Segment
+  pub cut : IsCutInto cutter.first cutter.fill (frames_of cutter) (pieces_of cutter) segments
+  pub printed : text ≡ flat_map segment_line segments
 
 -- the text that stands for an input: a line for each segment that its frames are cut into
 pub record IsCutText (first : ℕ) (fill : FillByte) (input text : List ℕ) : Type 0 where

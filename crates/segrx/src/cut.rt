@@ -4,7 +4,8 @@ ghost use Rattle.segrx.specs.Device.{inner_of, has_failed, IsFresh};
 ghost use Rattle.segrx.specs.Transfer.{IsReadToEnd};
 ghost use Rattle.segrx.specs.Engine.{WritesText, WritesFront, HasCause};
 ghost use Rattle.segrx.specs.Lines.{lines_of};
-ghost use Rattle.segrx.specs.Cut.{ReadAsPieces, TakesLine, IsCutLineFault, IsReadingFault, IsCutInto, IsCuttingFault, IsCutText, IsCutFault, segment_line};
+ghost use Rattle.segrx.specs.Cut.{ReadAsPieces, TakesLine, IsCutLineFault, IsReadingFault, IsPrinted, IsCuttingFault, IsCutText, IsCutFault, segment_line};
+ghost use Rattle.docsis_wire.specs.Cutter.{IsUnderWay, Begins};
 
 use crate::cut_line::{CutLine, read_cut_line};
 use crate::device::Device;
@@ -14,7 +15,7 @@ use crate::join_line::HEADER_BYTES;
 use crate::line_fault::LineFault;
 use crate::lines::split_line;
 use crate::transfer::{read_input, write_text};
-use docsis_wire::{Bytes, CutFault, FillByte, Piece, Segment, cut, write_segment};
+use docsis_wire::{Bytes, Cutter, FillByte, Piece, Segment, write_segment};
 use std::alloc::{AllocError, Global};
 use std::io::{Read, Write};
 
@@ -64,33 +65,38 @@ fn read_cut_input(alloc: Global, input: Vec<u8>) -> Result<CutInput, EngineFault
     Ok(CutInput { frames, pieces })
 }
 
-/// The segments that the frames are cut into. Frames and pieces are given back to the memory.
-fn cut_input(
-    alloc: Global,
-    read: CutInput,
-    first: u16,
-    fill: FillByte,
-) -> Result<Vec<Segment>, EngineFault>
+/// The cut of the frames into the pieces, of which no segment was made yet.
+fn begin_cut(read: &CutInput, first: u16, fill: FillByte) -> Result<Cutter<'_>, EngineFault>
     requires { first < 8192 }
-    ensures cut { IfOk result
-        (λ segments. IsCutInto first fill read.frames.items read.pieces.items segments.items) }
-    ensures fault { IfErr result (IsCuttingFault read.frames.items read.pieces.items) }
+    ensures begins { IfOk result
+        (Begins read.now.frames.items read.now.pieces.items first fill) }
+    ensures fault { IfErr result
+        (IsCuttingFault read.now.frames.items read.now.pieces.items) }
 {
-    match cut(alloc, &read.frames, &read.pieces, first, fill) {
-        Ok(segments) => Ok(segments),
-        Err(CutFault::OutOfMemory) => Err(EngineFault::OutOfMemory),
+    match Cutter::new(&read.frames, &read.pieces, first, fill) {
+        Ok(cutter) => Ok(cutter),
         Err(fault) => Err(EngineFault::Cut(fault)),
     }
 }
 
-/// How many bytes the lines of some segments have. It stays at its greatest value.
-fn text_length(segments: &[Segment]) -> usize {
-    let mut length = 0usize;
-    for segment in segments {
-        let bytes = segment.payload.len().saturating_add(HEADER_BYTES);
-        length = length.saturating_add(bytes.saturating_mul(2).saturating_add(1));
+/// How many bytes the lines of a cut's segments have. It stays at its greatest value.
+fn text_length(read: &CutInput) -> usize {
+    let mut stream = 0usize;
+    for frame in &read.frames {
+        stream = stream.saturating_add(frame.len());
     }
-    length
+    let mut data = 0usize;
+    let mut fill = 0usize;
+    for piece in &read.pieces {
+        data = data.saturating_add(usize::from(piece.bytes));
+        fill = fill.saturating_add(usize::from(piece.fill));
+    }
+    let headers = read.pieces.len().saturating_mul(HEADER_BYTES);
+    let bytes = data
+        .min(stream)
+        .saturating_add(fill)
+        .saturating_add(headers);
+    bytes.saturating_mul(2).saturating_add(read.pieces.len())
 }
 
 /// Puts a segment's line behind a text.
@@ -103,13 +109,19 @@ fn append_segment(alloc: Global, text: &mut Vec<u8>, segment: &Segment) -> Resul
     Ok(())
 }
 
-/// A line for each segment.
-fn segment_lines(alloc: Global, segments: &[Segment]) -> Result<Vec<u8>, AllocError>
-    ensures { IfOk result (λ text. text.items ≡ flat_map segment_line segments.now) }
+/// A line for each segment of a cut, in a text that begins with so much room. Each segment is given back to the
+/// memory once its line is there.
+fn segment_lines(alloc: Global, cutter: Cutter<'_>, room: usize) -> Result<Vec<u8>, AllocError>
+    requires under_way { IsUnderWay cutter }
+    requires none_made { cutter.made ≡ 0 }
+    ensures { IfOk result (λ text. IsPrinted cutter.entry text.items) }
 {
-    let mut text = Vec::with_capacity(alloc, text_length(segments))?;
-    for segment in segments {
-        append_segment(alloc, &mut text, segment)?;
+    // What is made one by one is a lawful cut.
+    docsis_wire::made_one_by_one();
+    let mut cutter = cutter;
+    let mut text = Vec::with_capacity(alloc, room)?;
+    while let Some(segment) = cutter.next(alloc)? {
+        append_segment(alloc, &mut text, &segment)?;
     }
     Ok(text)
 }
@@ -127,8 +139,8 @@ pub fn cut_lines(
     ensures fault { IfErr result (IsCutFault input.items) }
 {
     let read = read_cut_input(alloc, input)?;
-    let segments = cut_input(alloc, read, first, fill)?;
-    segment_lines(alloc, &segments).or(Err(EngineFault::OutOfMemory))
+    let cutter = begin_cut(&read, first, fill)?;
+    segment_lines(alloc, cutter, text_length(&read)).or(Err(EngineFault::OutOfMemory))
 }
 
 /// Cuts the frames that a reader gives into the pieces that it gives, and writes the segments, each a line

@@ -231,6 +231,12 @@ fn tells_a_pointer_too_far(rt: HostRuntime) -> Result<(), Fail> {
             assert_eq!(rt; done, Ok(()), "{case}");
             // Two headers, 16,392 bytes and two line feeds.
             assert_eq!(rt; written.len(), 32_818, "{case}");
+            let front = b"800000000000000000003f\nbfff000800000000fc0000".as_slice();
+            assert!(rt; written.starts_with(front), "{case}");
+            assert!(rt;
+                written.ends_with(b"0000020000000000\n".as_slice()),
+                "{case}"
+            );
         }
     }
     Ok(())

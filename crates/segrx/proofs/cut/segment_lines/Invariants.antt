@@ -1,7 +1,14 @@
-use Rattle.std.proofs.Common.{◌≡◌, take}
-use Rattle.std.specs.Prelude.{flat_map}
-use Rattle.segrx.specs.Cut.{segment_line}
+use Rattle.std.proofs.Common.{◌-◌, length}
+use Rattle.docsis_wire.specs.Cutter.{pieces_of, IsUnderWay, IsSameCut}
+use Rattle.segrx.proofs.PrintedSoFar.{PrintedSoFar}
 use Rattle.segrx.proofs.cut.segment_lines.Given as goal
 
-abbrev pub invariant-loop-segment : goal.invariant-loop-segment
-invariant-loop-segment l = l.text.items ≡ flat_map segment_line (take l.segment-index l.segments)
+abbrev pub invariant-loop-text : goal.invariant-loop-text
+invariant-loop-text l = record {
+  under_way : IsUnderWay l.cutter;
+  same : IsSameCut l.fn.cutter l.cutter;
+  so_far : PrintedSoFar l.cutter l.text.items;
+}
+
+abbrev pub decreases-loop-text : goal.decreases-loop-text
+decreases-loop-text l = length (pieces_of l.cutter) - l.cutter.made

@@ -1,6 +1,7 @@
-use super::{CutFault, FillByte, Piece, cut};
+use super::{Cutter, cut};
 use crate::buffer::Bytes;
 use crate::frame::well_formed;
+use crate::pieces::{CutFault, FillByte, Piece};
 use crate::segment::{Segment, write_segment};
 use std::alloc::{AllocError, Global};
 use std::test::Fail;
@@ -169,12 +170,19 @@ fn named(alloc: Global, pieces: &[(u16, u16)]) -> Result<Vec<Piece>, AllocError>
     Ok(all)
 }
 
+/// Whether the segment, header and payload, has these bytes.
+fn is(segment: &Segment, wanted: &[u8]) -> bool {
+    wanted
+        .strip_prefix(&write_segment(&segment.head))
+        .is_some_and(|payload| segment.payload.as_slice() == payload)
+}
+
 fn are(segments: &[Segment], wanted: &[&[u8]]) -> bool {
     segments.len() == wanted.len()
-        && segments.iter().zip(wanted).all(|(segment, want)| {
-            want.strip_prefix(&write_segment(&segment.head))
-                .is_some_and(|payload| segment.payload.as_slice() == payload)
-        })
+        && segments
+            .iter()
+            .zip(wanted)
+            .all(|(segment, want)| is(segment, want))
 }
 
 /// The frames end to end, where each starts, and where fill may stand.
@@ -466,6 +474,24 @@ fn cuts_into_many_pieces(rt: HostRuntime) -> Result<(), Fail> {
     Ok(())
 }
 
+/// One segment at a time, and then no more, however often it is asked.
+#[test]
+fn cuts_one_by_one(rt: HostRuntime) -> Result<(), Fail> {
+    let frames = owned(rt.alloc(), &[PLAIN, EXTENDED])?;
+    let pieces = named(rt.alloc(), INSIDE_PIECES)?;
+    let mut cutter = Cutter::new(&frames, &pieces, 0, FillByte::Zero)?;
+    for wanted in INSIDE_SEGMENTS {
+        let segment = cutter.next(rt.alloc())?.ok_or("too few")?;
+        assert!(rt; is(&segment, wanted), "{segment:?}");
+    }
+    assert!(rt; cutter.next(rt.alloc())?.is_none());
+    assert!(rt; cutter.next(rt.alloc())?.is_none());
+    let inside = named(rt.alloc(), &[(5, 1)])?;
+    let fault = Cutter::new(&frames, &inside, 0, FillByte::Zero).err();
+    assert_eq!(rt; fault, Some(CutFault::FillInsideFrame(0)));
+    Ok(())
+}
+
 #[test]
 fn says_what_is_at_fault(rt: HostRuntime) -> Result<(), Fail> {
     let texts = [
@@ -519,6 +545,23 @@ mod refusals {
         }
         let segments = answer?;
         assert!(rt; are(&segments, INSIDE_SEGMENTS), "{segments:?}");
+        Ok(())
+    }
+
+    #[test]
+    fn next_again(rt: HostRuntime) -> Result<(), Fail> {
+        let frames = frames(&rt, rt.alloc())?;
+        let pieces = pieces(&rt, rt.alloc())?;
+        let mut cutter = Cutter::new(&frames, &pieces, 0, FillByte::Zero)?;
+        for wanted in INSIDE_SEGMENTS {
+            let mut answer = cutter.next(rt.alloc());
+            if answer.is_err() {
+                println!(rt; "refused")?;
+                answer = cutter.next(rt.alloc());
+            }
+            let segment = answer?.ok_or("too few")?;
+            assert!(rt; is(&segment, wanted), "{segment:?}");
+        }
         Ok(())
     }
 }

@@ -1,0 +1,187 @@
+ghost use Rattle.std.specs.Prelude.{◌≡◌, ◌≢◌, ◌+◌, ◌<◌, ◌↔◌, ◌⊎◌, ◌++◌, ℕ, false, length, min, replicate, IfOk, IfErr, IsOk, OnOk, OnErr};
+ghost use Rattle.std.specs.List.{concat, AllByRecursion};
+ghost use Rattle.docsis_wire.specs.Frame.{IsFrame};
+ghost use Rattle.docsis_wire.specs.Cut.{IsLawfulCut, Points};
+ghost use Rattle.docsis_wire.specs.Cursor.{place_at, IsPlaced, chunk_at, CanPoint};
+ghost use Rattle.docsis_wire.specs.Pieces.{fill_byte, chunks_of, ArePieceSegments, IsFirstBadFrame, IsFirstFillInsideFrame, IsFirstPointerTooFar, IsCuttable, Tells};
+ghost use Rattle.docsis_wire.specs.Cutter.{frames_of, pieces_of, IsUnderWay, Begins, GivesNext};
+
+use crate::buffer::Bytes;
+use crate::cursor::{Cursor, START, copy, first_start};
+use crate::header::SegmentHeader;
+use crate::pieces::{CutFault, FillByte, Piece, check};
+use crate::segment::Segment;
+use std::alloc::{AllocError, Global};
+
+/// Segments are numbered modulo this.
+const SEQUENCES: u16 = 8192;
+
+/// The header of a segment whose chunk is the next `bytes` bytes.
+fn header_at(frames: &[Bytes], at: Cursor, bytes: usize, sequence: u16) -> SegmentHeader
+    requires placed { IsPlaced frames.now at }
+    requires each { AllByRecursion IsFrame frames.now }
+    requires near { CanPoint frames.now at bytes }
+    requires number { sequence < 8192 }
+    ensures points { Points result.pfi result.pointer frames.now
+        (place_at frames.now at) (chunk_at frames.now at bytes) }
+    ensures no_pointer { result.pfi ≡ false → result.pointer ≡ 0 }
+    ensures number { result.sequence ≡ sequence }
+    ensures reserved { result.reserved ≡ false }
+    ensures cluster { result.cluster ≡ 0 }
+    ensures request { result.request ≡ 0 }
+    ensures hcs { result.hcs ≡ 0 }
+{
+    let start = first_start(frames, at, bytes);
+    SegmentHeader {
+        pfi: start.is_some(),
+        reserved: false,
+        pointer: start.unwrap_or(0) as u16,
+        sequence,
+        cluster: 0,
+        request: 0,
+        hcs: 0,
+    }
+}
+
+/// The payload that the piece names: the next bytes of the frames and then fill. The cursor moves behind
+/// the bytes.
+fn payload_at(
+    alloc: Global,
+    frames: &[Bytes],
+    at: &mut Cursor,
+    piece: Piece,
+    fill: FillByte,
+) -> Result<Bytes, AllocError>
+    requires placed { IsPlaced frames.now at.old }
+    requires each { AllByRecursion IsFrame frames.now }
+    ensures placed { OnOk result (IsPlaced frames.now at.new) }
+    ensures moved { OnOk result
+        (place_at frames.now at.new
+        ≡ min (place_at frames.now at.old + piece.bytes) (length (concat frames.now))) }
+    ensures payload { IfOk result
+        (λ payload. payload
+        ≡ chunk_at frames.now at.old piece.bytes ++ replicate piece.fill (fill_byte fill)) }
+{
+    let mut payload = Vec::new(alloc);
+    copy(frames, at, usize::from(piece.bytes), &mut payload)?;
+    let length = payload.len() + usize::from(piece.fill);
+    payload.resize(length, fill.byte())?;
+    Ok(Bytes::from(payload))
+}
+
+/// A cut of frames into pieces that is being made, a segment at a time.
+#[derive(Drop)]
+pub struct Cutter<'a> {
+    frames: &'a [Bytes],
+    pieces: &'a [Piece],
+    first: u16,
+    fill: FillByte,
+    made: usize,
+    at: Cursor,
+}
+
+impl<'a> Cutter<'a> {
+    /// A cut of which no segment was made yet, or the first fault of the frames and the pieces. The first segment's
+    /// number is `first`, 0 to 8191. It takes no memory.
+    pub fn new(
+        frames: &'a [Bytes],
+        pieces: &'a [Piece],
+        first: u16,
+        fill: FillByte,
+    ) -> Result<Cutter<'a>, CutFault>
+        requires { first < 8192 }
+        ensures begins { IfOk result (Begins frames.now pieces.now first fill) }
+        ensures faults { IfErr result (Tells frames.now pieces.now) }
+        ensures no_memory { IfErr result (λ fault. fault ≢ CutFault.OutOfMemory) }
+    {
+        check(frames, pieces)?;
+        Ok(Cutter {
+            frames,
+            pieces,
+            first,
+            fill,
+            made: 0,
+            at: START,
+        })
+    }
+
+    /// Makes the next piece's segment, if there is one more. Where a growth is refused nothing changes.
+    pub fn next(&mut self, alloc: Global) -> Result<Option<Segment>, AllocError>
+        requires { IsUnderWay self.old }
+        ensures under_way { IsUnderWay self.new }
+        ensures next { IfOk result (GivesNext self.old self.new) }
+        ensures refused { OnErr result (self.new ≡ self.old) }
+    {
+        let Some(piece) = self.pieces.get(self.made) else {
+            return Ok(None);
+        };
+        let sequence = (self.first + (self.made % usize::from(SEQUENCES)) as u16) % SEQUENCES;
+        let head = header_at(self.frames, self.at, usize::from(piece.bytes), sequence);
+        let mut at = self.at;
+        let payload = payload_at(alloc, self.frames, &mut at, *piece, self.fill)?;
+        self.at = at;
+        self.made += 1;
+        Ok(Some(Segment { head, payload }))
+    }
+}
+
+/// Makes the segment of each piece.
+fn make(alloc: Global, cutter: Cutter<'_>) -> Result<Vec<Segment>, AllocError>
+    requires under_way { IsUnderWay cutter }
+    requires begins { cutter.made ≡ 0 }
+    ensures lawful { IfOk result
+        (λ segments. IsLawfulCut (frames_of cutter.entry) cutter.entry.first (fill_byte cutter.entry.fill)
+        (chunks_of (frames_of cutter.entry) (pieces_of cutter.entry)) segments.items) }
+    ensures named { IfOk result
+        (λ segments. ArePieceSegments (fill_byte cutter.entry.fill) (frames_of cutter.entry) (pieces_of cutter.entry)
+        segments.items) }
+{
+    let mut cutter = cutter;
+    let mut segments = Vec::with_capacity(alloc, cutter.pieces.len())?;
+    while let Some(segment) = cutter.next(alloc)? {
+        segments.push(segment)?;
+    }
+    Ok(segments)
+}
+
+/// Cuts the frames, end to end, into one segment for each piece. Of the bytes of the frames segment k takes
+/// as many of the next ones as piece k has in `bytes`, or those that remain if that is less, and behind them
+/// come as many bytes of fill as it has in `fill`. PFI is set exactly where a frame starts in the bytes that
+/// the segment took, and the pointer is then how many of them stand before the first such start; otherwise
+/// it is 0. The number is `first + k` modulo 8192, and `first` is 0 to 8191. All other fields are 0
+/// (CM-SP-MULPIv3.0, segment header format; fill by this project's profile).
+///
+/// No frame, no piece, and a piece with no bytes are lawful; such a piece may have fill before the first
+/// frame, between two frames, and behind the last. The faults are looked for before any memory is taken.
+pub fn cut(
+    alloc: Global,
+    frames: &[Bytes],
+    pieces: &[Piece],
+    first: u16,
+    fill: FillByte,
+) -> Result<Vec<Segment>, CutFault>
+    requires { first < 8192 }
+    ensures lawful { IfOk result
+        (λ segments. IsLawfulCut frames.now first (fill_byte fill)
+        (chunks_of frames.now pieces.now) segments.items) }
+    ensures named { IfOk result
+        (λ segments. ArePieceSegments (fill_byte fill) frames.now pieces.now segments.items) }
+
+    // Each fault is told just where it is the first.
+    ensures bad_frame { (k : ℕ)
+        → (result ≡ Err (CutFault.BadFrame k)) ↔ IsFirstBadFrame frames.now k }
+    ensures fill_inside_frame { (k : ℕ)
+        → (result ≡ Err (CutFault.FillInsideFrame k))
+        ↔ IsFirstFillInsideFrame frames.now pieces.now k }
+    ensures pointer_too_far { (k : ℕ)
+        → (result ≡ Err (CutFault.PointerTooFar k))
+        ↔ IsFirstPointerTooFar frames.now pieces.now k }
+    ensures cuttable { (IsOk result ⊎ (result ≡ Err CutFault.OutOfMemory))
+        ↔ IsCuttable frames.now pieces.now }
+{
+    let cutter = Cutter::new(frames, pieces, first, fill)?;
+    make(alloc, cutter).or(Err(CutFault::OutOfMemory))
+}
+
+#[cfg(test)]
+mod tests;
