@@ -1,5 +1,10 @@
 -- Words that ask for what the program does, the program's name first.
-use Rattle.std.specs.Prelude.{◌≡◌, ◌<◌, ◌⊎◌, ℕ, List, [], ◌∷◌, ◌++◌, codes}
+use Rattle.std.specs.Prelude.{◌≡◌, ◌<◌, ◌⊎◌, ℕ, List, [], ◌∷◌, ◌++◌, codes, slice_get, Option, Some, None, Result, Ok, Err}
+use Rattle.docsis_wire.specs.declared.pieces.FillByte.{FillByte}
+use Rattle.docsis_wire.specs.declared.pieces.FillByte.TheVariants.{Zero, Ones}
+use Rattle.segrx.specs.declared.command.UsageFault.{UsageFault}
+use Rattle.segrx.specs.declared.command.UsageFault.TheVariants.{Usage, OutOfMemory}
+use Rattle.segrx.specs.Number.{IsNumber}
 use Rattle.segrx.specs.declared.command.Command.{Command}
 use Rattle.segrx.specs.declared.command.Command.TheVariants.{Join, Cut, Help}
 
@@ -20,16 +25,40 @@ AsksToCut (name ∷ word ∷ options) = word ≡ codes "cut"
 abbrev pub IsHelpWord : List ℕ → Type 0
 IsHelpWord word = (word ≡ codes "-h") ⊎ (word ≡ codes "--help")
 
--- these words stand before one that asks for help
-abbrev pub StandsBeforeHelp : List (List ℕ) → List (List ℕ) → Type 0
-StandsBeforeHelp before words = (word : List ℕ) × (after : List (List ℕ)) × (words ≡ before ++ word ∷ after) × IsHelpWord word
+-- none of the words behind the name asks for help
+abbrev pub HasNoHelpWord : List (List ℕ) → Type 0
+HasNoHelpWord words = (k : ℕ) (word : List ℕ) → 0 < k → slice_get words k ≡ Some word → ¬ IsHelpWord word
+
+-- these words stand before the first one behind the name that asks for help
+pub record StandsBeforeHelp (before words : List (List ℕ)) : Type 0 where
+  pub word : List ℕ
+  pub after : List (List ℕ)
+  pub are : words ≡ before ++ word ∷ after
+  pub help : IsHelpWord word
+  pub first : HasNoHelpWord before
 
 -- a word asks for help, and the words before it ask to join or to cut
 abbrev pub AsksForHelp : List (List ℕ) → Type 0
 AsksForHelp words = (before : List (List ℕ)) × StandsBeforeHelp before words × (AsksToJoin before ⊎ AsksToCut before)
 
--- the words ask for this; the first number of a cut is one of a segment
+-- the words ask for this; the first number of a cut is one of a segment, and no word of a cut asks for help
 abbrev pub Asks : List (List ℕ) → Command → Type 0
 Asks words Join = AsksToJoin words
-Asks words (Cut first fill) = AsksToCut words × (first < 8192)
+Asks words (Cut first fill) = AsksToCut words × HasNoHelpWord words × (first < 8192)
 Asks words (Help text) = AsksForHelp words
+
+-- the number that the option `first` asks for, 0 where it is left out
+abbrev pub IsFirst : Option (List ℕ) → ℕ → Type 0
+IsFirst None first = first ≡ 0
+IsFirst (Some text) first = IsNumber text 8191 first
+
+-- the fill that the option `fill` asks for, zeros where it is left out
+abbrev pub IsFill : Option (List ℕ) → FillByte → Type 0
+IsFill None fill = fill ≡ Zero
+IsFill (Some text) fill = ((text ≡ codes "zero") × (fill ≡ Zero)) ⊎ ((text ≡ codes "ones") × (fill ≡ Ones))
+
+-- the options of `cut` were read: both have a value, or one has none
+abbrev pub ReadsOptions : Option (List ℕ) → Option (List ℕ) → Result (ℕ × FillByte) UsageFault → Type 0
+ReadsOptions first fill (Ok options) = IsFirst first options.0 × IsFill fill options.1
+ReadsOptions first fill (Err Usage) = ((n : ℕ) → ¬ IsFirst first n) ⊎ ((byte : FillByte) → ¬ IsFill fill byte)
+ReadsOptions first fill (Err OutOfMemory) = ⊥

@@ -1,5 +1,6 @@
-ghost use Rattle.std.specs.Prelude.{◌≡◌, ◌<◌, ◌↔◌, map, IsTrue, IfOk, IfSome};
-ghost use Rattle.segrx.specs.Command.{AsksToJoin, AsksToCut, IsHelpWord, StandsBeforeHelp, Asks};
+ghost use Rattle.std.specs.Prelude.{◌≡◌, ◌<◌, ◌↔◌, map, codes, IsTrue, IfOk, MatchOption};
+ghost use Rattle.segrx.specs.Command.{AsksToJoin, AsksToCut, IsHelpWord, HasNoHelpWord, StandsBeforeHelp, Asks, ReadsOptions};
+ghost use Rattle.clap.specs.Matches.{found_of, first_value};
 
 use crate::number::read_number;
 use clap::error::ErrorKind;
@@ -109,7 +110,7 @@ fn asks_for_help(word: &str) -> bool
 
 /// The words before the first one behind the program's name that asks for help.
 fn before_help<S: AsStr>(words: &[S]) -> Option<&[S]>
-    ensures { IfSome result
+    ensures { MatchOption result (HasNoHelpWord (map S.text words.now))
         (λ before. StandsBeforeHelp (map S.text before.now) (map S.text words.now)) }
 {
     for place in 1..words.len() {
@@ -132,7 +133,8 @@ fn ends_options<S: AsStr>(words: &[S]) -> bool {
 
 /// The first number and the fill that the options of `cut` ask for.
 fn read_cut(options: &ArgMatches<'_>) -> Result<(u16, FillByte), UsageFault>
-    ensures { IfOk result (λ options. options.0 < 8192) }
+    ensures { ReadsOptions (first_value (found_of options.now) (codes "first"))
+        (first_value (found_of options.now) (codes "fill")) result }
 {
     let Some(first) = read_number(
         options.get_str("first").unwrap_or("0").as_bytes(),

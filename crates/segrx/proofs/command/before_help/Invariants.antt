@@ -1,5 +1,10 @@
 use Rattle.std.proofs.Common.{◌≡◌, length}
+use Rattle.std.specs.Prelude.{map}
+use Rattle.segrx.proofs.AskedWords.{HasNoneBefore}
 use Rattle.segrx.proofs.command.before_help.Given as goal
 
 abbrev pub invariant-loop-place : goal.invariant-loop-place
-invariant-loop-place g l = l.place-end ≡ length l.words
+invariant-loop-place g l = record {
+  end : l.place-end ≡ length l.words;
+  none : HasNoneBefore (map g.S.AsStr.text l.words) l.place;
+}
