@@ -105,7 +105,8 @@ impl<'a> Cutter<'a> {
         })
     }
 
-    /// Makes the next piece's segment, if there is one more. Where a growth is refused nothing changes.
+    /// Makes the next piece's segment, or answers `None` once all were made, however often it is asked. Where a
+    /// growth is refused nothing changes. A cutter that `new` gave meets the condition, and meets it after each call.
     pub fn next(&mut self, alloc: Global) -> Result<Option<Segment>, AllocError>
         requires { IsUnderWay self.old }
         ensures under_way { IsUnderWay self.new }

@@ -1,4 +1,4 @@
-//! A header and its eight bytes determine each other, and the pieces determine the cut, or its one fault.
+//! A header and its eight bytes determine each other, and the pieces determine the cut, or its first fault.
 //!
 //! Each function states a law in its contract and does nothing.
 ghost use Rattle.std.specs.Prelude.{◌≡◌, ◌≢◌, ◌≤◌, ◌↔◌, ℕ, Option, Some, IsSome, IfSome, List, [], ◌∷◌, ◌++◌, length, take};

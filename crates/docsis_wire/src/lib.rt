@@ -3,7 +3,8 @@
 //! What matters most: `read_segment` reads exactly the header that eight bytes spell, `write_segment` writes
 //! them, `well_formed` says yes to exactly the frames of the grammar `IsFrame`, `read_head` tells a frame's
 //! length from its first four bytes, whatever stands behind the frame, and `cut` makes of frames one lawful
-//! cut, by the pieces that it is given, or tells the first fault.
+//! cut, by the pieces that it is given, or tells the first fault. `Cutter` makes the same cut a segment at a
+//! time.
 #![tactic(auto)]
 
 mod buffer;

@@ -1,7 +1,7 @@
 -- The second word, and a word that asks for help.
 use Rattle.std.proofs.Common.{◌≡◌, ℕ, zero, suc, ◌+◌, ◌<◌, ◌≤◌, inl, inr, Some, List, [], ◌∷◌, ◌++◌, length, get_or, slice_get, take, ap, sym, ◌∙◌, subst, arith}
 use Rattle.std.proofs.lemmas.Bool.{cases_lt}
-use Rattle.std.proofs.lemmas.List.{length-map}
+use Rattle.std.proofs.lemmas.List.{length-map, length-take}
 use Rattle.std.proofs.lemmas.Option.{same_Some, slice_get_within}
 use Rattle.std.specs.Prelude.{map, codes, ◌↔◌}
 use Rattle.segrx.specs.Command.{AsksToJoin, AsksToCut, IsHelpWord, HasNoHelpWord, StandsBeforeHelp}
@@ -69,13 +69,14 @@ split_at text (first ∷ more) (suc place) word within is =
 
 -- the words before the first one that asks for help
 pub StandsBeforeHelp-at : {X : Type 0} (text : X → List ℕ) (words : List X) (place : ℕ) (word : X) (shown : List ℕ) → place < length words → word ≡ get_or words place word
-    → shown ≡ text word → IsHelpWord shown → HasNoneBefore (map text words) place → StandsBeforeHelp (map text (take place words)) (map text words)
-StandsBeforeHelp-at text words place word shown within is text_is help none =
+    → shown ≡ text word → IsHelpWord shown → 0 < place → HasNoneBefore (map text words) place → StandsBeforeHelp (map text (take place words)) (map text words)
+StandsBeforeHelp-at text words place word shown within is text_is help behind none =
     let split = split_at text words place word within is in
     record {
       word = text word;
       after = split.0;
       are = split.1;
+      named = omega (arith, within, behind, length-map (take place words) text, length-take place words);
       help = subst IsHelpWord text_is help;
       first = λ k found behind at. let in_whole = in_front text words place k found at in none k found behind in_whole.0 in_whole.1;
     }

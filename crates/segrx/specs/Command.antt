@@ -1,5 +1,5 @@
 -- Words that ask for what the program does, the program's name first.
-use Rattle.std.specs.Prelude.{◌≡◌, ◌<◌, ◌⊎◌, ℕ, List, [], ◌∷◌, ◌++◌, codes, slice_get, Option, Some, None, Result, Ok, Err}
+use Rattle.std.specs.Prelude.{◌≡◌, ◌<◌, ◌⊎◌, ℕ, List, [], ◌∷◌, ◌++◌, length, codes, slice_get, Option, Some, None, Result, Ok, Err}
 use Rattle.docsis_wire.specs.declared.pieces.FillByte.{FillByte}
 use Rattle.docsis_wire.specs.declared.pieces.FillByte.TheVariants.{Zero, Ones}
 use Rattle.segrx.specs.declared.command.UsageFault.{UsageFault}
@@ -34,6 +34,7 @@ pub record StandsBeforeHelp (before words : List (List ℕ)) : Type 0 where
   pub word : List ℕ
   pub after : List (List ℕ)
   pub are : words ≡ before ++ word ∷ after
+  pub named : 0 < length before
   pub help : IsHelpWord word
   pub first : HasNoHelpWord before
 

@@ -83,6 +83,24 @@ fn read_words_is_refused(rt: HostRuntime) -> Result<(), Fail> {
     Ok(())
 }
 
+#[test]
+fn words_of_cut_are_refused(rt: HostRuntime) -> Result<(), Fail> {
+    let words = ["segrx", "cut", "--first=5", "--fill=ones"];
+    let mut read = read_words(rt.alloc(), &words);
+    if let Err(UsageFault::OutOfMemory) = read {
+        println!(rt; "refused")?;
+        read = read_words(rt.alloc(), &words);
+    }
+    match read {
+        Ok(Command::Cut { first, fill }) => {
+            assert_eq!(rt; first, 5);
+            assert_eq!(rt; fill, FillByte::Ones);
+        }
+        _ => assert!(rt; false, "no cut"),
+    }
+    Ok(())
+}
+
 /// Runs the program on the segments, and gives its status.
 fn run(alloc: Global, out: &mut [u8], err: &mut [u8]) -> u8 {
     program(alloc, &["segrx", "join"], SEGMENTS.as_slice(), out, err)

@@ -3,7 +3,6 @@ use crate::device::Device;
 use crate::fault::{EngineFault, TraceFault, TraceKind, WriteFault, status, write_fault};
 use crate::join::join_text;
 use crate::program::program;
-use crate::transfer::INPUT_MAX;
 use docsis_wire::CutFault;
 use std::alloc::Global;
 use std::io::{Error, ErrorKind, Read, Write};
@@ -355,14 +354,14 @@ fn joined_long(alloc: Global, front: &str, bytes: u64) -> (Result<(), EngineFaul
 
 #[test]
 fn reads_so_much(rt: HostRuntime) {
-    let most = INPUT_MAX as u64;
+    let most = 268_435_456;
     assert_eq!(rt; joined_long(rt.alloc(), "", most), (Ok(()), most));
 }
 
 #[test]
 fn reads_no_more(rt: HostRuntime) {
     // The first line is at fault, which isn't told of an input that is too long.
-    let more = INPUT_MAX as u64 + 1;
+    let more = 268_435_457;
     assert_eq!(rt;
         joined_long(rt.alloc(), "x\n", more),
         (Err(EngineFault::Read), more)
@@ -514,9 +513,19 @@ fn reads_its_words(rt: HostRuntime) {
         ("join", "--help", Asked::Help(true)),
         ("-h", "frob", Asked::Help(true)),
         ("frob", "-h", Asked::Usage),
+        ("cut", "-h", Asked::Help(true)),
         ("--", "-h", Asked::Usage),
         ("--", "join", Asked::Usage),
     ];
+    // The program's name asks for nothing, whatever it is.
+    let named = [
+        ("join", Asked::Join),
+        ("cut", Asked::Cut),
+        ("frob", Asked::Usage),
+    ];
+    for (word, want) in named {
+        assert_eq!(rt; what_is_asked(rt.alloc(), &["-h", word]), want, "{word}");
+    }
     for (first, second, want) in two {
         assert_eq!(rt;
             what_is_asked(rt.alloc(), &["segrx", first, second]),
