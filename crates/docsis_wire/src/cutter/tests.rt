@@ -1,3 +1,5 @@
+ghost use Rattle.docsis_wire.specs.Cutter.{IsUnderWay};
+
 use super::{Cutter, cut};
 use crate::buffer::Bytes;
 use crate::frame::well_formed;
@@ -548,18 +550,29 @@ mod refusals {
         Ok(())
     }
 
+    /// Makes the next segment, and once more where the first call was refused memory.
+    fn next_of(
+        rt: &impl Print,
+        alloc: Global,
+        cutter: &mut Cutter<'_>,
+    ) -> Result<Option<Segment>, Fail>
+        requires { IsUnderWay cutter.old }
+        ensures { IsUnderWay cutter.new }
+    {
+        if let Ok(segment) = cutter.next(alloc) {
+            return Ok(segment);
+        }
+        println!(rt; "refused")?;
+        Ok(cutter.next(alloc)?)
+    }
+
     #[test]
     fn next_again(rt: HostRuntime) -> Result<(), Fail> {
         let frames = frames(&rt, rt.alloc())?;
         let pieces = pieces(&rt, rt.alloc())?;
         let mut cutter = Cutter::new(&frames, &pieces, 0, FillByte::Zero)?;
         for wanted in INSIDE_SEGMENTS {
-            let mut answer = cutter.next(rt.alloc());
-            if answer.is_err() {
-                println!(rt; "refused")?;
-                answer = cutter.next(rt.alloc());
-            }
-            let segment = answer?.ok_or("too few")?;
+            let segment = next_of(&rt, rt.alloc(), &mut cutter)?.ok_or("too few")?;
             assert!(rt; is(&segment, wanted), "{segment:?}");
         }
         Ok(())
