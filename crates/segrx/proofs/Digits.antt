@@ -2,9 +2,9 @@
 use Rattle.std.proofs.Common.{◌≡◌, ℕ, ◌+◌, ◌/◌, ◌%◌, ◌<◌, ◌≤◌, ◌^◌, [], ◌∷◌, length, ◌∙◌, ap, arith, length-append, lit≤, lit<}
 use Rattle.std.specs.Fmt.{decimal}
 use Rattle.std.proofs.lemmas.Fmt.{decimal_digit, decimal_step, length-decimal-le}
-use Rattle.segrx.specs.declared.fault.TraceKind.{TraceKind}
-use Rattle.segrx.specs.declared.fault.TraceKind.TheVariants.{UnknownLine, FieldCount, BadNumber, NotHex, TooShort, PointerPast}
-use Rattle.segrx.specs.Texts.{kind_text}
+use Rattle.texts.specs.declared.fault.TraceKind.{TraceKind}
+use Rattle.texts.specs.declared.fault.TraceKind.TheVariants.{UnknownLine, FieldCount, BadNumber, NotHex, TooShort, PointerPast}
+use Rattle.texts.specs.Kinds.{kind_text}
 
 -- one digit is one byte
 pub length-decimal_digit : (n : ℕ) → n < 10 → length (decimal n) ≡ 1

@@ -4,7 +4,7 @@ use Rattle.docsis_wire.specs.declared.pieces.FillByte.{FillByte}
 use Rattle.docsis_wire.specs.declared.pieces.FillByte.TheVariants.{Zero, Ones}
 use Rattle.segrx.specs.declared.command.UsageFault.{UsageFault}
 use Rattle.segrx.specs.declared.command.UsageFault.TheVariants.{Usage, OutOfMemory}
-use Rattle.segrx.specs.Number.{IsNumber}
+use Rattle.texts.specs.Number.{IsNumber}
 use Rattle.segrx.specs.declared.command.Command.{Command}
 use Rattle.segrx.specs.declared.command.Command.TheVariants.{Join, Cut, Help}
 

@@ -1,14 +1,6 @@
 pub mod Device
-pub mod Lines
 pub mod Texts
-pub mod Field
-pub mod Number
 pub mod Transfer
 pub mod Engine
-pub mod LineFault
-pub mod JoinLine
-pub mod Join
-pub mod CutLine
-pub mod Cut
 pub mod Program
 pub mod Command

@@ -2,10 +2,12 @@
 use Rattle.std.specs.Prelude.{◌≡◌, ◌⊎◌, ◌<◌, ℕ, List}
 use Rattle.docsis_wire.specs.declared.pieces.FillByte.{FillByte}
 use Rattle.segrx.specs.declared.fault.EngineFault.{EngineFault}
+use Rattle.texts.specs.declared.fault.TextFault.{TextFault}
 use Rattle.segrx.specs.Texts.{status_of}
+use Rattle.segrx.specs.Engine.{engine_fault}
 use Rattle.segrx.specs.Command.{AsksToJoin, AsksToCut, AsksForHelp}
-use Rattle.segrx.specs.Join.{IsJoined}
-use Rattle.segrx.specs.Cut.{IsCutText}
+use Rattle.texts.specs.Join.{IsJoined}
+use Rattle.texts.specs.Cut.{IsCutText}
 
 -- the program did its work, or tells a fault
 abbrev pub IsStatus : ℕ → Type 0
@@ -28,6 +30,6 @@ abbrev pub HasCutText : List ℕ → Type 0
 HasCutText input = (first : ℕ) × (fill : FillByte) × (text : List ℕ) × (first < 8192) × IsCutText first fill input text
 
 -- what a status says of an input: with 0 it has a text, with 1 a fault of that status
-pub record SaysOf (HasText : List ℕ → Type 0) (IsFault : List ℕ → EngineFault → Type 0) (status : ℕ) (input : List ℕ) : Type 0 where
+pub record SaysOf (HasText : List ℕ → Type 0) (IsFault : List ℕ → TextFault → Type 0) (status : ℕ) (input : List ℕ) : Type 0 where
   pub done : status ≡ 0 → HasText input
-  pub faulty : status ≡ 1 → (fault : EngineFault) × (status_of fault ≡ 1) × IsFault input fault
+  pub faulty : status ≡ 1 → (fault : TextFault) × (status_of (engine_fault fault) ≡ 1) × IsFault input fault

@@ -1,21 +1,11 @@
 -- The texts and the exit statuses of faults.
 use Rattle.std.specs.Prelude.{ℕ, List, [], ◌∷◌, ◌++◌, codes}
 use Rattle.std.specs.Fmt.{decimal}
-use Rattle.segrx.specs.declared.fault.TraceKind.{TraceKind}
-use Rattle.segrx.specs.declared.fault.TraceKind.TheVariants.{UnknownLine, FieldCount, BadNumber, NotHex, TooShort, PointerPast}
+use Rattle.texts.specs.Kinds.{kind_text}
 use Rattle.segrx.specs.declared.fault.EngineFault.{EngineFault}
 use Rattle.segrx.specs.declared.fault.EngineFault.TheVariants.{Trace, Cut, OutOfMemory, Read, Write, Usage}
 use Rattle.docsis_wire.specs.declared.pieces.CutFault.{CutFault}
 use Rattle.docsis_wire.specs.declared.pieces.CutFault.TheVariants as cut_fault
-
--- the words for a kind of fault
-abbrev pub kind_text : TraceKind → List ℕ
-kind_text UnknownLine = codes "unknown line"
-kind_text FieldCount = codes "wrong number of fields"
-kind_text BadNumber = codes "bad number"
-kind_text NotHex = codes "not hexadecimal"
-kind_text TooShort = codes "too short"
-kind_text PointerPast = codes "pointer past the end"
 
 -- the words for a fault of a cut
 abbrev pub cut_fault_text : CutFault → List ℕ

@@ -2,12 +2,12 @@ ghost use Rattle.std.specs.Prelude.{◌≡◌, ◌<◌, ◌↔◌, map, codes, I
 ghost use Rattle.segrx.specs.Command.{AsksToJoin, AsksToCut, IsHelpWord, HasNoHelpWord, StandsBeforeHelp, Asks, ReadsOptions};
 ghost use Rattle.clap.specs.Matches.{found_of, first_value};
 
-use crate::number::read_number;
 use clap::error::ErrorKind;
 use clap::{Arg, ArgAction, ArgMatches};
 use docsis_wire::FillByte;
 use std::alloc::{AllocError, Global};
 use std::convert::AsStr;
+use texts::read_number;
 use thiserror::Error;
 
 /// What the program is asked to do.

@@ -3,56 +3,16 @@ ghost use Rattle.std.specs.Io.KnownBytes.{Appends};
 ghost use Rattle.std.specs.Fmt.{decimal};
 ghost use Rattle.segrx.specs.Device.{inner_of, has_failed};
 ghost use Rattle.segrx.specs.Transfer.{AppendsFront};
-ghost use Rattle.segrx.specs.Texts.{kind_text, cut_fault_text, fault_text, fault_line, status_of};
+ghost use Rattle.segrx.specs.Texts.{cut_fault_text, fault_text, fault_line, status_of};
+ghost use Rattle.segrx.specs.Engine.{engine_fault};
 
 use crate::device::Device;
 use crate::text_line::TextLine;
 use crate::transfer::write_text;
 use docsis_wire::CutFault;
 use std::io::Write;
+use texts::{TextFault, TraceFault};
 use thiserror::Error;
-
-/// Why a line of an input cannot be read. Where a line has several faults, the first of these is told.
-#[derive(Clone, Copy, Debug, PartialEq, Eq)]
-pub enum TraceKind {
-    /// The first word is none of the command's.
-    UnknownLine,
-    /// Too few or too many words.
-    FieldCount,
-    /// A number field is no number in its range.
-    BadNumber,
-    /// A hexadecimal field is none.
-    NotHex,
-    /// A segment has fewer than the eight bytes of its header.
-    TooShort,
-    /// A segment's pointer leads past its payload.
-    PointerPast,
-}
-
-impl TraceKind {
-    /// The words for it in a fault's line.
-    pub fn text(self) -> &'static str
-        ensures { result.now ≡ kind_text self }
-    {
-        match self {
-            TraceKind::UnknownLine => "unknown line",
-            TraceKind::FieldCount => "wrong number of fields",
-            TraceKind::BadNumber => "bad number",
-            TraceKind::NotHex => "not hexadecimal",
-            TraceKind::TooShort => "too short",
-            TraceKind::PointerPast => "pointer past the end",
-        }
-    }
-}
-
-/// A line that cannot be read.
-#[derive(Clone, Copy, Debug, PartialEq, Eq, Error)]
-#[error("line {line}: {}", .kind.text())]
-pub struct TraceFault {
-    /// Lines are numbered from 1, skipped ones included.
-    pub line: u64,
-    pub kind: TraceKind,
-}
 
 /// Why an engine, or the program, could not do its work.
 #[derive(Clone, Copy, Debug, PartialEq, Eq, Error)]
@@ -75,6 +35,18 @@ pub enum EngineFault {
     /// The program does not know its words.
     #[error("usage")]
     Usage,
+}
+
+impl From<TextFault> for EngineFault {
+    ghost from_gives = { λ fault reported. reported ≡ engine_fault fault };
+
+    fn from(fault: TextFault) -> EngineFault {
+        match fault {
+            TextFault::Trace(fault) => EngineFault::Trace(fault),
+            TextFault::Cut(fault) => EngineFault::Cut(fault),
+            TextFault::OutOfMemory => EngineFault::OutOfMemory,
+        }
+    }
 }
 
 /// The writer that a fault's line was to go to failed.

@@ -8,18 +8,11 @@
 
 pub mod command;
 pub mod cut;
-pub mod cut_line;
 #[cfg(test)]
 mod cut_tests;
 pub mod device;
 pub mod fault;
-pub mod field;
 pub mod join;
-pub mod join_line;
-pub mod laws;
-pub mod line_fault;
-pub mod lines;
-pub mod number;
 pub mod program;
 #[cfg(test)]
 mod refusals;

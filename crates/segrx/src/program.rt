@@ -3,8 +3,8 @@ ghost use Rattle.segrx.specs.Device.{inner_of, IsFresh};
 ghost use Rattle.segrx.specs.Texts.{status_of};
 ghost use Rattle.segrx.specs.Engine.{HasCause};
 ghost use Rattle.segrx.specs.Command.{AsksToJoin};
-ghost use Rattle.segrx.specs.Join.{IsJoinFault};
-ghost use Rattle.segrx.specs.Cut.{IsCutFault};
+ghost use Rattle.texts.specs.Join.{IsJoinFault};
+ghost use Rattle.texts.specs.Cut.{IsCutFault};
 ghost use Rattle.segrx.specs.Program.{IsStatus, AsksToCutOnly, AsksForNothing, HasJoinedText, HasCutText, SaysOf};
 
 use crate::command::{Command, UsageFault, read_words};

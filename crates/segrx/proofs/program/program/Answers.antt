@@ -1,4 +1,4 @@
-use Rattle.segrx.specs.Cut.{IsCutFault}
+use Rattle.texts.specs.Cut.{IsCutFault}
 use Rattle.segrx.specs.Program.{HasCutText}
 use Rattle.segrx.proofs.Statuses.{SaysOf-known}
 use Rattle.segrx.proofs.program.program.Goals as goal

@@ -1,6 +1,6 @@
 use Rattle.std.proofs.Common.{rules}
 use Rattle.segrx.proofs.KnownBytes.{AppendsBefore-more}
-use Rattle.segrx.proofs.Parts.{take-rest}
+use Rattle.texts.proofs.Parts.{take-rest}
 use Rattle.segrx.proofs.transfer.write_text.Goals as goal
 
 pub loop-rest-preserved : goal.loop-rest-preserved

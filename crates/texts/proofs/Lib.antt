@@ -1,0 +1,14 @@
+pub mod Parts
+pub mod LineReadings
+pub mod JoinedSoFar
+pub mod OneSegment
+pub mod FirstFault
+pub mod OneAnswer
+pub mod OneCutLine
+pub mod OneCutAnswer
+pub mod OneCutFault
+pub mod CutSoFar
+pub mod PrintedSoFar
+pub mod HexText
+pub mod Numbers
+pub mod FirstBytes

@@ -1,0 +1,9 @@
+pub mod Kinds
+pub mod Lines
+pub mod Field
+pub mod Number
+pub mod LineFault
+pub mod JoinLine
+pub mod Join
+pub mod CutLine
+pub mod Cut
