@@ -1,4 +1,3 @@
 pub mod KnownBytes
-pub mod Digits
 pub mod Statuses
 pub mod AskedWords

@@ -1,23 +1,18 @@
--- What an engine's answer says of its input, for the program's exit status.
-use Rattle.std.proofs.Common.{◌≡◌, ◌≢◌, ℕ, ◌<◌, List, Option, Some, None, Result, Ok, Err, OnOk, IfSome, refl, sym, subst, arith}
-use Rattle.docsis_wire.specs.declared.pieces.FillByte.{FillByte}
+-- What the program's exit status says of its input, by what came of its words.
+use Rattle.std.proofs.Common.{◌≡◌, ◌⊎◌, inl, inr, ℕ, ◌<◌, List, Option, Some, None, Result, Ok, Err, IfSome, refl, ap, subst, arith}
 use Rattle.docsis_wire.specs.declared.pieces.CutFault.TheVariants as cut_fault
 use Rattle.segrx.specs.declared.device.Device.{Device}
 use Rattle.segrx.specs.declared.fault.EngineFault.{EngineFault}
 use Rattle.segrx.specs.declared.fault.EngineFault.TheVariants.{Trace, Cut, OutOfMemory, Read, Write, Usage}
 use Rattle.texts.specs.declared.fault.TextFault.{TextFault}
 use Rattle.texts.specs.declared.fault.TextFault.TheVariants as text_fault
-use Rattle.segrx.specs.Texts.{status_of}
-use Rattle.texts.specs.Cut.{IsCutText}
-use Rattle.segrx.specs.Engine.{engine_fault, WritesText, IsFaultOfKnown, HasCause}
-use Rattle.segrx.specs.Program.{HasCutText, SaysOf}
-
--- where the text of a cut was written there is one
-pub HasCutText-written : {T E : Type 0} (r : Result T E) (first : ℕ) (fill : FillByte) (known old new : Option (List ℕ)) → first < 8192
-    → OnOk r (IfSome known (WritesText (IsCutText first fill) old new)) → OnOk r (IfSome known HasCutText)
-HasCutText-written (Ok x) first fill None old new small written = tt
-HasCutText-written (Ok x) first fill (Some input) old new small written = (first, fill, written.0, small, written.1)
-HasCutText-written (Err e) first fill known old new small written = tt
+use Rattle.texts.specs.Join.{IsJoined, IsJoinFault}
+use Rattle.texts.specs.Cut.{IsCutText, IsCutFault}
+use Rattle.segrx.specs.Device.{inner_of, IsFresh}
+use Rattle.segrx.specs.Fault.{status_of, exit_status_of}
+use Rattle.segrx.specs.Command.{AsksToJoin}
+use Rattle.segrx.specs.Engine.{engine_fault, WritesText, IsFaultOfKnown, HasCause, RunsEngine}
+use Rattle.segrx.specs.Program.{HasJoinedText, HasCutText, SaysOf, IsRefused, Obeys, ComesOf, AsksToCutOnly}
 
 -- a status other than 0 and 1 says nothing
 says_nothing : (HasText : List ℕ → Type 0) (IsFault : List ℕ → TextFault → Type 0) (status : ℕ) (input : List ℕ) → 1 < status → SaysOf HasText IsFault status input
@@ -30,23 +25,85 @@ says_fault HasText IsFault input fault one h =
     let P : List ℕ → Type 0 = λ bytes. IsFault bytes fault in
     record { done = λ e. absurd (omega (arith, one, e)); faulty = λ _. (fault, one, subst P h.1 h.2) }
 
--- so with each fault's status, where a fault but usage has its cause
+-- so with each fault's status, where it has its cause
 SaysOf-fault : {R W : Type 0} (HasText : List ℕ → Type 0) (IsFault : List ℕ → TextFault → Type 0) (input : List ℕ) (reader : Device R) (writer : Device W) (fault : EngineFault)
-    → (fault ≢ Usage → HasCause IsFault (Some input) reader writer fault) → SaysOf HasText IsFault (status_of fault) input
-SaysOf-fault HasText IsFault input reader writer (Trace fault) h = says_fault HasText IsFault input (text_fault.Trace fault) refl (h (λ e. cc e))
-SaysOf-fault HasText IsFault input reader writer (Cut (cut_fault.BadFrame k)) h = says_fault HasText IsFault input (text_fault.Cut (cut_fault.BadFrame k)) refl (h (λ e. cc e))
-SaysOf-fault HasText IsFault input reader writer (Cut (cut_fault.FillInsideFrame k)) h = says_fault HasText IsFault input (text_fault.Cut (cut_fault.FillInsideFrame k)) refl (h (λ e. cc e))
-SaysOf-fault HasText IsFault input reader writer (Cut (cut_fault.PointerTooFar k)) h = says_fault HasText IsFault input (text_fault.Cut (cut_fault.PointerTooFar k)) refl (h (λ e. cc e))
+    → HasCause IsFault (Some input) reader writer fault → SaysOf HasText IsFault (status_of fault) input
+SaysOf-fault HasText IsFault input reader writer (Trace fault) h = says_fault HasText IsFault input (text_fault.Trace fault) refl h
+SaysOf-fault HasText IsFault input reader writer (Cut (cut_fault.BadFrame k)) h = says_fault HasText IsFault input (text_fault.Cut (cut_fault.BadFrame k)) refl h
+SaysOf-fault HasText IsFault input reader writer (Cut (cut_fault.FillInsideFrame k)) h = says_fault HasText IsFault input (text_fault.Cut (cut_fault.FillInsideFrame k)) refl h
+SaysOf-fault HasText IsFault input reader writer (Cut (cut_fault.PointerTooFar k)) h = says_fault HasText IsFault input (text_fault.Cut (cut_fault.PointerTooFar k)) refl h
 SaysOf-fault HasText IsFault input reader writer (Cut cut_fault.OutOfMemory) h = says_nothing HasText IsFault 3 input (omega arith)
 SaysOf-fault HasText IsFault input reader writer OutOfMemory h = says_nothing HasText IsFault 3 input (omega arith)
 SaysOf-fault HasText IsFault input reader writer Read h = says_nothing HasText IsFault 4 input (omega arith)
 SaysOf-fault HasText IsFault input reader writer Write h = says_nothing HasText IsFault 4 input (omega arith)
-SaysOf-fault HasText IsFault input reader writer Usage h = says_nothing HasText IsFault 2 input (omega arith)
+SaysOf-fault HasText IsFault input reader writer Usage h = absurd h
 
 -- and of the input, where it is known
-pub SaysOf-known : {R W : Type 0} (HasText : List ℕ → Type 0) (IsFault : List ℕ → TextFault → Type 0) (known : Option (List ℕ)) (reader : Device R) (writer : Device W)
-    (fault : EngineFault) (status : ℕ) → status ≡ status_of fault → (fault ≢ Usage → HasCause IsFault known reader writer fault) → IfSome known (SaysOf HasText IsFault status)
-SaysOf-known HasText IsFault None reader writer fault status is h = tt
-SaysOf-known HasText IsFault (Some input) reader writer fault status is h =
-    let P : ℕ → Type 0 = λ n. SaysOf HasText IsFault n input in
-    subst P (sym is) (SaysOf-fault HasText IsFault input reader writer fault h)
+SaysOf-known : {R W : Type 0} (HasText : List ℕ → Type 0) (IsFault : List ℕ → TextFault → Type 0) (known : Option (List ℕ)) (reader : Device R) (writer : Device W) (fault : EngineFault)
+    → HasCause IsFault known reader writer fault → IfSome known (SaysOf HasText IsFault (status_of fault))
+SaysOf-known HasText IsFault None reader writer fault h = tt
+SaysOf-known HasText IsFault (Some input) reader writer fault h = SaysOf-fault HasText IsFault input reader writer fault h
+
+-- the status 0 says that there is a text, where one was written
+SaysOf-written : (HasText : List ℕ → Type 0) (IsText : List ℕ → List ℕ → Type 0) (IsFault : List ℕ → TextFault → Type 0) (known old new : Option (List ℕ))
+    → ((input text : List ℕ) → IsText input text → HasText input) → IfSome known (WritesText IsText old new) → IfSome known (SaysOf HasText IsFault 0)
+SaysOf-written HasText IsText IsFault None old new has written = tt
+SaysOf-written HasText IsText IsFault (Some input) old new has written = record { done = λ _. has input written.0 written.1; faulty = λ e. absurd (omega (arith, e)) }
+
+-- what the status says after an engine ran
+SaysOf-engine : {R W : Type 0} (remaining : R → Option (List ℕ)) (contents : W → Option (List ℕ)) (HasText : List ℕ → Type 0) (IsText : List ℕ → List ℕ → Type 0)
+    (IsFault : List ℕ → TextFault → Type 0) (reader reader' : Device R) (writer writer' : Device W) (result : Result (Unit {0}) EngineFault)
+    → ((input text : List ℕ) → IsText input text → HasText input) → RunsEngine remaining contents IsText IsFault reader reader' writer writer' result
+    → IfSome (remaining (inner_of reader)) (SaysOf HasText IsFault (exit_status_of result))
+SaysOf-engine remaining contents HasText IsText IsFault reader reader' writer writer' (Ok done) has ran =
+    SaysOf-written HasText IsText IsFault (remaining (inner_of reader)) (contents (inner_of writer)) (contents (inner_of writer')) has ran.written
+SaysOf-engine remaining contents HasText IsText IsFault reader reader' writer writer' (Err fault) has ran =
+    SaysOf-known HasText IsFault (remaining (inner_of reader)) reader' writer' fault ran.cause
+
+-- where the words were refused the status is 2 or 3
+refused_status : {R W : Type 0} (reader reader' : Device R) (writer writer' : Device W) (result : Result (Unit {0}) EngineFault) → IsRefused reader reader' writer writer' result
+    → (exit_status_of result ≡ 2) ⊎ (exit_status_of result ≡ 3)
+refused_status reader reader' writer writer' result refused = elim refused.fault [ inl usage ↦ inl (ap exit_status_of usage) | inr memory ↦ inr (ap exit_status_of memory) ]
+
+-- and says nothing
+SaysOf-above : (HasText : List ℕ → Type 0) (IsFault : List ℕ → TextFault → Type 0) (known : Option (List ℕ)) (status : ℕ) → (status ≡ 2) ⊎ (status ≡ 3)
+    → IfSome known (SaysOf HasText IsFault status)
+SaysOf-above HasText IsFault None status above = tt
+SaysOf-above HasText IsFault (Some input) status above =
+    elim above [ inl two ↦ says_nothing HasText IsFault status input (omega (arith, two)) | inr three ↦ says_nothing HasText IsFault status input (omega (arith, three)) ]
+
+-- what came of words that were obeyed over two new devices
+pub ComesOf-new : {R W : Type 0} (remaining : R → Option (List ℕ)) (contents : W → Option (List ℕ)) (words : List (List ℕ)) (reader : R) (writer : W)
+    (input input' : Device R) (output output' : Device W) (result : Result (Unit {0}) EngineFault) → inner_of input ≡ reader → IsFresh input → inner_of output ≡ writer → IsFresh output
+    → Obeys remaining contents words input input' output output' result → ComesOf remaining contents words reader writer result
+ComesOf-new remaining contents words reader writer input input' output output' result reads unread writes unwritten obeyed = record {
+  input = input;
+  input' = input';
+  output = output;
+  output' = output';
+  reads = reads;
+  writes = writes;
+  fresh = (unread, unwritten);
+  obeyed = obeyed;
+}
+
+-- the program's status where the words ask to join
+pub says_of_join : {R W : Type 0} (remaining : R → Option (List ℕ)) (contents : W → Option (List ℕ)) (words : List (List ℕ)) (reader : R) (writer : W) (result : Result (Unit {0}) EngineFault)
+    → ComesOf remaining contents words reader writer result → AsksToJoin words → IfSome (remaining reader) (SaysOf HasJoinedText IsJoinFault (exit_status_of result))
+says_of_join {R = R} remaining contents words reader writer result came asks =
+    let P : R → Type 0 = λ r. IfSome (remaining r) (SaysOf HasJoinedText IsJoinFault (exit_status_of result)) in
+    subst P came.reads
+    (SaysOf-engine remaining contents HasJoinedText IsJoined IsJoinFault came.input came.input' came.output came.output' result (λ input text is. (text, is)) (came.obeyed.join asks))
+
+-- the program's status where the words ask to cut and not for help
+pub says_of_cut : {R W : Type 0} (remaining : R → Option (List ℕ)) (contents : W → Option (List ℕ)) (words : List (List ℕ)) (reader : R) (writer : W) (result : Result (Unit {0}) EngineFault)
+    → ComesOf remaining contents words reader writer result → AsksToCutOnly words → IfSome (remaining reader) (SaysOf HasCutText IsCutFault (exit_status_of result))
+says_of_cut {R = R} remaining contents words reader writer result came asks =
+    let P : R → Type 0 = λ r. IfSome (remaining r) (SaysOf HasCutText IsCutFault (exit_status_of result)) in
+    subst P came.reads
+    (elim (came.obeyed.cut asks) [
+      | inl ran ↦
+          SaysOf-engine remaining contents HasCutText (IsCutText ran.0 ran.1) IsCutFault came.input came.input' came.output came.output' result
+          (λ input text is. (ran.0, ran.1, text, ran.2, is)) ran.3
+      | inr refused ↦ SaysOf-above HasCutText IsCutFault (remaining (inner_of came.input)) (exit_status_of result) (refused_status came.input came.input' came.output came.output' result refused)
+    ])

@@ -5,17 +5,18 @@ use Rattle.docsis_wire.specs.declared.pieces.FillByte.TheVariants.{Zero, Ones}
 use Rattle.segrx.specs.declared.command.UsageFault.{UsageFault}
 use Rattle.segrx.specs.declared.command.UsageFault.TheVariants.{Usage, OutOfMemory}
 use Rattle.texts.specs.Number.{IsNumber}
+use Rattle.segrx.specs.Limits.{sequence_modulus, sequence_max}
 use Rattle.segrx.specs.declared.command.Command.{Command}
 use Rattle.segrx.specs.declared.command.Command.TheVariants.{Join, Cut, Help}
 
--- to join, there is no word behind the name, or the command's own alone
+-- to join, no word follows the name, or the command's own alone
 abbrev pub AsksToJoin : List (List ℕ) → Type 0
 AsksToJoin [] = Unit {0}
 AsksToJoin (name ∷ []) = Unit {0}
 AsksToJoin (name ∷ word ∷ []) = word ≡ codes "join"
 AsksToJoin (name ∷ word ∷ another ∷ more) = ⊥
 
--- to cut, the command's word stands behind the name; the options are read by the library
+-- to cut, the command's word follows the name; the options are read by the library
 abbrev pub AsksToCut : List (List ℕ) → Type 0
 AsksToCut [] = ⊥
 AsksToCut (name ∷ []) = ⊥
@@ -25,11 +26,11 @@ AsksToCut (name ∷ word ∷ options) = word ≡ codes "cut"
 abbrev pub IsHelpWord : List ℕ → Type 0
 IsHelpWord word = (word ≡ codes "-h") ⊎ (word ≡ codes "--help")
 
--- none of the words behind the name asks for help
+-- none of the words after the name asks for help
 abbrev pub HasNoHelpWord : List (List ℕ) → Type 0
 HasNoHelpWord words = (k : ℕ) (word : List ℕ) → 0 < k → slice_get words k ≡ Some word → ¬ IsHelpWord word
 
--- these words stand before the first one behind the name that asks for help
+-- these words stand before the first one after the name that asks for help
 pub record StandsBeforeHelp (before words : List (List ℕ)) : Type 0 where
   pub word : List ℕ
   pub after : List (List ℕ)
@@ -45,13 +46,13 @@ AsksForHelp words = (before : List (List ℕ)) × StandsBeforeHelp before words 
 -- the words ask for this; the first number of a cut is one of a segment, and no word of a cut asks for help
 abbrev pub Asks : List (List ℕ) → Command → Type 0
 Asks words Join = AsksToJoin words
-Asks words (Cut first fill) = AsksToCut words × HasNoHelpWord words × (first < 8192)
+Asks words (Cut first fill) = AsksToCut words × HasNoHelpWord words × (first < sequence_modulus)
 Asks words (Help text) = AsksForHelp words
 
 -- the number that the option `first` asks for, 0 where it is left out
 abbrev pub IsFirst : Option (List ℕ) → ℕ → Type 0
 IsFirst None first = first ≡ 0
-IsFirst (Some text) first = IsNumber text 8191 first
+IsFirst (Some text) first = IsNumber text sequence_max first
 
 -- the fill that the option `fill` asks for, zeros where it is left out
 abbrev pub IsFill : Option (List ℕ) → FillByte → Type 0

@@ -1,6 +1,7 @@
+pub mod Limits
 pub mod Device
-pub mod Texts
+pub mod Fault
 pub mod Transfer
 pub mod Engine
-pub mod Program
 pub mod Command
+pub mod Program

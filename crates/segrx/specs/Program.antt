@@ -1,17 +1,18 @@
--- The exit statuses of the program, and what they say of its input.
-use Rattle.std.specs.Prelude.{◌≡◌, ◌⊎◌, ◌<◌, ℕ, List}
+-- What the program does with its arguments, and what its exit status says of its input.
+use Rattle.std.specs.Prelude.{◌≡◌, ◌≢◌, ◌⊎◌, ◌<◌, ℕ, List, Option, Result, Ok, Err, true, false, IfErr, OnOk}
 use Rattle.docsis_wire.specs.declared.pieces.FillByte.{FillByte}
+use Rattle.segrx.specs.declared.device.Device.{Device}
 use Rattle.segrx.specs.declared.fault.EngineFault.{EngineFault}
+use Rattle.segrx.specs.declared.fault.EngineFault.TheVariants.{OutOfMemory, Read, Write, Usage}
 use Rattle.texts.specs.declared.fault.TextFault.{TextFault}
-use Rattle.segrx.specs.Texts.{status_of}
-use Rattle.segrx.specs.Engine.{engine_fault}
+use Rattle.segrx.specs.Limits.{sequence_modulus}
+use Rattle.segrx.specs.Device.{inner_of, has_failed, IsFresh}
+use Rattle.segrx.specs.Transfer.{IsReadFault, IsRead}
+use Rattle.segrx.specs.Fault.{status_of, exit_status_of}
+use Rattle.segrx.specs.Engine.{engine_fault, RunsEngine}
 use Rattle.segrx.specs.Command.{AsksToJoin, AsksToCut, AsksForHelp}
-use Rattle.texts.specs.Join.{IsJoined}
-use Rattle.texts.specs.Cut.{IsCutText}
-
--- the program did its work, or tells a fault
-abbrev pub IsStatus : ℕ → Type 0
-IsStatus n = (n ≡ 0) ⊎ ((fault : EngineFault) × (n ≡ status_of fault))
+use Rattle.texts.specs.Join.{IsJoined, IsJoinFault}
+use Rattle.texts.specs.Cut.{IsCutText, IsCutFault}
 
 -- the words ask to cut and not for help
 abbrev pub AsksToCutOnly : List (List ℕ) → Type 0
@@ -21,13 +22,53 @@ AsksToCutOnly words = AsksToCut words × ¬ AsksForHelp words
 abbrev pub AsksForNothing : List (List ℕ) → Type 0
 AsksForNothing words = ¬ AsksToJoin words × ¬ AsksToCut words × ¬ AsksForHelp words
 
+-- the words were not obeyed, and neither device was used
+pub record IsRefused {R W : Type 0} (reader reader' : Device R) (writer writer' : Device W) (result : Result (Unit {0}) EngineFault) : Type 0 where
+  pub fault : (result ≡ Err Usage) ⊎ (result ≡ Err OutOfMemory)
+  pub unread : reader' ≡ reader
+  pub unwritten : writer' ≡ writer
+
+-- the engine of `cut` ran, from the number of some segment and with some fill
+abbrev pub RunsCut : {R W : Type 0} → (R → Option (List ℕ)) → (W → Option (List ℕ)) → Device R → Device R → Device W → Device W → Result (Unit {0}) EngineFault → Type 0
+RunsCut remaining contents reader reader' writer writer' result =
+    (first : ℕ) × (fill : FillByte) × (first < sequence_modulus) × RunsEngine remaining contents (IsCutText first fill) IsCutFault reader reader' writer writer' result
+
+-- what comes of words, the program's name first, over a fresh reader and a fresh writer: `remaining` are the bytes that a reader is known to have left, `contents` those that a writer is known to hold
+pub record Obeys {R W : Type 0} (remaining : R → Option (List ℕ)) (contents : W → Option (List ℕ)) (words : List (List ℕ))
+    (reader reader' : Device R) (writer writer' : Device W) (result : Result (Unit {0}) EngineFault) : Type 0 where
+  -- an engine keeps all its promises, and words that ask for nothing do nothing
+  pub join : AsksToJoin words → RunsEngine remaining contents IsJoined IsJoinFault reader reader' writer writer' result
+  pub cut : AsksToCutOnly words → RunsCut remaining contents reader reader' writer writer' result ⊎ IsRefused reader reader' writer writer' result
+  pub nothing : AsksForNothing words → IsRefused reader reader' writer writer' result
+  -- each failed device has its fault, also where help is written
+  pub no_cause : OnOk result (has_failed writer' ≡ false)
+  pub read_fault : result ≡ Err Read → IsReadFault reader'
+  pub write_fault : result ≡ Err Write → has_failed writer' ≡ true
+  pub read_first : IfErr result (λ fault. fault ≢ Read → IsRead reader')
+
+-- the words were obeyed over a fresh device on this reader and one on this writer, and this came of it
+pub record ComesOf {R W : Type 0} (remaining : R → Option (List ℕ)) (contents : W → Option (List ℕ)) (words : List (List ℕ))
+    (reader : R) (writer : W) (result : Result (Unit {0}) EngineFault) : Type 0 where
+  pub input : Device R
+  pub input' : Device R
+  pub output : Device W
+  pub output' : Device W
+  pub reads : inner_of input ≡ reader
+  pub writes : inner_of output ≡ writer
+  pub fresh : IsFresh input × IsFresh output
+  pub obeyed : Obeys remaining contents words input input' output output' result
+
+-- the program did its work, or reports a fault
+abbrev pub IsStatus : ℕ → Type 0
+IsStatus n = (n ≡ 0) ⊎ ((fault : EngineFault) × (n ≡ status_of fault))
+
 -- some text stands for an input of `join`
 abbrev pub HasJoinedText : List ℕ → Type 0
 HasJoinedText input = (text : List ℕ) × IsJoined input text
 
 -- some text stands for an input of `cut`
 abbrev pub HasCutText : List ℕ → Type 0
-HasCutText input = (first : ℕ) × (fill : FillByte) × (text : List ℕ) × (first < 8192) × IsCutText first fill input text
+HasCutText input = (first : ℕ) × (fill : FillByte) × (text : List ℕ) × (first < sequence_modulus) × IsCutText first fill input text
 
 -- what a status says of an input: with 0 it has a text, with 1 a fault of that status
 pub record SaysOf (HasText : List ℕ → Type 0) (IsFault : List ℕ → TextFault → Type 0) (status : ℕ) (input : List ℕ) : Type 0 where

@@ -3,6 +3,7 @@ use Rattle.std.specs.Prelude.{◌≡◌, ◌<◌, ◌≤◌, ◌⊎◌, ℕ, tru
 use Rattle.std.specs.Io.KnownBytes.{Appends, Consumes, IsAtEnd}
 use Rattle.segrx.specs.declared.device.Device.{Device}
 use Rattle.segrx.specs.Device.{has_failed, given_of}
+use Rattle.segrx.specs.Limits.{input_limit}
 
 -- known bytes grew by a front of the text, and this is the rest of it
 abbrev pub AppendsBefore : Option (List ℕ) → Option (List ℕ) → List ℕ → List ℕ → Type 0
@@ -12,13 +13,13 @@ AppendsBefore old new text rest = (went : List ℕ) × (text ≡ went ++ rest) �
 abbrev pub AppendsFront : Option (List ℕ) → Option (List ℕ) → List ℕ → Type 0
 AppendsFront old new text = (rest : List ℕ) × AppendsBefore old new text rest
 
--- a reader failed, or gave more than the 268,435,456 bytes that an engine reads
+-- a reader failed, or gave more bytes than an engine reads
 abbrev pub IsReadFault : {T : Type 0} → Device T → Type 0
-IsReadFault device = (has_failed device ≡ true) ⊎ (268435456 < given_of device)
+IsReadFault device = (has_failed device ≡ true) ⊎ (input_limit < given_of device)
 
 -- a reader did not fail, and gave no more than an engine reads
 abbrev pub IsRead : {T : Type 0} → Device T → Type 0
-IsRead device = (has_failed device ≡ false) × (given_of device ≤ 268435456)
+IsRead device = (has_failed device ≡ false) × (given_of device ≤ input_limit)
 
 -- a reader was read to its end: it did not fail and gave no more than an engine reads, and nothing is left of the bytes that it is known to have
 abbrev pub IsReadToEnd : {T : Type 0} → Device T → Option (List ℕ) → Type 0
@@ -26,7 +27,7 @@ IsReadToEnd device left = IsRead device × IsAtEnd left
 
 -- a reader did not fail, and gave just these bytes as far as can be counted, no more than an engine reads
 abbrev pub IsCounted : {T : Type 0} → Device T → List ℕ → Type 0
-IsCounted device input = (has_failed device ≡ false) × (given_of device ≡ length input) × (length input ≤ 268435456)
+IsCounted device input = (has_failed device ≡ false) × (given_of device ≡ length input) × (length input ≤ input_limit)
 
 -- an input grew by what a read took from known bytes, and it took none only at their end
 pub record ReadsMore (old new : Option (List ℕ)) (input input' : List ℕ) (count : ℕ) : Type 0 where

@@ -1,12 +1,17 @@
+//! What the program's arguments ask for.
 ghost use Rattle.std.specs.Prelude.{◌≡◌, ◌<◌, ◌↔◌, map, codes, IsTrue, IfOk, MatchOption};
+ghost use Rattle.segrx.specs.declared.command.UsageFault.TheVariants.{OutOfMemory};
+ghost use Rattle.segrx.specs.Limits.{sequence_modulus};
 ghost use Rattle.segrx.specs.Command.{AsksToJoin, AsksToCut, IsHelpWord, HasNoHelpWord, StandsBeforeHelp, Asks, ReadsOptions};
 ghost use Rattle.clap.specs.Matches.{found_of, first_value};
 
+use crate::command_line::command_line;
+use clap::ArgMatches;
 use clap::error::ErrorKind;
-use clap::{Arg, ArgAction, ArgMatches};
 use docsis_wire::FillByte;
 use std::alloc::{AllocError, Global};
 use std::convert::AsStr;
+use std::io;
 use texts::read_number;
 use thiserror::Error;
 
@@ -22,63 +27,49 @@ pub enum Command {
         /// What pieces are filled with.
         fill: FillByte,
     },
-    /// To print this text, which tells how the program is used.
+    /// To print this text, which says how the program is used.
     Help(String),
 }
 
-/// Why the program's words were not read.
+/// Why the program's arguments were not read.
 #[derive(Clone, Copy, Debug, PartialEq, Eq, Error)]
 pub enum UsageFault {
     /// They ask for nothing that the program does.
     #[error("usage")]
     Usage,
-    /// A growth was refused.
+    /// An allocation failed.
     #[error("out of memory")]
     OutOfMemory,
 }
 
 impl From<AllocError> for UsageFault {
+    ghost from_gives = { λ _ fault. fault ≡ OutOfMemory };
+
     fn from(_error: AllocError) -> UsageFault {
         UsageFault::OutOfMemory
     }
 }
 
+impl From<io::Error> for UsageFault {
+    fn from(error: io::Error) -> UsageFault {
+        match error.kind() {
+            io::ErrorKind::OutOfMemory => UsageFault::OutOfMemory,
+            _ => UsageFault::Usage,
+        }
+    }
+}
+
+impl From<clap::Error> for UsageFault {
+    fn from(error: clap::Error) -> UsageFault {
+        match error.kind() {
+            ErrorKind::OutOfMemory => UsageFault::OutOfMemory,
+            _ => UsageFault::Usage,
+        }
+    }
+}
+
 /// The greatest number of a segment.
 const FIRST_MAX: u16 = 8191;
-
-/// The words that the command `cut` knows.
-fn cut_command<'a>(alloc: Global) -> Result<clap::Command<'a>, AllocError> {
-    let first = Arg::new(alloc, "first")
-        .long("first")
-        .value_name("N")
-        .action(ArgAction::Set)
-        .help("The first segment's number, 0 to 8191; 0 if it is not given");
-    let fill = Arg::new(alloc, "fill")
-        .long("fill")
-        .value_name("zero|ones")
-        .action(ArgAction::Set)
-        .help("The byte of fill, 00 or ff; zero if it is not given");
-    clap::Command::new(alloc, "cut")
-        .about(
-            "Cuts frames into pieces, one of either a line, and prints their segments, one a line",
-        )
-        .arg(first)?
-        .arg(fill)
-}
-
-/// The words that the program knows.
-fn command_line<'a>(alloc: Global) -> Result<clap::Command<'a>, AllocError> {
-    let join = clap::Command::new(alloc, "join").about(
-        "Joins segments, one in hexadecimal a line, and prints their frames, one a line",
-    );
-    clap::Command::new(alloc, "segrx")
-        .about(
-            "Receives DOCSIS 3.0 upstream service flows that are bonded over several channels. With no command it joins",
-        )
-        .disable_help_subcommand(true)
-        .subcommand(join)?
-        .subcommand(cut_command(alloc)?)
-}
 
 /// Whether the words, the program's name first, ask to join and for nothing else.
 fn asks_to_join<S: AsStr>(words: &[S]) -> bool
@@ -108,7 +99,7 @@ fn asks_for_help(word: &str) -> bool
     word == "-h" || word == "--help"
 }
 
-/// The words before the first one behind the program's name that asks for help.
+/// The words before the first one after the program's name that asks for help.
 fn before_help<S: AsStr>(words: &[S]) -> Option<&[S]>
     ensures { MatchOption result (HasNoHelpWord (map S.text words.now))
         (λ before. StandsBeforeHelp (map S.text before.now) (map S.text words.now)) }
@@ -156,38 +147,35 @@ fn read_cut_words<'a, S: AsStr>(
     words: &'a [S],
 ) -> Result<(u16, FillByte), UsageFault>
     ensures { IfOk result
-        (λ options. AsksToCut (map S.text words.now) × (options.0 < 8192)) }
+        (λ options. AsksToCut (map S.text words.now) × (options.0 < sequence_modulus)) }
 {
     if !asks_to_cut(words) || ends_options(words) {
         return Err(UsageFault::Usage);
     }
-    match command_line(alloc)?.try_get_matches_from(words) {
-        Ok(matches) => match matches.subcommand_matches("cut") {
-            Some(options) => read_cut(options),
-            None => Err(UsageFault::Usage),
-        },
-        Err(error) if error.kind() == ErrorKind::OutOfMemory => Err(UsageFault::OutOfMemory),
-        Err(_) => Err(UsageFault::Usage),
+    let matches = command_line(alloc)?.try_get_matches_from(words)?;
+    match matches.subcommand_matches("cut") {
+        Some(options) => read_cut(options),
+        None => Err(UsageFault::Usage),
     }
 }
 
-/// The text that tells how the program is used, for words of which one asks for it.
+/// The text that says how the program is used, for words of which one asks for it.
 fn help_text<'a, S: AsStr>(alloc: Global, words: &'a [S]) -> Result<String, UsageFault> {
-    match command_line(alloc)?.try_get_matches_from(words) {
-        Ok(_) => Err(UsageFault::Usage),
-        Err(error) => match error.kind() {
-            ErrorKind::DisplayHelp => Ok(error.to_string(alloc)?),
-            ErrorKind::OutOfMemory => Err(UsageFault::OutOfMemory),
-            _ => Err(UsageFault::Usage),
-        },
+    let Err(error) = command_line(alloc)?.try_get_matches_from(words) else {
+        return Err(UsageFault::Usage);
+    };
+    if error.kind() != ErrorKind::DisplayHelp {
+        return Err(error.into());
     }
+    Ok(error.to_string(alloc)?)
 }
 
 /// What the program's words ask for, its name first. No words at all are read as its name alone.
 ///
-/// `-h` or `--help` asks for help, whatever stands behind it, where the words before it are lawful. Words that
-/// ask for nothing that the program does are `Usage`: an unknown word or option, an option of another command,
-/// one that is repeated or has no value or one out of range, `help`, `--version` and `--`.
+/// `-h` or `--help` asks for help, whatever follows it, where the words before it are lawful. Words
+/// that ask for nothing that the program does are `Usage`: an unknown word or option, an option of
+/// another command, one that is repeated or has no value or one out of range, `help`, `--version` and
+/// `--`.
 pub fn read_words<'a, S: AsStr>(alloc: Global, words: &'a [S]) -> Result<Command, UsageFault>
     ensures asked { IfOk result (Asks (map S.text words.now)) }
     ensures join { AsksToJoin (map S.text words.now) → result ≡ Ok Command.Join }

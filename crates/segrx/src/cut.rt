@@ -1,27 +1,47 @@
-ghost use Rattle.std.specs.Prelude.{◌≡◌, ◌≢◌, ◌<◌, false, IfErr, IfSome, OnOk};
-ghost use Rattle.std.specs.Io.KnownBytes.{Keeps};
-ghost use Rattle.segrx.specs.Device.{inner_of, has_failed, IsFresh};
-ghost use Rattle.segrx.specs.Transfer.{IsReadToEnd};
-ghost use Rattle.segrx.specs.Engine.{WritesText, WritesFront, HasCause};
+//! The command `cut`: frames and pieces, one a line, become their segments, one a line.
+ghost use Rattle.std.specs.Prelude.{◌<◌};
+ghost use Rattle.segrx.specs.Limits.{sequence_modulus};
+ghost use Rattle.segrx.specs.Device.{IsFresh};
+ghost use Rattle.segrx.specs.Engine.{RunsEngine};
 ghost use Rattle.texts.specs.Cut.{IsCutText, IsCutFault};
 
 use crate::device::Device;
+use crate::engine::{Engine, run_engine};
 use crate::fault::EngineFault;
-use crate::transfer::{read_input, write_text};
 use docsis_wire::FillByte;
 use std::alloc::Global;
 use std::io::{Read, Write};
-use texts::cut_lines;
+use texts::{TextFault, cut_lines};
 
-/// Cuts the frames that a reader gives into the pieces that it gives, and writes the segments, each a line
-/// of hexadecimal. The first one has the number `first`, 0 to 8191, and what a piece has of fill is this
-/// byte. It reads all, at most 268,435,456 bytes, then makes the whole text, and then writes it; an empty one
-/// is not written.
+/// The engine of `cut`.
+#[derive(Clone, Copy)]
+pub struct CutEngine {
+    /// The first segment's number, 0 to 8191.
+    first: u16,
+    /// What pieces are filled with.
+    fill: FillByte,
+    ghost in_range: { first < sequence_modulus },
+}
+
+impl Engine for CutEngine {
+    ghost is_text = { λ engine. IsCutText engine.first engine.fill };
+
+    ghost is_fault = { λ _. IsCutFault };
+
+    fn text(self, alloc: Global, input: Vec<u8>) -> Result<Vec<u8>, TextFault> {
+        cut_lines(alloc, input, self.first, self.fill)
+    }
+}
+
+/// Cuts the frames that a reader gives into the pieces that it gives, and writes the segments, each
+/// a line of hexadecimal. The first one has the number `first`, 0 to 8191, and what a piece has of
+/// fill is this byte. It reads all, at most 268,435,456 bytes, then makes the whole text, and then
+/// writes it; an empty one is not written.
 ///
-/// `Read`: the reader failed or gave more. `Trace`: the first faulty line, `UnknownLine`, `FieldCount`,
-/// `BadNumber` or `NotHex`. `Cut`: no line is at fault, and this is the first fault of the frames and pieces.
-/// `OutOfMemory`: a growth was refused. Up to here nothing was written. `Write`: the writer failed, and a
-/// front of the text may have gone out.
+/// `Read`: the reader failed or gave more. `Trace`: the first faulty line, `UnknownLine`,
+/// `FieldCount`, `BadNumber` or `NotHex`. `Cut`: no line is at fault, and this is the first fault of
+/// the frames and pieces. `OutOfMemory`: an allocation failed. Up to here nothing was written.
+/// `Write`: the writer failed, and a front of the text may have gone out.
 pub fn cut_text<R: Read, W: Write>(
     alloc: Global,
     first: u16,
@@ -29,32 +49,11 @@ pub fn cut_text<R: Read, W: Write>(
     reader: &mut Device<R>,
     writer: &mut Device<W>,
 ) -> Result<(), EngineFault>
-    requires first { first < 8192 }
+    requires first { first < sequence_modulus }
     requires reader { IsFresh reader.old }
     requires writer { IsFresh writer.old }
-
-    // Where the reader's bytes are known: exactly their text is written, a front of it where the
-    // writer fails, and nothing on any other fault.
-    ensures written { OnOk result (IfSome (R.remaining (inner_of reader.old))
-        (WritesText (IsCutText first fill)
-        (W.contents (inner_of writer.old)) (W.contents (inner_of writer.new)))) }
-    ensures write_fault { result ≡ Err EngineFault.Write
-        → IfSome (R.remaining (inner_of reader.old))
-        (WritesFront (IsCutText first fill)
-        (W.contents (inner_of writer.old)) (W.contents (inner_of writer.new))) }
-    ensures nothing_written { IfErr result (λ fault. fault ≢ EngineFault.Write
-        → Keeps (W.contents (inner_of writer.old)) (W.contents (inner_of writer.new))) }
-
-    // Each fault has its cause, and without a fault there is none.
-    ensures cause { IfErr result (HasCause IsCutFault
-        (R.remaining (inner_of reader.old)) reader.new writer.new) }
-    ensures no_cause { OnOk result (IsReadToEnd reader.new (R.remaining (inner_of reader.new))
-        × (has_failed writer.new ≡ false)) }
-    ensures read_first { IfErr result (λ fault. fault ≢ EngineFault.Read
-        → fault ≢ EngineFault.OutOfMemory
-        → IsReadToEnd reader.new (R.remaining (inner_of reader.new))) }
+    ensures { RunsEngine R.remaining W.contents (IsCutText first fill) IsCutFault
+        reader.old reader.new writer.old writer.new result }
 {
-    let input = read_input(alloc, reader)?;
-    let text = cut_lines(alloc, input, first, fill)?;
-    write_text(writer, &text)
+    run_engine(alloc, CutEngine { first, fill }, reader, writer)
 }

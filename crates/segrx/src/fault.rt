@@ -1,17 +1,15 @@
-ghost use Rattle.std.specs.Prelude.{◌≡◌, ◌+◌, ◌<◌, ◌≤◌, ◌++◌, length, true, OnOk, OnErr};
-ghost use Rattle.std.specs.Io.KnownBytes.{Appends};
-ghost use Rattle.std.specs.Fmt.{decimal};
-ghost use Rattle.segrx.specs.Device.{inner_of, has_failed};
-ghost use Rattle.segrx.specs.Transfer.{AppendsFront};
-ghost use Rattle.segrx.specs.Texts.{cut_fault_text, fault_text, fault_line, status_of};
+//! The faults of the engines and of the program, and the exit status of each outcome.
+ghost use Rattle.std.specs.Prelude.{◌≡◌};
+ghost use Rattle.segrx.specs.declared.fault.EngineFault.TheVariants.{OutOfMemory, Write};
+ghost use Rattle.segrx.specs.Fault.{status_of, exit_status_of, usage_fault};
 ghost use Rattle.segrx.specs.Engine.{engine_fault};
 
-use crate::device::Device;
-use crate::text_line::TextLine;
-use crate::transfer::write_text;
+use crate::command::UsageFault;
 use docsis_wire::CutFault;
-use std::io::Write;
-use texts::{TextFault, TraceFault};
+use std::alloc::AllocError;
+use std::io;
+use texts::TextFault;
+pub use texts::{TraceFault, TraceKind};
 use thiserror::Error;
 
 /// Why an engine, or the program, could not do its work.
@@ -20,10 +18,10 @@ pub enum EngineFault {
     /// A line of the input cannot be read.
     #[error(transparent)]
     Trace(TraceFault),
-    /// Frames cannot be cut into their pieces. Want of memory is told as `OutOfMemory`.
+    /// Frames cannot be cut into their pieces. Out of memory is reported as `OutOfMemory`.
     #[error(transparent)]
     Cut(CutFault),
-    /// A growth was refused.
+    /// An allocation failed.
     #[error("out of memory")]
     OutOfMemory,
     /// The reader failed, or gave more than 268,435,456 bytes.
@@ -32,9 +30,17 @@ pub enum EngineFault {
     /// The writer failed.
     #[error("write failed")]
     Write,
-    /// The program does not know its words.
+    /// The program does not know its arguments.
     #[error("usage")]
     Usage,
+}
+
+impl From<AllocError> for EngineFault {
+    ghost from_gives = { λ _ reported. reported ≡ OutOfMemory };
+
+    fn from(_error: AllocError) -> EngineFault {
+        EngineFault::OutOfMemory
+    }
 }
 
 impl From<TextFault> for EngineFault {
@@ -49,10 +55,35 @@ impl From<TextFault> for EngineFault {
     }
 }
 
-/// The writer that a fault's line was to go to failed.
+impl From<UsageFault> for EngineFault {
+    ghost from_gives = { λ fault reported. reported ≡ usage_fault fault };
+
+    fn from(fault: UsageFault) -> EngineFault {
+        match fault {
+            UsageFault::Usage => EngineFault::Usage,
+            UsageFault::OutOfMemory => EngineFault::OutOfMemory,
+        }
+    }
+}
+
+impl From<WriteFault> for EngineFault {
+    ghost from_gives = { λ _ reported. reported ≡ Write };
+
+    fn from(_fault: WriteFault) -> EngineFault {
+        EngineFault::Write
+    }
+}
+
+/// The writer failed.
 #[derive(Clone, Copy, Debug, PartialEq, Eq, Error)]
 #[error("write failed")]
 pub struct WriteFault;
+
+impl From<io::Error> for WriteFault {
+    fn from(_error: io::Error) -> WriteFault {
+        WriteFault
+    }
+}
 
 /// The exit status of a fault: 1 to 4.
 pub fn status(fault: &EngineFault) -> u8
@@ -66,78 +97,12 @@ pub fn status(fault: &EngineFault) -> u8
     }
 }
 
-/// Puts a number between two texts at the end.
-fn push_counted(line: &mut TextLine, before: &str, number: u64, behind: &str)
-    requires { length line.old + length before.now + length behind.now ≤ 44 }
-    ensures text { line.new ≡ line.old ++ (before.now ++ decimal number ++ behind.now) }
-    ensures room { length line.new ≤ length line.old + length before.now + length behind.now + 20 }
+/// The exit status of an outcome: 0 where the work was done, and else that of the fault.
+pub fn exit_status(outcome: &Result<(), EngineFault>) -> u8
+    ensures { result ≡ exit_status_of outcome.now }
 {
-    line.push_text(before);
-    line.push_number(number);
-    line.push_text(behind);
-}
-
-/// Puts the words for a fault of a cut behind the program's name.
-fn push_cut_fault(line: &mut TextLine, fault: &CutFault)
-    requires { length line.old ≤ 8 }
-    ensures text { line.new ≡ line.old ++ cut_fault_text fault.now }
-    ensures room { length line.new < 64 }
-{
-    match fault {
-        CutFault::BadFrame(k) => push_counted(line, "frame ", *k as u64, " is not a frame"),
-        CutFault::FillInsideFrame(k) => {
-            push_counted(line, "piece ", *k as u64, " has fill inside a frame");
-        }
-        CutFault::PointerTooFar(k) => {
-            push_counted(line, "piece ", *k as u64, " has a pointer past 16383");
-        }
-        CutFault::OutOfMemory => line.push_text("out of memory"),
-    }
-}
-
-/// Puts the words for a fault behind the program's name.
-fn push_fault(line: &mut TextLine, fault: &EngineFault)
-    requires { length line.old ≤ 8 }
-    ensures text { line.new ≡ line.old ++ fault_text fault.now }
-    ensures room { length line.new < 64 }
-{
-    match fault {
-        EngineFault::Trace(fault) => {
-            line.push_text("line ");
-            line.push_number(fault.line);
-            line.push_text(": ");
-            line.push_text(fault.kind.text());
-        }
-        EngineFault::Cut(fault) => push_cut_fault(line, fault),
-        EngineFault::OutOfMemory => line.push_text("out of memory"),
-        EngineFault::Read => line.push_text("read failed"),
-        EngineFault::Write => line.push_text("write failed"),
-        EngineFault::Usage => line.push_text("usage"),
-    }
-}
-
-/// The line that tells a fault, with its line feed.
-fn line_of(fault: &EngineFault) -> TextLine
-    ensures { result ≡ fault_line fault.now }
-{
-    let mut line = TextLine::new();
-    line.push_text("segrx: ");
-    push_fault(&mut line, fault);
-    line.push(b'\n');
-    line
-}
-
-/// Writes the line that tells a fault.
-pub fn write_fault<W: Write>(fault: &EngineFault, writer: &mut Device<W>) -> Result<(), WriteFault>
-    ensures written { OnOk result (Appends (W.contents (inner_of writer.old))
-        (W.contents (inner_of writer.new)) (fault_line fault.now)) }
-    ensures sound { OnOk result (has_failed writer.new ≡ has_failed writer.old) }
-    ensures front { OnErr result (AppendsFront (W.contents (inner_of writer.old))
-        (W.contents (inner_of writer.new)) (fault_line fault.now)) }
-    ensures failed { OnErr result (has_failed writer.new ≡ true) }
-{
-    match write_text(writer, line_of(fault).as_slice()) {
-        Ok(()) => Ok(()),
-        Err(_) => Err(WriteFault),
+    match outcome {
+        Ok(()) => 0,
+        Err(fault) => status(fault),
     }
 }

@@ -1,10 +1,11 @@
-ghost use Rattle.std.specs.Prelude.{◌≡◌, ◌≢◌, ◌<◌, [], length, IsOk, true, false, IfOk, IfErr, IfSome, OnOk, OnErr, vec_len};
+//! Reads a device to its end, and writes a whole text to one.
+ghost use Rattle.std.specs.Prelude.{◌≡◌, ◌≢◌, ◌<◌, [], length, IsOk, true, IfOk, IfErr, IfSome, OnOk, OnErr, vec_len};
 ghost use Rattle.std.specs.Io.KnownBytes.{Appends};
 ghost use Rattle.segrx.specs.Device.{inner_of, has_failed, IsFresh};
-ghost use Rattle.segrx.specs.Transfer.{AppendsFront, IsCounted, IsReadToEnd, IsReadFault, ReadsMore};
+ghost use Rattle.segrx.specs.Transfer.{AppendsFront, IsCounted, IsRead, IsReadToEnd, IsReadFault, ReadsMore};
 
 use crate::device::Device;
-use crate::fault::EngineFault;
+use crate::fault::{EngineFault, WriteFault};
 use std::alloc::{AllocError, Global};
 use std::io::{Read, Write};
 
@@ -21,7 +22,7 @@ fn zeros(alloc: Global, count: usize) -> Result<Vec<u8>, AllocError>
     vec![in alloc; 0u8; count]
 }
 
-/// Makes one read and puts what it gave behind the input. It answers how many bytes that were.
+/// Makes one read and appends what it gave to the input. It answers how many bytes that were.
 fn read_more<R: Read>(
     reader: &mut Device<R>,
     room: &mut [u8],
@@ -33,6 +34,7 @@ fn read_more<R: Read>(
         (R.remaining (inner_of reader.new)) input.old.items input.new.items) }
     ensures counted { OnOk result (IsCounted reader.new input.new.items) }
     ensures failed { result ≡ Err EngineFault.Read → IsReadFault reader.new }
+    ensures sound { IfErr result (λ fault. fault ≢ EngineFault.Read → IsRead reader.new) }
     ensures only { IfErr result
         (λ fault. fault ≢ EngineFault.OutOfMemory → fault ≡ EngineFault.Read) }
 {
@@ -42,33 +44,32 @@ fn read_more<R: Read>(
     if count > INPUT_MAX - input.len() {
         return Err(EngineFault::Read);
     }
-    match input.extend_from_slice(&room[..count]) {
-        Ok(()) => Ok(count),
-        Err(_) => Err(EngineFault::OutOfMemory),
-    }
+    input.extend_from_slice(&room[..count])?;
+    Ok(count)
 }
 
 /// Reads all that a reader gives, if it is at most 268,435,456 bytes.
+///
+/// `Read`: the reader failed or gave more. `OutOfMemory`: an allocation failed.
 pub fn read_input<R: Read>(alloc: Global, reader: &mut Device<R>) -> Result<Vec<u8>, EngineFault>
     requires { IsFresh reader.old }
     ensures whole { IfOk result
         (λ input. IfSome (R.remaining (inner_of reader.old)) (λ xs. input.items ≡ xs)) }
     ensures read { OnOk result (IsReadToEnd reader.new (R.remaining (inner_of reader.new))) }
     ensures failed { result ≡ Err EngineFault.Read → IsReadFault reader.new }
+    ensures sound { IfErr result (λ fault. fault ≢ EngineFault.Read → IsRead reader.new) }
     ensures only { IfErr result
         (λ fault. fault ≢ EngineFault.OutOfMemory → fault ≡ EngineFault.Read) }
 {
     let mut input = Vec::new(alloc);
-    let Ok(mut room) = zeros(alloc, CHUNK_BYTES) else {
-        return Err(EngineFault::OutOfMemory);
-    };
+    let mut room = zeros(alloc, CHUNK_BYTES)?;
     while read_more(reader, &mut room, &mut input)? > 0 {}
     Ok(input)
 }
 
-/// Writes a whole text, and flushes. An empty one makes neither write nor flush. Where the writer fails, a front
-/// of the text may have gone out.
-pub fn write_text<W: Write>(writer: &mut Device<W>, text: &[u8]) -> Result<(), EngineFault>
+/// Writes a whole text, and flushes. An empty one makes neither write nor flush. Where the writer
+/// fails, a front of the text may have gone out.
+pub fn write_text<W: Write>(writer: &mut Device<W>, text: &[u8]) -> Result<(), WriteFault>
     ensures written { OnOk result (Appends (W.contents (inner_of writer.old))
         (W.contents (inner_of writer.new)) text.now) }
     ensures empty { text.now ≡ [] → IsOk result × (writer.new ≡ writer.old) }
@@ -76,20 +77,18 @@ pub fn write_text<W: Write>(writer: &mut Device<W>, text: &[u8]) -> Result<(), E
     ensures front { OnErr result (AppendsFront (W.contents (inner_of writer.old))
         (W.contents (inner_of writer.new)) text.now) }
     ensures failed { OnErr result (has_failed writer.new ≡ true) }
-    ensures only { IfErr result (λ fault. fault ≡ EngineFault.Write) }
 {
     if text.is_empty() {
         return Ok(());
     }
     let mut rest = text;
     while !rest.is_empty() {
-        match writer.write(rest) {
-            Ok(count) if count > 0 => rest = &rest[count..],
-            _ => return Err(EngineFault::Write),
+        let count = writer.write(rest)?;
+        if count == 0 {
+            return Err(WriteFault);
         }
+        rest = &rest[count..];
     }
-    match writer.flush() {
-        Ok(()) => Ok(()),
-        Err(_) => Err(EngineFault::Write),
-    }
+    writer.flush()?;
+    Ok(())
 }

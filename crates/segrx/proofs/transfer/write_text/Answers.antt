@@ -7,6 +7,6 @@ pub loop-rest-preserved : goal.loop-rest-preserved
 loop-rest-preserved g c = record {
   went =
       AppendsBefore-more (g.W.Write.contents c.args.writer.now.inner) (g.W.Write.contents c.loop-rest.writer.inner) (g.W.Write.contents c.write.new.self.inner)
-      c.args.text.now c.loop-rest.rest.now _ c.in-Ok.count c.loop-rest.invariant.went c.in-Ok.ensures.bytes (take-rest c.in-Ok.count c.loop-rest.rest.now);
+      c.args.text.now c.loop-rest.rest.now _ c.in_ok-count.count c.loop-rest.invariant.went c.in_ok-count.ensures.bytes (take-rest c.in_ok-count.count c.loop-rest.rest.now);
   sound = search rules;
 }

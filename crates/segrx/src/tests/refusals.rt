@@ -1,5 +1,6 @@
-// A growth that is refused, at one place of each call. Each test takes want of memory as lawful there, says
-// so by the word `refused`, and calls again; with nothing refused it says nothing.
+//! An allocation that fails, at one place of each call. Each test takes out of memory as lawful there,
+//! says so by the word `refused`, and calls again; with no failed allocation it says nothing.
+use super::{FRAMES, SEGMENTS};
 use crate::command::{Command, UsageFault, read_words};
 use crate::cut::cut_text;
 use crate::device::Device;
@@ -10,15 +11,9 @@ use docsis_wire::FillByte;
 use std::alloc::Global;
 use std::test::Fail;
 
-/// Three segments that split the headers of two frames, and the frames.
-const SEGMENTS: &[u8; 85] =
-    b"80000000000000000000000211\n800300080000000011aabb01010003\n0000001000000000e02222ccdd\n";
-
-const FRAMES: &[u8; 36] = b"000000021111aabb\n01010003e02222ccdd\n";
-
 /// Joins the segments into an array that is just large enough for their frames.
 fn join(alloc: Global, text: &mut [u8]) -> Result<(), EngineFault> {
-    let mut reader = Device::new(SEGMENTS.as_slice());
+    let mut reader = Device::new(SEGMENTS.as_bytes());
     let mut writer = Device::new(text);
     let done = join_text(alloc, &mut reader, &mut writer);
     reader.into_inner();
@@ -36,17 +31,17 @@ fn join_text_is_refused(rt: HostRuntime) -> Result<(), Fail> {
         done = join(rt.alloc(), &mut text);
     }
     assert_eq!(rt; done, Ok(()));
-    assert_eq!(rt; text.as_slice(), FRAMES.as_slice());
+    assert_eq!(rt; text.as_slice(), FRAMES.as_bytes());
     Ok(())
 }
 
 /// The frames, and pieces that cut them into the segments.
-const FRAMES_AND_PIECES: &[u8; 78] =
-    b"frame 000000021111aabb\npiece 5 0\nframe 01010003e02222ccdd\npiece 7 0\npiece 5 0\n";
+const FRAMES_AND_PIECES: &str =
+    "frame 000000021111aabb\npiece 5 0\nframe 01010003e02222ccdd\npiece 7 0\npiece 5 0\n";
 
 /// Cuts the frames into an array that is just large enough for their segments.
 fn cut(alloc: Global, text: &mut [u8]) -> Result<(), EngineFault> {
-    let mut reader = Device::new(FRAMES_AND_PIECES.as_slice());
+    let mut reader = Device::new(FRAMES_AND_PIECES.as_bytes());
     let mut writer = Device::new(text);
     let done = cut_text(alloc, 0, FillByte::Zero, &mut reader, &mut writer);
     reader.into_inner();
@@ -64,7 +59,7 @@ fn cut_text_is_refused(rt: HostRuntime) -> Result<(), Fail> {
         done = cut(rt.alloc(), &mut text);
     }
     assert_eq!(rt; done, Ok(()));
-    assert_eq!(rt; text.as_slice(), SEGMENTS.as_slice());
+    assert_eq!(rt; text.as_slice(), SEGMENTS.as_bytes());
     Ok(())
 }
 
@@ -103,7 +98,7 @@ fn words_of_cut_are_refused(rt: HostRuntime) -> Result<(), Fail> {
 
 /// Runs the program on the segments, and gives its status.
 fn run(alloc: Global, out: &mut [u8], err: &mut [u8]) -> u8 {
-    program(alloc, &["segrx", "join"], SEGMENTS.as_slice(), out, err)
+    program(alloc, &["segrx", "join"], SEGMENTS.as_bytes(), out, err)
 }
 
 #[test]
@@ -119,7 +114,7 @@ fn program_is_refused(rt: HostRuntime) -> Result<(), Fail> {
         status = run(rt.alloc(), &mut out, &mut err);
     }
     assert_eq!(rt; status, 0);
-    assert_eq!(rt; out.as_slice(), FRAMES.as_slice());
+    assert_eq!(rt; out.as_slice(), FRAMES.as_bytes());
     assert_eq!(rt; err.as_slice(), [0u8; 21].as_slice());
     Ok(())
 }

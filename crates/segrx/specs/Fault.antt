@@ -1,11 +1,18 @@
--- The texts and the exit statuses of faults.
-use Rattle.std.specs.Prelude.{ℕ, List, [], ◌∷◌, ◌++◌, codes}
+-- The lines and the exit statuses of faults.
+use Rattle.std.specs.Prelude.{ℕ, List, [], ◌∷◌, ◌++◌, codes, Result, Ok, Err}
 use Rattle.std.specs.Fmt.{decimal}
 use Rattle.texts.specs.Kinds.{kind_text}
 use Rattle.segrx.specs.declared.fault.EngineFault.{EngineFault}
 use Rattle.segrx.specs.declared.fault.EngineFault.TheVariants.{Trace, Cut, OutOfMemory, Read, Write, Usage}
+use Rattle.segrx.specs.declared.command.UsageFault.{UsageFault}
+use Rattle.segrx.specs.declared.command.UsageFault.TheVariants as usage
 use Rattle.docsis_wire.specs.declared.pieces.CutFault.{CutFault}
 use Rattle.docsis_wire.specs.declared.pieces.CutFault.TheVariants as cut_fault
+
+-- what the program reports where it could not read its arguments
+abbrev pub usage_fault : UsageFault → EngineFault
+usage_fault usage.Usage = Usage
+usage_fault usage.OutOfMemory = OutOfMemory
 
 -- the words for a fault of a cut
 abbrev pub cut_fault_text : CutFault → List ℕ
@@ -14,7 +21,7 @@ cut_fault_text (cut_fault.FillInsideFrame k) = codes "piece " ++ decimal k ++ co
 cut_fault_text (cut_fault.PointerTooFar k) = codes "piece " ++ decimal k ++ codes " has a pointer past 16383"
 cut_fault_text cut_fault.OutOfMemory = codes "out of memory"
 
--- what stands behind the program's name in a fault's line
+-- what follows the program's name in a fault's line
 abbrev pub fault_text : EngineFault → List ℕ
 fault_text (Trace fault) = codes "line " ++ decimal fault.line ++ codes ": " ++ kind_text fault.kind
 fault_text (Cut fault) = cut_fault_text fault
@@ -38,3 +45,8 @@ status_of Usage = 2
 status_of OutOfMemory = 3
 status_of Read = 4
 status_of Write = 4
+
+-- the exit status of an outcome
+abbrev pub exit_status_of : Result (Unit {0}) EngineFault → ℕ
+exit_status_of (Ok done) = 0
+exit_status_of (Err fault) = status_of fault

@@ -1,0 +1,65 @@
+//! The command line as `clap` knows it: the commands, their options, and the help.
+use clap::{Arg, ArgAction, Command};
+use std::alloc::{AllocError, Global};
+
+/// What the help of each command ends with.
+const FORMATS: &str = "\
+Lines of join:
+  SEGMENT          one segment, header and payload, in the order to join them;
+                   join does not look at their sequence numbers
+Lines of cut:
+  frame FRAME      one whole frame; frames are cut in their order
+  piece DATA FILL  one segment, with DATA bytes of the frames and then FILL bytes
+                   of fill, each 0 to 65535; pieces are made in their order
+Bytes are written as hexadecimal digits, two a byte, or as - for no bytes. Words
+are separated by spaces, tabs or carriage returns. Lines without words, and those
+that begin with #, are skipped. At most 268435456 bytes are read.
+
+join prints one frame a line, and cut one segment a line. Nothing is printed
+before the whole input was read and is without fault.
+
+Exit status:
+  0  done
+  1  a line of the input is at fault, or the frames cannot be cut that way
+  2  the arguments are not understood
+  3  out of memory
+  4  reading or writing failed, or the input is too long
+Each fault is reported by one line on standard error.";
+
+/// The options of the command `cut`.
+fn cut_command<'a>(alloc: Global) -> Result<Command<'a>, AllocError> {
+    let first = Arg::new(alloc, "first")
+        .long("first")
+        .value_name("N")
+        .action(ArgAction::Set)
+        .help("Sequence number of the first segment, 0 to 8191 [default: 0]");
+    let fill = Arg::new(alloc, "fill")
+        .long("fill")
+        .value_name("zero|ones")
+        .action(ArgAction::Set)
+        .help("Byte of fill, 00 or ff [default: zero]");
+    Command::new(alloc, "cut")
+        .about("Cuts frames into pieces, and prints one segment a piece")
+        .override_usage("segrx cut [--first N] [--fill zero|ones] < FRAMES_AND_PIECES > SEGMENTS")
+        .after_help(FORMATS)
+        .arg(first)?
+        .arg(fill)
+}
+
+/// The commands of the program.
+pub fn command_line<'a>(alloc: Global) -> Result<Command<'a>, AllocError> {
+    let join = Command::new(alloc, "join")
+        .about("Joins segments, and prints their frames; the default")
+        .override_usage("segrx join < SEGMENTS > FRAMES")
+        .after_help(FORMATS);
+    Command::new(alloc, "segrx")
+        .about("Receives DOCSIS 3.0 upstream service flows that are bonded over channels")
+        .override_usage(
+            "segrx [join] < SEGMENTS > FRAMES
+       segrx cut [--first N] [--fill zero|ones] < FRAMES_AND_PIECES > SEGMENTS",
+        )
+        .after_help(FORMATS)
+        .disable_help_subcommand(true)
+        .subcommand(join)?
+        .subcommand(cut_command(alloc)?)
+}

@@ -1,0 +1,90 @@
+//! What `read_words` answers. Runs of the program show which words it understands.
+use crate::command::{Command, UsageFault, read_words};
+use docsis_wire::FillByte;
+use std::alloc::Global;
+
+/// What some words are read as.
+#[derive(Clone, Copy, Debug, PartialEq, Eq)]
+enum Asked {
+    Join,
+    Cut(u16, FillByte),
+    Help,
+    Fault(UsageFault),
+}
+
+fn what_is_asked(alloc: Global, words: &[&str]) -> Asked {
+    match read_words(alloc, words) {
+        Ok(Command::Join) => Asked::Join,
+        Ok(Command::Cut { first, fill }) => Asked::Cut(first, fill),
+        Ok(Command::Help(_)) => Asked::Help,
+        Err(fault) => Asked::Fault(fault),
+    }
+}
+
+#[test]
+fn reads_words(rt: HostRuntime) {
+    let usage = Asked::Fault(UsageFault::Usage);
+    let table: [(&str, &[&str], Asked); 9] = [
+        ("no words at all", &[], Asked::Join),
+        ("no command", &["segrx"], Asked::Join),
+        ("join", &["segrx", "join"], Asked::Join),
+        ("cut", &["segrx", "cut"], Asked::Cut(0, FillByte::Zero)),
+        (
+            "the options of cut",
+            &["segrx", "cut", "--fill=ones", "--first", "8191"],
+            Asked::Cut(8191, FillByte::Ones),
+        ),
+        (
+            "a number too great",
+            &["segrx", "cut", "--first=8192"],
+            usage,
+        ),
+        ("an unknown word", &["segrx", "frob"], usage),
+        ("help", &["segrx", "cut", "-h", "frob"], Asked::Help),
+        // The program's name asks for nothing, whatever it is.
+        ("a name like an option", &["-h", "join"], Asked::Join),
+    ];
+    for (case, words, want) in table {
+        assert_eq!(rt; what_is_asked(rt.alloc(), words), want, "{case}");
+    }
+}
+
+/// The help that some words ask for, or no text.
+fn help_of(alloc: Global, words: &[&str]) -> String {
+    match read_words(alloc, words) {
+        Ok(Command::Help(text)) => text,
+        _ => String::new(alloc),
+    }
+}
+
+#[test]
+fn help_suffices_alone(rt: HostRuntime) {
+    let table: [(&[&str], &[&str]); 3] = [
+        (
+            &["segrx", "-h"],
+            &["Usage: segrx [join] < ", "segrx cut [", "  cut   "],
+        ),
+        (&["segrx", "join", "-h"], &["Usage: segrx join < "]),
+        (
+            &["segrx", "cut", "-h"],
+            &["Usage: segrx cut [", "--first <N>", "--fill <zero|ones>"],
+        ),
+    ];
+    let each = [
+        "  SEGMENT ",
+        "  frame FRAME ",
+        "  piece DATA FILL ",
+        "join does not look at their sequence numbers",
+        "268435456 bytes",
+        "Exit status:\n  0 ",
+    ];
+    for (words, parts) in table {
+        let help = help_of(rt.alloc(), words);
+        for part in parts.iter().chain(&each) {
+            assert!(rt; help.contains(*part), "{help}: {part}");
+        }
+        for line in help.lines() {
+            assert!(rt; line.len() <= 80, "{line}");
+        }
+    }
+}
