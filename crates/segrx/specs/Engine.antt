@@ -1,5 +1,5 @@
 -- What an engine writes for the input that it reads, and why it could not.
-use Rattle.std.specs.Prelude.{◌≡◌, ◌≢◌, ℕ, List, [], Option, true, false, Result, Ok, Err, IfSome, IfErr, OnOk}
+use Rattle.std.specs.Prelude.{◌≡◌, ◌≢◌, ℕ, List, [], Option, true, false, Result, Err, IfSome, IfErr, OnOk}
 use Rattle.std.specs.Io.KnownBytes.{Appends, Keeps, IsAtEnd}
 use Rattle.segrx.specs.declared.device.Device.{Device}
 use Rattle.texts.specs.declared.fault.TextFault.{TextFault}

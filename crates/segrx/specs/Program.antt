@@ -1,5 +1,5 @@
 -- What the program does with its arguments, and what its exit status says of its input.
-use Rattle.std.specs.Prelude.{◌≡◌, ◌≢◌, ◌⊎◌, ◌<◌, ℕ, List, Option, Result, Ok, Err, true, false, IfErr, OnOk}
+use Rattle.std.specs.Prelude.{◌≡◌, ◌≢◌, ◌⊎◌, ◌<◌, ℕ, List, Option, Result, Err, true, false, IfErr, OnOk}
 use Rattle.docsis_wire.specs.declared.pieces.FillByte.{FillByte}
 use Rattle.segrx.specs.declared.device.Device.{Device}
 use Rattle.segrx.specs.declared.fault.EngineFault.{EngineFault}
@@ -8,7 +8,7 @@ use Rattle.texts.specs.declared.fault.TextFault.{TextFault}
 use Rattle.segrx.specs.Limits.{sequence_modulus}
 use Rattle.segrx.specs.Device.{inner_of, has_failed, IsFresh}
 use Rattle.segrx.specs.Transfer.{IsReadFault, IsRead}
-use Rattle.segrx.specs.Fault.{status_of, exit_status_of}
+use Rattle.segrx.specs.Fault.{status_of}
 use Rattle.segrx.specs.Engine.{engine_fault, RunsEngine}
 use Rattle.segrx.specs.Command.{AsksToJoin, AsksToCut, AsksForHelp}
 use Rattle.texts.specs.Join.{IsJoined, IsJoinFault}

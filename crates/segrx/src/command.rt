@@ -174,8 +174,8 @@ fn help_text<'a, S: AsStr>(alloc: Global, words: &'a [S]) -> Result<String, Usag
 ///
 /// `-h` or `--help` asks for help, whatever follows it, where the words before it are lawful. Words
 /// that ask for nothing that the program does are `Usage`: an unknown word or option, an option of
-/// another command, one that is repeated or has no value or one out of range, `help`, `--version` and
-/// `--`.
+/// another command, one that is repeated or has no value or one out of range, `help`, `--version`
+/// and `--`.
 pub fn read_words<'a, S: AsStr>(alloc: Global, words: &'a [S]) -> Result<Command, UsageFault>
     ensures asked { IfOk result (Asks (map S.text words.now)) }
     ensures join { AsksToJoin (map S.text words.now) → result ≡ Ok Command.Join }

@@ -9,11 +9,11 @@ Lines of join:
                    join does not look at their sequence numbers
 Lines of cut:
   frame FRAME      one whole frame; frames are cut in their order
-  piece DATA FILL  one segment, with DATA bytes of the frames and then FILL bytes
-                   of fill, each 0 to 65535; pieces are made in their order
+  piece DATA FILL  one segment with DATA bytes of frames and FILL of fill,
+                   0 to 65535 each; segments are made in their order
 Bytes are written as hexadecimal digits, two a byte, or as - for no bytes. Words
-are separated by spaces, tabs or carriage returns. Lines without words, and those
-that begin with #, are skipped. At most 268435456 bytes are read.
+are separated by spaces, tabs or carriage returns. A line without words, or that
+begins with #, is skipped. At most 268435456 bytes are read.
 
 join prints one frame a line, and cut one segment a line. Nothing is printed
 before the whole input was read and is without fault.

@@ -39,8 +39,8 @@ impl Engine for CutEngine {
 /// writes it; an empty one is not written.
 ///
 /// `Read`: the reader failed or gave more. `Trace`: the first faulty line, `UnknownLine`,
-/// `FieldCount`, `BadNumber` or `NotHex`. `Cut`: no line is at fault, and this is the first fault of
-/// the frames and pieces. `OutOfMemory`: an allocation failed. Up to here nothing was written.
+/// `FieldCount`, `BadNumber` or `NotHex`. `Cut`: no line is at fault, and this is the first fault
+/// of the frames and pieces. `OutOfMemory`: an allocation failed. Up to here nothing was written.
 /// `Write`: the writer failed, and a front of the text may have gone out.
 pub fn cut_text<R: Read, W: Write>(
     alloc: Global,

@@ -1,4 +1,5 @@
-ghost use Rattle.std.specs.Prelude.{◌≡◌, ◌≤◌, ℕ, List, IsTrue, Result, MatchResult, true, false};
+//! Readers and writers that remember what became of their calls.
+ghost use Rattle.std.specs.Prelude.{◌≡◌};
 ghost use Rattle.std.specs.Io.{ReadsAtMost, WritesAtMost};
 ghost use Rattle.std.specs.Io.KnownBytes.{Keeps, ReadConsumes, WriteAppends};
 ghost use Rattle.segrx.specs.Device.{inner_of, has_failed, given_of, IsFresh, RecordsRead, RecordsWrite, RecordsFlush};
@@ -8,8 +9,8 @@ use std::io::{Error, ErrorKind, Read, Write};
 
 /// A reader or a writer that remembers whether a call of it failed, and how many bytes it gave.
 ///
-/// A call that was interrupted is made again, and is no failure. It is not dropped by chance: whoever made
-/// the device looks at it, or takes it apart.
+/// A call that was interrupted is made again, and is no failure. It is not dropped by chance:
+/// whoever made the device looks at it, or takes it apart.
 pub struct Device<T> {
     inner: T,
     failed: bool,
@@ -61,31 +62,41 @@ fn too_many_interruptions() -> Error {
     Error::new(ErrorKind::TimedOut, "interrupted too often")
 }
 
-impl<R: Read> Read for Device<R> {
-    ghost remaining = { λ device. R.remaining (inner_of device) };
-
-    fn read(&mut self, buf: &mut [u8]) -> io::Result<usize>
-        ensures bound { ReadsAtMost result buf.new }
-        ensures bytes { ReadConsumes (R.remaining (inner_of self.old)) (R.remaining (inner_of self.new))
-            result buf.new }
-        ensures record { RecordsRead self.old self.new result }
-    {
+/// Answers what a call of a device's inner reader or writer does, which is made again for as long
+/// as it is interrupted. What it gave is recorded, and any other error is a failure of the device.
+macro_rules! answer {
+    ($device:ident, $call:expr, |$given:ident| $record:expr) => {{
         for _ in 0..u64::MAX {
-            match self.inner.read(buf) {
-                Ok(count) => {
-                    self.given = self.given.saturating_add(count as u64);
-                    return Ok(count);
+            match $call {
+                Ok($given) => {
+                    $record;
+                    return Ok($given);
                 }
                 Err(error) => {
                     if error.kind() != ErrorKind::Interrupted {
-                        self.failed = true;
+                        $device.failed = true;
                         return Err(error);
                     }
                 }
             }
         }
-        self.failed = true;
+        $device.failed = true;
         Err(too_many_interruptions())
+    }};
+}
+
+impl<R: Read> Read for Device<R> {
+    ghost remaining = { λ device. R.remaining (inner_of device) };
+
+    fn read(&mut self, buf: &mut [u8]) -> io::Result<usize>
+        ensures bound { ReadsAtMost result buf.new }
+        ensures bytes { ReadConsumes (R.remaining (inner_of self.old))
+            (R.remaining (inner_of self.new)) result buf.new }
+        ensures record { RecordsRead self.old self.new result }
+    {
+        answer!(self, self.inner.read(buf), |count| {
+            self.given = self.given.saturating_add(count as u64);
+        })
     }
 }
 
@@ -94,44 +105,19 @@ impl<W: Write> Write for Device<W> {
 
     fn write(&mut self, buf: &[u8]) -> io::Result<usize>
         ensures bound { WritesAtMost result buf.now }
-        ensures bytes { WriteAppends (W.contents (inner_of self.old)) (W.contents (inner_of self.new))
-            result buf.now }
+        ensures bytes { WriteAppends (W.contents (inner_of self.old))
+            (W.contents (inner_of self.new)) result buf.now }
         ensures record { RecordsWrite self.old self.new buf.now result }
     {
-        for _ in 0..u64::MAX {
-            match self.inner.write(buf) {
-                Ok(count) => {
-                    self.failed = self.failed || (count == 0 && !buf.is_empty());
-                    return Ok(count);
-                }
-                Err(error) => {
-                    if error.kind() != ErrorKind::Interrupted {
-                        self.failed = true;
-                        return Err(error);
-                    }
-                }
-            }
-        }
-        self.failed = true;
-        Err(too_many_interruptions())
+        answer!(self, self.inner.write(buf), |count| {
+            self.failed = self.failed || (count == 0 && !buf.is_empty());
+        })
     }
 
     fn flush(&mut self) -> io::Result<()>
         ensures bytes { Keeps (W.contents (inner_of self.old)) (W.contents (inner_of self.new)) }
         ensures record { RecordsFlush self.old self.new result }
     {
-        for _ in 0..u64::MAX {
-            match self.inner.flush() {
-                Ok(()) => return Ok(()),
-                Err(error) => {
-                    if error.kind() != ErrorKind::Interrupted {
-                        self.failed = true;
-                        return Err(error);
-                    }
-                }
-            }
-        }
-        self.failed = true;
-        Err(too_many_interruptions())
+        answer!(self, self.inner.flush(), |done| ())
     }
 }

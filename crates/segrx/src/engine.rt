@@ -28,12 +28,12 @@ pub trait Engine {
         ensures fault { IfErr result (is_fault self input.items) };
 }
 
-/// Runs an engine between two devices. It reads all, at most 268,435,456 bytes, then makes the whole
-/// text, and then writes it; an empty one is not written.
+/// Runs an engine between two devices. It reads all, at most 268,435,456 bytes, then makes the
+/// whole text, and then writes it; an empty one is not written.
 ///
 /// `Read`: the reader failed or gave more. `Trace` and `Cut`: the input's fault. `OutOfMemory`: an
-/// allocation failed. Up to here nothing was written. `Write`: the writer failed, and a front of the
-/// text may have gone out.
+/// allocation failed. Up to here nothing was written. `Write`: the writer failed, and a front of
+/// the text may have gone out.
 pub fn run_engine<X: Engine + Drop, R: Read, W: Write>(
     alloc: Global,
     engine: X,

@@ -25,12 +25,12 @@ impl Engine for JoinEngine {
 }
 
 /// Joins the segments that a reader gives and writes their frames, each a line of hexadecimal. It
-/// reads all, at most 268,435,456 bytes, then makes the whole text, and then writes it; an empty one
-/// is not written.
+/// reads all, at most 268,435,456 bytes, then makes the whole text, and then writes it; an empty
+/// one is not written.
 ///
 /// `Read`: the reader failed or gave more. `Trace`: the first faulty line, `FieldCount`, `NotHex`,
-/// `TooShort` or `PointerPast`. `OutOfMemory`: an allocation failed. Up to here nothing was written.
-/// `Write`: the writer failed, and a front of the text may have gone out.
+/// `TooShort` or `PointerPast`. `OutOfMemory`: an allocation failed. Up to here nothing was
+/// written. `Write`: the writer failed, and a front of the text may have gone out.
 pub fn join_text<R: Read, W: Write>(
     alloc: Global,
     reader: &mut Device<R>,

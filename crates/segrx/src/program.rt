@@ -38,8 +38,8 @@ fn obey<S: AsStr, R: Read, W: Write>(
     }
 }
 
-/// Reports a fault where it can be reported, and answers its exit status. That it cannot be reported
-/// changes nothing.
+/// Reports a fault where it can be reported, and answers its exit status. That it cannot be
+/// reported changes nothing.
 pub fn report<E: Write + Drop>(fault: &EngineFault, err: E) -> u8
     ensures { result ≡ status_of fault.now }
 {
@@ -49,9 +49,9 @@ pub fn report<E: Write + Drop>(fault: &EngineFault, err: E) -> u8
     status(fault)
 }
 
-/// The whole program: it does what the words ask for, its name first, and answers the exit status: 0
-/// where it was done, also for help, which goes to `out`; 1 for a fault of a line or of the cut, 2
-/// for usage, 3 for out of memory, 4 for a failed read or write. A fault's line goes to `err`.
+/// The whole program: it does what the words ask for, its name first, and answers the exit status:
+/// 0 where it was done, also for help, which goes to `out`; 1 for a fault of a line or of the cut,
+/// 2 for usage, 3 for out of memory, 4 for a failed read or write. A fault's line goes to `err`.
 pub fn program<S: AsStr, R: Read + Drop, O: Write + Drop, E: Write + Drop>(
     alloc: Global,
     words: &[S],

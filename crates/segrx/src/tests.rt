@@ -1,5 +1,5 @@
-//! What no clause says, and no run of the program shows: failing devices, out of memory, the longest
-//! input, and what single calls answer.
+//! What no clause says, and no run of the program shows: failing devices, out of memory, the
+//! longest input, and what single calls answer.
 mod devices;
 mod faults;
 mod fitful;

@@ -55,7 +55,10 @@ fn reports_each_kind_of_failed_read(rt: HostRuntime) {
             let reader = FitfulReader::new(text, Some(kind));
             let joined = join_between(rt.alloc(), reader, &mut written);
             assert_eq!(rt; joined.done, Err(EngineFault::Read), "{kind} after {text}");
-            assert!(rt; joined.reader_failed && !joined.writer_failed, "{kind} after {text}");
+            assert!(rt;
+                joined.reader_failed && !joined.writer_failed,
+                "{kind} after {text}"
+            );
             assert_eq!(rt; joined.given, text.len() as u64, "{kind} after {text}");
             assert_eq!(rt; written.len(), 0, "{kind} after {text}");
         }
@@ -76,7 +79,11 @@ fn reports_each_kind_of_failed_write(rt: HostRuntime) {
             let joined = join_between(rt.alloc(), SEGMENTS.as_bytes(), writer);
             assert!(rt; is_write_fault(&joined), "{kind} after {room}");
             assert!(rt; room <= FRAMES.len());
-            assert_eq!(rt; written.as_slice(), &FRAMES.as_bytes()[..room], "{kind} after {room}");
+            assert_eq!(rt;
+                written.as_slice(),
+                &FRAMES.as_bytes()[..room],
+                "{kind} after {room}"
+            );
         }
     }
 }
@@ -126,7 +133,8 @@ fn exits_with_4_on_failing_devices(rt: HostRuntime) {
     assert_eq!(rt; program(rt.alloc(), &words, input, closed, &mut err), 4);
     assert_eq!(rt; err.as_slice(), b"segrx: write failed\n".as_slice());
 
-    // Help that can't be written is a write fault, and a fault that can't be reported changes nothing.
+    // Help that can't be written is a write fault, and a fault that can't be reported changes
+    // nothing.
     let help = ["segrx", "--help"];
     let closed = FitfulWriter::new(&mut out, 0, Full::Fails(ErrorKind::BrokenPipe));
     let mut nothing = Vec::new(rt.alloc());

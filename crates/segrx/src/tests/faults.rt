@@ -74,7 +74,10 @@ fn displays_faults(rt: HostRuntime) -> Result<(), Fail> {
             EngineFault::Trace(TraceFault { line: 7, kind }),
             "line 7: too short",
         ),
-        (EngineFault::Cut(CutFault::BadFrame(3)), "frame 3 is not a frame"),
+        (
+            EngineFault::Cut(CutFault::BadFrame(3)),
+            "frame 3 is not a frame",
+        ),
         (EngineFault::OutOfMemory, "out of memory"),
         (EngineFault::Read, "read failed"),
         (EngineFault::Write, "write failed"),

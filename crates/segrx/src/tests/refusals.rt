@@ -1,5 +1,6 @@
-//! An allocation that fails, at one place of each call. Each test takes out of memory as lawful there,
-//! says so by the word `refused`, and calls again; with no failed allocation it says nothing.
+//! An allocation that fails, at one place of each call. Each test takes out of memory as lawful
+//! there, says so by the word `refused`, and calls again; with no failed allocation it says
+//! nothing.
 use super::{FRAMES, SEGMENTS};
 use crate::command::{Command, UsageFault, read_words};
 use crate::cut::cut_text;

@@ -7,7 +7,7 @@ returns-clause-outcome g c = (
   c.obey-outcome.result,
   c.exit_status.ensures,
   ComesOf-new g.R.Read.remaining g.O.Write.contents (map g.S.AsStr.text c.args.words.now) c.args.reader c.args.out c.new-reader.result c.obey-outcome.new.reader c.new-out.result c.obey-outcome.new.out c.obey-outcome.result
-    c.new-reader.ensures.inner c.new-reader.ensures.fresh c.new-out.ensures.inner c.new-out.ensures.fresh c.obey-outcome.ensures,
+      c.new-reader.ensures.inner c.new-reader.ensures.fresh c.new-out.ensures.inner c.new-out.ensures.fresh c.obey-outcome.ensures,
 )
 
 pub returns-clause-join : goal.returns-clause-join
