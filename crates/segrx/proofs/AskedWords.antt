@@ -21,7 +21,7 @@ AsksToCut-second text [] word some is = absurd (omega arith)
 AsksToCut-second text (name ∷ []) word some is = absurd (omega arith)
 AsksToCut-second text (name ∷ second ∷ more) word some is = (λ e. ap text (sym is) ∙ e, λ e. ap text is ∙ e)
 
--- none of the words behind the name and before this place asks for help
+-- none of the words after the name and before this place asks for help
 abbrev pub HasNoneBefore : List (List ℕ) → ℕ → Type 0
 HasNoneBefore words place = (k : ℕ) (word : List ℕ) → 0 < k → k < place → slice_get words k ≡ Some word → ¬ IsHelpWord word
 
@@ -44,9 +44,9 @@ in_front text (first ∷ more) (suc place) (suc k) word e = let found = in_front
 -- one word further none asks for help
 pub HasNoneBefore-more : {X : Type 0} (text : X → List ℕ) (words : List X) (place : ℕ) (word : X) (shown : List ℕ) → place < length words → word ≡ get_or words place word
     → shown ≡ text word → ¬ IsHelpWord shown → HasNoneBefore (map text words) place → HasNoneBefore (map text words) (place + 1)
-HasNoneBefore-more text words place word shown within is text_is other none k found behind before at =
+HasNoneBefore-more text words place word shown within is text_is other none k found later before at =
     elim (cases_lt k place) [
-      | inl early ↦ none k found behind early at
+      | inl early ↦ none k found later early at
       | inr late ↦
           let here : k ≡ place = omega (arith, late, before) in
           let same : found ≡ shown = same_Some found shown (sym at ∙ ap (slice_get (map text words)) here ∙ text_at text words place word within is ∙ ap Some (sym text_is)) in
@@ -54,11 +54,11 @@ HasNoneBefore-more text words place word shown within is text_is other none k fo
           subst P (sym same) other
     ]
 
--- where the place is behind all words none asks for help
+-- where the place is after all words none asks for help
 pub HasNoHelpWord-all : {X : Type 0} (text : X → List ℕ) (words : List X) (place : ℕ) → length words ≤ place → HasNoneBefore (map text words) place → HasNoHelpWord (map text words)
-HasNoHelpWord-all text words place all none k word behind at = none k word behind (omega (arith, all, slice_get_within (map text words) k word at, length-map words text)) at
+HasNoHelpWord-all text words place all none k word later at = none k word later (omega (arith, all, slice_get_within (map text words) k word at, length-map words text)) at
 
--- the words at a place: those before, the word itself and those behind
+-- the words at a place: those before, the word itself and those after it
 split_at : {X : Type 0} (text : X → List ℕ) (words : List X) (place : ℕ) (word : X) → place < length words → word ≡ get_or words place word
     → (after : List (List ℕ)) × (map text words ≡ map text (take place words) ++ text word ∷ after)
 split_at text [] place word within is = absurd (omega arith)
@@ -70,13 +70,13 @@ split_at text (first ∷ more) (suc place) word within is =
 -- the words before the first one that asks for help
 pub StandsBeforeHelp-at : {X : Type 0} (text : X → List ℕ) (words : List X) (place : ℕ) (word : X) (shown : List ℕ) → place < length words → word ≡ get_or words place word
     → shown ≡ text word → IsHelpWord shown → 0 < place → HasNoneBefore (map text words) place → StandsBeforeHelp (map text (take place words)) (map text words)
-StandsBeforeHelp-at text words place word shown within is text_is help behind none =
+StandsBeforeHelp-at text words place word shown within is text_is help later none =
     let split = split_at text words place word within is in
     record {
       word = text word;
       after = split.0;
       are = split.1;
-      named = omega (arith, within, behind, length-map (take place words) text, length-take place words);
+      named = omega (arith, within, later, length-map (take place words) text, length-take place words);
       help = subst IsHelpWord text_is help;
-      first = λ k found behind at. let in_whole = in_front text words place k found at in none k found behind in_whole.0 in_whole.1;
+      first = λ k found later at. let in_whole = in_front text words place k found at in none k found later in_whole.0 in_whole.1;
     }

@@ -14,7 +14,7 @@ use std::io::{Read, Write};
 use texts::{TextFault, cut_lines};
 
 /// The engine of `cut`.
-#[derive(Clone, Copy)]
+#[derive(Drop)]
 pub struct CutEngine {
     /// The first segment's number, 0 to 8191.
     first: u16,

@@ -30,7 +30,7 @@ impl<T> Device<T> {
         }
     }
 
-    /// Whether a call failed. A write that took none of the bytes it was handed is a failure.
+    /// Whether a call failed. A write that took none of some bytes is a failure.
     pub fn failed(&self) -> bool
         ensures { result ≡ has_failed self.now }
     {

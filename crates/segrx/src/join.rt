@@ -11,7 +11,7 @@ use std::io::{Read, Write};
 use texts::{TextFault, join_lines};
 
 /// The engine of `join`.
-#[derive(Clone, Copy)]
+#[derive(Drop)]
 pub struct JoinEngine;
 
 impl Engine for JoinEngine {

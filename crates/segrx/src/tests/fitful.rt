@@ -1,4 +1,4 @@
-//! A reader and a writer of one byte a call, interrupted before each call, that fail when told to.
+//! A reader and a writer of one byte a call, interrupted before each call, that can fail.
 use std::io;
 use std::io::{Error, ErrorKind, Read, Write};
 

@@ -6,6 +6,6 @@ use Rattle.segrx.proofs.command.before_help.Given as goal
 abbrev pub invariant-loop-place : goal.invariant-loop-place
 invariant-loop-place g l = record {
   end : l.place-end ≡ length l.words;
-  behind : 0 < l.place;
+  later : 0 < l.place;
   none : HasNoneBefore (map g.S.AsStr.text l.words) l.place;
 }
