@@ -32,7 +32,7 @@ fn cut_command<'a>(alloc: Global) -> Result<Command<'a>, AllocError> {
         .long("first")
         .value_name("N")
         .action(ArgAction::Set)
-        .help("Sequence number of the first segment, 0 to 8191 [default: 0]");
+        .help("Number of the first segment, 0 to 8191 [default: 0]");
     let fill = Arg::new(alloc, "fill")
         .long("fill")
         .value_name("zero|ones")
