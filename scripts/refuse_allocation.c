@@ -1,4 +1,4 @@
-/* Loaded before the C library, refuses one request for memory: the one whose number REFUSE_GROWTH gives, counted from 1.
+/* Loaded before the C library, refuses one request for memory: the one whose number REFUSE_ALLOCATION gives, counted from 1.
  * When it does so it makes the file that REFUSE_MET names. */
 #include <errno.h>
 #include <fcntl.h>
@@ -15,7 +15,7 @@ static long asked;
 
 static int refused(void)
 {
-    const char *number = getenv("REFUSE_GROWTH");
+    const char *number = getenv("REFUSE_ALLOCATION");
     const char *met = getenv("REFUSE_MET");
     if (number == NULL || __sync_add_and_fetch(&asked, 1) != strtol(number, NULL, 10))
         return 0;
