@@ -1,6 +1,7 @@
 pub mod Words
 pub mod Header
 pub mod Ready
+pub mod SegmentBytes
 pub mod Frame
 pub mod Head
 pub mod Stream

@@ -25,4 +25,4 @@ pub use laws::{
     one_header,
 };
 pub use pieces::{CutFault, FillByte, Piece};
-pub use segment::{Segment, read_segment, ready, write_segment};
+pub use segment::{Segment, SegmentFault, read_segment, ready, write_segment};
