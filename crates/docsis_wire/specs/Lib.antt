@@ -1,3 +1,4 @@
+pub mod Limits
 pub mod Words
 pub mod Header
 pub mod Ready
@@ -9,4 +10,4 @@ pub mod Cut
 pub mod Span
 pub mod Cursor
 pub mod Pieces
-pub mod Cutter
+pub mod CutUnderWay

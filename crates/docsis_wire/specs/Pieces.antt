@@ -84,9 +84,9 @@ pub record IsFirstPointerTooFar (frames : List (List ℕ)) (pieces : List Piece)
   pub fill_lawful : ¬ FillsInsideFrame frames pieces k
   pub earlier : (i : ℕ) → i < k → ¬ IsUnlawful frames pieces i
 
--- what a fault says of the frames and pieces; want of memory is told only where they can be cut
-abbrev pub Tells : List (List ℕ) → List Piece → CutFault → Type 0
-Tells frames pieces (BadFrame k) = IsFirstBadFrame frames k
-Tells frames pieces (FillInsideFrame k) = IsFirstFillInsideFrame frames pieces k
-Tells frames pieces (PointerTooFar k) = IsFirstPointerTooFar frames pieces k
-Tells frames pieces OutOfMemory = IsCuttable frames pieces
+-- what a fault says of the frames and pieces; out of memory is reported only where they can be cut
+abbrev pub Reports : List (List ℕ) → List Piece → CutFault → Type 0
+Reports frames pieces (BadFrame k) = IsFirstBadFrame frames k
+Reports frames pieces (FillInsideFrame k) = IsFirstFillInsideFrame frames pieces k
+Reports frames pieces (PointerTooFar k) = IsFirstPointerTooFar frames pieces k
+Reports frames pieces OutOfMemory = IsCuttable frames pieces

@@ -8,9 +8,8 @@ ghost use Rattle.docsis_wire.specs.declared.pieces.CutFault.{CutFault};
 ghost use Rattle.docsis_wire.specs.declared.segment.Segment.{Segment};
 ghost use Rattle.docsis_wire.specs.Header.{header_bytes};
 ghost use Rattle.docsis_wire.specs.Cut.{IsLawfulCut};
-ghost use Rattle.docsis_wire.specs.declared.cutter.Cutter.{Cutter};
-ghost use Rattle.docsis_wire.specs.Cutter.{frames_of, pieces_of, IsUnderWay, IsSameCut, HasMade, GivesNext};
-ghost use Rattle.docsis_wire.specs.Pieces.{fill_byte, chunks_of, ArePieceSegments, IsCuttable, Tells};
+ghost use Rattle.docsis_wire.specs.CutUnderWay.{CutUnderWay, IsSameCut, HasMade, GivesNext};
+ghost use Rattle.docsis_wire.specs.Pieces.{fill_byte, chunks_of, ArePieceSegments, IsCuttable, Reports};
 
 /// The same eight bytes are the bytes of one header only.
 pub fn one_header()
@@ -44,7 +43,7 @@ pub fn one_cut()
 /// Frames and pieces have at most one first fault, and none where they can be cut.
 pub fn one_fault()
     ensures { (frames : List (List ℕ)) (pieces : List Piece) (fault other : CutFault)
-        → Tells frames pieces fault → Tells frames pieces other → fault ≡ other }
+        → Reports frames pieces fault → Reports frames pieces other → fault ≡ other }
 {}
 
 /// Where the pieces make a lawful cut of the frames, nothing is at fault.
@@ -54,16 +53,17 @@ pub fn cut_without_fault()
         → IsCuttable frames pieces }
 {}
 
-/// Segments that a cutter made one after another until it gave none are the cut that it began with, a lawful one.
-pub fn made_one_by_one()
-    ensures none { (cutter : Cutter) → cutter.made ≡ 0 → IsSameCut cutter cutter × HasMade cutter [] }
-    ensures one_more { (begun before after : Cutter) (segments : List Segment) (segment : Segment)
+/// The segments that a `Cutter` makes one after another, until it gives none, are the cut that it began with,
+/// a lawful one.
+pub fn segments_made_one_by_one_are_the_cut()
+    ensures none { (cut : CutUnderWay) → cut.made ≡ 0 → IsSameCut cut cut × HasMade cut [] }
+    ensures one_more { (begun before after : CutUnderWay) (segments : List Segment) (segment : Segment)
         → IsSameCut begun before → HasMade before segments → GivesNext before after (Some segment)
         → IsSameCut begun after × HasMade after (segments ++ segment ∷ []) }
-    ensures all { (begun cutter after : Cutter) (segments : List Segment) (answer : Option Segment)
-        → IsSameCut begun cutter → IsUnderWay cutter → HasMade cutter segments
-        → GivesNext cutter after answer → ((segment : Segment) → answer ≢ Some segment)
-        → IsLawfulCut (frames_of begun) begun.first (fill_byte begun.fill)
-        (chunks_of (frames_of begun) (pieces_of begun)) segments
-        × ArePieceSegments (fill_byte begun.fill) (frames_of begun) (pieces_of begun) segments }
+    ensures all { (begun cut after : CutUnderWay) (segments : List Segment) (answer : Option Segment)
+        → IsCuttable begun.frames begun.pieces → IsSameCut begun cut → HasMade cut segments
+        → GivesNext cut after answer → ((segment : Segment) → answer ≢ Some segment)
+        → IsLawfulCut begun.frames begun.first (fill_byte begun.fill)
+        (chunks_of begun.frames begun.pieces) segments
+        × ArePieceSegments (fill_byte begun.fill) begun.frames begun.pieces segments }
 {}

@@ -21,7 +21,7 @@ pub use cutter::{Cutter, cut};
 pub use frame::{HeadFault, HeadRead, read_head, well_formed};
 pub use header::SegmentHeader;
 pub use laws::{
-    cut_without_fault, header_read_back, header_written_back, made_one_by_one, one_cut, one_fault,
+    cut_without_fault, header_read_back, header_written_back, segments_made_one_by_one_are_the_cut, one_cut, one_fault,
     one_header,
 };
 pub use pieces::{CutFault, FillByte, Piece};

@@ -1,7 +1,7 @@
 ghost use Rattle.std.specs.Prelude.{◌≡◌, ◌≢◌, IfErr, OnOk};
 ghost use Rattle.std.specs.List.{AllByRecursion};
 ghost use Rattle.docsis_wire.specs.Frame.{IsFrame};
-ghost use Rattle.docsis_wire.specs.Pieces.{fill_byte, IsCuttable, Tells};
+ghost use Rattle.docsis_wire.specs.Pieces.{fill_byte, IsCuttable, Reports};
 
 use crate::buffer::Bytes;
 use crate::cursor::{START, advance, first_start};
@@ -62,7 +62,7 @@ impl FillByte {
 /// Looks for the first fault of the frames and then of the pieces. It takes no memory.
 pub fn check(frames: &[Bytes], pieces: &[Piece]) -> Result<(), CutFault>
     ensures cuttable { OnOk result (IsCuttable frames.now pieces.now) }
-    ensures faults { IfErr result (Tells frames.now pieces.now) }
+    ensures faults { IfErr result (Reports frames.now pieces.now) }
     ensures no_memory { IfErr result (λ fault. fault ≢ CutFault.OutOfMemory) }
 {
     for (k, frame) in frames.iter().enumerate() {
@@ -77,7 +77,7 @@ pub fn check(frames: &[Bytes], pieces: &[Piece]) -> Result<(), CutFault>
 fn check_pieces(frames: &[Bytes], pieces: &[Piece]) -> Result<(), CutFault>
     requires { AllByRecursion IsFrame frames.now }
     ensures cuttable { OnOk result (IsCuttable frames.now pieces.now) }
-    ensures faults { IfErr result (Tells frames.now pieces.now) }
+    ensures faults { IfErr result (Reports frames.now pieces.now) }
     ensures no_memory { IfErr result (λ fault. fault ≢ CutFault.OutOfMemory) }
 {
     let mut at = START;

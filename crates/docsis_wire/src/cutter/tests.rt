@@ -1,5 +1,3 @@
-ghost use Rattle.docsis_wire.specs.Cutter.{IsUnderWay};
-
 use super::{Cutter, cut};
 use crate::buffer::Bytes;
 use crate::frame::well_formed;
@@ -555,10 +553,7 @@ mod refusals {
         rt: &impl Print,
         alloc: Global,
         cutter: &mut Cutter<'_>,
-    ) -> Result<Option<Segment>, Fail>
-        requires { IsUnderWay cutter.old }
-        ensures { IsUnderWay cutter.new }
-    {
+    ) -> Result<Option<Segment>, Fail> {
         if let Ok(segment) = cutter.next(alloc) {
             return Ok(segment);
         }
