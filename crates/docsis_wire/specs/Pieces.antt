@@ -1,4 +1,4 @@
-use Rattle.std.specs.Prelude.{◌≡◌, ℕ, ◌+◌, ◌<◌, ◌⊎◌, true, false, Some, List, [], ◌∷◌, ◌++◌, take, drop, replicate, slice_get}
+use Rattle.std.specs.Prelude.{◌≡◌, ℕ, ◌+◌, ◌<◌, ◌≤◌, ◌⊎◌, true, false, Some, List, [], ◌∷◌, ◌++◌, take, drop, replicate, slice_get}
 use Rattle.std.specs.List.{concat, AllByRecursion}
 use Rattle.docsis_wire.specs.declared.pieces.FillByte.{FillByte}
 use Rattle.docsis_wire.specs.declared.pieces.FillByte.TheVariants.{Zero, Ones}
@@ -6,6 +6,7 @@ use Rattle.docsis_wire.specs.declared.pieces.Piece.{Piece}
 use Rattle.docsis_wire.specs.declared.pieces.CutFault.{CutFault}
 use Rattle.docsis_wire.specs.declared.pieces.CutFault.TheVariants.{BadFrame, FillInsideFrame, PointerTooFar, OutOfMemory}
 use Rattle.docsis_wire.specs.declared.segment.Segment.{Segment}
+use Rattle.docsis_wire.specs.Limits.{pointer_limit}
 use Rattle.docsis_wire.specs.Frame.{IsFrame}
 use Rattle.docsis_wire.specs.Stream.{place_of, IsBoundary}
 use Rattle.docsis_wire.specs.Cut.{Points}
@@ -60,7 +61,7 @@ pub record PointsTooFar (frames : List (List ℕ)) (pieces : List Piece) (k : �
   pub chunk_is : slice_get (chunks_of frames pieces) k ≡ Some chunk
   pub pointer : ℕ
   pub points : Points true pointer frames (place_of (chunks_of frames pieces) k) chunk
-  pub far : 16383 < pointer
+  pub far : pointer_limit ≤ pointer
 
 -- no lawful segment can be made of piece k
 abbrev pub IsUnlawful : List (List ℕ) → List Piece → ℕ → Type 0

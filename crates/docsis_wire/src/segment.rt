@@ -1,4 +1,6 @@
+//! A segment, and its header and its whole read from bytes and the header written as bytes.
 ghost use Rattle.std.specs.Prelude.{◌≡◌, ◌<◌, ◌≤◌, ◌↔◌, length, take, IsTrue, IsSome, IfSome, IfOk};
+ghost use Rattle.docsis_wire.specs.Limits.{header_length};
 ghost use Rattle.docsis_wire.specs.Header.{header_bytes};
 
 use crate::buffer::Bytes;
@@ -24,15 +26,17 @@ pub enum SegmentFault {
     /// There are fewer than eight bytes, and so no header.
     #[error("too short")]
     TooShort,
-    /// The header says that a MAC header begins in the segment, and points to no byte of the payload.
+    /// The header says that a MAC header begins in the segment, and points to no byte of the
+    /// payload.
     #[error("pointer past the end")]
     PointerPast,
-    /// An allocation failed. It is reported only of the bytes of a segment that has neither other fault.
+    /// An allocation failed. It is reported only of the bytes of a segment that has neither other
+    /// fault.
     #[error("out of memory")]
     OutOfMemory,
 }
 
-/// A segment as it came from a modem: its header, and the payload behind it.
+/// A segment as it came from a modem: its header, and the payload after it.
 #[derive(Debug, Drop)]
 pub struct Segment {
     pub head: SegmentHeader,
@@ -40,9 +44,13 @@ pub struct Segment {
 }
 
 /// The segment header that the first eight bytes spell, or `None` where there are fewer than eight.
+///
+/// The eight bytes spell one header only, and `write_segment` writes them of it:
+/// `laws::eight_bytes_spell_one_header`,
+/// `laws::read_header_is_written_back`.
 pub fn read_segment(bytes: &[u8]) -> Option<SegmentHeader>
-    ensures found { IsSome result ↔ (8 ≤ length bytes.now) }
-    ensures spelled { IfSome result (λ head. header_bytes head ≡ take 8 bytes.now) }
+    ensures found { IsSome result ↔ (header_length ≤ length bytes.now) }
+    ensures spelled { IfSome result (λ head. header_bytes head ≡ take header_length bytes.now) }
 {
     let [b0, b1, b2, b3, b4, b5, b6, b7] = *bytes.first_chunk::<8>()?;
     let first = u16::from_be_bytes([b0, b1]);
@@ -58,8 +66,9 @@ pub fn read_segment(bytes: &[u8]) -> Option<SegmentHeader>
     })
 }
 
-/// The eight bytes of a segment header (CM-SP-MULPIv3.0, segment header format). `read_segment` reads the
-/// same header of them.
+/// The eight bytes of a segment header (CM-SP-MULPIv3.0, segment header format). `read_segment`
+/// reads the same header of them:
+/// `laws::written_header_is_read_back`.
 pub fn write_segment(head: &SegmentHeader) -> [u8; 8]
     ensures { result ≡ header_bytes head.now }
 {
@@ -96,12 +105,13 @@ impl From<AllocError> for SegmentFault {
 }
 
 impl Segment {
-    /// The segment that the bytes of a burst spell: a header of eight bytes, and the payload after it. The
-    /// first two faults are looked for before any memory is taken.
+    /// The segment that the bytes of a burst spell: a header of eight bytes, and the payload after
+    /// it. `TooShort` and `PointerPast` are looked for before any memory is taken.
     pub fn read(alloc: Global, bytes: &[u8]) -> Result<Segment, SegmentFault>
         ensures segment { IfOk result (λ segment. segment_bytes segment ≡ bytes.now) }
         ensures ready { IfOk result IsReady }
-        ensures too_short { (result ≡ Err SegmentFault.TooShort) ↔ (length bytes.now < 8) }
+        ensures too_short { (result ≡ Err SegmentFault.TooShort)
+            ↔ (length bytes.now < header_length) }
         ensures pointer_past { (result ≡ Err SegmentFault.PointerPast) ↔ PointsPast bytes.now }
     {
         let Some(head) = read_segment(bytes) else {
