@@ -73,7 +73,7 @@ fn reads_no_header_of_seven_bytes(rt: HostRuntime) {
 }
 
 #[test]
-fn tells_whether_a_pointer_stays_within(rt: HostRuntime) -> Result<(), Fail> {
+fn knows_whether_a_pointer_stays_within(rt: HostRuntime) -> Result<(), Fail> {
     let cases: [(&str, [u8; 8], usize, bool); 4] = [
         ("at the first byte", [0x80, 0, 0, 0, 0, 0, 0, 0], 1, true),
         ("at the last byte", [0x80, 4, 0, 0, 0, 0, 0, 0], 5, true),
