@@ -3,7 +3,7 @@ ghost use Rattle.std.specs.Prelude.{IfOk};
 ghost use Rattle.docsis_wire.specs.Ready.{IsReady};
 
 use crate::{Fed, Joiner};
-use docsis_wire::{Bytes, Segment};
+use docsis_wire::{Bytes, Segment, ready};
 use std::alloc::Global;
 use std::test::Fail;
 
@@ -163,6 +163,7 @@ fn joins_the_longest_frame(rt: HostRuntime) -> Result<(), Fail> {
     third.extend_from_slice(PLAIN)?;
     let third = Segment::read(alloc, &third)?;
     for (next, wanted) in [(first, 0), (second, 0), (third, 2)] {
+        assert!(rt; ready(&next));
         let fed = joiner.feed(alloc, &next)?;
         assert_eq!(rt; fed.frames.len(), wanted);
         assert_eq!(rt; fed.skipped, 0);
@@ -227,6 +228,7 @@ fn keeps_what_a_low_pointer_begins(rt: HostRuntime) -> Result<(), Fail> {
         (Segment::read(alloc, &low)?, 0),
         (rest, 1),
     ] {
+        assert!(rt; ready(&next));
         let fed = joiner.feed(alloc, &next)?;
         assert_eq!(rt; fed.frames.len(), wanted);
         if let [frame] = fed.frames.as_slice() {
