@@ -3,8 +3,11 @@ use Rattle.std.specs.Prelude.{ℕ, ◌==◌, ◌||◌, nat_lt, Bool, false, if�
 use Rattle.std.specs.List.{slice_split}
 
 -- the byte that ends a line
+abbrev pub line_feed : ℕ
+line_feed = 10
+
 abbrev pub is_line_feed : ℕ → Bool
-is_line_feed byte = byte == 10
+is_line_feed byte = byte == line_feed
 
 -- a byte that separates words: space, tab or carriage return
 abbrev pub is_separator : ℕ → Bool
@@ -29,7 +32,7 @@ abbrev pub begins_comment : List ℕ → Bool
 begins_comment [] = false
 begins_comment (byte ∷ more) = byte == 35
 
--- the words behind a first word that begins no comment
+-- the words, but none where the first begins a comment
 abbrev pub without_comment : List (List ℕ) → List (List ℕ)
 without_comment [] = []
 without_comment (word ∷ more) = if begins_comment word then [] else word ∷ more
