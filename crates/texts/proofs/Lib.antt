@@ -7,6 +7,8 @@ pub mod OneJoinLine
 pub mod OneCutLine
 pub mod OneJoinFault
 pub mod OneCutFault
+pub mod Capped
+pub mod TextLengths
 pub mod PrintedSoFar
 pub mod HexText
 pub mod Numbers

@@ -1,13 +1,13 @@
 -- What `cut` answers for an input.
 pub mod Line
-use Rattle.std.specs.Prelude.{◌≡◌, ℕ, ◌+◌, ◌*◌, List, [], ◌∷◌, ◌++◌, length, flat_map, min, sum_by}
-use Rattle.std.specs.List.{concat}
+use Rattle.std.specs.Prelude.{◌≡◌, ℕ, ◌+◌, ◌*◌, List, ◌∷◌, [], ◌++◌, length, flat_map, min, sum_by}
 use Rattle.docsis_wire.specs.declared.segment.Segment.{Segment}
 use Rattle.docsis_wire.specs.declared.pieces.Piece.{Piece}
 use Rattle.docsis_wire.specs.declared.pieces.FillByte.{FillByte}
 use Rattle.docsis_wire.specs.declared.pieces.CutFault.{CutFault}
 use Rattle.docsis_wire.specs.declared.pieces.CutFault.TheVariants as cut_fault
 use Rattle.docsis_wire.specs.Cut.{IsLawfulCut}
+use Rattle.docsis_wire.specs.Limits.{header_length}
 use Rattle.docsis_wire.specs.SegmentBytes.{segment_bytes}
 use Rattle.docsis_wire.specs.Pieces.{fill_byte, chunks_of, ArePieceSegments, IsFirstBadFrame, IsFirstFillInsideFrame, IsFirstPointerTooFar}
 use Rattle.hex.specs.Hex.{encode_lower}
@@ -31,6 +31,12 @@ pub record IsPrinted (first : ℕ) (fill : FillByte) (frames : List (List ℕ)) 
   pub segments : List Segment
   pub cut : IsCutInto first fill frames pieces segments
   pub printed : text ≡ flat_map segment_line segments
+
+-- How long the lines of a cut's segments are: two digits for each byte of a header, of what the pieces take of the frames, and of fill, and a
+-- line feed for each segment.
+abbrev pub cut_text_length : List (List ℕ) → List Piece → ℕ
+cut_text_length frames pieces =
+    (min (sum_by (λ piece. piece.bytes) pieces) (sum_by length frames) + sum_by (λ piece. piece.fill) pieces + length pieces * header_length) * 2 + length pieces
 
 -- the text that stands for an input: a line for each segment that its frames are cut into
 pub record IsCutText (first : ℕ) (fill : FillByte) (input text : List ℕ) : Type 0 where

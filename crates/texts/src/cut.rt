@@ -1,11 +1,11 @@
 //! The text of `cut`: the segments that an input's frames are cut into, one a line.
-ghost use Rattle.std.specs.Prelude.{◌≡◌, ◌≢◌, ◌<◌, ◌++◌, false, flat_map, IfOk, IfErr, IfSome, OnOk};
+ghost use Rattle.std.specs.Prelude.{◌≡◌, ◌≢◌, ◌<◌, ◌++◌, min, false, flat_map, IfOk, IfErr, IfSome, OnOk};
 ghost use Rattle.docsis_wire.specs.Limits.{sequence_modulus};
 ghost use Rattle.docsis_wire.specs.Pieces.{IsCuttable};
 ghost use Rattle.texts.specs.Lines.{lines_of};
 ghost use Rattle.texts.specs.Format.{IsRead, IsReadingFault};
 ghost use Rattle.texts.specs.Cut.Line.{nothing, cut_format};
-ghost use Rattle.texts.specs.Cut.{IsPrinted, IsCuttingFault, IsCutText, IsCutFault, segment_line};
+ghost use Rattle.texts.specs.Cut.{IsPrinted, IsCutText, IsCutFault, segment_line, cut_text_length};
 
 mod line;
 
@@ -34,7 +34,8 @@ impl TakeLine for CutInput {
 
     ghost format = { cut_format };
 
-    ghost stands_for = { λ said input. said ≡ record { frames = input.frames.items; pieces = input.pieces.items } };
+    ghost stands_for = { λ said input.
+        said ≡ record { frames = input.frames.items; pieces = input.pieces.items } };
 
     fn take_line(&mut self, alloc: Global, field: &[u8], rest: &[u8]) -> Result<(), LineFault> {
         match read_cut_line(alloc, field, rest)? {
@@ -59,8 +60,10 @@ fn read_cut_input(alloc: Global, input: Vec<u8>) -> Result<CutInput, TextFault>
     Ok(read)
 }
 
-/// How many bytes the lines of a cut's segments have. It stays at its greatest value.
-fn text_length(read: &CutInput) -> usize {
+/// How long the lines of a cut's segments are, or the greatest number where they are longer.
+fn text_length(read: &CutInput) -> usize
+    ensures { result ≡ min (cut_text_length read.now.frames.items read.now.pieces.items) usize.MAX }
+{
     let mut stream = 0usize;
     for frame in &read.frames {
         stream = stream.saturating_add(frame.len());
@@ -89,13 +92,14 @@ fn append_segment(alloc: Global, text: &mut Vec<u8>, segment: &Segment) -> Resul
     Ok(())
 }
 
-/// A line for each segment of a cut, in a text that begins with so much room. Each segment is freed once its
-/// line is there.
+/// A line for each segment of a cut, in a text that begins with so much room. Each segment is freed
+/// once its line is there.
 fn segment_lines(alloc: Global, cutter: Cutter<'_>, room: usize) -> Result<Vec<u8>, AllocError>
     requires cuttable { IsCuttable cutter.frames cutter.pieces }
     requires none_made { cutter.made ≡ 0 }
     ensures { IfOk result
-        (λ text. IsPrinted cutter.entry.first cutter.entry.fill cutter.entry.frames cutter.entry.pieces text.items) }
+        (λ text. IsPrinted cutter.entry.first cutter.entry.fill
+        cutter.entry.frames cutter.entry.pieces text.items) }
 {
     docsis_wire::laws::segments_made_one_by_one_are_the_cut();
     let mut cutter = cutter;
@@ -106,8 +110,15 @@ fn segment_lines(alloc: Global, cutter: Cutter<'_>, room: usize) -> Result<Vec<u
     Ok(text)
 }
 
-/// The text that stands for an input of `cut`: the segments that its frames are cut into, one a line. The
-/// first one has the number `first`, 0 to 8191.
+/// The text that stands for an input of `cut`: the segments that its frames are cut into, one a
+/// line, each as the lower-case digits of its header and its payload. The first one has the number
+/// `first`, 0 to 8191.
+///
+/// Otherwise it reports the first faulty line, or, where no line is faulty, the first fault of the
+/// frames and pieces, or that an allocation failed. That an input has one text or one fault is
+/// stated by [`cut_has_one_text`](crate::laws::cut_has_one_text),
+/// [`cut_has_one_fault`](crate::laws::cut_has_one_fault) and
+/// [`faulty_input_of_cut_has_no_text`](crate::laws::faulty_input_of_cut_has_no_text).
 pub fn cut_lines(
     alloc: Global,
     input: Vec<u8>,
@@ -122,3 +133,6 @@ pub fn cut_lines(
     let cutter = Cutter::new(&read.frames, &read.pieces, first, fill)?;
     Ok(segment_lines(alloc, cutter, text_length(&read))?)
 }
+
+#[cfg(test)]
+mod tests;

@@ -1,5 +1,5 @@
-//! Why an input was not read: the faults of a line, of a field, and of the frames and pieces, each of which
-//! becomes the one above it by `?`.
+//! Why an input was not read: the faults of a line and of an input, to which those of a field, of a
+//! segment and of a cut convert by `?`.
 ghost use Rattle.std.specs.Prelude.{◌≡◌};
 ghost use Rattle.texts.specs.Kinds.{kind_text};
 ghost use Rattle.texts.specs.Fault.{fault_at};
@@ -9,7 +9,8 @@ use docsis_wire::{CutFault, SegmentFault};
 use std::alloc::{AllocError, AllocFailed};
 use thiserror::Error;
 
-/// Why a line of an input cannot be read. Where a line has several faults, the first of these is reported.
+/// Why a line of an input cannot be read. Where a line has several faults, the first of these is
+/// reported.
 #[derive(Clone, Copy, Debug, PartialEq, Eq)]
 pub enum TraceKind {
     /// The first word is none of the command's.
@@ -164,3 +165,6 @@ impl From<CutFault> for TextFault {
         }
     }
 }
+
+#[cfg(test)]
+mod tests;

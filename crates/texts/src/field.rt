@@ -40,3 +40,59 @@ pub fn append_hex(alloc: Global, text: &mut Vec<u8>, bytes: &[u8]) -> Result<(),
     let digits = hex::encode(alloc, bytes)?;
     text.extend_from_slice(digits.as_bytes())
 }
+
+#[cfg(test)]
+mod tests {
+    use super::*;
+    use std::test::Fail;
+
+    #[test]
+    fn reads_fields_at_their_edges(rt: HostRuntime) -> Result<(), Fail> {
+        let cases: [(&str, &[u8]); 4] = [
+            ("-", &[]),
+            ("", &[]),
+            ("00ff", &[0x00, 0xff]),
+            ("aBcDeF09", &[0xab, 0xcd, 0xef, 0x09]),
+        ];
+        for (field, bytes) in &cases {
+            assert_eq!(rt;
+                read_hex(rt.alloc(), field.as_bytes())?.as_slice(),
+                *bytes,
+                "{field}"
+            );
+        }
+        Ok(())
+    }
+
+    #[test]
+    fn refuses_fields_that_are_not_hexadecimal(rt: HostRuntime) -> Result<(), Fail> {
+        for field in [
+            "0",
+            "000",
+            "--",
+            "-0",
+            "0x00",
+            "0g",
+            "g0",
+            "/0",
+            ":0",
+            "@0",
+            "`0",
+            "\u{ff10}0",
+        ] {
+            match read_hex(rt.alloc(), field.as_bytes()) {
+                Err(FieldFault::NotHex) => {}
+                _ => assert!(rt; false, "{field}"),
+            }
+        }
+        Ok(())
+    }
+
+    #[test]
+    fn appends_lower_case_digits(rt: HostRuntime) -> Result<(), Fail> {
+        let mut text = Vec::from_slice(rt.alloc(), b"09 ")?;
+        append_hex(rt.alloc(), &mut text, &[0x00, 0x9f, 0xfa])?;
+        assert_eq!(rt; text.as_slice(), b"09 009ffa".as_slice());
+        Ok(())
+    }
+}

@@ -40,7 +40,8 @@ impl TakeLine for Joining {
 
     ghost format = { join_format };
 
-    ghost stands_for = { λ segments joining. IsJoinedSoFar segments joining.joiner joining.text.items };
+    ghost stands_for = { λ segments joining.
+        IsJoinedSoFar segments joining.joiner joining.text.items };
 
     fn take_line(&mut self, alloc: Global, field: &[u8], rest: &[u8]) -> Result<(), LineFault> {
         let segment = read_segment(alloc, field, rest)?;
@@ -50,7 +51,13 @@ impl TakeLine for Joining {
     }
 }
 
-/// The text that stands for an input of `join`: the frames that its segments join to, one a line.
+/// The text that stands for an input of `join`: the frames that its segments join to, one a line, as
+/// lower-case digits. The segments are taken in order, none of them lost, whatever their numbers.
+///
+/// Otherwise it reports the first faulty line, or that an allocation failed. That an input has one
+/// text or one fault is stated by [`join_has_one_text`](crate::laws::join_has_one_text),
+/// [`join_has_one_fault`](crate::laws::join_has_one_fault) and
+/// [`faulty_input_of_join_has_no_text`](crate::laws::faulty_input_of_join_has_no_text).
 pub fn join_lines(alloc: Global, input: &[u8]) -> Result<Vec<u8>, TextFault>
     ensures text { IfOk result (λ text. IsJoined input.now text.items) }
     ensures fault { IfErr result (IsJoinFault input.now) }
@@ -62,3 +69,6 @@ pub fn join_lines(alloc: Global, input: &[u8]) -> Result<Vec<u8>, TextFault>
     take_lines(alloc, input, &mut joining)?;
     Ok(joining.text)
 }
+
+#[cfg(test)]
+mod tests;

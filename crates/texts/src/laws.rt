@@ -1,11 +1,14 @@
-//! The definitions of `join` and of `cut` determine their answers: an input has one text, or one first fault.
+//! The definitions of `join` and of `cut` determine their answers: an input has one text, or one
+//! first fault.
 //!
 //! Each function states a law in its contract and does nothing.
-ghost use Rattle.std.specs.Prelude.{◌≡◌, ◌≢◌, ℕ, List};
+ghost use Rattle.std.specs.Prelude.{◌≡◌, ◌≢◌, ℕ, List, length, flat_map};
 ghost use Rattle.docsis_wire.specs.declared.pieces.FillByte.{FillByte};
+ghost use Rattle.docsis_wire.specs.declared.pieces.Piece.{Piece};
+ghost use Rattle.docsis_wire.specs.declared.segment.Segment.{Segment};
 ghost use Rattle.texts.specs.declared.fault.TextFault.{TextFault};
 ghost use Rattle.texts.specs.Join.{IsJoined, IsJoinFault};
-ghost use Rattle.texts.specs.Cut.{IsCutText, IsCutFault};
+ghost use Rattle.texts.specs.Cut.{IsCutInto, IsCutText, IsCutFault, segment_line, cut_text_length};
 
 /// At most one text stands for an input of `join`.
 pub fn join_has_one_text()
@@ -40,6 +43,15 @@ pub fn cut_has_one_text()
 {
     docsis_wire::laws::pieces_make_one_cut();
 }
+
+/// The lines of the segments that frames are cut into are exactly as long as the frames and the
+/// pieces say, so that `cut_lines` reserves just the room that its text takes.
+pub fn cut_text_has_this_length()
+    ensures { (first : ℕ) (fill : FillByte) (frames : List (List ℕ)) (pieces : List Piece)
+        (segments : List Segment)
+        → IsCutInto first fill frames pieces segments
+        → length (flat_map segment_line segments) ≡ cut_text_length frames pieces }
+{}
 
 /// An input of `cut` has at most one first fault, be it of a line or of the frames and the pieces.
 pub fn cut_has_one_fault()

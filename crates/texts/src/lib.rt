@@ -1,8 +1,9 @@
 //! The texts of segrx: bytes into values and back, without a device and without a command line.
 //!
-//! [`join_lines`] gives exactly the text of the frames that an input's segments join to, and [`cut_lines`] exactly
-//! the text of the segments that its frames are cut into; otherwise they report the first faulty line with the
-//! least kind of fault, or the first fault of the cut. That each input has one answer is stated in [`laws`].
+//! [`join_lines`] gives exactly the text of the frames that an input's segments join to, and
+//! [`cut_lines`] exactly the text of the segments that its frames are cut into; otherwise they
+//! report the first faulty line with the least kind of fault, or the first fault of the cut.
+//! [`laws`] states that each input has one answer.
 #![tactic(auto)]
 
 mod cut;
@@ -12,6 +13,8 @@ mod join;
 pub mod laws;
 mod lines;
 mod number;
+#[cfg(test)]
+mod refusals;
 mod words;
 
 pub use cut::cut_lines;

@@ -18,12 +18,13 @@ pub trait TakeLine {
     // The value is what it is after lines that say this.
     ghost stands_for: { State → Self → Type 0 };
 
-    /// Takes the next line that has fields, by its first field and what follows that on the line. Where it
-    /// reports a fault, no more lines are taken.
+    /// Takes the next line that has fields, by its first field and what follows that on the line.
+    /// Once it reports a fault, no more lines are taken.
     fn take_line(&mut self, alloc: Global, field: &[u8], rest: &[u8]) -> Result<(), LineFault>
         ensures taken { (before : State) → stands_for before self.old
             → OnOk result ((after : State)
-            × format.Takes before (field.now ∷ words_of rest.now) after × stands_for after self.new) }
+            × format.Takes before (field.now ∷ words_of rest.now) after
+            × stands_for after self.new) }
         ensures fault { (before : State) → stands_for before self.old
             → IfErr result (IsLineFault (format.HasFault before (field.now ∷ words_of rest.now))) };
 }
@@ -61,7 +62,8 @@ fn take_or_skip<T: TakeLine>(alloc: Global, line: &[u8], taker: &mut T) -> Resul
     }
 }
 
-/// Takes the lines of an input in order, and reports the first faulty one. A line without fields is skipped.
+/// Takes the lines of an input in order, and reports the first faulty one. A line without fields is
+/// skipped.
 pub fn take_lines<T: TakeLine>(alloc: Global, input: &[u8], taker: &mut T) -> Result<(), TextFault>
     ensures read { (start : T.State) → T.stands_for start taker.old
         → OnOk result ((end : T.State)

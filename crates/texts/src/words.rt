@@ -38,8 +38,8 @@ fn split_word(line: &[u8]) -> Option<(&[u8], &[u8])>
     }
 }
 
-/// The first field of a line and what follows it. A line without words, or whose first word begins with `#`,
-/// has none.
+/// The first field of a line and what follows it. A line without words, or whose first word begins
+/// with `#`, has none.
 pub fn split_field(line: &[u8]) -> Option<(&[u8], &[u8])>
     ensures { MatchOption result (fields_of line.now ≡ [])
         (λ r. fields_of line.now ≡ r.0.now ∷ words_of r.1.now) }
@@ -63,8 +63,8 @@ pub fn only_word(rest: &[u8]) -> Option<&[u8]>
     ensures { MatchOption result (length (words_of rest.now) ≢ 1)
         (λ word. words_of rest.now ≡ word.now ∷ []) }
 {
-    let (word, behind) = split_word(rest)?;
-    match split_word(behind) {
+    let (word, more) = split_word(rest)?;
+    match split_word(more) {
         Some(_) => None,
         None => Some(word),
     }
@@ -75,7 +75,39 @@ pub fn only_two_words(rest: &[u8]) -> Option<(&[u8], &[u8])>
     ensures { MatchOption result (length (words_of rest.now) ≢ 2)
         (λ two. words_of rest.now ≡ two.0.now ∷ two.1.now ∷ []) }
 {
-    let (word, behind) = split_word(rest)?;
-    let second = only_word(behind)?;
+    let (word, more) = split_word(rest)?;
+    let second = only_word(more)?;
     Some((word, second))
+}
+
+#[cfg(test)]
+mod tests {
+    use super::*;
+    use std::str;
+    use std::test::Fail;
+
+    /// A field and what follows it, as text.
+    fn shown<'a>(found: Option<(&'a [u8], &'a [u8])>) -> Option<(&'a str, &'a str)> {
+        let (field, rest) = found?;
+        Some((str::from_utf8(field).ok()?, str::from_utf8(rest).ok()?))
+    }
+
+    #[test]
+    fn splits_fields(rt: HostRuntime) -> Result<(), Fail> {
+        let cases: [(&str, Option<(&str, &str)>); 9] = [
+            ("", None),
+            (" \t\r", None),
+            ("# a", None),
+            ("  #a b", None),
+            ("a", Some(("a", ""))),
+            ("\ra\r", Some(("a", "\r"))),
+            ("a\tb  c", Some(("a", "\tb  c"))),
+            ("a#b", Some(("a#b", ""))),
+            ("\u{b}\u{c}", Some(("\u{b}\u{c}", ""))),
+        ];
+        for (line, fields) in &cases {
+            assert_eq!(rt; shown(split_field(line.as_bytes())), *fields, "{line}");
+        }
+        Ok(())
+    }
 }

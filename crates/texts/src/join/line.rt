@@ -10,7 +10,8 @@ use crate::words::no_word;
 use docsis_wire::Segment;
 use std::alloc::Global;
 
-/// The segment of a line, which is to have one hexadecimal field: its first field and what follows that.
+/// The segment of a line, by its first field and what follows that. The line is to have one
+/// hexadecimal field.
 pub fn read_segment(alloc: Global, field: &[u8], rest: &[u8]) -> Result<Segment, LineFault>
     ensures carried { IfOk result (Carries (field.now ∷ words_of rest.now)) }
     ensures fault { IfErr result (IsLineFault (HasFault (field.now ∷ words_of rest.now))) }
