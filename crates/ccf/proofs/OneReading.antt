@@ -12,7 +12,7 @@ use Rattle.ccf.specs.Walk.{Ends, EndsAs, Walks}
 use Rattle.ccf.specs.Feed.{GoesOn, IsDoneWith, Completes, Feeds, FeedsAs}
 use Rattle.ccf.specs.Join.{Joins}
 
--- two frames at the front of the same bytes are one, since their heads tell their length
+-- two frames at the front of the same bytes are one, since their heads give their length
 pub same_front : (frame other behind rest : List ℕ) → IsFrame frame → IsFrame other → frame ++ behind ≡ other ++ rest → (frame ≡ other) × (behind ≡ rest)
 same_front frame other behind rest f g e =
     let head = head_of-frame frame behind f in
@@ -37,7 +37,7 @@ no_frame_in_front rest after frame behind ends is_frame split =
     let head = head_of-frame frame behind is_frame in
     not_ended (head_of rest) head.0 frame behind rest after (ap head_of split ∙ head.1) split ends
 
--- what is left unfinished is told by the head
+-- what is left unfinished is given by the head
 EndsAs-once : (head : HeadRead) (rest after other : List ℕ) → EndsAs head rest after → EndsAs head rest other → after ≡ other
 EndsAs-once Short rest after other h g = h ∙ sym g
 EndsAs-once Fill rest after other h g = h ∙ sym g

@@ -1,4 +1,4 @@
--- One segment more of a cut: which frames it completes, and what is unfinished behind it.
+-- One segment more of a cut: which frames it completes, and what is unfinished after it.
 use Rattle.std.proofs.Common.{◌≡◌, ◌≢◌, ◌⊎◌, ℕ, ◌+◌, ◌<◌, ◌≤◌, true, false, Option, List, [], ◌∷◌, ◌++◌, length, replicate, take, drop, refl, sym, ap, ◌∙◌, subst, inl, inr, arith, length-append, append_assoc, append-nil, take_at, drop_at}
 use Rattle.std.specs.List.{concat, AllByRecursion}
 use Rattle.std.proofs.lemmas.Bool.{cases_lt}
@@ -36,13 +36,13 @@ some_or_none (b ∷ bs) = inr (omega arith)
 module _ (frames chunks : List (List ℕ)) (first fill : ℕ) (settled : List (Option Segment)) (n : ℕ) (chunk more : List ℕ)
     (each : AllByRecursion IsFrame frames) (fill_is : IsFillByte fill) (next : place_of chunks (n + 1) ≡ place_of chunks n + length chunk)
     (stream : concat frames ≡ concat (take n chunks) ++ (chunk ++ more)) where
-  -- a chunk that begins where a frame ends has the frames behind it
+  -- a chunk that begins where a frame ends has the frames after it
   behind_between : (before behind : List (List ℕ)) → frames ≡ before ++ behind → place_of frames (length before) ≡ place_of chunks n → concat behind ≡ chunk ++ more
   behind_between before behind is place =
       same_behind (concat before) (concat behind) (concat (take n chunks)) (chunk ++ more) (sym (concat-append before behind) ∙ ap concat (sym is) ∙ stream)
       (sym (place_of-behind frames before behind is) ∙ place)
 
-  -- a chunk that begins within a frame has the rest of it and the frames behind it
+  -- a chunk that begins within a frame has the rest of it and the frames after it
   behind_within : (before : List (List ℕ)) (front back : List ℕ) (behind : List (List ℕ)) → frames ≡ before ++ (front ++ back) ∷ behind
       → place_of frames (length before) + length front ≡ place_of chunks n → back ++ concat behind ≡ chunk ++ more
   behind_within before front back behind is place =
@@ -85,7 +85,7 @@ module _ (frames chunks : List (List ℕ)) (first fill : ℕ) (settled : List (O
         left = λ kept. inl record { before = h.before; behind = h.behind; frames_are = h.frames_are; place = h.place ∙ sym here; fill_left = g.is_left };
       }
 
-  -- where bytes begin behind these frames, there is a frame behind them
+  -- where bytes begin after these frames, there is a frame after them
   frame_behind : (before behind : List (List ℕ)) (bytes rest : List ℕ) → frames ≡ before ++ behind → concat behind ≡ bytes ++ rest → 0 < length bytes → length before < length frames
   frame_behind before [] bytes rest is e some = absurd (omega (arith, ap length e, length-append bytes rest))
   frame_behind before (b ∷ bs) bytes rest is e some = omega (arith, ap length is, length-append before (b ∷ bs))
@@ -117,7 +117,7 @@ module _ (frames chunks : List (List ℕ)) (first fill : ℕ) (settled : List (O
   front_before : (before : List ℕ) (h : IsLeftWithin frames chunks settled n before) → place_of frames (length h.before) < place_of chunks n
   front_before before h = omega (arith, h.place, length-some h.front h.some_front)
 
-  -- it ends as far behind the chunk's place as it has bytes left
+  -- it ends as far after the chunk's place as it has bytes left
   back_ends : (before : List ℕ) (h : IsLeftWithin frames chunks settled n before) → place_of frames (length h.before + 1) ≡ place_of chunks n + length h.back
   back_ends before h = omega (arith, h.place, place_of-behind_one frames h.before (h.front ++ h.back) h.behind h.frames_are, length-append h.front h.back)
 
@@ -184,7 +184,7 @@ module _ (frames chunks : List (List ℕ)) (first fill : ℕ) (settled : List (O
         }
       ]
 
-  -- the chunk goes on behind the frame that it ends
+  -- the chunk goes on after the frame that it ends
   onward_within : (before : List ℕ) (h : IsLeftWithin frames chunks settled n before) (rest : List ℕ) → chunk ≡ h.back ++ rest → Splits h.behind rest
       → GoesOnward frames chunks n (h.before ++ (h.front ++ h.back) ∷ []) h.behind rest
   onward_within before h rest e splits =

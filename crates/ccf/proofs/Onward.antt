@@ -1,4 +1,4 @@
--- The frames that begin in a chunk: which of them it completes, and what is left of it behind them.
+-- The frames that begin in a chunk: which of them it completes, and what is left of it after them.
 use Rattle.std.proofs.Common.{◌≡◌, ℕ, ◌+◌, ◌<◌, ◌≤◌, Option, List, [], ◌∷◌, ◌++◌, length, replicate, refl, sym, ap, ◌∙◌, subst, inl, inr, arith, length-append, append_assoc, append-nil}
 use Rattle.std.specs.List.{concat, AllByRecursion}
 use Rattle.std.proofs.lemmas.Bool.{cases_lt}
@@ -18,29 +18,29 @@ use Rattle.ccf.proofs.Splitting.{Splits, IsWithin, AllByRecursion-front, AllByRe
 use Rattle.ccf.proofs.Filters.{FiltersFrom-append, FiltersFrom-none, FiltersFrom-all}
 use Rattle.ccf.proofs.Waiting.{length-some, front_waits, fill_left, no_fill, no_fill_left}
 
--- The frames behind these begin in chunk n or later, and the chunk has these bytes of them, which are split at its last frame.
+-- The frames after these begin in chunk n or later, and the chunk has these bytes of them, which are split at its last frame.
 pub record GoesOnward (frames chunks : List (List ℕ)) (n : ℕ) (done rest : List (List ℕ)) (bytes : List ℕ) : Type 0 where
   pub frames_are : frames ≡ done ++ rest
   pub from : place_of chunks n ≤ place_of frames (length done)
   pub to : place_of frames (length done) + length bytes ≡ place_of chunks (n + 1)
   pub splits : Splits rest bytes
 
--- What a walk of a chunk's bytes and the fill behind them gives.
+-- What a walk of a chunk's bytes and the fill after them gives.
 pub record WalksOnward (frames chunks : List (List ℕ)) (fill : ℕ) (settled : List (Option Segment)) (n : ℕ) (bytes : List ℕ) (whole : List (List ℕ)) : Type 0 where
   pub after : List ℕ
   pub walks : Walks bytes whole after
   pub left : IsKept settled n → IsLeftUnfinished frames chunks fill settled (n + 1) after
 
 module _ (frames chunks : List (List ℕ)) (n : ℕ) (done rest : List (List ℕ)) (bytes : List ℕ) (each : AllByRecursion IsFrame frames) (h : GoesOnward frames chunks n done rest bytes) where
-  -- the frames, split behind the last that is whole
+  -- the frames, split after the last that is whole
   frames_gone : frames ≡ (done ++ h.splits.whole) ++ h.splits.behind
   frames_gone = h.frames_are ∙ ap (λ t. done ++ t) h.splits.pieces_are ∙ sym (append_assoc done h.splits.whole h.splits.behind)
 
-  -- the same, where a frame goes on behind the chunk
+  -- the same, where a frame goes on after the chunk
   frames_within : (w : IsWithin h.splits.behind h.splits.front) → frames ≡ (done ++ h.splits.whole) ++ (h.splits.front ++ w.back) ∷ w.behind
   frames_within w = frames_gone ∙ ap (λ t. (done ++ h.splits.whole) ++ t) w.pieces_are
 
-  -- what is left of the chunk stands behind the frames that are whole
+  -- what is left of the chunk stands after the frames that are whole
   place_gone : place_of frames (length (done ++ h.splits.whole)) + length h.splits.front ≡ place_of chunks (n + 1)
   place_gone =
       let s = h.splits in
@@ -55,13 +55,13 @@ module _ (frames chunks : List (List ℕ)) (n : ℕ) (done rest : List (List ℕ
         h.to,
       )
 
-  -- the frame that goes on behind the chunk ends behind it
+  -- the frame that goes on after the chunk ends after it
   place_within : (w : IsWithin h.splits.behind h.splits.front) → place_of chunks (n + 1) < place_of frames (length (done ++ h.splits.whole) + 1)
   place_within w =
       let s = h.splits in
       omega (arith, place_gone, place_of-behind_one frames (done ++ s.whole) (s.front ++ w.back) w.behind (frames_within w), length-append s.front w.back, length-some w.back w.some_back)
 
-  -- the frames behind end behind the chunk
+  -- the frames after end after the chunk
   beyond : (j : ℕ) → length (done ++ h.splits.whole) ≤ j → j < length frames → place_of chunks (n + 1) < place_of frames (j + 1)
   beyond j from some =
       let s = h.splits in
@@ -96,11 +96,11 @@ module _ (frames chunks : List (List ℕ)) (n : ℕ) (done rest : List (List ℕ
   each_whole : AllByRecursion IsFrame h.splits.whole
   each_whole = let s = h.splits in AllByRecursion-front IsFrame s.whole s.behind (subst (AllByRecursion IsFrame) s.pieces_are (AllByRecursion-behind IsFrame done rest (subst (AllByRecursion IsFrame) h.frames_are each)))
 
-  -- the frame that goes on behind the chunk is a frame
+  -- the frame that goes on after the chunk is a frame
   frame_within : (w : IsWithin h.splits.behind h.splits.front) → IsFrame (h.splits.front ++ w.back)
   frame_within w = (AllByRecursion-behind IsFrame (done ++ h.splits.whole) ((h.splits.front ++ w.back) ∷ w.behind) (subst (AllByRecursion IsFrame) (frames_within w) each)).0
 
-  -- where a frame goes on behind the chunk, no frame ends with the chunk
+  -- where a frame goes on after the chunk, no frame ends with the chunk
   no_boundary : (w : IsWithin h.splits.behind h.splits.front) → IsBoundary frames (place_of chunks (n + 1)) → ⊥
   no_boundary w b = none_begins_within frames (length (done ++ h.splits.whole)) b.0 (place_of chunks (n + 1)) (omega (arith, place_gone, length-some h.splits.front w.some_front)) (place_within w) b.2
 

@@ -7,7 +7,7 @@ use Rattle.ccf.specs.Feed.{GoesOn, Completes, Feeds, FeedsAs}
 use Rattle.ccf.specs.Unfinished.{IsFillLeft}
 use Rattle.ccf.proofs.Waiting.{fill_goes_on, fill_left_no_frame}
 
--- where a frame starts in the chunk, PFI is set and the pointer tells the first start
+-- where a frame starts in the chunk, PFI is set and the pointer is the first start
 pub Points-at : (pfi : Bool) (pointer : ℕ) (frames : List (List ℕ)) (place : ℕ) (chunk : List ℕ) (p : ℕ) → Points pfi pointer frames place chunk
     → StartsIn frames place chunk p → ((q : ℕ) → StartsIn frames place chunk q → p ≤ q) → (pfi ≡ true) × (pointer ≡ p)
 Points-at true pointer frames place chunk p h starts first = (refl, omega (arith, h.1 p starts, first pointer h.0))

@@ -1,4 +1,4 @@
--- The segments of a cut, one after another: what is unfinished behind them, and which frames they join to.
+-- The segments of a cut, one after another: what is unfinished after them, and which frames they join to.
 use Rattle.std.proofs.Common.{◌≡◌, ◌⊎◌, ℕ, suc, ◌+◌, ◌<◌, ◌≤◌, Option, Some, None, List, [], ◌∷◌, ◌++◌, length, take, drop, refl, sym, ap, ◌∙◌, subst, inl, inr, arith, length-append, append_assoc, append-nil}
 use Rattle.std.specs.List.{concat, slice_get}
 use Rattle.std.proofs.lemmas.Bool.{cases_lt}
@@ -165,7 +165,7 @@ frames_of_settled frames chunks first fill segments settled joined after cut is_
     (λ j low high p. record { within = p.within; kept = p.kept })
     (settles frames chunks first fill segments cut settled joined after is_settled h).filters
 
--- the frames that the next segment behind a settled list completes
+-- the frames that the next segment after a settled list completes
 pub completed_by_feed : (frames chunks : List (List ℕ)) (first fill : ℕ) (segments : List Segment) (settled : List (Option Segment)) (joined : List (List ℕ)) (before after : List ℕ)
     (segment : Segment) (fed : List (List ℕ))
     → IsLawfulCut frames first fill chunks segments → IsSettledOf segments settled → slice_get segments (length settled) ≡ Some segment

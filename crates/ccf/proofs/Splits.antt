@@ -22,7 +22,7 @@ pub split_further : (bytes : List ℕ) (frames : List (List ℕ)) (rest frame be
 split_further bytes frames rest frame behind whole split =
     whole ∙ ap (λ t. concat frames ++ t) split ∙ sym (append_assoc (concat frames) frame behind) ∙ ap (λ t. t ++ behind) (sym (concat-push frames frame))
 
--- a walk that goes one frame further has one frame more, and the rest behind it
+-- a walk that goes one frame further has one frame more, and the rest after it
 pub walk_further : (bytes : List ℕ) (frames after : List (List ℕ)) (rest frame front behind : List ℕ) (n : ℕ)
     → bytes ≡ concat frames ++ rest → AllByRecursion IsFrame frames → IsFrame (take n rest)
     → front ≡ take n rest → behind ≡ drop n rest → frame ≡ front → after ≡ frames ++ frame ∷ []

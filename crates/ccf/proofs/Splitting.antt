@@ -27,7 +27,7 @@ two_splits (x ∷ xs) ys (u ∷ us) vs e =
       | inr h ↦ inr record { more = h.more; some = h.some; front = ap (λ t. t ∷ xs) same ∙ ap (λ t. u ∷ t) h.front; back = h.back }
     ]
 
--- bytes with the same front, and what stands behind it
+-- bytes with the same front, and what stands after it
 pub same_behind : (xs ys us vs : List ℕ) → xs ++ ys ≡ us ++ vs → length xs ≡ length us → ys ≡ vs
 same_behind xs ys us vs e n = sym (drop_at xs ys (length us) n) ∙ ap (drop (length us)) e ∙ drop_at us vs (length us) refl
 

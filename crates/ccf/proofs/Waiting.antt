@@ -80,7 +80,7 @@ zeros_are_fill : (fill count : ℕ) → (0 < count → fill ≡ 0) → replicate
 zeros_are_fill fill zero h = refl
 zeros_are_fill fill (suc count) h = ap (replicate (suc count)) (sym (h (omega arith)))
 
--- what is left of fill, and more fill behind it, leaves at most three zeros again
+-- what is left of fill, and more fill after it, leaves at most three zeros again
 pub fill_goes_on : (fill n : ℕ) (before : List ℕ) → IsFillByte fill → IsFillLeft fill before → LeavesFill fill (before ++ replicate n fill)
 fill_goes_on fill n before fill_is h =
     let all : before ++ replicate n fill ≡ replicate (h.count + n) fill =

@@ -7,7 +7,7 @@ use Rattle.ccf.specs.Walk.{Ends, Walks}
 abbrev pub Skips : List (List ℕ) → List ℕ → Type 0
 Skips frames after = (frames ≡ []) × (after ≡ [])
 
--- Bytes begin with this frame, which is delivered. What stands behind it is skipped.
+-- Bytes begin with this frame, which is delivered. What stands after it is skipped.
 pub record Delivers (bytes : List ℕ) (frames : List (List ℕ)) (after : List ℕ) : Type 0 where
   pub frame : List ℕ
   pub skipped : List ℕ

@@ -3,7 +3,7 @@ use Rattle.docsis_wire.specs.declared.segment.Segment.{Segment}
 use Rattle.docsis_wire.specs.Stream.{place_of}
 use Rattle.docsis_wire.specs.Span.{IsKept}
 
--- What fill may leave unfinished behind the end of a frame: up to three zeros, since a fourth one tells fill from a header. A fill byte that
+-- What fill may leave unfinished after the end of a frame: up to three zeros, since a fourth one makes them fill. A fill byte that
 -- is not zero leaves nothing.
 pub record IsFillLeft (fill : ℕ) (unfinished : List ℕ) : Type 0 where
   pub count : ℕ
@@ -19,7 +19,7 @@ pub record IsLeftBetween (frames chunks : List (List ℕ)) (fill n : ℕ) (unfin
   pub place : place_of frames (length before) ≡ place_of chunks n
   pub fill_left : IsFillLeft fill unfinished
 
--- The first n chunks end behind this front of frame j. It is unfinished where each chunk was kept from the one on in which the frame begins;
+-- The first n chunks end after this front of frame j. It is unfinished where each chunk was kept from the one on in which the frame begins;
 -- where one of them was lost, nothing is.
 abbrev pub IsFrontLeft : List (List ℕ) → List (List ℕ) → List (Option Segment) → ℕ → ℕ → List ℕ → List ℕ → Type 0
 IsFrontLeft frames chunks settled n j front unfinished =

@@ -1,3 +1,4 @@
+//! What is at the front of some bytes, and the frames that follow one another from there.
 ghost use Rattle.std.specs.Prelude.{◌≡◌, ◌+◌, length, IfOk};
 ghost use Rattle.std.specs.List.{concat};
 ghost use Rattle.ccf.specs.Front.{IsFrontOf};
@@ -6,17 +7,18 @@ ghost use Rattle.ccf.specs.Walk.{Walks};
 use docsis_wire::{Bytes, HeadRead, read_head};
 use std::alloc::{AllocError, Global};
 
-/// What stands at the front of some bytes.
+/// What is at the front of some bytes.
 #[derive(Clone, Copy, Debug)]
 pub enum Front {
     /// A whole frame of this many bytes.
     Whole(usize),
-    /// Less than a frame, as far as can be told: the bytes wait for more.
+    /// Less than a frame, as far as can be seen: the bytes wait for more.
     Waits,
     /// Fill, or no frame at all: the bytes are dropped.
     Dropped,
 }
 
+/// Looks at the front of the bytes.
 pub fn front_of(bytes: &[u8]) -> Front
     ensures { IsFrontOf bytes.now result }
 {
@@ -42,20 +44,22 @@ pub struct Walked<'a> {
     pub skipped: usize,
 }
 
-/// Cuts the frames out that stand end to end at the front of the bytes.
+/// Takes the frames off the front of the bytes, one after another.
 pub fn walk(alloc: Global, bytes: &[u8]) -> Result<Walked<'_>, AllocError>
-    ensures walks { IfOk result (λ walked. Walks bytes.now walked.frames.items walked.unfinished.now) }
+    ensures walks { IfOk result
+        (λ walked. Walks bytes.now walked.frames.items walked.unfinished.now) }
     ensures skipped { IfOk result
-        (λ walked. walked.skipped + length (concat walked.frames.items) + length walked.unfinished.now ≡ length bytes.now) }
+        (λ walked. walked.skipped + length (concat walked.frames.items)
+        + length walked.unfinished.now ≡ length bytes.now) }
 {
     let mut frames = Vec::new(alloc);
     let mut rest = bytes;
     loop {
         match front_of(rest) {
             Front::Whole(length) => {
-                let (frame, behind) = rest.split_at(length);
+                let (frame, after) = rest.split_at(length);
                 frames.push(Bytes::from(Vec::from_slice(alloc, frame)?))?;
-                rest = behind;
+                rest = after;
             }
             Front::Waits => {
                 return Ok(Walked {

@@ -1,3 +1,4 @@
+//! Joining segments into frames, one segment at a time.
 ghost use Rattle.std.specs.Prelude.{◌≡◌, ◌+◌, ◌≤◌, ◌↔◌, ℕ, true, false, List, [], length, vec_len, IsTrue, IfOk, OnErr};
 ghost use Rattle.std.specs.List.{concat};
 ghost use Rattle.docsis_wire.specs.Ready.{IsReady};
@@ -18,8 +19,8 @@ pub struct Fed {
     pub skipped: usize,
 }
 
-/// Joins the segments of one service flow, fed in order, into frames. Contracts see the bytes that are
-/// unfinished: the front of a frame whose other bytes have not come.
+/// Joins the segments of one service flow, fed in order, into frames. Contracts see the bytes that
+/// are unfinished: the front of a frame whose other bytes have not come.
 #[derive(Debug, Drop)]
 pub struct Joiner {
     unfinished: Vec<u8>,
@@ -41,8 +42,15 @@ impl Joiner {
         }
     }
 
-    /// Takes the next segment of the flow (CM-SP-MULPIv3.0, continuous concatenation and fragmentation).
-    /// Where memory is wanted nothing changes, and the same segment may be fed again.
+    /// Takes the next segment of the flow (CM-SP-MULPIv3.0, continuous concatenation and
+    /// fragmentation). Where an allocation fails nothing changes, and the same segment may be fed
+    /// again.
+    ///
+    /// The answer is the only one: `laws::feed_has_one_answer`. Over
+    /// a modem's segments it is exactly the frames that end in each:
+    /// `laws::each_segment_completes_the_frames_that_end_in_it`,
+    /// and with losses before it
+    /// `laws::each_segment_completes_the_kept_frames_that_end_in_it`.
     pub fn feed(&mut self, alloc: Global, segment: &Segment) -> Result<Fed, AllocError>
         requires { IsReady segment.now }
         ensures fed { IfOk result (λ fed. Feeds self.old segment.now fed.frames.items self.new) }
@@ -70,7 +78,8 @@ impl Joiner {
 /// Takes the payload of a segment in which no MAC header begins.
 fn go_on(unfinished: &mut Vec<u8>, alloc: Global, payload: &[u8]) -> Result<Fed, AllocError>
     ensures fed { IfOk result
-        (λ fed. FeedsAs false unfinished.old.items 0 payload.now fed.frames.items unfinished.new.items) }
+        (λ fed. FeedsAs false unfinished.old.items 0 payload.now fed.frames.items
+        unfinished.new.items) }
     ensures skipped { IfOk result
         (λ fed. fed.skipped + length (concat fed.frames.items) + vec_len unfinished.new
         ≡ vec_len unfinished.old + length payload.now) }
@@ -114,15 +123,16 @@ fn complete(
 ) -> Result<Fed, AllocError>
     requires { pointer ≤ length payload.now }
     ensures fed { IfOk result
-        (λ fed. FeedsAs true unfinished.old.items pointer payload.now fed.frames.items unfinished.new.items) }
+        (λ fed. FeedsAs true unfinished.old.items pointer payload.now fed.frames.items
+        unfinished.new.items) }
     ensures skipped { IfOk result
         (λ fed. fed.skipped + length (concat fed.frames.items) + vec_len unfinished.new
         ≡ vec_len unfinished.old + length payload.now) }
     ensures refused { OnErr result (unfinished.new.items ≡ unfinished.old.items) }
 {
-    let (front, behind) = payload.split_at(pointer);
-    // What may want memory comes first, so that a refusal leaves all as it was.
-    let walked = walk(alloc, behind)?;
+    let (front, after) = payload.split_at(pointer);
+    // All allocations come first, so that one that fails leaves everything as it was.
+    let walked = walk(alloc, after)?;
     let next = Vec::from_slice(alloc, walked.unfinished)?;
     let mut frames = walked.frames;
     if unfinished.is_empty() {

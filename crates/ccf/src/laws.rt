@@ -1,6 +1,8 @@
-// Laws about the definitions. Each determines its answer: there is one reading of the same bytes. And what
-// a modem cut up by the rules is joined again: each segment completes just the frames that end in it, but
-// for those of which an earlier segment was lost.
+//! Laws about the definitions. Each definition has one answer: there is one reading of the same
+//! bytes. And what a modem cut up by the rules is joined again: each segment completes exactly the
+//! frames that end in it, but for those of which an earlier segment was lost.
+//!
+//! Each function states a law in its contract and does nothing.
 ghost use Rattle.std.specs.Prelude.{◌≡◌, ◌↔◌, ◌+◌, ◌<◌, ◌≤◌, ℕ, Bool, true, Option, Some, List, [], length, slice_get, map, take};
 ghost use Rattle.std.specs.List.{AllByRecursion};
 ghost use Rattle.docsis_wire.specs.declared.segment.Segment.{Segment};
@@ -17,53 +19,64 @@ ghost use Rattle.ccf.specs.Feed.{GoesOn, IsDoneWith, Feeds};
 ghost use Rattle.ccf.specs.Join.{Joins};
 
 /// The same bytes are walked in one way only.
-pub fn one_walk()
+pub fn walk_has_one_answer()
     ensures { (bytes : List ℕ) (frames others : List (List ℕ)) (after rest : List ℕ)
-        → Walks bytes frames after → Walks bytes others rest → (frames ≡ others) × (after ≡ rest) }
+        → Walks bytes frames after → Walks bytes others rest
+        → (frames ≡ others) × (after ≡ rest) }
 {}
 
 /// Where no MAC header begins in a segment, what was unfinished goes on in one way only.
-pub fn one_going_on()
+pub fn going_on_has_one_answer()
     ensures { (bytes : List ℕ) (frames others : List (List ℕ)) (after rest : List ℕ)
-        → GoesOn bytes frames after → GoesOn bytes others rest → (frames ≡ others) × (after ≡ rest) }
+        → GoesOn bytes frames after → GoesOn bytes others rest
+        → (frames ≡ others) × (after ≡ rest) }
 {}
 
 /// Where a MAC header begins in a segment, what was unfinished ends in one way only.
-pub fn one_end()
+pub fn end_has_one_answer()
     ensures { (bytes : List ℕ) (frames others : List (List ℕ))
         → IsDoneWith bytes frames → IsDoneWith bytes others → frames ≡ others }
 {}
 
 /// A segment completes the same frames each time, and leaves the same bytes unfinished.
-pub fn one_feed()
-    ensures { (before : List ℕ) (segment : Segment) (frames others : List (List ℕ)) (after rest : List ℕ)
-        → Feeds before segment frames after → Feeds before segment others rest → (frames ≡ others) × (after ≡ rest) }
+pub fn feed_has_one_answer()
+    ensures { (before : List ℕ) (segment : Segment)
+        (frames others : List (List ℕ)) (after rest : List ℕ)
+        → Feeds before segment frames after → Feeds before segment others rest
+        → (frames ≡ others) × (after ≡ rest) }
 {}
 
 /// A settled list joins to the same frames each time, and leaves the same bytes unfinished.
-pub fn one_joining()
-    ensures { (before : List ℕ) (settled : List (Option Segment)) (frames others : List (List ℕ)) (after rest : List ℕ)
-        → Joins before settled frames after → Joins before settled others rest → (frames ≡ others) × (after ≡ rest) }
+pub fn joining_has_one_answer()
+    ensures { (before : List ℕ) (settled : List (Option Segment))
+        (frames others : List (List ℕ)) (after rest : List ℕ)
+        → Joins before settled frames after → Joins before settled others rest
+        → (frames ≡ others) × (after ≡ rest) }
 {}
 
-/// Each segment of a lawful cut points to a place within its payload, where it points to one at all.
-pub fn cut_segments_are_ready()
-    ensures { (frames chunks : List (List ℕ)) (first fill i : ℕ) (segments : List Segment) (segment : Segment)
-        → IsLawfulCut frames first fill chunks segments → slice_get segments i ≡ Some segment → IsReady segment }
+/// Each segment of a lawful cut points to a place within its payload, where it points to one at
+/// all.
+pub fn segments_of_a_lawful_cut_are_ready()
+    ensures { (frames chunks : List (List ℕ)) (first fill i : ℕ)
+        (segments : List Segment) (segment : Segment)
+        → IsLawfulCut frames first fill chunks segments
+        → slice_get segments i ≡ Some segment → IsReady segment }
 {}
 
-/// A frame that lies wholly in the first n chunks has in its span exactly the chunks that end behind its
-/// first byte and begin before its end.
-pub fn span_by_places()
+/// A frame that lies wholly in the first n chunks has in its span exactly the chunks that end after
+/// its first byte and begin before its end.
+pub fn span_is_given_by_places()
     ensures { (frames chunks : List (List ℕ)) (j n i : ℕ)
-        → AllByRecursion IsFrame frames → j < length frames → place_of frames (j + 1) ≤ place_of chunks n
+        → AllByRecursion IsFrame frames → j < length frames
+        → place_of frames (j + 1) ≤ place_of chunks n
         → IsInSpan frames chunks j i
-        ↔ ((place_of chunks i < place_of frames (j + 1)) × (place_of frames j < place_of chunks (i + 1))) }
+        ↔ ((place_of chunks i < place_of frames (j + 1))
+        × (place_of frames j < place_of chunks (i + 1))) }
 {}
 
-/// What is unfinished after the segments of a cut: at most three zeros of fill where a frame ends, and within
-/// a frame its front, or nothing where a segment was lost since the frame began.
-pub fn what_is_unfinished()
+/// What is unfinished after the segments of a cut: at most three zeros of fill where a frame ends,
+/// and within a frame its front, or nothing where a segment was lost since the frame began.
+pub fn unfinished_bytes_are_fill_or_the_front_of_a_frame()
     ensures { (frames chunks : List (List ℕ)) (first fill : ℕ) (segments : List Segment)
         (settled : List (Option Segment)) (joined : List (List ℕ)) (after : List ℕ)
         → IsLawfulCut frames first fill chunks segments → IsSettledOf segments settled
@@ -71,9 +84,9 @@ pub fn what_is_unfinished()
         → IsLeftUnfinished frames chunks fill settled (length settled) after }
 {}
 
-/// The next segment of a cut completes exactly the frames whose last byte it carries and of whose span no
-/// earlier segment was lost.
-pub fn each_feed()
+/// The next segment of a cut completes exactly the frames whose last byte it carries and of whose
+/// span no earlier segment was lost.
+pub fn each_segment_completes_the_kept_frames_that_end_in_it()
     ensures { (frames chunks : List (List ℕ)) (first fill : ℕ) (segments : List Segment)
         (settled : List (Option Segment)) (joined : List (List ℕ)) (before after : List ℕ)
         (segment : Segment) (fed : List (List ℕ))
@@ -83,8 +96,9 @@ pub fn each_feed()
         → FiltersTo (IsCompletedBy frames chunks settled (length settled)) frames fed }
 {}
 
-/// Where no segment was lost, segment n of a cut completes exactly the frames whose last byte it carries.
-pub fn each_feed_without_loss()
+/// Where no segment was lost, segment n of a cut completes exactly the frames whose last byte it
+/// carries.
+pub fn each_segment_completes_the_frames_that_end_in_it()
     ensures { (frames chunks : List (List ℕ)) (first fill n : ℕ) (segments : List Segment)
         (joined : List (List ℕ)) (before after : List ℕ) (segment : Segment) (fed : List (List ℕ))
         → IsLawfulCut frames first fill chunks segments → slice_get segments n ≡ Some segment
@@ -92,9 +106,9 @@ pub fn each_feed_without_loss()
         → FiltersTo (λ j. EndsIn frames chunks j n) frames fed }
 {}
 
-/// The segments of a cut that were kept join to exactly the frames that end in what is settled and of whose
-/// span no segment was lost.
-pub fn frames_of_a_settled_list()
+/// The segments of a cut that were kept join to exactly the frames that end in what is settled and
+/// of whose span no segment was lost.
+pub fn settled_list_joins_to_the_frames_wholly_kept()
     ensures { (frames chunks : List (List ℕ)) (first fill : ℕ) (segments : List Segment)
         (settled : List (Option Segment)) (joined : List (List ℕ)) (after : List ℕ)
         → IsLawfulCut frames first fill chunks segments → IsSettledOf segments settled
@@ -102,8 +116,9 @@ pub fn frames_of_a_settled_list()
         → FiltersTo (IsWhollyKept frames chunks settled) frames joined }
 {}
 
-/// Where no segment of a cut was lost, they join to exactly the frames that lie wholly in its chunks.
-pub fn frames_of_a_whole_cut()
+/// Where no segment of a cut was lost, they join to exactly the frames that lie wholly in its
+/// chunks.
+pub fn whole_cut_joins_to_the_frames_within_it()
     ensures { (frames chunks : List (List ℕ)) (first fill : ℕ) (segments : List Segment)
         (joined : List (List ℕ)) (after : List ℕ)
         → IsLawfulCut frames first fill chunks segments → Joins [] (map Some segments) joined after
@@ -111,7 +126,8 @@ pub fn frames_of_a_whole_cut()
 {}
 
 /// The items at whose index a fact holds are these and no others.
-pub fn one_filter()
+pub fn filter_has_one_answer()
     ensures { (p : ℕ → Bool) (items chosen others : List (List ℕ))
-        → FiltersTo (λ j. p j ≡ true) items chosen → FiltersTo (λ j. p j ≡ true) items others → chosen ≡ others }
+        → FiltersTo (λ j. p j ≡ true) items chosen → FiltersTo (λ j. p j ≡ true) items others
+        → chosen ≡ others }
 {}

@@ -1,9 +1,10 @@
+//! Flows of a few segments, with what each completes, and the greatest sizes.
+ghost use Rattle.std.specs.Prelude.{IfOk};
 ghost use Rattle.docsis_wire.specs.Ready.{IsReady};
 
 use crate::{Fed, Joiner};
-use docsis_wire::{Bytes, Segment, read_segment, ready};
-use std::alloc::{AllocError, Global};
-use std::process::Abort;
+use docsis_wire::{Bytes, Segment, ready};
+use std::alloc::Global;
 use std::test::Fail;
 
 /// A frame of eight bytes without an extended header.
@@ -100,14 +101,6 @@ const JOININGS: [Joining; 6] = [
     },
 ];
 
-fn segment(rt: &impl Abort, alloc: Global, bytes: &[u8]) -> Result<Segment, AllocError> {
-    let head = read_segment(bytes).expect(rt, "eight bytes");
-    Ok(Segment {
-        head,
-        payload: Bytes::from(Vec::from_slice(alloc, &bytes[8..])?),
-    })
-}
-
 fn same_bytes(frames: &[Bytes], wanted: &[&[u8]]) -> bool {
     frames.len() == wanted.len()
         && frames
@@ -123,8 +116,7 @@ fn joins(rt: HostRuntime) -> Result<(), Fail> {
         let mut joiner = Joiner::new(rt.alloc());
         assert!(rt; joiner.is_idle(), "{name}");
         for (i, bytes) in joining.segments.iter().enumerate() {
-            let next = segment(&rt, rt.alloc(), bytes)?;
-            assert!(rt; ready(&next), "{name}");
+            let next = Segment::read(rt.alloc(), bytes)?;
             let fed = joiner.feed(rt.alloc(), &next)?;
             let frames = joining.frames.get(i).ok_or("no frames")?;
             assert!(rt;
@@ -142,38 +134,35 @@ fn joins(rt: HostRuntime) -> Result<(), Fail> {
     Ok(())
 }
 
-/// A segment with so many bytes of payload behind the given ones.
-fn long_segment(
-    rt: &impl Abort,
-    alloc: Global,
-    head: &[u8],
-    more: usize,
-) -> Result<Segment, AllocError> {
+/// A segment with so many more bytes of payload.
+fn long_segment(alloc: Global, head: &[u8], more: usize) -> Result<Segment, Fail>
+    ensures { IfOk result IsReady }
+{
     let mut bytes = Vec::from_slice(alloc, head)?;
     for _ in 0..more {
         bytes.push(0x11)?;
     }
-    segment(rt, alloc, &bytes)
+    Ok(Segment::read(alloc, &bytes)?)
 }
 
 #[test]
 fn joins_the_longest_frame(rt: HostRuntime) -> Result<(), Fail> {
     let alloc = rt.alloc();
     let mut joiner = Joiner::new(alloc);
-    // 65,541 bytes with an extended header of 240, in three segments, and a short frame behind them.
+    // 65,541 bytes with an extended header of 240, in three segments, and then a short frame.
     let first = long_segment(
-        &rt,
         alloc,
         &[0x80, 0, 0, 0, 0, 0, 0, 0, 1, 240, 0xff, 0xff],
         30_000,
     )?;
-    let second = long_segment(&rt, alloc, &[0, 0, 0, 8, 0, 0, 0, 0], 30_000)?;
+    let second = long_segment(alloc, &[0, 0, 0, 8, 0, 0, 0, 0], 30_000)?;
     let mut third = Vec::from_slice(alloc, &[0x80 | 0x15, 0xa1, 0, 0x10, 0, 0, 0, 0])?;
     for _ in 0..5537 {
         third.push(0x22)?;
     }
     third.extend_from_slice(PLAIN)?;
-    for (next, wanted) in [(first, 0), (second, 0), (segment(&rt, alloc, &third)?, 2)] {
+    let third = Segment::read(alloc, &third)?;
+    for (next, wanted) in [(first, 0), (second, 0), (third, 2)] {
         assert!(rt; ready(&next));
         let fed = joiner.feed(alloc, &next)?;
         assert_eq!(rt; fed.frames.len(), wanted);
@@ -188,6 +177,30 @@ fn joins_the_longest_frame(rt: HostRuntime) -> Result<(), Fail> {
     Ok(())
 }
 
+/// The longest frame whole in one segment, and the longest payload that a grant has room for.
+#[test]
+fn joins_a_long_frame_of_one_segment(rt: HostRuntime) -> Result<(), Fail> {
+    let alloc = rt.alloc();
+    for (length, size) in [(0xffff_u16, 65_541), (0xfff1, 65_527)] {
+        let [high, low] = length.to_be_bytes();
+        let head = [0x80, 0, 0, 0, 0, 0, 0, 0, 0, 0, high, low];
+        let next = long_segment(alloc, &head, usize::from(length) + 2)?;
+        assert_eq!(rt; next.payload.len(), size);
+        let mut joiner = Joiner::new(alloc);
+        let fed = joiner.feed(alloc, &next)?;
+        assert_eq!(rt; fed.frames.len(), 1, "{size}");
+        assert!(rt;
+            fed.frames
+                .iter()
+                .all(|frame| frame.as_slice() == next.payload.as_slice()),
+            "{size}"
+        );
+        assert_eq!(rt; fed.skipped, 0, "{size}");
+        assert!(rt; joiner.is_idle(), "{size}");
+    }
+    Ok(())
+}
+
 #[test]
 fn joins_many_frames_of_one_segment(rt: HostRuntime) -> Result<(), Fail> {
     let alloc = rt.alloc();
@@ -195,8 +208,7 @@ fn joins_many_frames_of_one_segment(rt: HostRuntime) -> Result<(), Fail> {
     for _ in 0..1000 {
         bytes.extend_from_slice(PLAIN)?;
     }
-    let next = segment(&rt, alloc, &bytes)?;
-    assert!(rt; ready(&next));
+    let next = Segment::read(alloc, &bytes)?;
     let fed = Joiner::new(alloc).feed(alloc, &next)?;
     assert_eq!(rt; fed.frames.len(), 1000);
     assert!(rt; fed.frames.iter().all(|frame| frame.as_slice() == PLAIN));
@@ -210,10 +222,10 @@ fn keeps_what_a_low_pointer_begins(rt: HostRuntime) -> Result<(), Fail> {
     let mut joiner = Joiner::new(alloc);
     let low = [0x80, 2, 0, 8, 0, 0, 0, 0, 0x11, 0xaa, 0xbb, 1, 1, 0, 3];
     // The five bytes that stay, bb01010003, announce a frame of 262 bytes.
-    let rest = long_segment(&rt, alloc, &[0, 0, 0, 0x10, 0, 0, 0, 0], 257)?;
+    let rest = long_segment(alloc, &[0, 0, 0, 0x10, 0, 0, 0, 0], 257)?;
     for (next, wanted) in [
-        (segment(&rt, alloc, FIRST)?, 0),
-        (segment(&rt, alloc, &low)?, 0),
+        (Segment::read(alloc, FIRST)?, 0),
+        (Segment::read(alloc, &low)?, 0),
         (rest, 1),
     ] {
         assert!(rt; ready(&next));
@@ -230,17 +242,15 @@ fn keeps_what_a_low_pointer_begins(rt: HostRuntime) -> Result<(), Fail> {
 mod refusals {
     use super::*;
 
-    /// Makes a segment, and once more where the first call was refused memory.
-    fn segment_again(
-        rt: &(impl Print + Abort),
-        alloc: Global,
-        bytes: &[u8],
-    ) -> Result<Segment, Fail> {
-        if let Ok(first) = segment(rt, alloc, bytes) {
+    /// Reads a segment, and once more where the first call was refused memory.
+    fn segment_again(rt: &impl Print, alloc: Global, bytes: &[u8]) -> Result<Segment, Fail>
+        ensures { IfOk result IsReady }
+    {
+        if let Ok(first) = Segment::read(alloc, bytes) {
             return Ok(first);
         }
         println!(rt; "refused")?;
-        Ok(segment(rt, alloc, bytes)?)
+        Ok(Segment::read(alloc, bytes)?)
     }
 
     /// Feeds a segment, and once more where the first call was refused memory.
@@ -264,7 +274,6 @@ mod refusals {
         let mut joiner = Joiner::new(rt.alloc());
         for (i, bytes) in [FIRST, SECOND, THIRD].iter().enumerate() {
             let next = segment_again(&rt, rt.alloc(), bytes)?;
-            assert!(rt; ready(&next));
             let fed = feed_twice(&rt, rt.alloc(), &mut joiner, &next)?;
             let wanted: [&[&[u8]]; 3] = [&[], &[PLAIN], &[EXTENDED]];
             assert!(rt; same_bytes(&fed.frames, wanted[i]), "segment {i}: {fed:?}");

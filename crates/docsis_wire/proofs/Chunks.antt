@@ -40,7 +40,7 @@ pub place_of-chunk : (stream : List ℕ) (pieces : List Piece) (k : ℕ) (piece 
     → place_of (chunks_from stream pieces) (k + 1) ≡ min (place_of (chunks_from stream pieces) k + piece.bytes) (length stream)
 place_of-chunk stream pieces k piece e = ap (place_of (chunks_from stream pieces)) (add-one k) ∙ place_of-chunk-suc stream pieces k piece e
 
--- the chunk of a piece is the next bytes of the stream behind the chunks before
+-- the chunk of a piece is the next bytes of the stream after the chunks before
 pub chunks_from-at : (stream : List ℕ) (pieces : List Piece) (k : ℕ) (piece : Piece) → slice_get pieces k ≡ Some piece
     → slice_get (chunks_from stream pieces) k ≡ Some (take piece.bytes (drop (place_of (chunks_from stream pieces) k) stream))
 chunks_from-at stream [] k piece e = absurd cc

@@ -46,10 +46,10 @@ pub place_at-le : (frames : List (List ℕ)) (at : Cursor) → IsPlaced frames a
 place_at-le frames at placed =
     elim (slice_get_cases frames at.frame).1 [
       | inl h ↦ omega (arith, placed.before h.0 h.2, place_of-next frames at.frame h.0 h.2, place_of-le_all frames (at.frame + 1))
-      | inr h ↦ omega (arith, placed.behind (omega (arith, placed.within, h.0)), place_of-le_all frames at.frame)
+      | inr h ↦ omega (arith, placed.at_end (omega (arith, placed.within, h.0)), place_of-le_all frames at.frame)
     ]
 
--- a chunk is its front and what comes behind that
+-- a chunk is its front and what comes after that
 chunk_at-split : (frames : List (List ℕ)) (at to : Cursor) (n left : ℕ) → n ≤ left → place_at frames to ≡ place_at frames at + n
     → chunk_at frames at left ≡ chunk_at frames at n ++ chunk_at frames to (left - n)
 chunk_at-split frames at to n left within moved =
@@ -58,7 +58,7 @@ chunk_at-split frames at to n left within moved =
     ap (λ m. take m rest) (sym whole) ∙ take-split rest n (left - n)
     ∙ ap (λ t. take n rest ++ take (left - n) t) (drop-drop n (place_at frames at) (concat frames) ∙ ap (λ p. drop p (concat frames)) (sym moved))
 
--- bytes that are put behind others are taken off what has to come
+-- bytes that are appended to others are taken off what has to come
 pub copied_further : (frames : List (List ℕ)) (at to : Cursor) (n left : ℕ) (payload after part all : List ℕ) → n ≤ left → place_at frames to ≡ place_at frames at + n
     → after ≡ payload ++ part → part ≡ chunk_at frames at n → payload ++ chunk_at frames at left ≡ all → after ++ chunk_at frames to (left - n) ≡ all
 copied_further frames at to n left payload after part all within moved after_is part_is whole =

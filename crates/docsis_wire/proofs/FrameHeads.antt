@@ -32,7 +32,7 @@ head_of_fields-lawful fc parm len ehdr e small within control some =
 pub length-frame : (frame : List ℕ) (h : IsFrame frame) → length frame ≡ 6 + h.len
 length-frame frame h = ap length h.spelled ∙ simp length-append (omega (arith, h.len_is, h.hcs_is))
 
--- whatever stands behind a frame, its head is read, and its length with it
+-- whatever stands after a frame, its head is read, and its length with it
 pub head_of-frame : (frame more : List ℕ) → IsFrame frame → IsHeadOf frame (head_of (frame ++ more))
 head_of-frame frame more h =
     let front = head_of_fields-lawful h.fc h.parm h.len (length h.ehdr) (extended_len-is h.fc h.parm h.ehdr h.ehdr_is) (extended_le h.fc h.parm h.ehdr h.ehdr_is) (omega (arith, h.len_is)) h.fc_is h.not_fill in

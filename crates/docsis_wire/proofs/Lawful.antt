@@ -1,4 +1,4 @@
--- When a piece makes a lawful segment, seen from the cursors before and behind its chunk.
+-- When a piece makes a lawful segment, seen from the cursors before and after its chunk.
 use Rattle.std.proofs.Common.{◌≡◌, ℕ, ◌+◌, ◌<◌, ◌≤◌, inl, inr, true, Option, Some, None, is_some, unwrap_or, List, length, take, drop, slice_get, min, sym, ap, ◌∙◌, subst, ⊎_elim, arith}
 use Rattle.std.specs.List.{concat}
 use Rattle.std.proofs.lemmas.Bool.{cases_lt}
@@ -16,7 +16,7 @@ use Rattle.docsis_wire.proofs.Chunks.{place_of-chunk, chunks_from-at, length-chu
 IsBoundary-at : (frames : List (List ℕ)) (at : Cursor) → IsPlaced frames at → at.offset ≡ 0 → IsBoundary frames (place_at frames at)
 IsBoundary-at frames at placed none = (at.frame, placed.within, omega (arith, none))
 
--- behind the first byte of a frame no frame ends until it does
+-- after the first byte of a frame no frame ends until it does
 no_boundary_inside : (frames : List (List ℕ)) (at : Cursor) → IsPlaced frames at → 0 < at.offset → ¬ IsBoundary frames (place_at frames at)
 no_boundary_inside frames at placed some = λ h.
     elim (slice_get_cases frames at.frame).1 [
@@ -24,7 +24,7 @@ no_boundary_inside frames at placed some = λ h.
         | inl later ↦ omega (arith, h.2, placed.before f.0 f.2, place_of-next frames at.frame f.0 f.2, place_of-le frames (at.frame + 1) h.0 (omega (arith, later)))
         | inr early ↦ omega (arith, h.2, some, place_of-le frames h.0 at.frame early)
       ]
-      | inr past ↦ omega (arith, some, placed.behind (omega (arith, placed.within, past.0)))
+      | inr past ↦ omega (arith, some, placed.at_end (omega (arith, placed.within, past.0)))
     ]
 
 -- The cursor moved over the chunk of piece k.
@@ -56,7 +56,7 @@ chunk_is_at frames pieces k piece at bytes piece_is bytes_are place =
     chunks_from-at (concat frames) pieces k piece piece_is ∙ ap (λ n. Some (take n (drop (place_of (chunks_of frames pieces) k) (concat frames)))) (sym bytes_are)
     ∙ ap (λ n. Some (take bytes (drop n (concat frames)))) (sym place)
 
--- fill behind a cursor inside a frame is unlawful
+-- fill after a cursor inside a frame is unlawful
 pub FillsInsideFrame-at : (frames : List (List ℕ)) (pieces : List Piece) (k : ℕ) (piece : Piece) (at to : Cursor) → MovesOver frames pieces k piece at to
     → 0 < piece.fill → 0 < to.offset → FillsInsideFrame frames pieces k
 FillsInsideFrame-at frames pieces k piece at to over fills inside = record {
@@ -74,7 +74,7 @@ fill_is_lawful frames pieces k piece at to over ends = λ h.
     let fills : 0 < piece.fill = (let P : Piece → Type 0 = λ p. 0 < p.fill in subst P (sym same) h.fills) in
     h.inside (let P : ℕ → Type 0 = IsBoundary frames in subst P over.moved (IsBoundary-at frames to over.placed (ends fills)))
 
--- a frame that starts too far behind the cursor is unlawful
+-- a frame that starts too far after the cursor is unlawful
 pub PointsTooFar-at : (frames : List (List ℕ)) (pieces : List Piece) (k : ℕ) (piece : Piece) (at to : Cursor) (bytes : ℕ) (start : Option ℕ) → MovesOver frames pieces k piece at to
     → bytes ≡ piece.bytes → PointsAt frames at bytes start → 16383 < unwrap_or start 0 → PointsTooFar frames pieces k
 PointsTooFar-at frames pieces k piece at to bytes None over bytes_are points far = absurd (omega (arith, far))
@@ -122,7 +122,7 @@ lawful_past frames pieces n all before i = λ h.
     (λ (f : FillsInsideFrame frames pieces i). omega (arith, all, slice_get_within pieces i f.piece f.piece_is))
     (λ (f : PointsTooFar frames pieces i). omega (arith, all, slice_get_within (chunks_of frames pieces) i f.chunk f.chunk_is, length-chunks_from (concat frames) pieces)) h) h
 
--- where a piece is lawful, its chunk ends at a boundary if there is fill behind it
+-- where a piece is lawful, its chunk ends at a boundary if there is fill after it
 pub IsBoundary-from_lawful : (frames : List (List ℕ)) (pieces : List Piece) (k : ℕ) (piece : Piece) (at to : Cursor) → MovesOver frames pieces k piece at to → ¬ IsUnlawful frames pieces k
     → 0 < piece.fill → IsBoundary frames (place_of (chunks_of frames pieces) (k + 1))
 IsBoundary-from_lawful frames pieces k piece at to over lawful fills =

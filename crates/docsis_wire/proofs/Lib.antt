@@ -13,3 +13,4 @@ pub mod NoFault
 pub mod Spans
 pub mod Pointing
 pub mod Stretches
+pub mod SegmentReads

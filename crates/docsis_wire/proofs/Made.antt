@@ -11,7 +11,7 @@ use Rattle.docsis_wire.specs.Stream.{place_of, IsBoundary}
 use Rattle.docsis_wire.specs.Cut.{Points, IsCutSegment, IsFillByte, IsLawfulCut}
 use Rattle.docsis_wire.specs.Cursor.{place_at, chunk_at}
 use Rattle.docsis_wire.specs.Pieces.{fill_byte, chunks_of, IsPieceSegment, ArePieceSegments, IsCuttable}
-use Rattle.docsis_wire.specs.Cutter.{IsMade, AreMade}
+use Rattle.docsis_wire.specs.CutUnderWay.{IsMade, AreMade}
 use Rattle.docsis_wire.proofs.Places.{place_of-next}
 use Rattle.docsis_wire.proofs.Chunks.{length-chunks_from, chunks_from-front}
 use Rattle.docsis_wire.proofs.Lawful.{MovesOver, chunk_is_at, IsBoundary-from_lawful}

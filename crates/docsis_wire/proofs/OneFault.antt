@@ -7,7 +7,7 @@ use Rattle.docsis_wire.specs.declared.pieces.Piece.{Piece}
 use Rattle.docsis_wire.specs.declared.pieces.CutFault.{CutFault}
 use Rattle.docsis_wire.specs.declared.pieces.CutFault.TheVariants.{BadFrame, FillInsideFrame, PointerTooFar, OutOfMemory}
 use Rattle.docsis_wire.specs.Frame.{IsFrame}
-use Rattle.docsis_wire.specs.Pieces.{FillsInsideFrame, IsUnlawful, IsFirstBadFrame, IsFirstFillInsideFrame, IsFirstPointerTooFar, IsCuttable, Tells}
+use Rattle.docsis_wire.specs.Pieces.{FillsInsideFrame, IsUnlawful, IsFirstBadFrame, IsFirstFillInsideFrame, IsFirstPointerTooFar, IsCuttable, Reports}
 use Rattle.docsis_wire.proofs.Stretches.{AllByRecursion-at}
 
 -- the first of some indexes is one
@@ -43,8 +43,8 @@ fill_first frames pieces k i h g =
     let P : ℕ → Type 0 = λ n. ¬ FillsInsideFrame frames pieces n in
     subst P (sym same) g.fill_lawful h.here
 
--- frames and pieces are told one thing
-pub one_fault : (frames : List (List ℕ)) (pieces : List Piece) (e d : CutFault) → Tells frames pieces e → Tells frames pieces d → e ≡ d
+-- of frames and pieces one thing is reported
+pub one_fault : (frames : List (List ℕ)) (pieces : List Piece) (e d : CutFault) → Reports frames pieces e → Reports frames pieces d → e ≡ d
 one_fault frames pieces (BadFrame k) (BadFrame i) h g = ap BadFrame (one_bad frames k i h g)
 one_fault frames pieces (BadFrame k) (FillInsideFrame i) h g = absurd (none_bad frames k g.each h)
 one_fault frames pieces (BadFrame k) (PointerTooFar i) h g = absurd (none_bad frames k g.each h)
@@ -62,38 +62,38 @@ one_fault frames pieces OutOfMemory (FillInsideFrame i) h g = absurd (h.lawful i
 one_fault frames pieces OutOfMemory (PointerTooFar i) h g = absurd (h.lawful i (inr g.here))
 one_fault frames pieces OutOfMemory OutOfMemory h g = refl
 
--- what an answer tells: that frames and pieces can be cut, or a fault
+-- what an answer reports: that frames and pieces can be cut, or a fault
 pub record Answers {T : Type 0} (frames : List (List ℕ)) (pieces : List Piece) (result : Result T CutFault) : Type 0 where
   pub ok : OnOk result (IsCuttable frames pieces)
-  pub err : IfErr result (Tells frames pieces)
+  pub err : IfErr result (Reports frames pieces)
 
--- an answer that tells rightly tells each fault just where it is
-pub told_exactly : {T : Type 0} (frames : List (List ℕ)) (pieces : List Piece) (result : Result T CutFault) (e : CutFault) → Answers frames pieces result → (e ≡ OutOfMemory → ⊥)
-    → (result ≡ Err e) ↔ Tells frames pieces e
-told_exactly frames pieces (Ok x) e answers other = (λ is. absurd cc, λ tells. absurd (other (one_fault frames pieces e OutOfMemory tells answers.ok)))
-told_exactly frames pieces (Err d) e answers other = (
-  λ is. let same : d ≡ e = cc in let P : CutFault → Type 0 = Tells frames pieces in subst P same answers.err,
-  λ tells. ap Err (one_fault frames pieces d e answers.err tells),
+-- an answer that reports rightly reports each fault exactly where it is
+pub reported_exactly : {T : Type 0} (frames : List (List ℕ)) (pieces : List Piece) (result : Result T CutFault) (e : CutFault) → Answers frames pieces result → (e ≡ OutOfMemory → ⊥)
+    → (result ≡ Err e) ↔ Reports frames pieces e
+reported_exactly frames pieces (Ok x) e answers other = (λ is. absurd cc, λ reports. absurd (other (one_fault frames pieces e OutOfMemory reports answers.ok)))
+reported_exactly frames pieces (Err d) e answers other = (
+  λ is. let same : d ≡ e = cc in let P : CutFault → Type 0 = Reports frames pieces in subst P same answers.err,
+  λ reports. ap Err (one_fault frames pieces d e answers.err reports),
 )
 
--- and it is no fault, or want of memory, just where they can be cut
+-- and it is no fault, or out of memory, just where they can be cut
 pub cuttable_exactly : {T : Type 0} (frames : List (List ℕ)) (pieces : List Piece) (result : Result T CutFault) → Answers frames pieces result
     → (IsOk result ⊎ (result ≡ Err OutOfMemory)) ↔ IsCuttable frames pieces
 cuttable_exactly frames pieces (Ok x) answers = (λ _. answers.ok, λ _. inl refl)
 cuttable_exactly frames pieces (Err d) answers = (
   λ is. elim is [
     | inl ok ↦ absurd (false≢true ok)
-    | inr full ↦ let same : d ≡ OutOfMemory = cc in let P : CutFault → Type 0 = Tells frames pieces in subst P same answers.err
+    | inr full ↦ let same : d ≡ OutOfMemory = cc in let P : CutFault → Type 0 = Reports frames pieces in subst P same answers.err
   ],
   λ cuttable. inr (ap Err (one_fault frames pieces d OutOfMemory answers.err cuttable)),
 )
 
--- an answer that is this fault tells it
-pub Answers-fault : {T : Type 0} (frames : List (List ℕ)) (pieces : List Piece) (result : Result T CutFault) (e : CutFault) → result ≡ Err e → Tells frames pieces e → Answers frames pieces result
-Answers-fault frames pieces (Ok x) e is tells = absurd cc
-Answers-fault frames pieces (Err d) e is tells = let same : d ≡ e = cc in let P : CutFault → Type 0 = Tells frames pieces in record { ok = tt; err = subst P (sym same) tells }
+-- an answer that is this fault reports it
+pub Answers-fault : {T : Type 0} (frames : List (List ℕ)) (pieces : List Piece) (result : Result T CutFault) (e : CutFault) → result ≡ Err e → Reports frames pieces e → Answers frames pieces result
+Answers-fault frames pieces (Ok x) e is reports = absurd cc
+Answers-fault frames pieces (Err d) e is reports = let same : d ≡ e = cc in let P : CutFault → Type 0 = Reports frames pieces in record { ok = tt; err = subst P (sym same) reports }
 
--- an answer that is what was made, or want of memory, tells that they can be cut
+-- an answer that is what was made, or out of memory, reports that they can be cut
 pub Answers-made : {T E : Type 0} (frames : List (List ℕ)) (pieces : List Piece) (made : Result T E) (result : Result T CutFault) → result ≡ result_or made (Err OutOfMemory) → IsCuttable frames pieces
     → Answers frames pieces result
 Answers-made {T} frames pieces (Ok x) result is cuttable =

@@ -42,17 +42,17 @@ element_at [] i h = absurd (omega arith)
 element_at (x ∷ xs) zero h = (x, refl)
 element_at (x ∷ xs) (suc i) h = element_at xs i (omega arith)
 
--- the piece that stands behind these
+-- the piece that stands after these
 pub slice_get-at : {X : Type 0} (before : List X) (x : X) (behind : List X) → slice_get (before ++ x ∷ behind) (length before) ≡ Some x
 slice_get-at [] x behind = refl
 slice_get-at (b ∷ bs) x behind = slice_get-at bs x behind
 
--- what stands behind these pieces begins at their end
+-- what stands after these pieces begins at their end
 pub place_of-behind : (pieces before behind : List (List ℕ)) → pieces ≡ before ++ behind → place_of pieces (length before) ≡ length (concat before)
 place_of-behind pieces before behind e =
     ap (λ t. place_of t (length before)) e ∙ ap (λ t. length (concat t)) (take_at before behind (length before) refl)
 
--- the piece behind these ends its length further on
+-- the piece after these ends its length further on
 pub place_of-behind_one : (pieces before : List (List ℕ)) (piece : List ℕ) (behind : List (List ℕ)) → pieces ≡ before ++ piece ∷ behind
     → place_of pieces (length before + 1) ≡ place_of pieces (length before) + length piece
 place_of-behind_one pieces before piece behind e =
@@ -62,7 +62,7 @@ place_of-behind_one pieces before piece behind e =
 pub some_bytes : (frame : List ℕ) → IsFrame frame → 0 < length frame
 some_bytes frame h = omega (arith, length-frame frame h)
 
--- a frame ends behind its beginning
+-- a frame ends after its beginning
 place_of-lt_suc : (frames : List (List ℕ)) (j : ℕ) → AllByRecursion IsFrame frames → j < length frames → place_of frames j < place_of frames (suc j)
 place_of-lt_suc [] j each h = absurd (omega arith)
 place_of-lt_suc (f ∷ fs) zero each h = omega (arith, some_bytes f each.0, length-append f [])

@@ -8,7 +8,7 @@ use Rattle.docsis_wire.specs.Stream.{place_of}
 use Rattle.docsis_wire.specs.Cut.{Points, IsLawfulCut}
 use Rattle.docsis_wire.proofs.Places.{element_at}
 
--- with PFI the pointer tells a place within the chunk
+-- with PFI the pointer names a place within the chunk
 Points-within : (pfi : Bool) (pointer : ℕ) (frames : List (List ℕ)) (place : ℕ) (chunk : List ℕ) → Points pfi pointer frames place chunk → pfi ≡ true → pointer < length chunk
 Points-within true pointer frames place chunk h e = h.0.0
 Points-within false pointer frames place chunk h e = absurd cc

@@ -26,7 +26,7 @@ starts_before frames i j each within less =
       | inr h ↦ absurd (omega (arith, h.0))
     ]
 
--- The frame that starts next at or behind a place: it starts so many bytes on, and each that starts there or later is no earlier one.
+-- The frame that starts next at or after a place: it starts so many bytes on, and each that starts there or later is no earlier one.
 pub record StartsNext (frames : List (List ℕ)) (place starting before : ℕ) : Type 0 where
   pub place_is : place_of frames starting ≡ place + before
   pub first : (i : ℕ) → i < length frames → place ≤ place_of frames i → starting ≤ i
@@ -42,7 +42,7 @@ StartsNext-here frames at starting before each none starting_is before_is = reco
   ];
 }
 
--- behind it the next frame does
+-- after it the next frame does
 pub StartsNext-behind : (frames : List (List ℕ)) (at : Cursor) (frame : List ℕ) (starting before : ℕ) → slice_get frames at.frame ≡ Some frame → at.offset ≤ length frame
     → 0 < at.offset → starting ≡ at.frame + 1 → before ≡ length frame - at.offset → StartsNext frames (place_at frames at) starting before
 StartsNext-behind frames at frame starting before e within some starting_is before_is = record {
@@ -64,7 +64,7 @@ Points-at frames at bytes starting before each next within less =
           omega (arith, next.place_is, place_of-le frames starting h.1.0 later, h.1.2),
     )
 
--- no frame starts in the chunk where the next one starts behind it, or there is none
+-- no frame starts in the chunk where the next one starts after it, or there is none
 Points-none : (frames : List (List ℕ)) (at : Cursor) (bytes starting before pointer : ℕ) → StartsNext frames (place_at frames at) starting before
     → (starting < length frames → before < bytes → ⊥) → Points false pointer frames (place_at frames at) (chunk_at frames at bytes)
 Points-none frames at bytes starting before pointer next none = λ p h.

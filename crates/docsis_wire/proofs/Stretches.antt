@@ -1,4 +1,4 @@
--- Stretches of byte strings that stand end to end: what stands before a place and behind it.
+-- Stretches of byte strings that stand end to end: what stands before a place and after it.
 use Rattle.std.proofs.Common.{◌≡◌, ℕ, suc, zero, ◌+◌, ◌≤◌, Some, List, [], ◌∷◌, ◌++◌, length, take, drop, slice_get, refl, sym, ap, ◌∙◌, subst, arith}
 use Rattle.std.specs.List.{concat, AllByRecursion}
 use Rattle.std.proofs.lemmas.List.{length-append, take-append-drop, take_all, drop_at, drop-drop, drop-append-le, drop-take, take-take, take-append-le, take_min, length-take}
@@ -17,7 +17,7 @@ drop-from [] k x e = absurd cc
 drop-from (y ∷ ys) zero x e = let same : y ≡ x = cc in ap (λ t. t ∷ ys) same
 drop-from (y ∷ ys) (suc k) x e = drop-from ys k x e
 
--- the places behind a string are those of the others, further on by its length
+-- the places after a string are those of the others, further on by its length
 pub place_of-cons : (x : List ℕ) (xs : List (List ℕ)) (k : ℕ) → place_of (x ∷ xs) (suc k) ≡ length x + place_of xs k
 place_of-cons x xs k = length-append x (concat (take k xs))
 
@@ -29,11 +29,11 @@ concat-split xs k = ap concat (sym (take-append-drop k xs)) ∙ concat-append (t
 pub place_of-le_all : (xs : List (List ℕ)) (k : ℕ) → place_of xs k ≤ length (concat xs)
 place_of-le_all xs k = omega (arith, ap length (concat-split xs k), length-append (concat (take k xs)) (concat (drop k xs)))
 
--- behind the last string is the end of the whole
+-- after the last string is the end of the whole
 pub place_of-all : (xs : List (List ℕ)) (k : ℕ) → length xs ≤ k → place_of xs k ≡ length (concat xs)
 place_of-all xs k h = ap (λ t. length (concat t)) (take_all k xs h)
 
--- what stands behind a place of the k-th string
+-- what stands after a place of the k-th string
 pub behind_place : (xs : List (List ℕ)) (k n : ℕ) (x : List ℕ) → slice_get xs k ≡ Some x → n ≤ length x
     → drop (place_of xs k + n) (concat xs) ≡ drop n x ++ concat (drop (suc k) xs)
 behind_place xs k n x e within =
@@ -47,7 +47,7 @@ front_of-append stream front more n e =
     sym (ap (take (length (take n front))) e ∙ take-append-le (length (take n front)) front more (omega (arith, length-take n front))
     ∙ ap (λ m. take m front) (length-take n front) ∙ take_min n front)
 
--- a front is its own front and what comes behind that
+-- a front is its own front and what comes after that
 pub take-split : (s : List ℕ) (n m : ℕ) → take (n + m) s ≡ take n s ++ take m (drop n s)
 take-split s n m =
     sym (take-append-drop n (take (n + m) s)) ∙ ap (λ t. t ++ drop n (take (n + m) s)) (take-take n (n + m) s (omega arith)) ∙ ap (λ t. take n s ++ t) (drop-take n m s)

@@ -1,6 +1,7 @@
 use Rattle.std.specs.Prelude.{◌≡◌, ℕ, ◌+◌, ◌%◌, ◌<◌, ◌≤◌, ◌⊎◌, Bool, true, false, Some, List, ◌++◌, length, replicate, slice_get}
 use Rattle.std.specs.List.{concat, AllByRecursion}
 use Rattle.docsis_wire.specs.declared.segment.Segment.{Segment}
+use Rattle.docsis_wire.specs.Limits.{sequence_modulus}
 use Rattle.docsis_wire.specs.Frame.{IsFrame}
 use Rattle.docsis_wire.specs.Stream.{place_of, StartsAt, IsBoundary}
 
@@ -21,7 +22,7 @@ pub record IsCutSegment (frames : List (List ℕ)) (first fill index place : ℕ
   pub payload : segment.payload ≡ chunk ++ replicate fill_len fill
   pub filled : 0 < fill_len → IsBoundary frames (place + length chunk)
   pub points : Points segment.head.pfi segment.head.pointer frames place chunk
-  pub number : segment.head.sequence ≡ (first + index) % 8192
+  pub number : segment.head.sequence ≡ (first + index) % sequence_modulus
 
 -- the bytes that a flow may be filled with
 abbrev pub IsFillByte : ℕ → Type 0

@@ -1,11 +1,12 @@
 use Rattle.std.specs.Prelude.{◌≡◌, ◌≢◌, ℕ, ◌+◌, ◌%◌, ◌≤◌, ◌⊎◌, List, [], ◌∷◌, ◌++◌, length}
+use Rattle.docsis_wire.specs.Limits.{extended_max}
 use Rattle.docsis_wire.specs.Words.{two_bytes}
 
--- Whether there is an extended header is FC's last bit, EHDR_ON. With it MAC_PARM is the extended header's length, which is at most 240
--- by this project's profile. Without it there is none.
+-- Whether there is an extended header is FC's last bit, EHDR_ON. With it MAC_PARM is the extended header's length, which is at most
+-- `extended_max` by this project's profile. Without it there is none.
 abbrev pub IsExtendedHeader : ℕ → ℕ → List ℕ → Type 0
 IsExtendedHeader fc parm ehdr =
-    ((fc % 2 ≡ 1) × (parm ≡ length ehdr) × (length ehdr ≤ 240)) ⊎ ((fc % 2 ≡ 0) × (ehdr ≡ []))
+    ((fc % 2 ≡ 1) × (parm ≡ length ehdr) × (length ehdr ≤ extended_max)) ⊎ ((fc % 2 ≡ 0) × (ehdr ≡ []))
 
 -- FC values that begin no frame by this project's profile: request frames, and a byte of fill
 pub record IsFrameControl (fc : ℕ) : Type 0 where

@@ -1,4 +1,5 @@
 use Rattle.std.specs.Prelude.{◌≡◌, ◌≢◌, ◌<◌, Some, slice_get, ℕ, ◌+◌, ◌*◌, ◌%◌, List, [], ◌∷◌, length, Bool, ◌==◌, ◌&&◌, ◌||◌, nat_lt, if◌then◌else◌}
+use Rattle.docsis_wire.specs.Limits.{extended_max}
 use Rattle.docsis_wire.specs.declared.frame.HeadRead.{HeadRead}
 use Rattle.docsis_wire.specs.declared.frame.HeadRead.TheVariants.{Short, Fill, Bad, Head}
 use Rattle.docsis_wire.specs.declared.frame.HeadFault.TheVariants.{NoLength, ExtendedTooLong}
@@ -16,7 +17,7 @@ abbrev pub head_of_fields : ℕ → ℕ → ℕ → HeadRead
 head_of_fields fc parm len =
     if fc == 0 && parm == 0 && len == 0 then Fill
     else (if has_no_length fc then Bad NoLength
-    else (if nat_lt 240 (extended_len fc parm) || nat_lt len (extended_len fc parm) then Bad ExtendedTooLong
+    else (if nat_lt extended_max (extended_len fc parm) || nat_lt len (extended_len fc parm) then Bad ExtendedTooLong
     else Head (extended_len fc parm) (6 + len)))
 
 -- what the front of some bytes announces: the table of the generic MAC header, read from its first line on
@@ -31,6 +32,6 @@ head_of (fc ∷ parm ∷ high ∷ low ∷ more) = if fc == 255 then Fill else he
 abbrev pub IsHeadOf : List ℕ → HeadRead → Type 0
 IsHeadOf frame read = (ehdr : ℕ) × (read ≡ Head ehdr (length frame))
 
--- too few bytes to tell anything: fewer than four, of which the first, if there is one, is not 0xFF
+-- too few bytes to say anything: fewer than four, of which the first, if there is one, is not 0xFF
 abbrev pub IsShort : List ℕ → Type 0
 IsShort bytes = (length bytes < 4) × (slice_get bytes 0 ≢ Some 255)

@@ -1,6 +1,8 @@
+pub mod Limits
 pub mod Words
 pub mod Header
 pub mod Ready
+pub mod SegmentBytes
 pub mod Frame
 pub mod Head
 pub mod Stream
@@ -8,4 +10,4 @@ pub mod Cut
 pub mod Span
 pub mod Cursor
 pub mod Pieces
-pub mod Cutter
+pub mod CutUnderWay

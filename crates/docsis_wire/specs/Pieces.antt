@@ -1,4 +1,4 @@
-use Rattle.std.specs.Prelude.{◌≡◌, ℕ, ◌+◌, ◌<◌, ◌⊎◌, true, false, Some, List, [], ◌∷◌, ◌++◌, take, drop, replicate, slice_get}
+use Rattle.std.specs.Prelude.{◌≡◌, ℕ, ◌+◌, ◌<◌, ◌≤◌, ◌⊎◌, true, false, Some, List, [], ◌∷◌, ◌++◌, take, drop, replicate, slice_get}
 use Rattle.std.specs.List.{concat, AllByRecursion}
 use Rattle.docsis_wire.specs.declared.pieces.FillByte.{FillByte}
 use Rattle.docsis_wire.specs.declared.pieces.FillByte.TheVariants.{Zero, Ones}
@@ -6,6 +6,7 @@ use Rattle.docsis_wire.specs.declared.pieces.Piece.{Piece}
 use Rattle.docsis_wire.specs.declared.pieces.CutFault.{CutFault}
 use Rattle.docsis_wire.specs.declared.pieces.CutFault.TheVariants.{BadFrame, FillInsideFrame, PointerTooFar, OutOfMemory}
 use Rattle.docsis_wire.specs.declared.segment.Segment.{Segment}
+use Rattle.docsis_wire.specs.Limits.{pointer_limit}
 use Rattle.docsis_wire.specs.Frame.{IsFrame}
 use Rattle.docsis_wire.specs.Stream.{place_of, IsBoundary}
 use Rattle.docsis_wire.specs.Cut.{Points}
@@ -60,7 +61,7 @@ pub record PointsTooFar (frames : List (List ℕ)) (pieces : List Piece) (k : �
   pub chunk_is : slice_get (chunks_of frames pieces) k ≡ Some chunk
   pub pointer : ℕ
   pub points : Points true pointer frames (place_of (chunks_of frames pieces) k) chunk
-  pub far : 16383 < pointer
+  pub far : pointer_limit ≤ pointer
 
 -- no lawful segment can be made of piece k
 abbrev pub IsUnlawful : List (List ℕ) → List Piece → ℕ → Type 0
@@ -84,9 +85,9 @@ pub record IsFirstPointerTooFar (frames : List (List ℕ)) (pieces : List Piece)
   pub fill_lawful : ¬ FillsInsideFrame frames pieces k
   pub earlier : (i : ℕ) → i < k → ¬ IsUnlawful frames pieces i
 
--- what a fault says of the frames and pieces; want of memory is told only where they can be cut
-abbrev pub Tells : List (List ℕ) → List Piece → CutFault → Type 0
-Tells frames pieces (BadFrame k) = IsFirstBadFrame frames k
-Tells frames pieces (FillInsideFrame k) = IsFirstFillInsideFrame frames pieces k
-Tells frames pieces (PointerTooFar k) = IsFirstPointerTooFar frames pieces k
-Tells frames pieces OutOfMemory = IsCuttable frames pieces
+-- what a fault says of the frames and pieces; out of memory is reported only where they can be cut
+abbrev pub Reports : List (List ℕ) → List Piece → CutFault → Type 0
+Reports frames pieces (BadFrame k) = IsFirstBadFrame frames k
+Reports frames pieces (FillInsideFrame k) = IsFirstFillInsideFrame frames pieces k
+Reports frames pieces (PointerTooFar k) = IsFirstPointerTooFar frames pieces k
+Reports frames pieces OutOfMemory = IsCuttable frames pieces

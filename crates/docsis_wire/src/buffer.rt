@@ -1,3 +1,4 @@
+//! The bytes of a payload or of a frame, which contracts see as a list.
 ghost use Rattle.std.specs.Prelude.{◌≡◌, ◌↔◌, ℕ, List, [], length, IsTrue};
 
 use std::marker::Model;

@@ -1,4 +1,6 @@
-ghost use Rattle.std.specs.Prelude.{◌≡◌, ◌+◌, ◌<◌, ◌≤◌, ◌++◌, length, take, drop, min, vec_len, OnOk, is_some, unwrap_or};
+//! A place in the byte stream that frames make end to end.
+ghost use Rattle.std.specs.Prelude.{◌≡◌, ◌+◌, ◌<◌, ◌≤◌, ◌++◌, length, take, drop, min, vec_len};
+ghost use Rattle.std.specs.Prelude.{OnOk, is_some, unwrap_or};
 ghost use Rattle.std.specs.List.{concat, AllByRecursion};
 ghost use Rattle.docsis_wire.specs.Frame.{IsFrame};
 ghost use Rattle.docsis_wire.specs.Cut.{Points};
@@ -7,8 +9,8 @@ ghost use Rattle.docsis_wire.specs.Cursor.{place_at, IsPlaced, chunk_at};
 use crate::buffer::Bytes;
 use std::alloc::AllocError;
 
-/// A place in the stream that some frames make end to end: so many bytes behind the start of a frame, or
-/// behind the last frame.
+/// A place in the stream that some frames make end to end: so many bytes after the start of a
+/// frame, or after the last frame.
 #[derive(Clone, Copy)]
 pub struct Cursor {
     pub frame: usize,
@@ -21,7 +23,8 @@ pub const START: Cursor = Cursor {
     offset: 0,
 };
 
-/// The bytes that stand next, at most `most` of them and all in one frame. The cursor moves behind them.
+/// The bytes that come next, at most `most` of them and all in one frame. The cursor moves past
+/// them.
 fn next_part<'a>(frames: &'a [Bytes], at: &mut Cursor, most: usize) -> &'a [u8]
     requires placed { IsPlaced frames.now at.old }
     requires each { AllByRecursion IsFrame frames.now }
@@ -46,7 +49,7 @@ fn next_part<'a>(frames: &'a [Bytes], at: &mut Cursor, most: usize) -> &'a [u8]
     rest
 }
 
-/// Moves the cursor on by so many bytes, or behind the last frame if that is nearer.
+/// Moves the cursor on by so many bytes, or to the end of the last frame if that is nearer.
 pub fn advance(frames: &[Bytes], at: &mut Cursor, bytes: usize)
     requires placed { IsPlaced frames.now at.old }
     requires each { AllByRecursion IsFrame frames.now }
@@ -64,7 +67,8 @@ pub fn advance(frames: &[Bytes], at: &mut Cursor, bytes: usize)
     }
 }
 
-/// Puts so many of the next bytes behind `payload`, or those that remain, and moves the cursor behind them.
+/// Appends so many of the next bytes to `payload`, or those that remain, and moves the cursor past
+/// them.
 pub fn copy(
     frames: &[Bytes],
     at: &mut Cursor,
@@ -92,7 +96,7 @@ pub fn copy(
     Ok(())
 }
 
-/// How many bytes of the next `bytes` stand before the first frame that starts in them, if one does.
+/// How many of the next `bytes` bytes come before the first frame that starts in them, if one does.
 pub fn first_start(frames: &[Bytes], at: Cursor, bytes: usize) -> Option<usize>
     requires placed { IsPlaced frames.now at }
     requires each { AllByRecursion IsFrame frames.now }

@@ -1,10 +1,14 @@
-ghost use Rattle.std.specs.Prelude.{◌≡◌, ◌≢◌, ◌+◌, ◌<◌, ◌↔◌, ◌⊎◌, ◌++◌, ℕ, false, length, min, replicate, IfOk, IfErr, IsOk, OnOk, OnErr};
+//! Frames cut into segments, all at once or a segment at a time.
+ghost use Rattle.std.specs.Prelude.{◌≡◌, ◌≢◌, ◌+◌, ◌<◌, ◌↔◌, ◌⊎◌, ◌++◌, ℕ, false, length, min, replicate};
+ghost use Rattle.std.specs.Prelude.{IfOk, IfErr, IsOk, OnOk, OnErr};
 ghost use Rattle.std.specs.List.{concat, AllByRecursion};
 ghost use Rattle.docsis_wire.specs.Frame.{IsFrame};
 ghost use Rattle.docsis_wire.specs.Cut.{IsLawfulCut, Points};
 ghost use Rattle.docsis_wire.specs.Cursor.{place_at, IsPlaced, chunk_at, CanPoint};
-ghost use Rattle.docsis_wire.specs.Pieces.{fill_byte, chunks_of, ArePieceSegments, IsFirstBadFrame, IsFirstFillInsideFrame, IsFirstPointerTooFar, IsCuttable, Tells};
-ghost use Rattle.docsis_wire.specs.Cutter.{frames_of, pieces_of, IsUnderWay, Begins, GivesNext};
+ghost use Rattle.docsis_wire.specs.Pieces.{fill_byte, chunks_of, ArePieceSegments, IsFirstBadFrame};
+ghost use Rattle.docsis_wire.specs.Pieces.{IsFirstFillInsideFrame, IsFirstPointerTooFar, IsCuttable, Reports};
+ghost use Rattle.docsis_wire.specs.Limits.{sequence_modulus};
+ghost use Rattle.docsis_wire.specs.CutUnderWay.{GivesNext};
 
 use crate::buffer::Bytes;
 use crate::cursor::{Cursor, START, copy, first_start};
@@ -12,6 +16,7 @@ use crate::header::SegmentHeader;
 use crate::pieces::{CutFault, FillByte, Piece, check};
 use crate::segment::Segment;
 use std::alloc::{AllocError, Global};
+use std::marker::Model;
 
 /// Segments are numbered modulo this.
 const SEQUENCES: u16 = 8192;
@@ -21,7 +26,7 @@ fn header_at(frames: &[Bytes], at: Cursor, bytes: usize, sequence: u16) -> Segme
     requires placed { IsPlaced frames.now at }
     requires each { AllByRecursion IsFrame frames.now }
     requires near { CanPoint frames.now at bytes }
-    requires number { sequence < 8192 }
+    requires number { sequence < sequence_modulus }
     ensures points { Points result.pfi result.pointer frames.now
         (place_at frames.now at) (chunk_at frames.now at bytes) }
     ensures no_pointer { result.pfi ≡ false → result.pointer ≡ 0 }
@@ -43,8 +48,8 @@ fn header_at(frames: &[Bytes], at: Cursor, bytes: usize, sequence: u16) -> Segme
     }
 }
 
-/// The payload that the piece names: the next bytes of the frames and then fill. The cursor moves behind
-/// the bytes.
+/// The payload that the piece names: the next bytes of the frames and then fill. The cursor moves
+/// past the bytes.
 fn payload_at(
     alloc: Global,
     frames: &[Bytes],
@@ -69,7 +74,8 @@ fn payload_at(
     Ok(Bytes::from(payload))
 }
 
-/// A cut of frames into pieces that is being made, a segment at a time.
+/// A cut of frames into pieces that is being made, a segment at a time. Contracts see what is cut
+/// and into what, the first number, the fill, and how many segments were made.
 #[derive(Drop)]
 pub struct Cutter<'a> {
     frames: &'a [Bytes],
@@ -80,18 +86,41 @@ pub struct Cutter<'a> {
     at: Cursor,
 }
 
+impl<'a> Model for Cutter<'a> {
+    ghost use Rattle.docsis_wire.specs.CutUnderWay.{CutUnderWay, IsUnderWay};
+
+    ghost Value = { CutUnderWay };
+
+    ghost view = { λ c. record {
+      frames = c.frames.now;
+      pieces = c.pieces.now;
+      first = c.first;
+      fill = c.fill;
+      made = c.made;
+    } };
+
+    ghost invariant = { λ c. IsUnderWay c.frames.now c.pieces.now c.first c.made c.at };
+}
+
 impl<'a> Cutter<'a> {
-    /// A cut of which no segment was made yet, or the first fault of the frames and the pieces. The first segment's
-    /// number is `first`, 0 to 8191. It takes no memory.
+    /// A cut of which no segment was made yet, or the first fault of the frames and the pieces. The
+    /// first segment's number is `first`, 0 to 8191. It takes no memory.
     pub fn new(
         frames: &'a [Bytes],
         pieces: &'a [Piece],
         first: u16,
         fill: FillByte,
     ) -> Result<Cutter<'a>, CutFault>
-        requires { first < 8192 }
-        ensures begins { IfOk result (Begins frames.now pieces.now first fill) }
-        ensures faults { IfErr result (Tells frames.now pieces.now) }
+        requires { first < sequence_modulus }
+        ensures begins { IfOk result (λ cutter. cutter ≡ record {
+          frames = frames.now;
+          pieces = pieces.now;
+          first = first;
+          fill = fill;
+          made = 0;
+        }) }
+        ensures cuttable { OnOk result (IsCuttable frames.now pieces.now) }
+        ensures faults { IfErr result (Reports frames.now pieces.now) }
         ensures no_memory { IfErr result (λ fault. fault ≢ CutFault.OutOfMemory) }
     {
         check(frames, pieces)?;
@@ -105,11 +134,12 @@ impl<'a> Cutter<'a> {
         })
     }
 
-    /// Makes the next piece's segment, or answers `None` once all were made, however often it is asked. Where a
-    /// growth is refused nothing changes. A cutter that `new` gave meets the condition, and meets it after each call.
+    /// Makes the next piece's segment, or answers `None` once all were made, however often it is
+    /// called. Where an allocation fails nothing changes.
+    ///
+    /// The segments that it makes one after another are the cut that it began with:
+    /// `laws::segments_made_one_by_one_are_the_cut`.
     pub fn next(&mut self, alloc: Global) -> Result<Option<Segment>, AllocError>
-        requires { IsUnderWay self.old }
-        ensures under_way { IsUnderWay self.new }
         ensures next { IfOk result (GivesNext self.old self.new) }
         ensures refused { OnErr result (self.new ≡ self.old) }
     {
@@ -126,34 +156,41 @@ impl<'a> Cutter<'a> {
     }
 }
 
-/// Makes the segment of each piece.
-fn make(alloc: Global, cutter: Cutter<'_>) -> Result<Vec<Segment>, AllocError>
-    requires under_way { IsUnderWay cutter }
+/// Makes the segment of each piece, of which there are so many.
+fn make(alloc: Global, cutter: Cutter<'_>, count: usize) -> Result<Vec<Segment>, AllocError>
+    requires cuttable { IsCuttable cutter.frames cutter.pieces }
     requires begins { cutter.made ≡ 0 }
     ensures lawful { IfOk result
-        (λ segments. IsLawfulCut (frames_of cutter.entry) cutter.entry.first (fill_byte cutter.entry.fill)
-        (chunks_of (frames_of cutter.entry) (pieces_of cutter.entry)) segments.items) }
-    ensures named { IfOk result
-        (λ segments. ArePieceSegments (fill_byte cutter.entry.fill) (frames_of cutter.entry) (pieces_of cutter.entry)
+        (λ segments. IsLawfulCut cutter.entry.frames cutter.entry.first
+        (fill_byte cutter.entry.fill) (chunks_of cutter.entry.frames cutter.entry.pieces)
         segments.items) }
+    ensures named { IfOk result
+        (λ segments. ArePieceSegments (fill_byte cutter.entry.fill) cutter.entry.frames
+        cutter.entry.pieces segments.items) }
 {
     let mut cutter = cutter;
-    let mut segments = Vec::with_capacity(alloc, cutter.pieces.len())?;
+    let mut segments = Vec::with_capacity(alloc, count)?;
     while let Some(segment) = cutter.next(alloc)? {
         segments.push(segment)?;
     }
     Ok(segments)
 }
 
-/// Cuts the frames, end to end, into one segment for each piece. Of the bytes of the frames segment k takes
-/// as many of the next ones as piece k has in `bytes`, or those that remain if that is less, and behind them
-/// come as many bytes of fill as it has in `fill`. PFI is set exactly where a frame starts in the bytes that
-/// the segment took, and the pointer is then how many of them stand before the first such start; otherwise
-/// it is 0. The number is `first + k` modulo 8192, and `first` is 0 to 8191. All other fields are 0
-/// (CM-SP-MULPIv3.0, segment header format; fill by this project's profile).
+/// Cuts the frames, end to end, into one segment for each piece. Of the bytes of the frames segment
+/// k takes as many of the next ones as piece k has in `bytes`, or those that remain if that is
+/// less, and after them come as many bytes of fill as it has in `fill`. PFI is set exactly where a
+/// frame starts in the bytes that the segment took, and the pointer is then how many of them come
+/// before the first such start; otherwise it is 0. The number is `first + k` modulo 8192, and
+/// `first` is 0 to 8191. All other fields are 0 (CM-SP-MULPIv3.0, segment header format; fill by
+/// this project's profile).
 ///
-/// No frame, no piece, and a piece with no bytes are lawful; such a piece may have fill before the first
-/// frame, between two frames, and behind the last. The faults are looked for before any memory is taken.
+/// No frame, no piece, and a piece with no bytes are lawful; such a piece may have fill before the
+/// first frame, between two frames, and after the last. The faults are looked for before any memory
+/// is taken.
+///
+/// The pieces make one cut only, and frames and pieces that make one have no fault:
+/// `laws::pieces_make_one_cut`,
+/// `laws::lawful_cut_has_no_fault`.
 pub fn cut(
     alloc: Global,
     frames: &[Bytes],
@@ -161,14 +198,14 @@ pub fn cut(
     first: u16,
     fill: FillByte,
 ) -> Result<Vec<Segment>, CutFault>
-    requires { first < 8192 }
+    requires { first < sequence_modulus }
     ensures lawful { IfOk result
         (λ segments. IsLawfulCut frames.now first (fill_byte fill)
         (chunks_of frames.now pieces.now) segments.items) }
     ensures named { IfOk result
         (λ segments. ArePieceSegments (fill_byte fill) frames.now pieces.now segments.items) }
 
-    // Each fault is told just where it is the first.
+    // Each fault is reported exactly where it is the first.
     ensures bad_frame { (k : ℕ)
         → (result ≡ Err (CutFault.BadFrame k)) ↔ IsFirstBadFrame frames.now k }
     ensures fill_inside_frame { (k : ℕ)
@@ -181,7 +218,7 @@ pub fn cut(
         ↔ IsCuttable frames.now pieces.now }
 {
     let cutter = Cutter::new(frames, pieces, first, fill)?;
-    make(alloc, cutter).or(Err(CutFault::OutOfMemory))
+    make(alloc, cutter, pieces.len()).or(Err(CutFault::OutOfMemory))
 }
 
 #[cfg(test)]

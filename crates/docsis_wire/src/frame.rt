@@ -1,3 +1,5 @@
+//! The generic MAC header of a frame: what its first four bytes announce, and what a whole frame
+//! is.
 ghost use Rattle.std.specs.Prelude.{◌≡◌, ◌↔◌, ◌++◌, ℕ, List, length, take, IsTrue, ◌≤◌};
 ghost use Rattle.docsis_wire.specs.Frame.{IsFrame};
 ghost use Rattle.docsis_wire.specs.Head.{head_of, IsShort, IsHeadOf};
@@ -10,7 +12,8 @@ const EHDR_MAX: u8 = 240;
 /// Why bytes that are no fill do not begin as a frame does.
 #[derive(Clone, Copy, Debug, PartialEq, Eq, Error)]
 pub enum HeadFault {
-    /// FC 0xC4, 0xC5, 0xC8 or 0xC9: a request frame, whose LEN is no length (this project's profile).
+    /// FC 0xC4, 0xC5, 0xC8 or 0xC9: a request frame, whose LEN is no length (this project's
+    /// profile).
     #[error("the frame control byte announces no length")]
     NoLength,
     /// An extended header above 240 bytes, or longer than LEN.
@@ -21,22 +24,22 @@ pub enum HeadFault {
 /// What the front of some bytes announces.
 #[derive(Clone, Copy, Debug, PartialEq, Eq)]
 pub enum HeadRead {
-    /// More bytes have to come before anything can be told.
+    /// More bytes have to come before anything can be said.
     Short,
     /// Fill: from here to the segment's end there is no frame (this project's profile).
     Fill,
-    /// Neither fill nor a frame's head: from here to the segment's end no frame can be told.
+    /// Neither fill nor a frame's head: from here to the segment's end no frame can be found.
     Bad(HeadFault),
     /// A frame of `total` bytes, 6 to 65,541, with `ehdr` bytes of extended header, 0 to 240.
     Head { ehdr: u8, total: u32 },
 }
 
-/// Reads the generic MAC header at the front (CM-SP-MULPIv3.0, generic MAC frame format). It looks at no
-/// more than four bytes.
+/// Reads the generic MAC header at the front (CM-SP-MULPIv3.0, generic MAC frame format). It looks
+/// at no more than four bytes.
 pub fn read_head(bytes: &[u8]) -> HeadRead
     ensures table { result ≡ head_of bytes.now }
     ensures short { (result ≡ HeadRead.Short) ↔ IsShort bytes.now }
-    // Whatever stands behind a frame, its head is read, and its length with it.
+    // Whatever follows a frame, its head is read, and its length with it.
     ensures frame { (frame more : List ℕ) → IsFrame frame
         → bytes.now ≡ frame ++ more → IsHeadOf frame result }
     // As many bytes as are announced are a frame, once they are there.
@@ -89,7 +92,7 @@ mod tests {
 
     const HEADS: [(&str, &[u8], HeadRead); 11] = [
         (
-            "a management frame with nothing behind its header",
+            "a management frame with nothing after its header",
             &[0xc2, 0, 0, 0],
             HeadRead::Head { ehdr: 0, total: 6 },
         ),
@@ -158,7 +161,7 @@ mod tests {
     }
 
     #[test]
-    fn tells_frames(rt: HostRuntime) {
+    fn knows_frames(rt: HostRuntime) {
         let frame: [u8; 8] = [0, 0, 0, 2, 0x11, 0x11, 0xaa, 0xbb];
         let extended: [u8; 9] = [0x01, 0x01, 0, 0x03, 0xe0, 0x22, 0x22, 0xcc, 0xdd];
         assert!(rt; well_formed(&frame));

@@ -1,4 +1,5 @@
-//! A header and its eight bytes determine each other, and the pieces determine the cut, or its first fault.
+//! A header and its eight bytes determine each other, and the pieces determine the cut, or its
+//! first fault.
 //!
 //! Each function states a law in its contract and does nothing.
 ghost use Rattle.std.specs.Prelude.{◌≡◌, ◌≢◌, ◌≤◌, ◌↔◌, ℕ, Option, Some, IsSome, IfSome, List, [], ◌∷◌, ◌++◌, length, take};
@@ -6,64 +7,76 @@ ghost use Rattle.docsis_wire.specs.declared.header.SegmentHeader.{SegmentHeader}
 ghost use Rattle.docsis_wire.specs.declared.pieces.Piece.{Piece};
 ghost use Rattle.docsis_wire.specs.declared.pieces.CutFault.{CutFault};
 ghost use Rattle.docsis_wire.specs.declared.segment.Segment.{Segment};
+ghost use Rattle.docsis_wire.specs.Limits.{header_length};
 ghost use Rattle.docsis_wire.specs.Header.{header_bytes};
 ghost use Rattle.docsis_wire.specs.Cut.{IsLawfulCut};
-ghost use Rattle.docsis_wire.specs.declared.cutter.Cutter.{Cutter};
-ghost use Rattle.docsis_wire.specs.Cutter.{frames_of, pieces_of, IsUnderWay, IsSameCut, HasMade, GivesNext};
-ghost use Rattle.docsis_wire.specs.Pieces.{fill_byte, chunks_of, ArePieceSegments, IsCuttable, Tells};
+ghost use Rattle.docsis_wire.specs.CutUnderWay.{CutUnderWay, IsSameCut, HasMade, GivesNext};
+ghost use Rattle.docsis_wire.specs.Pieces.{fill_byte, chunks_of, ArePieceSegments, IsCuttable, Reports};
 
 /// The same eight bytes are the bytes of one header only.
-pub fn one_header()
-    ensures { (head other : SegmentHeader) → header_bytes head ≡ header_bytes other → head ≡ other }
+pub fn eight_bytes_spell_one_header()
+    ensures { (head other : SegmentHeader)
+        → header_bytes head ≡ header_bytes other → head ≡ other }
 {}
 
-/// What `read_segment` answers, by its contract, for the bytes that a header is written as is that header.
-pub fn header_read_back()
+/// What `read_segment` answers, by its contract, for the bytes that a header is written as is that
+/// header.
+pub fn written_header_is_read_back()
     ensures { (head : SegmentHeader) (answer : Option SegmentHeader)
-        → IsSome answer ↔ (8 ≤ length (header_bytes head))
-        → IfSome answer (λ read. header_bytes read ≡ take 8 (header_bytes head))
+        → IsSome answer ↔ (header_length ≤ length (header_bytes head))
+        → IfSome answer (λ read. header_bytes read ≡ take header_length (header_bytes head))
         → answer ≡ Some head }
 {}
 
-/// The header that `read_segment` answers, by its contract, for eight bytes is written as those bytes.
-pub fn header_written_back()
-    ensures { (bytes : List ℕ) (answer : Option SegmentHeader) → length bytes ≡ 8
-        → IsSome answer ↔ (8 ≤ length bytes)
-        → IfSome answer (λ read. header_bytes read ≡ take 8 bytes)
+/// The header that `read_segment` answers, by its contract, for eight bytes is written as those
+/// bytes.
+pub fn read_header_is_written_back()
+    ensures { (bytes : List ℕ) (answer : Option SegmentHeader) → length bytes ≡ header_length
+        → IsSome answer ↔ (header_length ≤ length bytes)
+        → IfSome answer (λ read. header_bytes read ≡ take header_length bytes)
         → (head : SegmentHeader) × (answer ≡ Some head) × (header_bytes head ≡ bytes) }
 {}
 
 /// The pieces make one cut of the frames: neither a header nor a payload is left open.
-pub fn one_cut()
-    ensures { (frames : List (List ℕ)) (pieces : List Piece) (first fill : ℕ) (segments others : List Segment)
-        → IsLawfulCut frames first fill (chunks_of frames pieces) segments → ArePieceSegments fill frames pieces segments
-        → IsLawfulCut frames first fill (chunks_of frames pieces) others → ArePieceSegments fill frames pieces others
+pub fn pieces_make_one_cut()
+    ensures { (frames : List (List ℕ)) (pieces : List Piece) (first fill : ℕ)
+        (segments others : List Segment)
+        → IsLawfulCut frames first fill (chunks_of frames pieces) segments
+        → ArePieceSegments fill frames pieces segments
+        → IsLawfulCut frames first fill (chunks_of frames pieces) others
+        → ArePieceSegments fill frames pieces others
         → segments ≡ others }
 {}
 
 /// Frames and pieces have at most one first fault, and none where they can be cut.
-pub fn one_fault()
+pub fn cut_has_one_fault()
     ensures { (frames : List (List ℕ)) (pieces : List Piece) (fault other : CutFault)
-        → Tells frames pieces fault → Tells frames pieces other → fault ≡ other }
+        → Reports frames pieces fault → Reports frames pieces other → fault ≡ other }
 {}
 
 /// Where the pieces make a lawful cut of the frames, nothing is at fault.
-pub fn cut_without_fault()
-    ensures { (frames : List (List ℕ)) (pieces : List Piece) (first fill : ℕ) (segments : List Segment)
-        → IsLawfulCut frames first fill (chunks_of frames pieces) segments → ArePieceSegments fill frames pieces segments
+pub fn lawful_cut_has_no_fault()
+    ensures { (frames : List (List ℕ)) (pieces : List Piece) (first fill : ℕ)
+        (segments : List Segment)
+        → IsLawfulCut frames first fill (chunks_of frames pieces) segments
+        → ArePieceSegments fill frames pieces segments
         → IsCuttable frames pieces }
 {}
 
-/// Segments that a cutter made one after another until it gave none are the cut that it began with, a lawful one.
-pub fn made_one_by_one()
-    ensures none { (cutter : Cutter) → cutter.made ≡ 0 → IsSameCut cutter cutter × HasMade cutter [] }
-    ensures one_more { (begun before after : Cutter) (segments : List Segment) (segment : Segment)
-        → IsSameCut begun before → HasMade before segments → GivesNext before after (Some segment)
+/// The segments that a `Cutter` makes one after another, until it gives none, are the cut that it
+/// began with, a lawful one.
+pub fn segments_made_one_by_one_are_the_cut()
+    ensures none { (cut : CutUnderWay) → cut.made ≡ 0 → IsSameCut cut cut × HasMade cut [] }
+    ensures one_more { (begun before after : CutUnderWay)
+        (segments : List Segment) (segment : Segment)
+        → IsSameCut begun before → HasMade before segments
+        → GivesNext before after (Some segment)
         → IsSameCut begun after × HasMade after (segments ++ segment ∷ []) }
-    ensures all { (begun cutter after : Cutter) (segments : List Segment) (answer : Option Segment)
-        → IsSameCut begun cutter → IsUnderWay cutter → HasMade cutter segments
-        → GivesNext cutter after answer → ((segment : Segment) → answer ≢ Some segment)
-        → IsLawfulCut (frames_of begun) begun.first (fill_byte begun.fill)
-        (chunks_of (frames_of begun) (pieces_of begun)) segments
-        × ArePieceSegments (fill_byte begun.fill) (frames_of begun) (pieces_of begun) segments }
+    ensures all { (begun cut after : CutUnderWay)
+        (segments : List Segment) (answer : Option Segment)
+        → IsCuttable begun.frames begun.pieces → IsSameCut begun cut → HasMade cut segments
+        → GivesNext cut after answer → ((segment : Segment) → answer ≢ Some segment)
+        → IsLawfulCut begun.frames begun.first (fill_byte begun.fill)
+        (chunks_of begun.frames begun.pieces) segments
+        × ArePieceSegments (fill_byte begun.fill) begun.frames begun.pieces segments }
 {}

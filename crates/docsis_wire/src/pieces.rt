@@ -1,7 +1,8 @@
+//! What a cut is to put into each segment, and what can be at fault with it.
 ghost use Rattle.std.specs.Prelude.{◌≡◌, ◌≢◌, IfErr, OnOk};
 ghost use Rattle.std.specs.List.{AllByRecursion};
 ghost use Rattle.docsis_wire.specs.Frame.{IsFrame};
-ghost use Rattle.docsis_wire.specs.Pieces.{fill_byte, IsCuttable, Tells};
+ghost use Rattle.docsis_wire.specs.Pieces.{fill_byte, IsCuttable, Reports};
 
 use crate::buffer::Bytes;
 use crate::cursor::{START, advance, first_start};
@@ -25,24 +26,27 @@ pub enum FillByte {
 pub struct Piece {
     /// How many of the next bytes of the frames, or those that remain if that is less.
     pub bytes: u16,
-    /// How many bytes of fill behind them.
+    /// How many bytes of fill follow them.
     pub fill: u16,
 }
 
 /// Why the frames cannot be cut into these pieces. Frames and pieces are counted from 0.
+///
+/// Frames and pieces have one fault at most: `laws::cut_has_one_fault`.
 #[derive(Clone, Copy, Debug, PartialEq, Eq, Error)]
 pub enum CutFault {
-    /// This frame is not well formed. The first such frame is told, before any other fault.
+    /// This frame is not well formed. The first such frame is reported, before any other fault.
     #[error("frame {0} is not a frame")]
     BadFrame(usize),
-    /// This piece has fill, and its data end neither at a frame's end nor before the first frame. Of this and
-    /// a pointer that is too far the first piece is told, and this one first of one piece.
+    /// This piece has fill, and its data end neither at a frame's end nor before the first frame.
+    /// Of this and a pointer that is too far the first piece is reported, and this one first of one
+    /// piece.
     #[error("piece {0} has fill inside a frame")]
     FillInsideFrame(usize),
     /// The first frame that starts in this piece has more than 16,383 of its bytes before it.
     #[error("piece {0} has a pointer past 16383")]
     PointerTooFar(usize),
-    /// A growth was refused. It is told only of frames and pieces without a fault.
+    /// An allocation failed. It is reported only of frames and pieces without a fault.
     #[error("out of memory")]
     OutOfMemory,
 }
@@ -62,7 +66,7 @@ impl FillByte {
 /// Looks for the first fault of the frames and then of the pieces. It takes no memory.
 pub fn check(frames: &[Bytes], pieces: &[Piece]) -> Result<(), CutFault>
     ensures cuttable { OnOk result (IsCuttable frames.now pieces.now) }
-    ensures faults { IfErr result (Tells frames.now pieces.now) }
+    ensures faults { IfErr result (Reports frames.now pieces.now) }
     ensures no_memory { IfErr result (λ fault. fault ≢ CutFault.OutOfMemory) }
 {
     for (k, frame) in frames.iter().enumerate() {
@@ -77,7 +81,7 @@ pub fn check(frames: &[Bytes], pieces: &[Piece]) -> Result<(), CutFault>
 fn check_pieces(frames: &[Bytes], pieces: &[Piece]) -> Result<(), CutFault>
     requires { AllByRecursion IsFrame frames.now }
     ensures cuttable { OnOk result (IsCuttable frames.now pieces.now) }
-    ensures faults { IfErr result (Tells frames.now pieces.now) }
+    ensures faults { IfErr result (Reports frames.now pieces.now) }
     ensures no_memory { IfErr result (λ fault. fault ≢ CutFault.OutOfMemory) }
 {
     let mut at = START;

@@ -1,8 +1,12 @@
-ghost use Rattle.std.specs.Prelude.{◌≡◌, ◌≤◌, ◌↔◌, length, take, IsTrue, IsSome, IfSome};
+//! A segment, and its header and its whole read from bytes and the header written as bytes.
+ghost use Rattle.std.specs.Prelude.{◌≡◌, ◌<◌, ◌≤◌, ◌↔◌, length, take, IsTrue, IsSome, IfSome, IfOk};
+ghost use Rattle.docsis_wire.specs.Limits.{header_length};
 ghost use Rattle.docsis_wire.specs.Header.{header_bytes};
 
 use crate::buffer::Bytes;
 use crate::header::SegmentHeader;
+use std::alloc::{AllocError, Global};
+use thiserror::Error;
 
 /// Bit 15 of the first word of a segment header.
 const PFI: u16 = 0x8000;
@@ -13,7 +17,26 @@ const POINTER: u16 = 0x3FFF;
 /// The SID cluster's 3 bits in the second word of a segment header.
 const CLUSTER: u16 = 0x0007;
 
-/// A segment as it came from a modem: its header, and the payload behind it.
+/// How many bytes of a segment its header takes.
+const HEADER_BYTES: usize = 8;
+
+/// Why bytes are no segment.
+#[derive(Clone, Copy, Debug, PartialEq, Eq, Error)]
+pub enum SegmentFault {
+    /// There are fewer than eight bytes, and so no header.
+    #[error("too short")]
+    TooShort,
+    /// The header says that a MAC header begins in the segment, and points to no byte of the
+    /// payload.
+    #[error("pointer past the end")]
+    PointerPast,
+    /// An allocation failed. It is reported only of the bytes of a segment that has neither other
+    /// fault.
+    #[error("out of memory")]
+    OutOfMemory,
+}
+
+/// A segment as it came from a modem: its header, and the payload after it.
 #[derive(Debug, Drop)]
 pub struct Segment {
     pub head: SegmentHeader,
@@ -21,9 +44,13 @@ pub struct Segment {
 }
 
 /// The segment header that the first eight bytes spell, or `None` where there are fewer than eight.
+///
+/// The eight bytes spell one header only, and `write_segment` writes them of it:
+/// `laws::eight_bytes_spell_one_header`,
+/// `laws::read_header_is_written_back`.
 pub fn read_segment(bytes: &[u8]) -> Option<SegmentHeader>
-    ensures found { IsSome result ↔ (8 ≤ length bytes.now) }
-    ensures spelled { IfSome result (λ head. header_bytes head ≡ take 8 bytes.now) }
+    ensures found { IsSome result ↔ (header_length ≤ length bytes.now) }
+    ensures spelled { IfSome result (λ head. header_bytes head ≡ take header_length bytes.now) }
 {
     let [b0, b1, b2, b3, b4, b5, b6, b7] = *bytes.first_chunk::<8>()?;
     let first = u16::from_be_bytes([b0, b1]);
@@ -39,8 +66,9 @@ pub fn read_segment(bytes: &[u8]) -> Option<SegmentHeader>
     })
 }
 
-/// The eight bytes of a segment header (CM-SP-MULPIv3.0, segment header format). `read_segment` reads the
-/// same header of them.
+/// The eight bytes of a segment header (CM-SP-MULPIv3.0, segment header format). `read_segment`
+/// reads the same header of them:
+/// `laws::written_header_is_read_back`.
 pub fn write_segment(head: &SegmentHeader) -> [u8; 8]
     ensures { result ≡ header_bytes head.now }
 {
@@ -63,6 +91,40 @@ fn two_bytes(word: u16) -> [u8; 2]
 }
 
 ghost use Rattle.docsis_wire.specs.Ready.{IsReady};
+ghost use Rattle.docsis_wire.specs.SegmentBytes.{segment_bytes, PointsPast};
+
+impl From<AllocError> for SegmentFault {
+    ghost use Rattle.std.specs.Prelude.{◌≡◌};
+    ghost use Rattle.docsis_wire.specs.declared.segment.SegmentFault.TheVariants.{OutOfMemory};
+
+    ghost from_gives = { λ _ fault. fault ≡ OutOfMemory };
+
+    fn from(_: AllocError) -> SegmentFault {
+        SegmentFault::OutOfMemory
+    }
+}
+
+impl Segment {
+    /// The segment that the bytes of a burst spell: a header of eight bytes, and the payload after
+    /// it. `TooShort` and `PointerPast` are looked for before any memory is taken.
+    pub fn read(alloc: Global, bytes: &[u8]) -> Result<Segment, SegmentFault>
+        ensures segment { IfOk result (λ segment. segment_bytes segment ≡ bytes.now) }
+        ensures ready { IfOk result IsReady }
+        ensures too_short { (result ≡ Err SegmentFault.TooShort)
+            ↔ (length bytes.now < header_length) }
+        ensures pointer_past { (result ≡ Err SegmentFault.PointerPast) ↔ PointsPast bytes.now }
+    {
+        let Some(head) = read_segment(bytes) else {
+            return Err(SegmentFault::TooShort);
+        };
+        let payload = &bytes[HEADER_BYTES..];
+        if head.pfi && usize::from(head.pointer) >= payload.len() {
+            return Err(SegmentFault::PointerPast);
+        }
+        let payload = Bytes::from(Vec::from_slice(alloc, payload)?);
+        Ok(Segment { head, payload })
+    }
+}
 
 /// Whether the segment's pointer, where it means anything, stays within the payload.
 pub fn ready(segment: &Segment) -> bool
@@ -72,104 +134,4 @@ pub fn ready(segment: &Segment) -> bool
 }
 
 #[cfg(test)]
-mod tests {
-    use super::*;
-    use std::test::Fail;
-
-    struct Reading {
-        name: &'static str,
-        bytes: [u8; 8],
-        head: SegmentHeader,
-    }
-
-    const READINGS: [Reading; 3] = [
-        Reading {
-            name: "nothing but the PFI and the check sequence",
-            bytes: [0x80, 0, 0, 0, 0, 0, 0xab, 0xcd],
-            head: SegmentHeader {
-                pfi: true,
-                reserved: false,
-                pointer: 0,
-                sequence: 0,
-                cluster: 0,
-                request: 0,
-                hcs: 43_981,
-            },
-        },
-        Reading {
-            name: "each field at its greatest value",
-            bytes: [0xbf, 0xff, 0xff, 0xff, 0xff, 0xff, 0, 0],
-            head: SegmentHeader {
-                pfi: true,
-                reserved: false,
-                pointer: 16_383,
-                sequence: 8191,
-                cluster: 7,
-                request: 65_535,
-                hcs: 0,
-            },
-        },
-        Reading {
-            name: "no header begins, and the reserved bit is set",
-            bytes: [0x40, 0x05, 0, 0x0a, 0, 0x10, 0, 0],
-            head: SegmentHeader {
-                pfi: false,
-                reserved: true,
-                pointer: 5,
-                sequence: 1,
-                cluster: 2,
-                request: 16,
-                hcs: 0,
-            },
-        },
-    ];
-
-    #[test]
-    fn reads_headers(rt: HostRuntime) -> Result<(), Fail> {
-        for reading in &READINGS {
-            let name = reading.name;
-            assert_eq!(rt; read_segment(&reading.bytes), Some(reading.head), "{name}");
-        }
-        Ok(())
-    }
-
-    #[test]
-    fn writes_headers(rt: HostRuntime) -> Result<(), Fail> {
-        for reading in &READINGS {
-            let name = reading.name;
-            assert_eq!(rt; write_segment(&reading.head), reading.bytes, "{name}");
-        }
-        Ok(())
-    }
-
-    #[test]
-    fn reads_no_header_of_seven_bytes(rt: HostRuntime) {
-        assert_eq!(rt; read_segment(&[0x40, 0x05, 0, 0x0a, 0, 0x10, 0]), None);
-    }
-
-    #[test]
-    fn tells_whether_a_pointer_stays_within(rt: HostRuntime) -> Result<(), Fail> {
-        let cases: [(&str, [u8; 8], usize, bool); 4] = [
-            ("at the first byte", [0x80, 0, 0, 0, 0, 0, 0, 0], 1, true),
-            ("at the last byte", [0x80, 4, 0, 0, 0, 0, 0, 0], 5, true),
-            (
-                "behind the last byte",
-                [0x80, 5, 0, 0, 0, 0, 0, 0],
-                5,
-                false,
-            ),
-            (
-                "where it means nothing",
-                [0x3f, 0xff, 0, 0, 0, 0, 0, 0],
-                0,
-                true,
-            ),
-        ];
-        for (name, bytes, len, within) in &cases {
-            let head = read_segment(bytes).ok_or("too short")?;
-            let payload = Bytes::from(vec![in rt.alloc(); 0; *len]?);
-            assert_eq!(rt; ready(&Segment { head, payload }), *within, "{name}");
-        }
-        Ok(())
-    }
-}
+mod tests;

@@ -1,4 +1,4 @@
--- The first place of a byte, as a search of bytes tells it.
+-- The first place of a byte, as a search of bytes finds it.
 use Rattle.std.proofs.Common.{◌≡◌, ℕ, ◌<◌, Bool, true, false, List, length, get_or, Option, Some, None, refl, sym, ap, ◌∙◌, arith}
 use Rattle.std.specs.Prelude.{position}
 use Rattle.std.proofs.lemmas.List.Quantifiers.{position-Some}
@@ -18,7 +18,7 @@ same_place : (p : ℕ → Bool) (xs : List ℕ) (i j : ℕ) → IsFirstByte p xs
 same_place p xs i j first is =
     let found = position-Some p xs j 0 is in
     let not_before : i < j → ⊥ = λ l. not_both (p (get_or xs i 0)) first.1 (found.2 i l) in
-    let not_behind : j < i → ⊥ = λ l. first.0.before j (omega arith) l found.1 in
+    let not_after : j < i → ⊥ = λ l. first.0.before j (omega arith) l found.1 in
     grind arith
 
 first_is : (p : ℕ → Bool) (xs : List ℕ) (r q : Option ℕ) → IsFirstByte p xs r → position p xs ≡ q → r ≡ q
@@ -29,6 +29,6 @@ first_is p xs None (Some j) first is =
 first_is p xs (Some i) None first is = absurd (found_none p xs i first.0.high first.1 is)
 first_is p xs (Some i) (Some j) first is = ap Some (same_place p xs i j first is)
 
--- the first place that a search tells is the first one
+-- the first place that a search finds is the first one
 pub position-first : (p : ℕ → Bool) (xs : List ℕ) (r : Option ℕ) → IsFirstByte p xs r → r ≡ position p xs
 position-first p xs r first = first_is p xs r (position p xs) first refl

@@ -1,4 +1,4 @@
--- The digits of some bytes and of others behind them.
+-- The digits of some bytes and of others after them.
 use Rattle.std.proofs.Common.{◌≡◌, ℕ, ◌/◌, ◌%◌, List, [], ◌∷◌, ◌++◌, refl, sym, ap, ◌∙◌, append_assoc}
 use Rattle.std.specs.Prelude.{slice_index}
 use Rattle.hex.specs.Hex.{encode_with, encode_lower, lower_digits}
@@ -12,10 +12,10 @@ encode_with-append t (x ∷ xs) ys = ap (λ more. slice_index t (x / 16) ∷ sli
 pub encode_lower_append : (xs ys : List ℕ) → encode_lower (xs ++ ys) ≡ encode_lower xs ++ encode_lower ys
 encode_lower_append xs ys = encode_with-append lower_digits xs ys
 
--- a text with a line behind it, whose bytes were spelled in two parts
-pub line_behind : (old text more line header head bytes payload : List ℕ) → text ≡ old ++ encode_lower header → header ≡ head → more ≡ text ++ encode_lower bytes → bytes ≡ payload
+-- a text with one more line, whose bytes were spelled in two parts
+pub line_appended : (old text more line header head bytes payload : List ℕ) → text ≡ old ++ encode_lower header → header ≡ head → more ≡ text ++ encode_lower bytes → bytes ≡ payload
     → line ≡ more ++ 10 ∷ [] → line ≡ old ++ (encode_lower (head ++ payload) ++ 10 ∷ [])
-line_behind old text more line header head bytes payload first header_is second bytes_is third =
+line_appended old text more line header head bytes payload first header_is second bytes_is third =
     let front : text ≡ old ++ encode_lower head = first ∙ ap (λ xs. old ++ encode_lower xs) header_is in
     let both : more ≡ (old ++ encode_lower head) ++ encode_lower payload = second ∙ ap (λ xs. text ++ encode_lower xs) bytes_is ∙ ap (λ xs. xs ++ encode_lower payload) front in
     third

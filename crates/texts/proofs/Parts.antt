@@ -130,9 +130,9 @@ words_of-word line words end begins h =
     let parts : slice_split is_separator words ≡ take end words ∷ slice_split is_separator (drop (end + 1) words) =
     rw at at (slice_split_first is_separator words 0 within) in
     let long : 0 < length (take end words) = simp length-take (omega arith) in
-    let behind : drop end words ≡ get_or words end 0 ∷ drop (end + 1) words = rw (add-one, drop-cons words end 0) refl in
+    let more : drop end words ≡ get_or words end 0 ∷ drop (end + 1) words = rw (add-one, drop-cons words end 0) refl in
     let skipped : words_of (drop end words) ≡ words_of (drop (end + 1) words) =
-    ap words_of behind ∙ words_of-separator (get_or words end 0) (drop (end + 1) words) found.1 in
+    ap words_of more ∙ words_of-separator (get_or words end 0) (drop (end + 1) words) found.1 in
     begins.same
     ∙ ap (filter (λ part. nat_lt 0 (length part))) parts
     ∙ words_of_parts-cons (take end words) (slice_split is_separator (drop (end + 1) words)) long

@@ -2,8 +2,7 @@ pub mod Kinds
 pub mod Lines
 pub mod Field
 pub mod Number
-pub mod LineFault
-pub mod JoinLine
+pub mod Fault
+pub mod Format
 pub mod Join
-pub mod CutLine
 pub mod Cut

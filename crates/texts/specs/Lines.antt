@@ -3,10 +3,14 @@ use Rattle.std.specs.Prelude.{ℕ, ◌==◌, ◌||◌, nat_lt, Bool, false, if�
 use Rattle.std.specs.List.{slice_split}
 
 -- the byte that ends a line
-abbrev pub is_line_feed : ℕ → Bool
-is_line_feed byte = byte == 10
+abbrev pub line_feed : ℕ
+line_feed = 10
 
--- a byte that separates words: space, tab or carriage return
+-- whether a byte is that one
+abbrev pub is_line_feed : ℕ → Bool
+is_line_feed byte = byte == line_feed
+
+-- whether a byte separates words: a space, a tab or a carriage return
 abbrev pub is_separator : ℕ → Bool
 is_separator byte = byte == 32 || byte == 9 || byte == 13
 
@@ -24,12 +28,16 @@ lines_of text = lines_of_parts (slice_split is_line_feed text)
 abbrev pub words_of : List ℕ → List (List ℕ)
 words_of line = filter (λ part. nat_lt 0 (length part)) (slice_split is_separator line)
 
--- a word with which a comment begins: its first byte is `#`
+-- the byte with which a comment begins, `#`
+abbrev pub comment_mark : ℕ
+comment_mark = 35
+
+-- whether a word begins a comment
 abbrev pub begins_comment : List ℕ → Bool
 begins_comment [] = false
-begins_comment (byte ∷ more) = byte == 35
+begins_comment (byte ∷ more) = byte == comment_mark
 
--- the words behind a first word that begins no comment
+-- the words, but none where the first begins a comment
 abbrev pub without_comment : List (List ℕ) → List (List ℕ)
 without_comment [] = []
 without_comment (word ∷ more) = if begins_comment word then [] else word ∷ more

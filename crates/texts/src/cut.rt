@@ -1,79 +1,69 @@
-ghost use Rattle.std.specs.Prelude.{◌≡◌, ◌≢◌, ◌<◌, ◌++◌, false, flat_map, IfOk, IfErr, IfSome, OnOk};
+//! The text of `cut`: the segments that an input's frames are cut into, one a line.
+ghost use Rattle.std.specs.Prelude.{◌≡◌, ◌≢◌, ◌<◌, ◌++◌, min, false, flat_map, IfOk, IfErr, IfSome, OnOk};
+ghost use Rattle.docsis_wire.specs.Limits.{sequence_modulus};
+ghost use Rattle.docsis_wire.specs.Pieces.{IsCuttable};
 ghost use Rattle.texts.specs.Lines.{lines_of};
-ghost use Rattle.texts.specs.Cut.{ReadAsPieces, TakesLine, IsCutLineFault, IsReadingFault, IsPrinted, IsCuttingFault, IsCutText, IsCutFault, segment_line};
-ghost use Rattle.docsis_wire.specs.Cutter.{IsUnderWay, Begins};
+ghost use Rattle.texts.specs.Format.{IsRead, IsReadingFault};
+ghost use Rattle.texts.specs.Cut.Line.{nothing, cut_format};
+ghost use Rattle.texts.specs.Cut.{IsPrinted, IsCutText, IsCutFault, segment_line, cut_text_length};
 
-use crate::cut_line::{CutLine, read_cut_line};
-use crate::fault::TextFault;
+mod line;
+
+use crate::fault::{LineFault, TextFault};
 use crate::field::append_hex;
-use crate::join_line::HEADER_BYTES;
-use crate::line_fault::LineFault;
-use crate::lines::split_line;
+use crate::lines::{TakeLine, take_lines};
 use docsis_wire::{Bytes, Cutter, FillByte, Piece, Segment, write_segment};
+use line::{CutLine, read_cut_line};
 use std::alloc::{AllocError, Global};
 
-/// Puts what a line carries behind the frames or the pieces.
-fn take_line(
-    alloc: Global,
-    frames: &mut Vec<Bytes>,
-    pieces: &mut Vec<Piece>,
-    line: &[u8],
-) -> Result<(), LineFault>
-    ensures taken { OnOk result (TakesLine line.now frames.old.items pieces.old.items
-        frames.new.items pieces.new.items) }
-    ensures fault { IfErr result (IsCutLineFault line.now) }
-{
-    match read_cut_line(alloc, line)? {
-        CutLine::Skipped => Ok(()),
-        CutLine::Frame(frame) => frames.push(frame).or(Err(LineFault::OutOfMemory)),
-        CutLine::Piece(piece) => pieces.push(piece).or(Err(LineFault::OutOfMemory)),
-    }
-}
+/// How many bytes of a segment its header takes.
+const HEADER_BYTES: usize = 8;
 
-/// The frames and the pieces of an input, each in their order.
+/// The frames and the pieces of the lines so far, each in their order.
 #[derive(Drop)]
 struct CutInput {
     frames: Vec<Bytes>,
     pieces: Vec<Piece>,
 }
 
-/// The frames and the pieces that the lines of an input carry. The input is given back to the memory.
-fn read_cut_input(alloc: Global, input: Vec<u8>) -> Result<CutInput, TextFault>
-    ensures read { IfOk result
-        (λ read. ReadAsPieces (lines_of input.items) read.frames.items read.pieces.items) }
-    ensures fault { IfErr result (IsReadingFault input.items) }
-{
-    let mut frames = Vec::new(alloc);
-    let mut pieces = Vec::new(alloc);
-    let mut rest = input.as_slice();
-    let mut above = 0u64;
-    while !rest.is_empty() {
-        let (line, behind) = split_line(rest);
-        if let Err(fault) = take_line(alloc, &mut frames, &mut pieces, line) {
-            return Err(fault.at(above + 1));
+impl TakeLine for CutInput {
+    ghost use Rattle.std.specs.Prelude.{◌≡◌};
+    ghost use Rattle.texts.specs.Cut.Line.{FramesAndPieces, cut_format};
+
+    ghost State = { FramesAndPieces };
+
+    ghost format = { cut_format };
+
+    ghost stands_for = { λ said input.
+        said ≡ record { frames = input.frames.items; pieces = input.pieces.items } };
+
+    fn take_line(&mut self, alloc: Global, field: &[u8], rest: &[u8]) -> Result<(), LineFault> {
+        match read_cut_line(alloc, field, rest)? {
+            CutLine::Frame(frame) => self.frames.push(frame)?,
+            CutLine::Piece(piece) => self.pieces.push(piece)?,
         }
-        rest = behind;
-        above += 1;
+        Ok(())
     }
-    Ok(CutInput { frames, pieces })
 }
 
-/// The cut of the frames into the pieces, of which no segment was made yet.
-fn begin_cut(read: &CutInput, first: u16, fill: FillByte) -> Result<Cutter<'_>, TextFault>
-    requires { first < 8192 }
-    ensures begins { IfOk result
-        (Begins read.now.frames.items read.now.pieces.items first fill) }
-    ensures fault { IfErr result
-        (IsCuttingFault read.now.frames.items read.now.pieces.items) }
+/// The frames and the pieces that the lines of an input carry. The input is freed.
+fn read_cut_input(alloc: Global, input: Vec<u8>) -> Result<CutInput, TextFault>
+    ensures read { IfOk result (λ read. IsRead cut_format nothing (lines_of input.items)
+        (record { frames = read.frames.items; pieces = read.pieces.items })) }
+    ensures fault { IfErr result (IsReadingFault cut_format nothing (lines_of input.items)) }
 {
-    match Cutter::new(&read.frames, &read.pieces, first, fill) {
-        Ok(cutter) => Ok(cutter),
-        Err(fault) => Err(TextFault::Cut(fault)),
-    }
+    let mut read = CutInput {
+        frames: Vec::new(alloc),
+        pieces: Vec::new(alloc),
+    };
+    take_lines(alloc, &input, &mut read)?;
+    Ok(read)
 }
 
-/// How many bytes the lines of a cut's segments have. It stays at its greatest value.
-fn text_length(read: &CutInput) -> usize {
+/// How long the lines of a cut's segments are, or the greatest number where they are longer.
+fn text_length(read: &CutInput) -> usize
+    ensures { result ≡ min (cut_text_length read.now.frames.items read.now.pieces.items) usize.MAX }
+{
     let mut stream = 0usize;
     for frame in &read.frames {
         stream = stream.saturating_add(frame.len());
@@ -92,7 +82,7 @@ fn text_length(read: &CutInput) -> usize {
     bytes.saturating_mul(2).saturating_add(read.pieces.len())
 }
 
-/// Puts a segment's line behind a text.
+/// Appends a segment's line to a text.
 fn append_segment(alloc: Global, text: &mut Vec<u8>, segment: &Segment) -> Result<(), AllocError>
     ensures { OnOk result (text.new.items ≡ text.old.items ++ segment_line segment.now) }
 {
@@ -102,15 +92,16 @@ fn append_segment(alloc: Global, text: &mut Vec<u8>, segment: &Segment) -> Resul
     Ok(())
 }
 
-/// A line for each segment of a cut, in a text that begins with so much room. Each segment is given back to the
-/// memory once its line is there.
+/// A line for each segment of a cut, in a text that begins with so much room. Each segment is freed
+/// once its line is there.
 fn segment_lines(alloc: Global, cutter: Cutter<'_>, room: usize) -> Result<Vec<u8>, AllocError>
-    requires under_way { IsUnderWay cutter }
+    requires cuttable { IsCuttable cutter.frames cutter.pieces }
     requires none_made { cutter.made ≡ 0 }
-    ensures { IfOk result (λ text. IsPrinted cutter.entry text.items) }
+    ensures { IfOk result
+        (λ text. IsPrinted cutter.entry.first cutter.entry.fill
+        cutter.entry.frames cutter.entry.pieces text.items) }
 {
-    // What is made one by one is a lawful cut.
-    docsis_wire::made_one_by_one();
+    docsis_wire::laws::segments_made_one_by_one_are_the_cut();
     let mut cutter = cutter;
     let mut text = Vec::with_capacity(alloc, room)?;
     while let Some(segment) = cutter.next(alloc)? {
@@ -119,19 +110,29 @@ fn segment_lines(alloc: Global, cutter: Cutter<'_>, room: usize) -> Result<Vec<u
     Ok(text)
 }
 
-/// The text that stands for an input of `cut`: the segments that its frames are cut into, one a line. The
-/// first one has the number `first`, 0 to 8191.
+/// The text that stands for an input of `cut`: the segments that its frames are cut into, one a
+/// line, each as the lower-case digits of its header and its payload. The first one has the number
+/// `first`, 0 to 8191.
+///
+/// Otherwise it reports the first faulty line, or, where no line is faulty, the first fault of the
+/// frames and pieces, or that an allocation failed. That an input has one text or one fault is
+/// stated by [`cut_has_one_text`](crate::laws::cut_has_one_text),
+/// [`cut_has_one_fault`](crate::laws::cut_has_one_fault) and
+/// [`faulty_input_of_cut_has_no_text`](crate::laws::faulty_input_of_cut_has_no_text).
 pub fn cut_lines(
     alloc: Global,
     input: Vec<u8>,
     first: u16,
     fill: FillByte,
 ) -> Result<Vec<u8>, TextFault>
-    requires { first < 8192 }
+    requires { first < sequence_modulus }
     ensures text { IfOk result (λ text. IsCutText first fill input.items text.items) }
     ensures fault { IfErr result (IsCutFault input.items) }
 {
     let read = read_cut_input(alloc, input)?;
-    let cutter = begin_cut(&read, first, fill)?;
-    segment_lines(alloc, cutter, text_length(&read)).or(Err(TextFault::OutOfMemory))
+    let cutter = Cutter::new(&read.frames, &read.pieces, first, fill)?;
+    Ok(segment_lines(alloc, cutter, text_length(&read))?)
 }
+
+#[cfg(test)]
+mod tests;

@@ -1,15 +1,21 @@
+//! Why an input was not read: the faults of a line and of an input, to which those of a field, of a
+//! segment and of a cut convert by `?`.
 ghost use Rattle.std.specs.Prelude.{◌≡◌};
 ghost use Rattle.texts.specs.Kinds.{kind_text};
+ghost use Rattle.texts.specs.Fault.{fault_at};
 
-use docsis_wire::CutFault;
+use crate::field::FieldFault;
+use docsis_wire::{CutFault, SegmentFault};
+use std::alloc::{AllocError, AllocFailed};
 use thiserror::Error;
 
-/// Why a line of an input cannot be read. Where a line has several faults, the first of these is told.
+/// Why a line of an input cannot be read. Where a line has several faults, the first of these is
+/// reported.
 #[derive(Clone, Copy, Debug, PartialEq, Eq)]
 pub enum TraceKind {
     /// The first word is none of the command's.
     UnknownLine,
-    /// Too few or too many words.
+    /// There are too few or too many words.
     FieldCount,
     /// A number field is no number in its range.
     BadNumber,
@@ -41,8 +47,9 @@ impl TraceKind {
 #[derive(Clone, Copy, Debug, PartialEq, Eq, Error)]
 #[error("line {line}: {}", .kind.text())]
 pub struct TraceFault {
-    /// Lines are numbered from 1, skipped ones included.
+    /// Its number. Lines are numbered from 1, skipped ones included.
     pub line: u64,
+    /// Why it cannot be read.
     pub kind: TraceKind,
 }
 
@@ -59,3 +66,105 @@ pub enum TextFault {
     #[error("out of memory")]
     OutOfMemory,
 }
+
+/// Why a line was not read.
+#[derive(Clone, Copy, Debug, PartialEq, Eq, Error)]
+pub enum LineFault {
+    /// The line has a fault.
+    #[error("{}", .0.text())]
+    Kind(TraceKind),
+    /// An allocation failed.
+    #[error("out of memory")]
+    OutOfMemory,
+}
+
+impl LineFault {
+    /// The fault of the input whose line of this number it is.
+    pub fn at(self, line: u64) -> TextFault
+        ensures { result ≡ fault_at line self }
+    {
+        match self {
+            LineFault::Kind(kind) => TextFault::Trace(TraceFault { line, kind }),
+            LineFault::OutOfMemory => TextFault::OutOfMemory,
+        }
+    }
+}
+
+impl From<AllocError> for LineFault {
+    ghost use Rattle.std.specs.Prelude.{◌≡◌};
+    ghost use Rattle.texts.specs.declared.fault.LineFault.TheVariants.{OutOfMemory};
+
+    ghost from_gives = { λ _ fault. fault ≡ OutOfMemory };
+
+    fn from(_: AllocError) -> LineFault {
+        LineFault::OutOfMemory
+    }
+}
+
+impl<T: Drop> From<AllocFailed<T>> for LineFault {
+    ghost use Rattle.std.specs.Prelude.{◌≡◌};
+    ghost use Rattle.texts.specs.declared.fault.LineFault.TheVariants.{OutOfMemory};
+
+    ghost from_gives = { λ _ fault. fault ≡ OutOfMemory };
+
+    fn from(_: AllocFailed<T>) -> LineFault {
+        LineFault::OutOfMemory
+    }
+}
+
+impl From<FieldFault> for LineFault {
+    ghost use Rattle.std.specs.Prelude.{◌≡◌};
+    ghost use Rattle.texts.specs.Fault.{line_fault_of_field};
+
+    ghost from_gives = { λ field line. line ≡ line_fault_of_field field };
+
+    fn from(fault: FieldFault) -> LineFault {
+        match fault {
+            FieldFault::NotHex => LineFault::Kind(TraceKind::NotHex),
+            FieldFault::OutOfMemory => LineFault::OutOfMemory,
+        }
+    }
+}
+
+impl From<SegmentFault> for LineFault {
+    ghost use Rattle.std.specs.Prelude.{◌≡◌};
+    ghost use Rattle.texts.specs.Fault.{line_fault_of_segment};
+
+    ghost from_gives = { λ segment line. line ≡ line_fault_of_segment segment };
+
+    fn from(fault: SegmentFault) -> LineFault {
+        match fault {
+            SegmentFault::TooShort => LineFault::Kind(TraceKind::TooShort),
+            SegmentFault::PointerPast => LineFault::Kind(TraceKind::PointerPast),
+            SegmentFault::OutOfMemory => LineFault::OutOfMemory,
+        }
+    }
+}
+
+impl From<AllocError> for TextFault {
+    ghost use Rattle.std.specs.Prelude.{◌≡◌};
+    ghost use Rattle.texts.specs.declared.fault.TextFault.TheVariants.{OutOfMemory};
+
+    ghost from_gives = { λ _ fault. fault ≡ OutOfMemory };
+
+    fn from(_: AllocError) -> TextFault {
+        TextFault::OutOfMemory
+    }
+}
+
+impl From<CutFault> for TextFault {
+    ghost use Rattle.std.specs.Prelude.{◌≡◌};
+    ghost use Rattle.texts.specs.Fault.{text_fault_of_cut};
+
+    ghost from_gives = { λ cut text. text ≡ text_fault_of_cut cut };
+
+    fn from(fault: CutFault) -> TextFault {
+        match fault {
+            CutFault::OutOfMemory => TextFault::OutOfMemory,
+            fault => TextFault::Cut(fault),
+        }
+    }
+}
+
+#[cfg(test)]
+mod tests;

@@ -1,9 +1,8 @@
-ghost use Rattle.std.specs.Prelude.{◌≡◌, ◌∷◌, ◌++◌, [], MatchOption, IfOk, OnOk};
+//! Hexadecimal fields, read and written.
+ghost use Rattle.std.specs.Prelude.{◌≡◌, ◌++◌, IfOk, OnOk};
 ghost use Rattle.hex.specs.Hex.{encode_lower};
-ghost use Rattle.texts.specs.Lines.{fields_of, words_of};
 ghost use Rattle.texts.specs.Field.{SpellsBytes, IsHex};
 
-use crate::lines::split_word;
 use hex::FromHexError;
 use std::alloc::{AllocError, Global};
 use thiserror::Error;
@@ -14,25 +13,12 @@ pub enum FieldFault {
     /// It is neither `-` nor an even number of hexadecimal digits.
     #[error("not hexadecimal")]
     NotHex,
-    /// A growth was refused.
+    /// An allocation failed.
     #[error("out of memory")]
     OutOfMemory,
 }
 
-/// The first field of a line and what stands behind it. A line without words, or whose first word begins
-/// with `#`, has none.
-pub fn split_field(line: &[u8]) -> Option<(&[u8], &[u8])>
-    ensures { MatchOption result (fields_of line.now ≡ [])
-        (λ r. fields_of line.now ≡ r.0.now ∷ words_of r.1.now) }
-{
-    let (word, rest) = split_word(line)?;
-    match word {
-        [b'#', ..] => None,
-        _ => Some((word, rest)),
-    }
-}
-
-/// The bytes that a hexadecimal field spells.
+/// The bytes that a hexadecimal field spells: two digits for each, in either case, or `-` for none.
 pub fn read_hex(alloc: Global, field: &[u8]) -> Result<Vec<u8>, FieldFault>
     ensures spelled { IfOk result (λ bytes. SpellsBytes field.now bytes.items) }
     ensures not_hex { result ≡ Err FieldFault.NotHex → ¬ IsHex field.now }
@@ -47,10 +33,66 @@ pub fn read_hex(alloc: Global, field: &[u8]) -> Result<Vec<u8>, FieldFault>
     }
 }
 
-/// Puts the lower-case digits of some bytes behind a text.
+/// Appends the lower-case digits of some bytes to a text.
 pub fn append_hex(alloc: Global, text: &mut Vec<u8>, bytes: &[u8]) -> Result<(), AllocError>
     ensures { OnOk result (text.new.items ≡ text.old.items ++ encode_lower bytes.now) }
 {
     let digits = hex::encode(alloc, bytes)?;
     text.extend_from_slice(digits.as_bytes())
+}
+
+#[cfg(test)]
+mod tests {
+    use super::*;
+    use std::test::Fail;
+
+    #[test]
+    fn reads_fields_at_their_edges(rt: HostRuntime) -> Result<(), Fail> {
+        let cases: [(&str, &[u8]); 4] = [
+            ("-", &[]),
+            ("", &[]),
+            ("00ff", &[0x00, 0xff]),
+            ("aBcDeF09", &[0xab, 0xcd, 0xef, 0x09]),
+        ];
+        for (field, bytes) in &cases {
+            assert_eq!(rt;
+                read_hex(rt.alloc(), field.as_bytes())?.as_slice(),
+                *bytes,
+                "{field}"
+            );
+        }
+        Ok(())
+    }
+
+    #[test]
+    fn refuses_fields_that_are_not_hexadecimal(rt: HostRuntime) -> Result<(), Fail> {
+        for field in [
+            "0",
+            "000",
+            "--",
+            "-0",
+            "0x00",
+            "0g",
+            "g0",
+            "/0",
+            ":0",
+            "@0",
+            "`0",
+            "\u{ff10}0",
+        ] {
+            match read_hex(rt.alloc(), field.as_bytes()) {
+                Err(FieldFault::NotHex) => {}
+                _ => assert!(rt; false, "{field}"),
+            }
+        }
+        Ok(())
+    }
+
+    #[test]
+    fn appends_lower_case_digits(rt: HostRuntime) -> Result<(), Fail> {
+        let mut text = Vec::from_slice(rt.alloc(), b"09 ")?;
+        append_hex(rt.alloc(), &mut text, &[0x00, 0x9f, 0xfa])?;
+        assert_eq!(rt; text.as_slice(), b"09 009ffa".as_slice());
+        Ok(())
+    }
 }

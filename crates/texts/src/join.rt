@@ -1,16 +1,18 @@
+//! The text of `join`: the frames that an input's segments join to, one a line.
 ghost use Rattle.std.specs.Prelude.{◌≡◌, ◌≢◌, ◌++◌, false, flat_map, IfOk, IfErr, IfSome, OnOk};
-ghost use Rattle.texts.specs.Join.{IsJoined, IsJoinFault, JoinsLine, IsLineFault, frame_line};
+ghost use Rattle.texts.specs.Join.{IsJoined, IsJoinFault, frame_line};
 
-use crate::fault::TextFault;
+mod line;
+
+use crate::fault::{LineFault, TextFault};
 use crate::field::append_hex;
-use crate::join_line::read_join_line;
-use crate::line_fault::LineFault;
-use crate::lines::split_line;
+use crate::lines::{TakeLine, take_lines};
 use ccf::Joiner;
 use docsis_wire::Bytes;
+use line::read_segment;
 use std::alloc::{AllocError, Global};
 
-/// Puts a line for each frame behind a text.
+/// Appends a line for each frame to a text.
 fn append_frames(alloc: Global, text: &mut Vec<u8>, frames: &[Bytes]) -> Result<(), AllocError>
     ensures { OnOk result (text.new.items ≡ text.old.items ++ flat_map frame_line frames.now) }
 {
@@ -21,45 +23,52 @@ fn append_frames(alloc: Global, text: &mut Vec<u8>, frames: &[Bytes]) -> Result<
     Ok(())
 }
 
-/// Joins what a line carries, and puts the frames that are whole then behind a text.
-fn join_line(
-    alloc: Global,
-    joiner: &mut Joiner,
-    text: &mut Vec<u8>,
-    line: &[u8],
-) -> Result<(), LineFault>
-    ensures joined { OnOk result
-        (JoinsLine line.now joiner.old text.old.items joiner.new text.new.items) }
-    ensures fault { IfErr result (IsLineFault line.now) }
-{
-    let Some(segment) = read_join_line(alloc, line)? else {
-        return Ok(());
-    };
-    let Ok(fed) = joiner.feed(alloc, &segment) else {
-        return Err(LineFault::OutOfMemory);
-    };
-    match append_frames(alloc, text, &fed.frames) {
-        Ok(()) => Ok(()),
-        Err(_) => Err(LineFault::OutOfMemory),
+/// The segments of the lines so far, joined, and the lines of their frames.
+#[derive(Drop)]
+struct Joining {
+    joiner: Joiner,
+    text: Vec<u8>,
+}
+
+impl TakeLine for Joining {
+    ghost use Rattle.std.specs.Prelude.{List};
+    ghost use Rattle.docsis_wire.specs.declared.segment.Segment.{Segment};
+    ghost use Rattle.texts.specs.Join.Line.{join_format};
+    ghost use Rattle.texts.specs.Join.{IsJoinedSoFar};
+
+    ghost State = { List Segment };
+
+    ghost format = { join_format };
+
+    ghost stands_for = { λ segments joining.
+        IsJoinedSoFar segments joining.joiner joining.text.items };
+
+    fn take_line(&mut self, alloc: Global, field: &[u8], rest: &[u8]) -> Result<(), LineFault> {
+        let segment = read_segment(alloc, field, rest)?;
+        let fed = self.joiner.feed(alloc, &segment)?;
+        append_frames(alloc, &mut self.text, &fed.frames)?;
+        Ok(())
     }
 }
 
-/// The text that stands for an input of `join`: the frames that its segments join to, one a line.
+/// The text that stands for an input of `join`: the frames that its segments join to, one a line, as
+/// lower-case digits. The segments are taken in order, none of them lost, whatever their numbers.
+///
+/// Otherwise it reports the first faulty line, or that an allocation failed. That an input has one
+/// text or one fault is stated by [`join_has_one_text`](crate::laws::join_has_one_text),
+/// [`join_has_one_fault`](crate::laws::join_has_one_fault) and
+/// [`faulty_input_of_join_has_no_text`](crate::laws::faulty_input_of_join_has_no_text).
 pub fn join_lines(alloc: Global, input: &[u8]) -> Result<Vec<u8>, TextFault>
     ensures text { IfOk result (λ text. IsJoined input.now text.items) }
     ensures fault { IfErr result (IsJoinFault input.now) }
 {
-    let mut joiner = Joiner::new(alloc);
-    let mut text = Vec::new(alloc);
-    let mut rest = input;
-    let mut above = 0u64;
-    while !rest.is_empty() {
-        let (line, behind) = split_line(rest);
-        if let Err(fault) = join_line(alloc, &mut joiner, &mut text, line) {
-            return Err(fault.at(above + 1));
-        }
-        rest = behind;
-        above += 1;
-    }
-    Ok(text)
+    let mut joining = Joining {
+        joiner: Joiner::new(alloc),
+        text: Vec::new(alloc),
+    };
+    take_lines(alloc, input, &mut joining)?;
+    Ok(joining.text)
 }
+
+#[cfg(test)]
+mod tests;

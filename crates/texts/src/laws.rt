@@ -1,53 +1,72 @@
-//! The definitions of `join` and of `cut` determine their answers: an input has one text, or one first fault.
-ghost use Rattle.std.specs.Prelude.{◌≡◌, ◌≢◌, ℕ, List};
+//! The definitions of `join` and of `cut` determine their answers: an input has one text, or one
+//! first fault.
+//!
+//! Each function states a law in its contract and does nothing.
+ghost use Rattle.std.specs.Prelude.{◌≡◌, ◌≢◌, ℕ, List, length, flat_map};
 ghost use Rattle.docsis_wire.specs.declared.pieces.FillByte.{FillByte};
-ghost use Rattle.texts.specs.declared.fault.TraceFault.{TraceFault};
+ghost use Rattle.docsis_wire.specs.declared.pieces.Piece.{Piece};
+ghost use Rattle.docsis_wire.specs.declared.segment.Segment.{Segment};
 ghost use Rattle.texts.specs.declared.fault.TextFault.{TextFault};
-ghost use Rattle.texts.specs.Join.{IsJoined, IsFirstFault};
-ghost use Rattle.texts.specs.Cut.{IsCutText, IsCutFault};
+ghost use Rattle.texts.specs.Join.{IsJoined, IsJoinFault};
+ghost use Rattle.texts.specs.Cut.{IsCutInto, IsCutText, IsCutFault, segment_line, cut_text_length};
 
-/// At most one text stands for an input.
-pub fn one_text()
+/// At most one text stands for an input of `join`.
+pub fn join_has_one_text()
     ensures { (input text other : List ℕ)
         → IsJoined input text → IsJoined input other → text ≡ other }
 {
-    ccf::one_joining();
+    docsis_wire::laws::eight_bytes_spell_one_header();
+    ccf::laws::joining_has_one_answer();
 }
 
-/// An input has at most one first fault: its line, and the one kind that this line has.
-pub fn one_fault()
-    ensures { (input : List ℕ) (fault other : TraceFault)
-        → IsFirstFault input fault → IsFirstFault input other → fault ≡ other }
-{}
+/// An input of `join` has at most one first fault: its line, and the one kind that this line has.
+pub fn join_has_one_fault()
+    ensures { (input : List ℕ) (fault other : TextFault)
+        → IsJoinFault input fault → fault ≢ TextFault.OutOfMemory
+        → IsJoinFault input other → other ≢ TextFault.OutOfMemory → fault ≡ other }
+{
+    docsis_wire::laws::eight_bytes_spell_one_header();
+}
 
-/// No text stands for an input that has a fault.
-pub fn text_or_fault()
-    ensures { (input text : List ℕ) (fault : TraceFault)
-        → IsJoined input text → IsFirstFault input fault → ⊥ }
-{}
+/// No text stands for an input of `join` that has a fault.
+pub fn faulty_input_of_join_has_no_text()
+    ensures { (input text : List ℕ) (fault : TextFault)
+        → IsJoined input text → IsJoinFault input fault → fault ≡ TextFault.OutOfMemory }
+{
+    docsis_wire::laws::eight_bytes_spell_one_header();
+}
 
 /// At most one text stands for an input of `cut`.
-pub fn one_cut_text()
+pub fn cut_has_one_text()
     ensures { (first : ℕ) (fill : FillByte) (input text other : List ℕ)
         → IsCutText first fill input text → IsCutText first fill input other → text ≡ other }
 {
-    docsis_wire::one_cut();
+    docsis_wire::laws::pieces_make_one_cut();
 }
 
+/// The lines of the segments that frames are cut into are exactly as long as the frames and the
+/// pieces say, so that `cut_lines` reserves just the room that its text takes.
+pub fn cut_text_has_this_length()
+    ensures { (first : ℕ) (fill : FillByte) (frames : List (List ℕ)) (pieces : List Piece)
+        (segments : List Segment)
+        → IsCutInto first fill frames pieces segments
+        → length (flat_map segment_line segments) ≡ cut_text_length frames pieces }
+{}
+
 /// An input of `cut` has at most one first fault, be it of a line or of the frames and the pieces.
-pub fn one_cut_fault()
+pub fn cut_has_one_fault()
     ensures { (input : List ℕ) (fault other : TextFault)
         → IsCutFault input fault → fault ≢ TextFault.OutOfMemory
         → IsCutFault input other → other ≢ TextFault.OutOfMemory → fault ≡ other }
 {
-    docsis_wire::one_fault();
+    docsis_wire::laws::cut_has_one_fault();
 }
 
 /// No text stands for an input of `cut` that has a fault.
-pub fn cut_text_or_fault()
+pub fn faulty_input_of_cut_has_no_text()
     ensures { (first : ℕ) (fill : FillByte) (input text : List ℕ) (fault : TextFault)
         → IsCutText first fill input text → IsCutFault input fault → fault ≡ TextFault.OutOfMemory }
 {
-    docsis_wire::cut_without_fault();
-    docsis_wire::one_fault();
+    docsis_wire::laws::lawful_cut_has_no_fault();
+    docsis_wire::laws::cut_has_one_fault();
 }

@@ -1,20 +1,21 @@
 //! The texts of segrx: bytes into values and back, without a device and without a command line.
 //!
-//! `join_lines` gives exactly the text of the frames that an input's segments join to, and `cut_lines` exactly the text of
-//! the segments that its frames are cut into; otherwise they report the first faulty line with the least kind of
-//! fault, or the first fault of the cut.
+//! [`join_lines`] gives exactly the text of the frames that an input's segments join to, and
+//! [`cut_lines`] exactly the text of the segments that its frames are cut into; otherwise they
+//! report the first faulty line with the least kind of fault, or the first fault of the cut.
+//! [`laws`] states that each input has one answer.
 #![tactic(auto)]
 
 mod cut;
-mod cut_line;
 mod fault;
 mod field;
 mod join;
-mod join_line;
 pub mod laws;
-mod line_fault;
 mod lines;
 mod number;
+#[cfg(test)]
+mod refusals;
+mod words;
 
 pub use cut::cut_lines;
 pub use fault::{TextFault, TraceFault, TraceKind};

@@ -1,13 +1,32 @@
-ghost use Rattle.std.specs.Prelude.{◌≡◌, ◌<◌, ◌+◌, ◌==◌, List, [], ◌∷◌, length, MatchOption, not, position};
-ghost use Rattle.texts.specs.Lines.{lines_of, words_of, is_line_feed, is_separator};
+//! The lines of an input, numbered from 1, and the one walk over them.
+ghost use Rattle.std.specs.Prelude.{◌≡◌, ◌<◌, [], ◌∷◌, List, length, position, OnOk, IfErr};
+ghost use Rattle.texts.specs.Fault.{IsLineFault};
+ghost use Rattle.texts.specs.Format.{Format, IsRead, IsReadingFault};
+ghost use Rattle.texts.specs.Lines.{lines_of, words_of, fields_of, is_line_feed};
 
-use memchr::{memchr, memchr3};
+use crate::fault::{LineFault, TextFault};
+use crate::words::split_field;
+use memchr::memchr;
+use std::alloc::Global;
 
-/// Whether a byte separates words: a space, a tab or a carriage return.
-fn separates(byte: u8) -> bool
-    ensures { result ≡ is_separator byte }
-{
-    matches!(byte, b' ' | b'\t' | b'\r')
+/// What is made of the lines of one format, one line after another.
+pub trait TakeLine {
+    // What lines of the format say.
+    ghost State: { Type 0 };
+    // The format.
+    ghost format: { Format State };
+    // The value is what it is after lines that say this.
+    ghost stands_for: { State → Self → Type 0 };
+
+    /// Takes the next line that has fields, by its first field and what follows that on the line.
+    /// Once it reports a fault, no more lines are taken.
+    fn take_line(&mut self, alloc: Global, field: &[u8], rest: &[u8]) -> Result<(), LineFault>
+        ensures taken { (before : State) → stands_for before self.old
+            → OnOk result ((after : State)
+            × format.Takes before (field.now ∷ words_of rest.now) after
+            × stands_for after self.new) }
+        ensures fault { (before : State) → stands_for before self.old
+            → IfErr result (IsLineFault (format.HasFault before (field.now ∷ words_of rest.now))) };
 }
 
 /// The place of the first line feed.
@@ -17,22 +36,8 @@ fn line_end(text: &[u8]) -> Option<usize>
     memchr(b'\n', text)
 }
 
-/// The place of the first byte of a word.
-fn word_start(line: &[u8]) -> Option<usize>
-    ensures { result ≡ position (λ byte. not (is_separator byte)) line.now }
-{
-    line.iter().position(|byte| !separates(*byte))
-}
-
-/// The place of the first byte that separates words.
-fn word_end(line: &[u8]) -> Option<usize>
-    ensures { result ≡ position is_separator line.now }
-{
-    memchr3(b' ', b'\t', b'\r', line)
-}
-
-/// The first line of a text, without its line feed, and what stands behind that.
-pub fn split_line(text: &[u8]) -> (&[u8], &[u8])
+/// The first line of a text, without its line feed, and what follows that.
+fn split_line(text: &[u8]) -> (&[u8], &[u8])
     requires { 0 < length text.now }
     ensures lines { lines_of text.now ≡ result.0.now ∷ lines_of result.1.now }
     ensures shorter { length result.1.now < length text.now }
@@ -43,15 +48,38 @@ pub fn split_line(text: &[u8]) -> (&[u8], &[u8])
     }
 }
 
-/// The first word of a line and what stands behind it.
-pub fn split_word(line: &[u8]) -> Option<(&[u8], &[u8])>
-    ensures { MatchOption result (words_of line.now ≡ [])
-        (λ r. words_of line.now ≡ r.0.now ∷ words_of r.1.now) }
+/// Takes a line, or skips it where it has no fields.
+fn take_or_skip<T: TakeLine>(alloc: Global, line: &[u8], taker: &mut T) -> Result<(), LineFault>
+    ensures taken { (before : T.State) → T.stands_for before taker.old
+        → OnOk result ((after : T.State)
+        × IsRead T.format before (line.now ∷ []) after × T.stands_for after taker.new) }
+    ensures fault { (before : T.State) → T.stands_for before taker.old
+        → IfErr result (IsLineFault (T.format.HasFault before (fields_of line.now))) }
 {
-    let start = word_start(line)?;
-    let (_, words) = line.split_at(start);
-    match word_end(words) {
-        Some(end) => Some(words.split_at(end)),
-        None => Some((words, &[])),
+    match split_field(line) {
+        Some((field, rest)) => taker.take_line(alloc, field, rest),
+        None => Ok(()),
     }
+}
+
+/// Takes the lines of an input in order, and reports the first faulty one. A line without fields is
+/// skipped.
+pub fn take_lines<T: TakeLine>(alloc: Global, input: &[u8], taker: &mut T) -> Result<(), TextFault>
+    ensures read { (start : T.State) → T.stands_for start taker.old
+        → OnOk result ((end : T.State)
+        × IsRead T.format start (lines_of input.now) end × T.stands_for end taker.new) }
+    ensures fault { (start : T.State) → T.stands_for start taker.old
+        → IfErr result (IsReadingFault T.format start (lines_of input.now)) }
+{
+    let mut rest = input;
+    let mut above = 0u64;
+    while !rest.is_empty() {
+        let (line, below) = split_line(rest);
+        if let Err(fault) = take_or_skip(alloc, line, taker) {
+            return Err(fault.at(above + 1));
+        }
+        rest = below;
+        above += 1;
+    }
+    Ok(())
 }

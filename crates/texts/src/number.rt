@@ -1,8 +1,9 @@
+//! Number fields.
 ghost use Rattle.std.specs.Prelude.{◌≡◌, IfSome};
 ghost use Rattle.texts.specs.Number.{IsNumber, IsNoNumber};
 
-/// The number that a field spells in decimal digits, leading zeros or not, if it is at most `most`. A sign is
-/// no digit.
+/// The number that a field spells in decimal digits, leading zeros or not, if it is at most `most`.
+/// A field without digits, with any other byte, as a sign, or with a greater number is none.
 pub fn read_number(field: &[u8], most: u16) -> Option<u16>
     ensures number { IfSome result (IsNumber field.now most) }
     ensures none { result ≡ None → IsNoNumber field.now most }
@@ -22,4 +23,33 @@ pub fn read_number(field: &[u8], most: u16) -> Option<u16>
         number = next as u16;
     }
     Some(number)
+}
+
+#[cfg(test)]
+mod tests {
+    use super::*;
+    use std::test::Fail;
+
+    #[test]
+    fn reads_numbers_at_their_edges(rt: HostRuntime) -> Result<(), Fail> {
+        let cases: [(&str, u16, Option<u16>); 13] = [
+            ("0", 0, Some(0)),
+            ("1", 0, None),
+            ("65535", 65_535, Some(65_535)),
+            ("65536", 65_535, None),
+            ("8191", 8191, Some(8191)),
+            ("8192", 8191, None),
+            ("000000000000000000000000000007", 7, Some(7)),
+            ("99999999999999999999999999", 65_535, None),
+            ("", 65_535, None),
+            ("+1", 65_535, None),
+            ("-1", 65_535, None),
+            ("1a", 65_535, None),
+            ("\u{661}", 65_535, None),
+        ];
+        for (field, most, number) in &cases {
+            assert_eq!(rt; read_number(field.as_bytes(), *most), *number, "{field}");
+        }
+        Ok(())
+    }
 }

@@ -1,5 +1,3 @@
-ghost use Rattle.docsis_wire.specs.Cutter.{IsUnderWay};
-
 use super::{Cutter, cut};
 use crate::buffer::Bytes;
 use crate::frame::well_formed;
@@ -110,7 +108,7 @@ const CUTTINGS: [Cutting; 10] = [
         ],
     },
     Cutting {
-        name: "more bytes than remain, and fill behind the last frame",
+        name: "more bytes than remain, and fill after the last frame",
         frames: &[PLAIN],
         pieces: &[(5, 0), (9, 1), (4, 1)],
         first: 0,
@@ -187,7 +185,7 @@ fn are(segments: &[Segment], wanted: &[&[u8]]) -> bool {
             .all(|(segment, want)| is(segment, want))
 }
 
-/// The frames end to end, where each starts, and where fill may stand.
+/// The frames end to end, where each starts, and where there may be fill.
 #[derive(Drop)]
 struct Stream {
     bytes: Vec<u8>,
@@ -239,8 +237,8 @@ impl Stream {
     }
 }
 
-/// Decides by the definition of a lawful cut, trying each length of each chunk, whether the segments are
-/// one of these frames.
+/// Decides by the definition of a lawful cut, trying each length of each chunk, whether the
+/// segments are one of these frames.
 fn is_lawful_cut(
     alloc: Global,
     frames: &[Bytes],
@@ -300,14 +298,18 @@ fn cuts_lawfully(rt: HostRuntime) -> Result<(), Fail> {
         let lawful = is_lawful_cut(rt.alloc(), &frames, cutting.first, fill, &segments)?;
         assert!(rt; lawful, "{name}");
         let later = is_lawful_cut(rt.alloc(), &frames, cutting.first ^ 1, fill, &segments)?;
-        assert_eq!(rt; later, segments.is_empty(), "{name}, another first number");
+        assert_eq!(rt;
+            later,
+            segments.is_empty(),
+            "{name}, by a different first number"
+        );
     }
     Ok(())
 }
 
 /// Two frames by each three pieces of up to nine bytes and one byte of fill.
 #[test]
-fn cuts_lawfully_wherever_fill_may_stand(rt: HostRuntime) -> Result<(), Fail> {
+fn cuts_lawfully_wherever_there_may_be_fill(rt: HostRuntime) -> Result<(), Fail> {
     let frames = owned(rt.alloc(), &[PLAIN, EXTENDED])?;
     for bytes in 0..10u16 {
         for more in 0..10u16 {
@@ -358,7 +360,7 @@ const FAULTS: [Fault; 6] = [
         fault: CutFault::BadFrame(1),
     },
     Fault {
-        name: "fill behind five of eight bytes",
+        name: "fill after five of eight bytes",
         frames: &[PLAIN],
         pieces: &[(5, 1)],
         fault: CutFault::FillInsideFrame(0),
@@ -384,7 +386,7 @@ const FAULTS: [Fault; 6] = [
 ];
 
 #[test]
-fn tells_faults(rt: HostRuntime) -> Result<(), Fail> {
+fn reports_faults(rt: HostRuntime) -> Result<(), Fail> {
     for case in &FAULTS {
         let name = case.name;
         let frames = owned(rt.alloc(), case.frames)?;
@@ -395,7 +397,7 @@ fn tells_faults(rt: HostRuntime) -> Result<(), Fail> {
     Ok(())
 }
 
-/// A frame of `6 + len` bytes that are zero behind LEN, and the plain frame.
+/// A frame of `6 + len` bytes that are zero after LEN, and the plain frame.
 fn long_and_plain(alloc: Global, len: u16) -> Result<Vec<Bytes>, AllocError> {
     let mut long = vec![in alloc; 0, 0]?;
     long.extend_from_slice(&len.to_be_bytes())?;
@@ -443,12 +445,13 @@ fn points_no_further_than_a_pointer_can(rt: HostRuntime) -> Result<(), Fail> {
     Ok(())
 }
 
-/// Frames without payload end to end, in pieces of two bytes: three pieces a frame.
+/// Frames without payload end to end, in more than 70,000 pieces of two bytes: three pieces a
+/// frame.
 #[test]
 fn cuts_into_many_pieces(rt: HostRuntime) -> Result<(), Fail> {
     let mut frames = Vec::new(rt.alloc());
     let mut pieces = Vec::new(rt.alloc());
-    for number in 0..2000_u32 {
+    for number in 0..23_400_u32 {
         let frame = Vec::from_slice(rt.alloc(), &[0, 1 + (number % 255) as u8, 0, 0, 0, 0])?;
         frames.push(Bytes::from(frame))?;
         for _ in 0..3 {
@@ -456,7 +459,7 @@ fn cuts_into_many_pieces(rt: HostRuntime) -> Result<(), Fail> {
         }
     }
     let segments = cut(rt.alloc(), &frames, &pieces, 8000, FillByte::Ones)?;
-    assert_eq!(rt; segments.len(), 6000);
+    assert_eq!(rt; segments.len(), 70_200);
     for (index, segment) in segments.iter().enumerate() {
         let starts = index % 3 == 0;
         assert_eq!(rt; segment.head.pfi, starts, "{index}");
@@ -473,6 +476,17 @@ fn cuts_into_many_pieces(rt: HostRuntime) -> Result<(), Fail> {
         };
         assert_eq!(rt; segment.payload.as_slice(), [0, mark].as_slice(), "{index}");
     }
+    let mut cutter = Cutter::new(&frames, &pieces, 8000, FillByte::Ones)?;
+    for (index, segment) in segments.iter().enumerate() {
+        let made = cutter.next(rt.alloc())?.ok_or("too few")?;
+        assert_eq!(rt; made.head, segment.head, "{index}");
+        assert_eq!(rt;
+            made.payload.as_slice(),
+            segment.payload.as_slice(),
+            "{index}"
+        );
+    }
+    assert!(rt; cutter.next(rt.alloc())?.is_none());
     Ok(())
 }
 
@@ -555,10 +569,7 @@ mod refusals {
         rt: &impl Print,
         alloc: Global,
         cutter: &mut Cutter<'_>,
-    ) -> Result<Option<Segment>, Fail>
-        requires { IsUnderWay cutter.old }
-        ensures { IsUnderWay cutter.new }
-    {
+    ) -> Result<Option<Segment>, Fail> {
         if let Ok(segment) = cutter.next(alloc) {
             return Ok(segment);
         }

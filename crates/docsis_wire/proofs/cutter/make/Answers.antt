@@ -1,6 +1,6 @@
 -- The segments were made one after another.
 use Rattle.std.proofs.Common.{Some}
-use Rattle.docsis_wire.specs.Cutter.{GivesNext}
+use Rattle.docsis_wire.specs.CutUnderWay.{GivesNext}
 use Rattle.docsis_wire.proofs.OneByOne.{HasMade-more, HasMade-all}
 use Rattle.docsis_wire.proofs.cutter.make.Goals as goal
 
@@ -9,16 +9,14 @@ loop-segments-preserved c =
     let before = c.loop-segments.cutter in
     let next : GivesNext before c.next.new.self (Some c.in-Some.segment) = rw c.in-Some.is at c.in_ok-segment.ensures.next in
     let more = HasMade-more c.args.cutter before c.next.new.self c.loop-segments.segments.items c.in-Some.segment c.loop-segments.invariant.same c.loop-segments.invariant.made next in
-    record { under_way = c.in_ok-segment.ensures.under_way; same = more.0; made = rw c.in_ok-push.ensures.items more.1 }
+    record { same = more.0; made = rw c.in_ok-push.ensures.items more.1 }
 
 pub returns-clause-lawful : goal.returns-clause-lawful
 returns-clause-lawful c =
-    let so_far = c.loop-segments.invariant in
-    (HasMade-all c.args.cutter c.loop-segments.cutter c.next.new.self c.loop-segments.segments.items c.in_ok-segment.field-0 so_far.same so_far.under_way so_far.made
+    (HasMade-all c.args.cutter c.loop-segments.cutter c.next.new.self c.loop-segments.segments.items c.in_ok-segment.field-0 c.requires.cuttable c.loop-segments.invariant.same c.loop-segments.invariant.made
     c.in_ok-segment.ensures.next c.in_default.not-Some).0
 
 pub returns-clause-named : goal.returns-clause-named
 returns-clause-named c =
-    let so_far = c.loop-segments.invariant in
-    (HasMade-all c.args.cutter c.loop-segments.cutter c.next.new.self c.loop-segments.segments.items c.in_ok-segment.field-0 so_far.same so_far.under_way so_far.made
+    (HasMade-all c.args.cutter c.loop-segments.cutter c.next.new.self c.loop-segments.segments.items c.in_ok-segment.field-0 c.requires.cuttable c.loop-segments.invariant.same c.loop-segments.invariant.made
     c.in_ok-segment.ensures.next c.in_default.not-Some).1

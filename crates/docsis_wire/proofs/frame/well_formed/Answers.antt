@@ -1,4 +1,4 @@
--- The two clauses of `read_head` on frames, where nothing stands behind the frame.
+-- The two clauses of `read_head` on frames, where nothing stands after the frame.
 use Rattle.std.proofs.Common.{◌≡◌, [], length, refl, sym, arith}
 use Rattle.std.proofs.lemmas.Bool.{eqb-true, eq-eqb}
 use Rattle.std.proofs.lemmas.List.{append-nil, take_all}

@@ -1,12 +1,16 @@
-use Rattle.std.proofs.Common.{arith}
-use Rattle.texts.proofs.JoinedSoFar.{JoinedSoFar-none, JoinedSoFar-more}
+use Rattle.std.proofs.Common.{[], refl}
+use Rattle.std.proofs.lemmas.Result.{err_from_is_err_and}
+use Rattle.texts.specs.Join.{IsJoinedSoFar}
 use Rattle.texts.proofs.join.join_lines.Goals as goal
 
-pub loop-rest-init : goal.loop-rest-init
-loop-rest-init c = record { so_far = rw (c.new-text.ensures.items, c.new-joiner.ensures) (JoinedSoFar-none c.args.input.now); within = omega arith }
+pub returns-in_err-take_lines-clause-fault : goal.returns-in_err-take_lines-clause-fault
+returns-in_err-take_lines-clause-fault c =
+    let nothing : IsJoinedSoFar [] c.new.result c.new-2.result.items = rw (c.new.ensures, c.new-2.ensures.items) record { frames = []; joined = (refl, refl); printed = refl } in
+    let p = err_from_is_err_and c.from_residual.result c.from_residual.ensures.1 in
+    rw (p.1, p.2) (c.in_err-take_lines.ensures.fault [] nothing)
 
-pub loop-rest-preserved : goal.loop-rest-preserved
-loop-rest-preserved c = record {
-  so_far = JoinedSoFar-more c.split_line.result.0.now c.split_line.result.1.now c.join_line.new.text.items c.join_line.new.joiner c.loop-rest.invariant.so_far c.split_line.ensures.lines c.in_default.ensures.joined;
-  within = omega arith;
-}
+pub returns-clause-text : goal.returns-clause-text
+returns-clause-text c =
+    let nothing : IsJoinedSoFar [] c.new.result c.new-2.result.items = rw (c.new.ensures, c.new-2.ensures.items) record { frames = []; joined = (refl, refl); printed = refl } in
+    let read = c.in_ok-take_lines.ensures.read [] nothing in
+    record { segments = read.0; frames = read.2.frames; unfinished = c.take_lines.new.taker.joiner; read = read.1; joined = read.2.joined; printed = read.2.printed }

@@ -1,0 +1,5 @@
+use Rattle.ccf.proofs.OneReading.{Feeds-once}
+use Rattle.ccf.proofs.laws.feed_has_one_answer.Goals as goal
+
+pub returns : goal.returns
+returns c = Feeds-once

@@ -1,0 +1,5 @@
+use Rattle.ccf.proofs.OneReading.{Joins-once}
+use Rattle.ccf.proofs.laws.joining_has_one_answer.Goals as goal
+
+pub returns : goal.returns
+returns c = Joins-once

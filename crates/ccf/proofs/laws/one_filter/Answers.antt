@@ -1,6 +1,0 @@
-use Rattle.std.proofs.Common.{◌≡◌, true}
-use Rattle.ccf.proofs.Filters.{FiltersFrom-once}
-use Rattle.ccf.proofs.laws.one_filter.Goals as goal
-
-pub returns : goal.returns
-returns c = λ p. FiltersFrom-once (λ j. p j ≡ true) 0

@@ -1,0 +1,5 @@
+use Rattle.ccf.proofs.OneReading.{Walks-once}
+use Rattle.ccf.proofs.laws.walk_has_one_answer.Goals as goal
+
+pub returns : goal.returns
+returns c = Walks-once

@@ -1,5 +1,0 @@
-use Rattle.docsis_wire.proofs.HeaderWords.{read_back}
-use Rattle.docsis_wire.proofs.laws.header_read_back.Goals as goal
-
-pub returns : goal.returns
-returns c = read_back

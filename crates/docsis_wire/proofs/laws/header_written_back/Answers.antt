@@ -1,5 +1,0 @@
-use Rattle.docsis_wire.proofs.HeaderWords.{written_back}
-use Rattle.docsis_wire.proofs.laws.header_written_back.Goals as goal
-
-pub returns : goal.returns
-returns c = written_back

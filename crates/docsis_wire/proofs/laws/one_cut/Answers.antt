@@ -1,5 +1,0 @@
-use Rattle.docsis_wire.proofs.OneCut.{cut-once}
-use Rattle.docsis_wire.proofs.laws.one_cut.Goals as goal
-
-pub returns : goal.returns
-returns c = cut-once

@@ -1,5 +1,0 @@
-use Rattle.docsis_wire.proofs.OneFault.{one_fault}
-use Rattle.docsis_wire.proofs.laws.one_fault.Goals as goal
-
-pub returns : goal.returns
-returns c = one_fault

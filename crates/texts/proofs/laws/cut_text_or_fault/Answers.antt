@@ -1,8 +1,0 @@
-use Rattle.docsis_wire.specs.Pieces.{fill_byte}
-use Rattle.texts.proofs.OneCutFault.{cut_without_fault}
-use Rattle.texts.proofs.laws.cut_text_or_fault.Goals as goal
-
-pub returns : goal.returns
-returns c first fill input text fault a h =
-    let can = c.cut_without_fault.ensures a.frames a.pieces first (fill_byte fill) a.segments a.cut.lawful a.cut.named in
-    cut_without_fault c.one_fault.ensures input a.frames a.pieces fault a.read can h

@@ -1,0 +1,60 @@
+use super::*;
+use crate::fault::{TraceFault, TraceKind};
+use std::test::Fail;
+
+/// How many pieces the long input has.
+const PIECES: usize = 70_000;
+
+#[test]
+fn cuts_into_seventy_thousand_pieces(rt: HostRuntime) -> Result<(), Fail> {
+    let mut input = Vec::from_slice(rt.alloc(), b"frame 000100000000\n")?;
+    for _ in 0..PIECES {
+        input.extend_from_slice(b"piece 0 0\n")?;
+    }
+    let text = cut_lines(rt.alloc(), input, 8191, FillByte::Zero)?;
+    assert_eq!(rt; text.len(), 17 * PIECES);
+    assert_eq!(rt;
+        text.starts_with(b"0000fff800000000\n0000000000000000\n"),
+        true
+    );
+    // The last one has the number 8191 + 69,999 modulo 8192, 4,462.
+    assert_eq!(rt; text.ends_with(b"\n00008b7000000000\n"), true);
+    Ok(())
+}
+
+#[test]
+fn cuts_the_greatest_frame_by_the_greatest_piece(rt: HostRuntime) -> Result<(), Fail> {
+    let mut input = Vec::from_slice(rt.alloc(), b"piece 65535 0\npiece 6 65535\nframe 0101ffff")?;
+    input.extend_from_slice(&vec![in rt.alloc(); b'0'; 2 * 65_537]?)?;
+    let text = cut_lines(rt.alloc(), input, 0, FillByte::Ones)?;
+    assert_eq!(rt; text.len(), 2 * (8 + 65_535 + 8 + 6 + 65_535) + 2);
+    assert_eq!(rt; text.starts_with(b"80000000000000000101ffff00"), true);
+    assert_eq!(rt; text.ends_with(b"ffff\n"), true);
+    Ok(())
+}
+
+#[test]
+fn reports_the_first_faulty_line(rt: HostRuntime) -> Result<(), Fail> {
+    let cases: [(&str, u64, TraceKind); 8] = [
+        ("frames 00", 1, TraceKind::UnknownLine),
+        ("Frame", 1, TraceKind::UnknownLine),
+        ("\nframe", 2, TraceKind::FieldCount),
+        ("#\nframe zz 00\n", 2, TraceKind::FieldCount),
+        ("piece 1\n", 1, TraceKind::FieldCount),
+        ("piece 1 2 3\n", 1, TraceKind::FieldCount),
+        ("piece 0 65536", 1, TraceKind::BadNumber),
+        ("frame 0", 1, TraceKind::NotHex),
+    ];
+    for (input, line, kind) in &cases {
+        let fault = TextFault::Trace(TraceFault {
+            line: *line,
+            kind: *kind,
+        });
+        let text = Vec::from_slice(rt.alloc(), input.as_bytes())?;
+        match cut_lines(rt.alloc(), text, 0, FillByte::Zero) {
+            Err(other) => assert_eq!(rt; other, fault, "{input}"),
+            Ok(_) => assert!(rt; false, "{input}"),
+        }
+    }
+    Ok(())
+}
