@@ -1,5 +1,5 @@
 -- A settled list in which nothing is lost.
-use Rattle.std.proofs.Common.{◌≡◌, ℕ, zero, suc, ◌<◌, ◌≤◌, ◌+◌, Option, Some, List, [], ◌∷◌, length, take, map, refl, sym, inl, inr, ap, ◌∙◌, subst, arith, length-take-le}
+use Rattle.std.proofs.Common.{Bool, ◌≡◌, ℕ, zero, suc, ◌<◌, ◌≤◌, ◌+◌, Option, Some, List, [], ◌∷◌, length, take, map, refl, sym, inl, inr, ap, ◌∙◌, subst, arith, length-take-le}
 use Rattle.std.specs.List.{slice_get}
 use Rattle.std.proofs.lemmas.Bool.{cases_lt}
 use Rattle.std.proofs.lemmas.List.{length-map, take_all}
@@ -35,17 +35,17 @@ length-kept : (segments : List Segment) (n : ℕ) → n ≤ length segments → 
 length-kept segments n within = length-map (take n segments) Some ∙ length-take-le n segments within
 
 -- the frames that a segment completes where nothing was lost before it
-pub completed_without_loss : (frames chunks : List (List ℕ)) (first fill n : ℕ) (segments : List Segment) (joined : List (List ℕ)) (before after : List ℕ) (segment : Segment) (fed : List (List ℕ))
-    → IsLawfulCut frames first fill chunks segments → slice_get segments n ≡ Some segment
-    → Joins [] (map Some (take n segments)) joined before → Feeds before segment fed after
+pub completed_without_loss : (check : List ℕ → Bool) (frames chunks : List (List ℕ)) (first fill n : ℕ) (segments : List Segment) (joined : List (List ℕ)) (before after : List ℕ) (segment : Segment) (fed : List (List ℕ))
+    → IsLawfulCut check frames first fill chunks segments → slice_get segments n ≡ Some segment
+    → Joins check [] (map Some (take n segments)) joined before → Feeds check before segment fed after
     → FiltersTo (λ j. EndsIn frames chunks j n) frames fed
-completed_without_loss frames chunks first fill n segments joined before after segment fed cut at h feeds =
+completed_without_loss check frames chunks first fill n segments joined before after segment fed cut at h feeds =
     let settled : List (Option Segment) = map Some (take n segments) in
     let some = slice_get_within segments n segment at in
     let size : length settled ≡ n = length-kept segments n (omega arith) in
     let is_settled : IsSettledOf segments settled = record { within = omega arith; kept = segment_at segments n } in
     let at_end : slice_get segments (length settled) ≡ Some segment = ap (slice_get segments) size ∙ at in
-    let completed = completed_by_feed frames chunks first fill segments settled joined before after segment fed cut is_settled at_end h feeds in
+    let completed = completed_by_feed check frames chunks first fill segments settled joined before after segment fed cut is_settled at_end h feeds in
     subst (λ m. FiltersTo (λ j. EndsIn frames chunks j m) frames fed) size
     (FiltersFrom-same (IsCompletedBy frames chunks settled (length settled)) (λ j. EndsIn frames chunks j (length settled)) 0 frames fed
     (λ j low high p. p.ends)
@@ -61,17 +61,17 @@ within_cut frames chunks j m i n short within in_span =
     ]
 
 -- the frames of a whole cut of which nothing was lost
-pub frames_without_loss : (frames chunks : List (List ℕ)) (first fill : ℕ) (segments : List Segment) (joined : List (List ℕ)) (after : List ℕ)
-    → IsLawfulCut frames first fill chunks segments → Joins [] (map Some segments) joined after
+pub frames_without_loss : (check : List ℕ → Bool) (frames chunks : List (List ℕ)) (first fill : ℕ) (segments : List Segment) (joined : List (List ℕ)) (after : List ℕ)
+    → IsLawfulCut check frames first fill chunks segments → Joins check [] (map Some segments) joined after
     → FiltersTo (λ j. place_of frames (j + 1) ≤ place_of chunks (length chunks)) frames joined
-frames_without_loss frames chunks first fill segments joined after cut h =
+frames_without_loss check frames chunks first fill segments joined after cut h =
     let n = length segments in
     let settled : List (Option Segment) = map Some (take n segments) in
     let all : settled ≡ map Some segments = ap (map Some) (take_all n segments (omega arith)) in
     let size : length settled ≡ length chunks = length-kept segments n (omega arith) ∙ cut.same_length in
     let is_settled : IsSettledOf segments settled = record { within = omega (arith, cut.same_length); kept = segment_at segments n } in
-    let joins : Joins [] settled joined after = (let P : List (Option Segment) → Type 0 = λ s. Joins [] s joined after in subst P (sym all) h) in
-    let chosen = frames_of_settled frames chunks first fill segments settled joined after cut is_settled joins in
+    let joins : Joins check [] settled joined after = (let P : List (Option Segment) → Type 0 = λ s. Joins check [] s joined after in subst P (sym all) h) in
+    let chosen = frames_of_settled check frames chunks first fill segments settled joined after cut is_settled joins in
     subst (λ m. FiltersTo (λ j. place_of frames (j + 1) ≤ place_of chunks m) frames joined) size
     (FiltersFrom-same (IsWhollyKept frames chunks settled) (λ j. place_of frames (j + 1) ≤ place_of chunks (length settled)) 0 frames joined
     (λ j low high p. p.within)

@@ -1,5 +1,5 @@
 -- One segment more of a cut: which frames it completes, and what is unfinished after it.
-use Rattle.std.proofs.Common.{◌≡◌, ◌≢◌, ◌⊎◌, ℕ, ◌+◌, ◌<◌, ◌≤◌, true, false, Option, List, [], ◌∷◌, ◌++◌, length, replicate, take, drop, refl, sym, ap, ◌∙◌, subst, inl, inr, arith, length-append, append_assoc, append-nil, take_at, drop_at}
+use Rattle.std.proofs.Common.{Bool, ◌≡◌, ◌≢◌, ◌⊎◌, ℕ, ◌+◌, ◌<◌, ◌≤◌, true, false, Option, List, [], ◌∷◌, ◌++◌, length, replicate, take, drop, refl, sym, ap, ◌∙◌, subst, inl, inr, arith, length-append, append_assoc, append-nil, take_at, drop_at}
 use Rattle.std.specs.List.{concat, AllByRecursion}
 use Rattle.std.proofs.lemmas.Bool.{cases_lt}
 use Rattle.std.proofs.lemmas.List.Folds.{concat-append}
@@ -21,10 +21,10 @@ use Rattle.ccf.proofs.Pointers.{Points-at, Points-none, Feeds-as, FeedsAs-goes_o
 use Rattle.ccf.proofs.Onward.{GoesOnward, walks_onward, lost_onward, filtered}
 
 -- What a kept segment of a cut does.
-pub record Steps (frames chunks : List (List ℕ)) (fill : ℕ) (settled : List (Option Segment)) (n : ℕ) (before : List ℕ) (segment : Segment) : Type 0 where
+pub record Steps (check : List ℕ → Bool) (frames chunks : List (List ℕ)) (fill : ℕ) (settled : List (Option Segment)) (n : ℕ) (before : List ℕ) (segment : Segment) : Type 0 where
   pub fed : List (List ℕ)
   pub after : List ℕ
-  pub feeds : Feeds before segment fed after
+  pub feeds : Feeds check before segment fed after
   pub completes : FiltersTo (IsCompletedBy frames chunks settled n) frames fed
   pub left : IsKept settled n → IsLeftUnfinished frames chunks fill settled (n + 1) after
 
@@ -33,8 +33,8 @@ some_or_none : (bytes : List ℕ) → (bytes ≡ []) ⊎ (0 < length bytes)
 some_or_none [] = inl refl
 some_or_none (b ∷ bs) = inr (omega arith)
 
-module _ (frames chunks : List (List ℕ)) (first fill : ℕ) (settled : List (Option Segment)) (n : ℕ) (chunk more : List ℕ)
-    (each : AllByRecursion IsFrame frames) (fill_is : IsFillByte fill) (next : place_of chunks (n + 1) ≡ place_of chunks n + length chunk)
+module _ (check : List ℕ → Bool) (frames chunks : List (List ℕ)) (first fill : ℕ) (settled : List (Option Segment)) (n : ℕ) (chunk more : List ℕ)
+    (each : AllByRecursion (IsFrame check) frames) (fill_is : IsFillByte fill) (next : place_of chunks (n + 1) ≡ place_of chunks n + length chunk)
     (stream : concat frames ≡ concat (take n chunks) ++ (chunk ++ more)) where
   -- a chunk that begins where a frame ends has the frames after it
   behind_between : (before behind : List (List ℕ)) → frames ≡ before ++ behind → place_of frames (length before) ≡ place_of chunks n → concat behind ≡ chunk ++ more
@@ -72,15 +72,15 @@ module _ (frames chunks : List (List ℕ)) (first fill : ℕ) (settled : List (O
 
   -- a chunk with nothing in it, where a frame ends
   step_empty : (before : List ℕ) (segment : Segment) → IsLeftBetween frames chunks fill n before → IsCutSegment frames first fill n (place_of chunks n) chunk segment
-      → chunk ≡ [] → Steps frames chunks fill settled n before segment
+      → chunk ≡ [] → Steps check frames chunks fill settled n before segment
   step_empty before segment h cut empty =
       let here : place_of chunks (n + 1) ≡ place_of chunks n = omega (arith, ap length empty) in
       let no_pfi = Points-none segment.head.pfi segment.head.pointer frames (place_of chunks n) chunk cut.points (λ q starts. omega (arith, starts.0, ap length empty)) in
-      let g = FeedsAs-fill fill cut.fill_len segment.head.pointer before fill_is h.fill_left in
+      let g = FeedsAs-fill check fill cut.fill_len segment.head.pointer before fill_is h.fill_left in
       record {
         fed = [];
         after = g.after;
-        feeds = Feeds-as before segment false segment.head.pointer (replicate cut.fill_len fill) [] g.after no_pfi refl (cut.payload ∙ ap (λ t. t ++ replicate cut.fill_len fill) empty) g.feeds;
+        feeds = Feeds-as check before segment false segment.head.pointer (replicate cut.fill_len fill) [] g.after no_pfi refl (cut.payload ∙ ap (λ t. t ++ replicate cut.fill_len fill) empty) g.feeds;
         completes = completes_none h.before (omega (arith, h.place)) (λ j from ends begins. omega arith);
         left = λ kept. inl record { before = h.before; behind = h.behind; frames_are = h.frames_are; place = h.place ∙ sym here; fill_left = g.is_left };
       }
@@ -92,7 +92,7 @@ module _ (frames chunks : List (List ℕ)) (first fill : ℕ) (settled : List (O
 
   -- a chunk with bytes in it, where a frame ends
   step_between : (before : List ℕ) (segment : Segment) → IsLeftBetween frames chunks fill n before → IsCutSegment frames first fill n (place_of chunks n) chunk segment
-      → 0 < length chunk → Steps frames chunks fill settled n before segment
+      → 0 < length chunk → Steps check frames chunks fill settled n before segment
   step_between before segment h cut some =
       let e = behind_between h.before h.behind h.frames_are h.place in
       let onward : GoesOnward frames chunks n h.before h.behind chunk = record {
@@ -103,13 +103,13 @@ module _ (frames chunks : List (List ℕ)) (first fill : ℕ) (settled : List (O
       } in
       let pfi = Points-at segment.head.pfi segment.head.pointer frames (place_of chunks n) chunk 0 cut.points
       (some, (length h.before, frame_behind h.before h.behind chunk more h.frames_are e some, omega (arith, h.place))) (λ q starts. omega arith) in
-      let g = walks_onward frames chunks n h.before h.behind chunk each onward settled fill cut.fill_len fill_is (subst (λ p. 0 < cut.fill_len → IsBoundary frames p) (sym next) cut.filled) in
+      let g = walks_onward check frames chunks n h.before h.behind chunk each onward settled fill cut.fill_len fill_is (subst (λ p. 0 < cut.fill_len → IsBoundary frames p) (sym next) cut.filled) in
       record {
         fed = onward.splits.whole;
         after = g.after;
-        feeds = Feeds-as before segment true 0 (chunk ++ replicate cut.fill_len fill) onward.splits.whole g.after pfi.0 pfi.1 cut.payload
-            (FeedsAs-after_fill fill before (chunk ++ replicate cut.fill_len fill) onward.splits.whole g.after h.fill_left g.walks);
-        completes = completes_behind h.before h.behind onward.splits.whole h.frames_are (omega (arith, h.place)) (filtered frames chunks n h.before h.behind chunk each onward settled);
+        feeds = Feeds-as check before segment true 0 (chunk ++ replicate cut.fill_len fill) onward.splits.whole g.after pfi.0 pfi.1 cut.payload
+            (FeedsAs-after_fill check fill before (chunk ++ replicate cut.fill_len fill) onward.splits.whole g.after h.fill_left g.walks);
+        completes = completes_behind h.before h.behind onward.splits.whole h.frames_are (omega (arith, h.place)) (filtered check frames chunks n h.before h.behind chunk each onward settled);
         left = g.left;
       }
 
@@ -148,7 +148,7 @@ module _ (frames chunks : List (List ℕ)) (first fill : ℕ) (settled : List (O
 
   -- a chunk that ends within the frame that it goes on with
   step_short : (before : List ℕ) (segment : Segment) (h : IsLeftWithin frames chunks settled n before) → IsCutSegment frames first fill n (place_of chunks n) chunk segment
-      → (back : List ℕ) → h.back ≡ chunk ++ back → back ≢ [] → Steps frames chunks fill settled n before segment
+      → (back : List ℕ) → h.back ≡ chunk ++ back → back ≢ [] → Steps check frames chunks fill settled n before segment
   step_short before segment h cut back e some =
       let size : length h.back ≡ length chunk + length back = ap length e ∙ length-append chunk back in
       let longer_back = length-some back some in
@@ -157,14 +157,14 @@ module _ (frames chunks : List (List ℕ)) (first fill : ℕ) (settled : List (O
       λ b. none_begins_within frames (length h.before) b.0 (place_of chunks n + length chunk) (omega (arith, front_before before h)) (omega (arith, back_ends before h)) b.2 in
       let payload : segment.payload ≡ chunk = cut.payload ∙ ap (λ t. chunk ++ t) (no_fill fill cut.fill_len (λ fills. no_end (cut.filled fills))) ∙ append-nil chunk in
       let none = completes_none h.before (omega (arith, front_before before h)) (λ j from ends begins. omega (arith, back_ends before h, place_of-le frames (length h.before + 1) (j + 1) (omega arith))) in
-      let is_frame : IsFrame ((h.front ++ chunk) ++ back) = (AllByRecursion-behind IsFrame h.before (((h.front ++ chunk) ++ back) ∷ h.behind) (subst (AllByRecursion IsFrame) (longer before h back e) each)).0 in
+      let is_frame : IsFrame check ((h.front ++ chunk) ++ back) = (AllByRecursion-behind (IsFrame check) h.before (((h.front ++ chunk) ++ back) ∷ h.behind) (subst (AllByRecursion (IsFrame check)) (longer before h back e) each)).0 in
       elim h.front_left [
         | inl alive ↦ record {
           fed = [];
           after = h.front ++ chunk;
-          feeds = Feeds-as before segment false segment.head.pointer chunk [] (h.front ++ chunk) no_pfi refl payload
-              (FeedsAs-goes_on before chunk (h.front ++ chunk) segment.head.pointer [] (h.front ++ chunk) (λ q. h.some_front (sym alive.1 ∙ q)) (ap (λ t. t ++ chunk) alive.1)
-              (inr (refl, front_waits (h.front ++ chunk) back is_frame some)));
+          feeds = Feeds-as check before segment false segment.head.pointer chunk [] (h.front ++ chunk) no_pfi refl payload
+              (FeedsAs-goes_on check before chunk (h.front ++ chunk) segment.head.pointer [] (h.front ++ chunk) (λ q. h.some_front (sym alive.1 ∙ q)) (ap (λ t. t ++ chunk) alive.1)
+              (inr (refl, front_waits check (h.front ++ chunk) back is_frame some)));
           completes = none;
           left = λ kept. left_longer before h back (h.front ++ chunk) e some (inl (
             λ i below begun. elim (cases_lt i n) [
@@ -177,8 +177,8 @@ module _ (frames chunks : List (List ℕ)) (first fill : ℕ) (settled : List (O
         | inr lost ↦ record {
           fed = [];
           after = [];
-          feeds = Feeds-as before segment false segment.head.pointer chunk [] [] no_pfi refl payload
-              (subst (λ t. FeedsAs false t segment.head.pointer chunk [] []) (sym lost.4) (refl, refl));
+          feeds = Feeds-as check before segment false segment.head.pointer chunk [] [] no_pfi refl payload
+              (subst (λ t. FeedsAs check false t segment.head.pointer chunk [] []) (sym lost.4) (refl, refl));
           completes = none;
           left = λ kept. left_longer before h back [] e some (inr (lost.0, omega (arith, lost.1), lost.2, lost.3, refl));
         }
@@ -226,12 +226,12 @@ module _ (frames chunks : List (List ℕ)) (first fill : ℕ) (settled : List (O
       (inr (λ p. lost (p.kept i below in_span), subst (λ k. FiltersFrom P k h.behind fed) (length-append h.before ((h.front ++ h.back) ∷ [])) behind))
 
   -- the frame that a chunk ends is a frame
-  frame_ended : (before : List ℕ) (h : IsLeftWithin frames chunks settled n before) → IsFrame (h.front ++ h.back)
-  frame_ended before h = (AllByRecursion-behind IsFrame h.before ((h.front ++ h.back) ∷ h.behind) (subst (AllByRecursion IsFrame) h.frames_are each)).0
+  frame_ended : (before : List ℕ) (h : IsLeftWithin frames chunks settled n before) → IsFrame check (h.front ++ h.back)
+  frame_ended before h = (AllByRecursion-behind (IsFrame check) h.before ((h.front ++ h.back) ∷ h.behind) (subst (AllByRecursion (IsFrame check)) h.frames_are each)).0
 
   -- a chunk that ends with the frame that it goes on with
   step_ending : (before : List ℕ) (segment : Segment) (h : IsLeftWithin frames chunks settled n before) → IsCutSegment frames first fill n (place_of chunks n) chunk segment
-      → chunk ≡ h.back ++ [] → Steps frames chunks fill settled n before segment
+      → chunk ≡ h.back ++ [] → Steps check frames chunks fill settled n before segment
   unfolding onward_within
   step_ending before segment h cut e =
       let is : chunk ≡ h.back = e ∙ append-nil h.back in
@@ -239,7 +239,7 @@ module _ (frames chunks : List (List ℕ)) (first fill : ℕ) (settled : List (O
       let onward = onward_within before h [] e record { whole = []; front = []; behind = h.behind; pieces_are = refl; bytes_are = refl; ends = inl refl } in
       let no_pfi = Points-none segment.head.pfi segment.head.pointer frames (place_of chunks n) chunk cut.points (λ q starts. no_start before h q (omega (arith, starts.0, ap length is)) starts) in
       let none : FiltersFrom (IsCompletedBy frames chunks settled n) (length (h.before ++ (h.front ++ h.back) ∷ [])) h.behind [] =
-      filtered frames chunks n (h.before ++ (h.front ++ h.back) ∷ []) h.behind [] each onward settled in
+      filtered check frames chunks n (h.before ++ (h.front ++ h.back) ∷ []) h.behind [] each onward settled in
       let left : IsLeftUnfinished frames chunks fill settled (n + 1) [] = inl record {
         before = h.before ++ (h.front ++ h.back) ∷ [];
         behind = h.behind;
@@ -251,8 +251,8 @@ module _ (frames chunks : List (List ℕ)) (first fill : ℕ) (settled : List (O
         | inl alive ↦ record {
           fed = (h.front ++ h.back) ∷ [];
           after = [];
-          feeds = Feeds-as before segment false segment.head.pointer (chunk ++ fills) ((h.front ++ h.back) ∷ []) [] no_pfi refl cut.payload
-              (FeedsAs-goes_on before (chunk ++ fills) ((h.front ++ h.back) ++ fills) segment.head.pointer ((h.front ++ h.back) ∷ []) [] (λ q. h.some_front (sym alive.1 ∙ q))
+          feeds = Feeds-as check before segment false segment.head.pointer (chunk ++ fills) ((h.front ++ h.back) ∷ []) [] no_pfi refl cut.payload
+              (FeedsAs-goes_on check before (chunk ++ fills) ((h.front ++ h.back) ++ fills) segment.head.pointer ((h.front ++ h.back) ∷ []) [] (λ q. h.some_front (sym alive.1 ∙ q))
               (ap (λ t. t ++ (chunk ++ fills)) alive.1 ∙ ap (λ t. h.front ++ (t ++ fills)) is ∙ sym (append_assoc h.front h.back fills))
               (inl record { frame = h.front ++ h.back; skipped = fills; whole = refl; is_frame = frame_ended before h; delivered = refl; nothing_left = refl }));
           completes = completes_alive before h [] e alive.0 [] none;
@@ -261,8 +261,8 @@ module _ (frames chunks : List (List ℕ)) (first fill : ℕ) (settled : List (O
         | inr lost ↦ record {
           fed = [];
           after = [];
-          feeds = Feeds-as before segment false segment.head.pointer (chunk ++ fills) [] [] no_pfi refl cut.payload
-              (subst (λ t. FeedsAs false t segment.head.pointer (chunk ++ fills) [] []) (sym lost.4) (refl, refl));
+          feeds = Feeds-as check before segment false segment.head.pointer (chunk ++ fills) [] [] no_pfi refl cut.payload
+              (subst (λ t. FeedsAs check false t segment.head.pointer (chunk ++ fills) [] []) (sym lost.4) (refl, refl));
           completes = completes_lost before h [] e lost.0 lost.1 lost.2 lost.3 [] none;
           left = λ kept. left;
         }
@@ -270,7 +270,7 @@ module _ (frames chunks : List (List ℕ)) (first fill : ℕ) (settled : List (O
 
   -- a chunk that ends the frame that it goes on with, and in which another begins
   step_past : (before : List ℕ) (segment : Segment) (h : IsLeftWithin frames chunks settled n before) → IsCutSegment frames first fill n (place_of chunks n) chunk segment
-      → (rest : List ℕ) → chunk ≡ h.back ++ rest → concat h.behind ≡ rest ++ more → 0 < length rest → Steps frames chunks fill settled n before segment
+      → (rest : List ℕ) → chunk ≡ h.back ++ rest → concat h.behind ≡ rest ++ more → 0 < length rest → Steps check frames chunks fill settled n before segment
   step_past before segment h cut rest e behind some =
       let done = h.before ++ (h.front ++ h.back) ∷ [] in
       let fills = replicate cut.fill_len fill in
@@ -283,9 +283,9 @@ module _ (frames chunks : List (List ℕ)) (first fill : ℕ) (settled : List (O
         | inl low ↦ absurd (no_start before h q low starts)
         | inr high ↦ high
       ]) in
-      let g = walks_onward frames chunks n done h.behind rest each onward settled fill cut.fill_len fill_is (subst (λ p. 0 < cut.fill_len → IsBoundary frames p) (sym next) cut.filled) in
+      let g = walks_onward check frames chunks n done h.behind rest each onward settled fill cut.fill_len fill_is (subst (λ p. 0 < cut.fill_len → IsBoundary frames p) (sym next) cut.filled) in
       let behind_completed : FiltersFrom (IsCompletedBy frames chunks settled n) (length done) h.behind onward.splits.whole =
-      filtered frames chunks n done h.behind rest each onward settled in
+      filtered check frames chunks n done h.behind rest each onward settled in
       let payload : chunk ++ fills ≡ h.back ++ (rest ++ fills) = ap (λ t. t ++ fills) e ∙ append_assoc h.back rest fills in
       let dropped : drop (length h.back) (chunk ++ fills) ≡ rest ++ fills = ap (drop (length h.back)) payload ∙ drop_at h.back (rest ++ fills) (length h.back) refl in
       let taken : take (length h.back) (chunk ++ fills) ≡ h.back = ap (take (length h.back)) payload ∙ take_at h.back (rest ++ fills) (length h.back) refl in
@@ -293,8 +293,8 @@ module _ (frames chunks : List (List ℕ)) (first fill : ℕ) (settled : List (O
         | inl alive ↦ record {
           fed = (h.front ++ h.back) ∷ onward.splits.whole;
           after = g.after;
-          feeds = Feeds-as before segment true (length h.back) (chunk ++ fills) ((h.front ++ h.back) ∷ onward.splits.whole) g.after pfi.0 pfi.1 cut.payload
-              (FeedsAs-completes before (chunk ++ fills) (h.front ++ h.back) (rest ++ fills) (length h.back) ((h.front ++ h.back) ∷ onward.splits.whole) g.after (λ q. h.some_front (sym alive.1 ∙ q))
+          feeds = Feeds-as check before segment true (length h.back) (chunk ++ fills) ((h.front ++ h.back) ∷ onward.splits.whole) g.after pfi.0 pfi.1 cut.payload
+              (FeedsAs-completes check before (chunk ++ fills) (h.front ++ h.back) (rest ++ fills) (length h.back) ((h.front ++ h.back) ∷ onward.splits.whole) g.after (λ q. h.some_front (sym alive.1 ∙ q))
               (ap (λ t. t ++ take (length h.back) (chunk ++ fills)) alive.1 ∙ ap (λ t. h.front ++ t) taken) dropped
               record { done = (h.front ++ h.back) ∷ []; walked = onward.splits.whole; delivered = refl; is_done = inl (frame_ended before h, refl); walks = g.walks });
           completes = completes_alive before h rest e alive.0 onward.splits.whole behind_completed;
@@ -303,9 +303,9 @@ module _ (frames chunks : List (List ℕ)) (first fill : ℕ) (settled : List (O
         | inr lost ↦ record {
           fed = onward.splits.whole;
           after = g.after;
-          feeds = Feeds-as before segment true (length h.back) (chunk ++ fills) onward.splits.whole g.after pfi.0 pfi.1 cut.payload
-              (subst (λ t. FeedsAs true t (length h.back) (chunk ++ fills) onward.splits.whole g.after) (sym lost.4)
-              (FeedsAs-walks (chunk ++ fills) (rest ++ fills) (length h.back) onward.splits.whole g.after dropped g.walks));
+          feeds = Feeds-as check before segment true (length h.back) (chunk ++ fills) onward.splits.whole g.after pfi.0 pfi.1 cut.payload
+              (subst (λ t. FeedsAs check true t (length h.back) (chunk ++ fills) onward.splits.whole g.after) (sym lost.4)
+              (FeedsAs-walks check (chunk ++ fills) (rest ++ fills) (length h.back) onward.splits.whole g.after dropped g.walks));
           completes = completes_lost before h rest e lost.0 lost.1 lost.2 lost.3 onward.splits.whole behind_completed;
           left = g.left;
         }
@@ -313,7 +313,7 @@ module _ (frames chunks : List (List ℕ)) (first fill : ℕ) (settled : List (O
 
   -- a chunk that begins within a frame
   step_within : (before : List ℕ) (segment : Segment) → IsLeftWithin frames chunks settled n before → IsCutSegment frames first fill n (place_of chunks n) chunk segment
-      → Steps frames chunks fill settled n before segment
+      → Steps check frames chunks fill settled n before segment
   step_within before segment h cut =
       elim (two_splits h.back (concat h.behind) chunk more (behind_within h.before h.front h.back h.behind h.frames_are h.place)) [
         | inl r ↦ elim (some_or_none r.more) [
@@ -325,7 +325,7 @@ module _ (frames chunks : List (List ℕ)) (first fill : ℕ) (settled : List (O
 
   -- each kept segment of a cut takes one step
   pub step : (before : List ℕ) (segment : Segment) → IsLeftUnfinished frames chunks fill settled n before → IsCutSegment frames first fill n (place_of chunks n) chunk segment
-      → Steps frames chunks fill settled n before segment
+      → Steps check frames chunks fill settled n before segment
   step before segment (inl h) cut =
       elim (some_or_none chunk) [
         | inl none ↦ step_empty before segment h cut none
@@ -337,7 +337,7 @@ module _ (frames chunks : List (List ℕ)) (first fill : ℕ) (settled : List (O
   pub step_lost : (before : List ℕ) → IsLeftUnfinished frames chunks fill settled n before → ¬ IsKept settled n → IsLeftUnfinished frames chunks fill settled (n + 1) []
   step_lost before (inl h) lost =
       let e = behind_between h.before h.behind h.frames_are h.place in
-      lost_onward frames chunks n h.before h.behind chunk each record {
+      lost_onward check frames chunks n h.before h.behind chunk each record {
         frames_are = h.frames_are;
         from = omega (arith, h.place);
         to = omega (arith, h.place);
@@ -345,6 +345,6 @@ module _ (frames chunks : List (List ℕ)) (first fill : ℕ) (settled : List (O
       } settled fill lost
   step_lost before (inr h) lost =
       elim (two_splits h.back (concat h.behind) chunk more (behind_within h.before h.front h.back h.behind h.frames_are h.place)) [
-        | inl r ↦ lost_onward frames chunks n (h.before ++ (h.front ++ h.back) ∷ []) h.behind r.more each (onward_within before h r.more r.front (split_pieces h.behind r.more more r.back)) settled fill lost
+        | inl r ↦ lost_onward check frames chunks n (h.before ++ (h.front ++ h.back) ∷ []) h.behind r.more each (onward_within before h r.more r.front (split_pieces h.behind r.more more r.back)) settled fill lost
         | inr r ↦ left_longer before h r.more [] r.front r.some (inr (n, omega arith, omega (arith, front_before before h), lost, refl))
       ]

@@ -1,5 +1,5 @@
 -- The frames that begin in a chunk: which of them it completes, and what is left of it after them.
-use Rattle.std.proofs.Common.{◌≡◌, ℕ, ◌+◌, ◌<◌, ◌≤◌, Option, List, [], ◌∷◌, ◌++◌, length, replicate, refl, sym, ap, ◌∙◌, subst, inl, inr, arith, length-append, append_assoc, append-nil}
+use Rattle.std.proofs.Common.{Bool, ◌≡◌, ℕ, ◌+◌, ◌<◌, ◌≤◌, Option, List, [], ◌∷◌, ◌++◌, length, replicate, refl, sym, ap, ◌∙◌, subst, inl, inr, arith, length-append, append_assoc, append-nil}
 use Rattle.std.specs.List.{concat, AllByRecursion}
 use Rattle.std.proofs.lemmas.Bool.{cases_lt}
 use Rattle.std.proofs.lemmas.List.Folds.{concat-append}
@@ -12,7 +12,7 @@ use Rattle.ccf.specs.Walk.{Walks}
 use Rattle.ccf.specs.Filter.{FiltersFrom}
 use Rattle.ccf.specs.Completed.{IsCompletedBy}
 use Rattle.ccf.specs.Unfinished.{IsLeftUnfinished}
-use Rattle.docsis_wire.proofs.Places.{place_of-le, place_of-lt, place_of-behind, place_of-behind_one, none_begins_within}
+use Rattle.docsis_wire.proofs.Places.{each_generic, place_of-le, place_of-lt, place_of-behind, place_of-behind_one, none_begins_within}
 use Rattle.docsis_wire.proofs.Spans.{IsInSpan-ends}
 use Rattle.ccf.proofs.Splitting.{Splits, IsWithin, AllByRecursion-front, AllByRecursion-behind}
 use Rattle.ccf.proofs.Filters.{FiltersFrom-append, FiltersFrom-none, FiltersFrom-all}
@@ -26,12 +26,12 @@ pub record GoesOnward (frames chunks : List (List ℕ)) (n : ℕ) (done rest : L
   pub splits : Splits rest bytes
 
 -- What a walk of a chunk's bytes and the fill after them gives.
-pub record WalksOnward (frames chunks : List (List ℕ)) (fill : ℕ) (settled : List (Option Segment)) (n : ℕ) (bytes : List ℕ) (whole : List (List ℕ)) : Type 0 where
+pub record WalksOnward (check : List ℕ → Bool) (frames chunks : List (List ℕ)) (fill : ℕ) (settled : List (Option Segment)) (n : ℕ) (bytes : List ℕ) (whole : List (List ℕ)) : Type 0 where
   pub after : List ℕ
-  pub walks : Walks bytes whole after
+  pub walks : Walks check bytes whole after
   pub left : IsKept settled n → IsLeftUnfinished frames chunks fill settled (n + 1) after
 
-module _ (frames chunks : List (List ℕ)) (n : ℕ) (done rest : List (List ℕ)) (bytes : List ℕ) (each : AllByRecursion IsFrame frames) (h : GoesOnward frames chunks n done rest bytes) where
+module _ (check : List ℕ → Bool) (frames chunks : List (List ℕ)) (n : ℕ) (done rest : List (List ℕ)) (bytes : List ℕ) (each : AllByRecursion (IsFrame check) frames) (h : GoesOnward frames chunks n done rest bytes) where
   -- the frames, split after the last that is whole
   frames_gone : frames ≡ (done ++ h.splits.whole) ++ h.splits.behind
   frames_gone = h.frames_are ∙ ap (λ t. done ++ t) h.splits.pieces_are ∙ sym (append_assoc done h.splits.whole h.splits.behind)
@@ -66,7 +66,7 @@ module _ (frames chunks : List (List ℕ)) (n : ℕ) (done rest : List (List ℕ
   beyond j from some =
       let s = h.splits in
       elim s.ends [
-        | inl e ↦ omega (arith, place_gone, ap length e, place_of-le frames (length (done ++ s.whole)) j from, place_of-lt frames j each some)
+        | inl e ↦ omega (arith, place_gone, ap length e, place_of-le frames (length (done ++ s.whole)) j from, place_of-lt frames j (each_generic check frames each) some)
         | inr w ↦ omega (arith, place_within w, place_of-le frames (length (done ++ s.whole) + 1) (j + 1) (omega arith))
       ]
 
@@ -77,7 +77,7 @@ module _ (frames chunks : List (List ℕ)) (n : ℕ) (done rest : List (List ℕ
       let some : j < length frames = omega (arith, ap length frames_gone, length-append (done ++ s.whole) s.behind) in
       let start : place_of chunks n ≤ place_of frames j = omega (arith, h.from, place_of-le frames (length done) j from) in
       record {
-        ends = (omega (arith, place_of-lt frames j each some), omega (arith, place_gone, place_of-le frames (j + 1) (length (done ++ s.whole)) (omega arith)));
+        ends = (omega (arith, place_of-lt frames j (each_generic check frames each) some), omega (arith, place_gone, place_of-le frames (j + 1) (length (done ++ s.whole)) (omega arith)));
         kept = λ i below in_span. absurd (omega (arith, IsInSpan-ends frames chunks j i in_span, place_of-le chunks (i + 1) n (omega arith)));
       }
 
@@ -93,12 +93,12 @@ module _ (frames chunks : List (List ℕ)) (n : ℕ) (done rest : List (List ℕ
       subst (λ t. Q t s.whole) (sym s.pieces_are) (subst (Q (s.whole ++ s.behind)) (append-nil s.whole) both)
 
   -- the frames that are whole are frames
-  each_whole : AllByRecursion IsFrame h.splits.whole
-  each_whole = let s = h.splits in AllByRecursion-front IsFrame s.whole s.behind (subst (AllByRecursion IsFrame) s.pieces_are (AllByRecursion-behind IsFrame done rest (subst (AllByRecursion IsFrame) h.frames_are each)))
+  each_whole : AllByRecursion (IsFrame check) h.splits.whole
+  each_whole = let s = h.splits in AllByRecursion-front (IsFrame check) s.whole s.behind (subst (AllByRecursion (IsFrame check)) s.pieces_are (AllByRecursion-behind (IsFrame check) done rest (subst (AllByRecursion (IsFrame check)) h.frames_are each)))
 
   -- the frame that goes on after the chunk is a frame
-  frame_within : (w : IsWithin h.splits.behind h.splits.front) → IsFrame (h.splits.front ++ w.back)
-  frame_within w = (AllByRecursion-behind IsFrame (done ++ h.splits.whole) ((h.splits.front ++ w.back) ∷ w.behind) (subst (AllByRecursion IsFrame) (frames_within w) each)).0
+  frame_within : (w : IsWithin h.splits.behind h.splits.front) → IsFrame check (h.splits.front ++ w.back)
+  frame_within w = (AllByRecursion-behind (IsFrame check) (done ++ h.splits.whole) ((h.splits.front ++ w.back) ∷ w.behind) (subst (AllByRecursion (IsFrame check)) (frames_within w) each)).0
 
   -- where a frame goes on after the chunk, no frame ends with the chunk
   no_boundary : (w : IsWithin h.splits.behind h.splits.front) → IsBoundary frames (place_of chunks (n + 1)) → ⊥
@@ -111,11 +111,11 @@ module _ (frames chunks : List (List ℕ)) (n : ℕ) (done rest : List (List ℕ
 
   -- the chunk is walked from here on, where it was kept
   pub walks_onward : (settled : List (Option Segment)) (fill fill_len : ℕ) → IsFillByte fill → (0 < fill_len → IsBoundary frames (place_of chunks (n + 1)))
-      → WalksOnward frames chunks fill settled n (bytes ++ replicate fill_len fill) h.splits.whole
+      → WalksOnward check frames chunks fill settled n (bytes ++ replicate fill_len fill) h.splits.whole
   walks_onward settled fill fill_len fill_is filled =
       let s = h.splits in
       elim s.ends [
-        | inl e ↦ let g = fill_left fill fill_len fill_is in record {
+        | inl e ↦ let g = fill_left check fill fill_len fill_is in record {
           after = g.left;
           walks = record {
             rest = replicate fill_len fill;
@@ -131,7 +131,7 @@ module _ (frames chunks : List (List ℕ)) (n : ℕ) (done rest : List (List ℕ
             rest = s.front;
             whole = ap (λ t. bytes ++ t) (no_fill fill fill_len (λ some. no_boundary w (filled some))) ∙ append-nil bytes ∙ s.bytes_are;
             each = each_whole;
-            ends = front_waits s.front w.back (frame_within w) w.some_back;
+            ends = front_waits check s.front w.back (frame_within w) w.some_back;
           };
           left = λ kept. inr record {
             before = done ++ s.whole;

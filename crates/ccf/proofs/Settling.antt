@@ -1,5 +1,5 @@
 -- The segments of a cut, one after another: what is unfinished after them, and which frames they join to.
-use Rattle.std.proofs.Common.{◌≡◌, ◌⊎◌, ℕ, suc, ◌+◌, ◌<◌, ◌≤◌, Option, Some, None, List, [], ◌∷◌, ◌++◌, length, take, drop, refl, sym, ap, ◌∙◌, subst, inl, inr, arith, length-append, append_assoc, append-nil}
+use Rattle.std.proofs.Common.{Bool, ◌≡◌, ◌⊎◌, ℕ, suc, ◌+◌, ◌<◌, ◌≤◌, Option, Some, None, List, [], ◌∷◌, ◌++◌, length, take, drop, refl, sym, ap, ◌∙◌, subst, inl, inr, arith, length-append, append_assoc, append-nil}
 use Rattle.std.specs.List.{concat, slice_get}
 use Rattle.std.proofs.lemmas.Bool.{cases_lt}
 use Rattle.std.proofs.lemmas.Option.{slice_get_within}
@@ -13,7 +13,7 @@ use Rattle.ccf.specs.Filter.{FiltersTo}
 use Rattle.ccf.specs.Completed.{IsCompletedBy}
 use Rattle.ccf.specs.Unfinished.{IsLeftUnfinished}
 use Rattle.ccf.proofs.OneReading.{Feeds-once}
-use Rattle.docsis_wire.proofs.Places.{place_of-le, place_of-lt, place_of-next, concat-at, slice_get-at, element_at}
+use Rattle.docsis_wire.proofs.Places.{each_generic, place_of-le, place_of-lt, place_of-next, concat-at, slice_get-at, element_at}
 use Rattle.docsis_wire.proofs.Spans.{IsInSpan-begins, IsInSpan-by_places}
 use Rattle.ccf.proofs.Filters.{FiltersFrom-none, FiltersFrom-same, FiltersFrom-either}
 use Rattle.ccf.proofs.Waiting.{no_fill_left}
@@ -29,17 +29,17 @@ pub record Settles (frames chunks : List (List ℕ)) (fill : ℕ) (settled : Lis
   pub left : IsLeftUnfinished frames chunks fill settled n unfinished
   pub filters : FiltersTo (IsKeptUpTo frames chunks settled n) frames joined
 
-module _ (frames chunks : List (List ℕ)) (first fill : ℕ) (segments : List Segment) (cut : IsLawfulCut frames first fill chunks segments) where
+module _ (check : List ℕ → Bool) (frames chunks : List (List ℕ)) (first fill : ℕ) (segments : List Segment) (cut : IsLawfulCut check frames first fill chunks segments) where
   -- a kept segment takes one step
   pub cut_step : (settled : List (Option Segment)) (n : ℕ) (before : List ℕ) (segment : Segment) → slice_get segments n ≡ Some segment
-      → IsLeftUnfinished frames chunks fill settled n before → Steps frames chunks fill settled n before segment
+      → IsLeftUnfinished frames chunks fill settled n before → Steps check frames chunks fill settled n before segment
   cut_step settled n before segment at left =
       let chunk = element_at chunks n (omega (arith, slice_get_within segments n segment at, cut.same_length)) in
       let stream : concat frames ≡ concat (take n chunks) ++ (chunk.0 ++ (concat (drop (suc n) chunks) ++ cut.unsent)) =
       cut.stream ∙ ap (λ t. t ++ cut.unsent) (concat-at chunks n chunk.0 chunk.1)
       ∙ append_assoc (concat (take n chunks)) (chunk.0 ++ concat (drop (suc n) chunks)) cut.unsent
       ∙ ap (λ t. concat (take n chunks) ++ t) (append_assoc chunk.0 (concat (drop (suc n) chunks)) cut.unsent) in
-      step frames chunks first fill settled n chunk.0 (concat (drop (suc n) chunks) ++ cut.unsent) cut.each cut.fill_is (place_of-next chunks n chunk.0 chunk.1) stream
+      step check frames chunks first fill settled n chunk.0 (concat (drop (suc n) chunks) ++ cut.unsent) cut.each cut.fill_is (place_of-next chunks n chunk.0 chunk.1) stream
       before segment left (cut.cut n chunk.0 segment chunk.1 at)
 
   -- a lost segment leaves nothing unfinished
@@ -51,7 +51,7 @@ module _ (frames chunks : List (List ℕ)) (first fill : ℕ) (segments : List S
       cut.stream ∙ ap (λ t. t ++ cut.unsent) (concat-at chunks n chunk.0 chunk.1)
       ∙ append_assoc (concat (take n chunks)) (chunk.0 ++ concat (drop (suc n) chunks)) cut.unsent
       ∙ ap (λ t. concat (take n chunks) ++ t) (append_assoc chunk.0 (concat (drop (suc n) chunks)) cut.unsent) in
-      step_lost frames chunks first fill settled n chunk.0 (concat (drop (suc n) chunks) ++ cut.unsent) cut.each cut.fill_is (place_of-next chunks n chunk.0 chunk.1) stream
+      step_lost check frames chunks first fill settled n chunk.0 (concat (drop (suc n) chunks) ++ cut.unsent) cut.each cut.fill_is (place_of-next chunks n chunk.0 chunk.1) stream
       before left lost
 
   -- before the first segment nothing is unfinished
@@ -69,7 +69,7 @@ module _ (frames chunks : List (List ℕ)) (first fill : ℕ) (segments : List S
   -- the chunk in which a frame ends is in its span
   last_in_span : (j n : ℕ) → j < length frames → place_of chunks n < place_of frames (j + 1) → place_of frames (j + 1) ≤ place_of chunks (n + 1) → IsInSpan frames chunks j n
   last_in_span j n some later within =
-      let longer = place_of-lt frames j cut.each some in
+      let longer = place_of-lt frames j (each_generic check frames cut.each) some in
       IsInSpan-by_places frames chunks j (n + 1) n longer within later (omega arith)
 
   -- the frames up to chunk n and those that a kept chunk n completes are the frames up to the next
@@ -109,7 +109,7 @@ module _ (frames chunks : List (List ℕ)) (first fill : ℕ) (segments : List S
 
   -- a settled list is gone through item by item
   settles_on : (settled past rest : List (Option Segment)) (so_far joined : List (List ℕ)) (before after : List ℕ) → IsSettledOf segments settled → settled ≡ past ++ rest
-      → Settles frames chunks fill settled (length past) so_far before → Joins before rest joined after
+      → Settles frames chunks fill settled (length past) so_far before → Joins check before rest joined after
       → Settles frames chunks fill settled (length settled) (so_far ++ joined) after
   settles_on settled past [] so_far joined before after is_settled e s h =
       let P : ℕ → List (List ℕ) → List ℕ → Type 0 = Settles frames chunks fill settled in
@@ -130,7 +130,7 @@ module _ (frames chunks : List (List ℕ)) (first fill : ℕ) (segments : List S
       let here : slice_get settled n ≡ Some (Some segment) = ap (λ t. slice_get t n) e ∙ slice_get-at past (Some segment) rest in
       let kept : IsKept settled n = (segment, here) in
       let stepped = cut_step settled n before segment (is_settled.kept n segment here) s.left in
-      let same = Feeds-once before segment stepped.fed fed stepped.after between stepped.feeds feeds in
+      let same = Feeds-once check before segment stepped.fed fed stepped.after between stepped.feeds feeds in
       let more : n + 1 ≡ length (past ++ Some segment ∷ []) = sym (length-append past (Some segment ∷ [])) in
       let next : Settles frames chunks fill settled (n + 1) (so_far ++ fed) between = record {
         left = subst (IsLeftUnfinished frames chunks fill settled (n + 1)) same.1 (stepped.left kept);
@@ -141,38 +141,38 @@ module _ (frames chunks : List (List ℕ)) (first fill : ℕ) (segments : List S
       subst (λ t. Settles frames chunks fill settled (length settled) t after) (append_assoc so_far fed behind ∙ ap (λ t. so_far ++ t) (sym is)) rest_settles
 
   -- a settled list, from its first item to its last
-  settles : (settled : List (Option Segment)) (joined : List (List ℕ)) (after : List ℕ) → IsSettledOf segments settled → Joins [] settled joined after
+  settles : (settled : List (Option Segment)) (joined : List (List ℕ)) (after : List ℕ) → IsSettledOf segments settled → Joins check [] settled joined after
       → Settles frames chunks fill settled (length settled) joined after
   settles settled joined after is_settled h =
       settles_on settled [] settled [] joined [] after is_settled refl record {
         left = left_at_start settled;
-        filters = FiltersFrom-none (IsKeptUpTo frames chunks settled 0) 0 frames (λ j low high p. omega (arith, p.within, place_of-lt frames j cut.each (omega arith)));
+        filters = FiltersFrom-none (IsKeptUpTo frames chunks settled 0) 0 frames (λ j low high p. omega (arith, p.within, place_of-lt frames j (each_generic check frames cut.each) (omega arith)));
       } h
 
 -- what a settled list leaves unfinished
-pub left_of_settled : (frames chunks : List (List ℕ)) (first fill : ℕ) (segments : List Segment) (settled : List (Option Segment)) (joined : List (List ℕ)) (after : List ℕ)
-    → IsLawfulCut frames first fill chunks segments → IsSettledOf segments settled → Joins [] settled joined after
+pub left_of_settled : (check : List ℕ → Bool) (frames chunks : List (List ℕ)) (first fill : ℕ) (segments : List Segment) (settled : List (Option Segment)) (joined : List (List ℕ)) (after : List ℕ)
+    → IsLawfulCut check frames first fill chunks segments → IsSettledOf segments settled → Joins check [] settled joined after
     → IsLeftUnfinished frames chunks fill settled (length settled) after
-left_of_settled frames chunks first fill segments settled joined after cut is_settled h = (settles frames chunks first fill segments cut settled joined after is_settled h).left
+left_of_settled check frames chunks first fill segments settled joined after cut is_settled h = (settles check frames chunks first fill segments cut settled joined after is_settled h).left
 
 -- the frames that a settled list joins to
-pub frames_of_settled : (frames chunks : List (List ℕ)) (first fill : ℕ) (segments : List Segment) (settled : List (Option Segment)) (joined : List (List ℕ)) (after : List ℕ)
-    → IsLawfulCut frames first fill chunks segments → IsSettledOf segments settled → Joins [] settled joined after
+pub frames_of_settled : (check : List ℕ → Bool) (frames chunks : List (List ℕ)) (first fill : ℕ) (segments : List Segment) (settled : List (Option Segment)) (joined : List (List ℕ)) (after : List ℕ)
+    → IsLawfulCut check frames first fill chunks segments → IsSettledOf segments settled → Joins check [] settled joined after
     → FiltersTo (IsWhollyKept frames chunks settled) frames joined
-frames_of_settled frames chunks first fill segments settled joined after cut is_settled h =
+frames_of_settled check frames chunks first fill segments settled joined after cut is_settled h =
     FiltersFrom-same (IsKeptUpTo frames chunks settled (length settled)) (IsWhollyKept frames chunks settled) 0 frames joined
     (λ j low high p. record { within = p.within; kept = p.kept })
     (λ j low high p. record { within = p.within; kept = p.kept })
-    (settles frames chunks first fill segments cut settled joined after is_settled h).filters
+    (settles check frames chunks first fill segments cut settled joined after is_settled h).filters
 
 -- the frames that the next segment after a settled list completes
-pub completed_by_feed : (frames chunks : List (List ℕ)) (first fill : ℕ) (segments : List Segment) (settled : List (Option Segment)) (joined : List (List ℕ)) (before after : List ℕ)
+pub completed_by_feed : (check : List ℕ → Bool) (frames chunks : List (List ℕ)) (first fill : ℕ) (segments : List Segment) (settled : List (Option Segment)) (joined : List (List ℕ)) (before after : List ℕ)
     (segment : Segment) (fed : List (List ℕ))
-    → IsLawfulCut frames first fill chunks segments → IsSettledOf segments settled → slice_get segments (length settled) ≡ Some segment
-    → Joins [] settled joined before → Feeds before segment fed after
+    → IsLawfulCut check frames first fill chunks segments → IsSettledOf segments settled → slice_get segments (length settled) ≡ Some segment
+    → Joins check [] settled joined before → Feeds check before segment fed after
     → FiltersTo (IsCompletedBy frames chunks settled (length settled)) frames fed
-completed_by_feed frames chunks first fill segments settled joined before after segment fed cut is_settled at h feeds =
-    let left = left_of_settled frames chunks first fill segments settled joined before cut is_settled h in
-    let stepped = cut_step frames chunks first fill segments cut settled (length settled) before segment at left in
-    let same = Feeds-once before segment stepped.fed fed stepped.after after stepped.feeds feeds in
+completed_by_feed check frames chunks first fill segments settled joined before after segment fed cut is_settled at h feeds =
+    let left = left_of_settled check frames chunks first fill segments settled joined before cut is_settled h in
+    let stepped = cut_step check frames chunks first fill segments cut settled (length settled) before segment at left in
+    let same = Feeds-once check before segment stepped.fed fed stepped.after after stepped.feeds feeds in
     subst (FiltersTo (IsCompletedBy frames chunks settled (length settled)) frames) same.0 stepped.completes

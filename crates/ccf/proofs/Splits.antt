@@ -1,5 +1,5 @@
 -- Bytes split into frames and a rest, one frame more.
-use Rattle.std.proofs.Common.{◌≡◌, ℕ, ◌==◌, false, true, List, [], ◌∷◌, ◌++◌, length, take, drop, refl, sym, ap, subst, ◌∙◌, inl, inr, ◌⊎◌}
+use Rattle.std.proofs.Common.{Bool, ◌≡◌, ℕ, ◌==◌, false, true, List, [], ◌∷◌, ◌++◌, length, take, drop, refl, sym, ap, subst, ◌∙◌, inl, inr, ◌⊎◌}
 use Rattle.std.specs.List.{concat, AllByRecursion}
 use Rattle.std.proofs.lemmas.Bool.{false≢true, eq-eqb}
 use Rattle.std.proofs.lemmas.List.{append-nil, append_assoc, take-append-drop}
@@ -23,16 +23,16 @@ split_further bytes frames rest frame behind whole split =
     whole ∙ ap (λ t. concat frames ++ t) split ∙ sym (append_assoc (concat frames) frame behind) ∙ ap (λ t. t ++ behind) (sym (concat-push frames frame))
 
 -- a walk that goes one frame further has one frame more, and the rest after it
-pub walk_further : (bytes : List ℕ) (frames after : List (List ℕ)) (rest frame front behind : List ℕ) (n : ℕ)
-    → bytes ≡ concat frames ++ rest → AllByRecursion IsFrame frames → IsFrame (take n rest)
+pub walk_further : (check : List ℕ → Bool) (bytes : List ℕ) (frames after : List (List ℕ)) (rest frame front behind : List ℕ) (n : ℕ)
+    → bytes ≡ concat frames ++ rest → AllByRecursion (IsFrame check) frames → IsFrame check (take n rest)
     → front ≡ take n rest → behind ≡ drop n rest → frame ≡ front → after ≡ frames ++ frame ∷ []
-    → (bytes ≡ concat after ++ behind) × AllByRecursion IsFrame after
-walk_further bytes frames after rest frame front behind n whole each is_frame front_is behind_is frame_is after_is =
+    → (bytes ≡ concat after ++ behind) × AllByRecursion (IsFrame check) after
+walk_further check bytes frames after rest frame front behind n whole each is_frame front_is behind_is frame_is after_is =
     let taken : frame ≡ take n rest = frame_is ∙ front_is in
     let split : rest ≡ frame ++ behind = sym (take-append-drop n rest) ∙ ap (λ t. t ++ drop n rest) (sym taken) ∙ ap (λ t. frame ++ t) (sym behind_is) in (
       split_further bytes frames rest frame behind whole split ∙ ap (λ t. concat t ++ behind) (sym after_is),
-      let P : List (List ℕ) → Type 0 = AllByRecursion IsFrame in
-          subst P (sym after_is) (AllByRecursion-push IsFrame frames frame each (subst IsFrame (sym taken) is_frame)),
+      let P : List (List ℕ) → Type 0 = AllByRecursion (IsFrame check) in
+          subst P (sym after_is) (AllByRecursion-push (IsFrame check) frames frame each (subst (IsFrame check) (sym taken) is_frame)),
     )
 
 -- bytes of which a test says that they are some
@@ -41,33 +41,33 @@ not_empty [] n size test e = false≢true (sym test ∙ eq-eqb n 0 size)
 not_empty (b ∷ bs) n size test e = cc
 
 -- the case of a feed where no MAC header begins and something is unfinished
-pub FeedsAs-go_on : (before payload bytes : List ℕ) (frames : List (List ℕ)) (after : List ℕ) → (before ≡ [] → ⊥)
-    → bytes ≡ before ++ payload → GoesOn bytes frames after → FeedsAs false before 0 payload frames after
-FeedsAs-go_on [] payload bytes frames after some is goes_on = absurd (some refl)
-FeedsAs-go_on (b ∷ bs) payload bytes frames after some is goes_on = let P : List ℕ → Type 0 = λ t. GoesOn t frames after in subst P is goes_on
+pub FeedsAs-go_on : (check : List ℕ → Bool) (before payload bytes : List ℕ) (frames : List (List ℕ)) (after : List ℕ) → (before ≡ [] → ⊥)
+    → bytes ≡ before ++ payload → GoesOn check bytes frames after → FeedsAs check false before 0 payload frames after
+FeedsAs-go_on check [] payload bytes frames after some is goes_on = absurd (some refl)
+FeedsAs-go_on check (b ∷ bs) payload bytes frames after some is goes_on = let P : List ℕ → Type 0 = λ t. GoesOn check t frames after in subst P is goes_on
 
 -- the frame at the front of what was unfinished is delivered
-pub GoesOn-delivers : (bytes frame : List ℕ) (n : ℕ) (frames none : List (List ℕ)) (after : List ℕ) → IsFrame (take n bytes)
-    → frame ≡ take n bytes → none ≡ [] → frames ≡ none ++ frame ∷ [] → after ≡ [] → GoesOn bytes frames after
-GoesOn-delivers bytes frame n frames none after is_frame taken is_none frames_are nothing =
+pub GoesOn-delivers : (check : List ℕ → Bool) (bytes frame : List ℕ) (n : ℕ) (frames none : List (List ℕ)) (after : List ℕ) → IsFrame check (take n bytes)
+    → frame ≡ take n bytes → none ≡ [] → frames ≡ none ++ frame ∷ [] → after ≡ [] → GoesOn check bytes frames after
+GoesOn-delivers check bytes frame n frames none after is_frame taken is_none frames_are nothing =
     inl record {
       frame = frame;
       skipped = drop n bytes;
       whole = sym (take-append-drop n bytes) ∙ ap (λ t. t ++ drop n bytes) (sym taken);
-      is_frame = subst IsFrame (sym taken) is_frame;
+      is_frame = subst (IsFrame check) (sym taken) is_frame;
       delivered = frames_are ∙ ap (λ t. t ++ frame ∷ []) is_none;
       nothing_left = nothing;
     }
 
 -- the case of a feed where a MAC header begins and something is unfinished
-pub FeedsAs-complete : (before payload bytes rest : List ℕ) (pointer : ℕ) (frames : List (List ℕ)) (after : List ℕ) → (before ≡ [] → ⊥)
-    → bytes ≡ before ++ take pointer payload → rest ≡ drop pointer payload → Completes bytes rest frames after → FeedsAs true before pointer payload frames after
-FeedsAs-complete [] payload bytes rest pointer frames after some is rest_is completes = absurd (some refl)
-FeedsAs-complete (b ∷ bs) payload bytes rest pointer frames after some is rest_is completes =
-    let P : List ℕ → List ℕ → Type 0 = λ s t. Completes s t frames after in subst (P (b ∷ bs ++ take pointer payload)) rest_is (let Q : List ℕ → Type 0 = λ s. P s rest in subst Q is completes)
+pub FeedsAs-complete : (check : List ℕ → Bool) (before payload bytes rest : List ℕ) (pointer : ℕ) (frames : List (List ℕ)) (after : List ℕ) → (before ≡ [] → ⊥)
+    → bytes ≡ before ++ take pointer payload → rest ≡ drop pointer payload → Completes check bytes rest frames after → FeedsAs check true before pointer payload frames after
+FeedsAs-complete check [] payload bytes rest pointer frames after some is rest_is completes = absurd (some refl)
+FeedsAs-complete check (b ∷ bs) payload bytes rest pointer frames after some is rest_is completes =
+    let P : List ℕ → List ℕ → Type 0 = λ s t. Completes check s t frames after in subst (P (b ∷ bs ++ take pointer payload)) rest_is (let Q : List ℕ → Type 0 = λ s. P s rest in subst Q is completes)
 
 -- what was unfinished is put in front of the walked frames if it is a frame
-pub Completes-either : (bytes behind : List ℕ) (walked frames : List (List ℕ)) (after : List ℕ)
-    → (IsFrame bytes × (frames ≡ bytes ∷ walked)) ⊎ ((IsFrame bytes → ⊥) × (frames ≡ walked)) → Walks behind walked after → Completes bytes behind frames after
-Completes-either bytes behind walked frames after (inl h) walks = record { done = bytes ∷ []; walked = walked; delivered = h.1; is_done = inl (h.0, refl); walks = walks }
-Completes-either bytes behind walked frames after (inr h) walks = record { done = []; walked = walked; delivered = h.1; is_done = inr (h.0, refl); walks = walks }
+pub Completes-either : (check : List ℕ → Bool) (bytes behind : List ℕ) (walked frames : List (List ℕ)) (after : List ℕ)
+    → (IsFrame check bytes × (frames ≡ bytes ∷ walked)) ⊎ ((IsFrame check bytes → ⊥) × (frames ≡ walked)) → Walks check behind walked after → Completes check bytes behind frames after
+Completes-either check bytes behind walked frames after (inl h) walks = record { done = bytes ∷ []; walked = walked; delivered = h.1; is_done = inl (h.0, refl); walks = walks }
+Completes-either check bytes behind walked frames after (inr h) walks = record { done = []; walked = walked; delivered = h.1; is_done = inr (h.0, refl); walks = walks }

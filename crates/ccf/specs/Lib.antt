@@ -1,5 +1,7 @@
+pub use Rattle.docsis_wire.specs.Limits
 pub use Rattle.docsis_wire.specs.Words
 pub use Rattle.docsis_wire.specs.Ready
+pub use Rattle.docsis_wire.specs.SegmentBytes
 pub use Rattle.docsis_wire.specs.Frame
 pub use Rattle.docsis_wire.specs.Head
 pub use Rattle.docsis_wire.specs.Stream

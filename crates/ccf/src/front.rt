@@ -1,10 +1,10 @@
 //! What is at the front of some bytes, and the frames that follow one another from there.
-ghost use Rattle.std.specs.Prelude.{◌≡◌, ◌+◌, length, IfOk};
+ghost use Rattle.std.specs.Prelude.{◌≡◌, ◌+◌, ◌≤◌, ◌↔◌, true, false, length, take, IfOk, IsTrue};
 ghost use Rattle.std.specs.List.{concat};
 ghost use Rattle.ccf.specs.Front.{IsFrontOf};
 ghost use Rattle.ccf.specs.Walk.{Walks};
 
-use docsis_wire::{Bytes, HeadRead, read_head};
+use docsis_wire::{Bytes, HeadRead, HeaderCheck, read_head};
 use std::alloc::{AllocError, Global};
 
 /// What is at the front of some bytes.
@@ -14,18 +14,22 @@ pub enum Front {
     Whole(usize),
     /// Less than a frame, as far as can be seen: the bytes wait for more.
     Waits,
-    /// Fill, or no frame at all: the bytes are dropped.
+    /// Fill, or no frame at all, or a header that the check says no of: the bytes are dropped.
     Dropped,
 }
 
-/// Looks at the front of the bytes.
-pub fn front_of(bytes: &[u8]) -> Front
-    ensures { IsFrontOf bytes.now result }
+/// Looks at the front of the bytes. A header is checked as soon as all of it is there, and the
+/// check is called once at most.
+pub fn front_of<C: HeaderCheck>(bytes: &[u8], check: &C) -> Front
+    ensures { IsFrontOf (C.accepts check.now) bytes.now result }
 {
     match read_head(bytes) {
         HeadRead::Short => Front::Waits,
         HeadRead::Fill | HeadRead::Bad(_) => Front::Dropped,
-        HeadRead::Head { total, .. } => {
+        HeadRead::Head { ehdr, total } => {
+            if fails(bytes, 6 + usize::from(ehdr), check) {
+                return Front::Dropped;
+            }
             let total = total as usize;
             if total > bytes.len() {
                 Front::Waits
@@ -34,6 +38,16 @@ pub fn front_of(bytes: &[u8]) -> Front
             }
         }
     }
+}
+
+/// Whether so many bytes of header are all there and the check says no of them.
+fn fails<C: HeaderCheck>(bytes: &[u8], header: usize, check: &C) -> bool
+    ensures failed { IsTrue result
+        ↔ ((header ≤ length bytes.now) × (C.accepts check.now (take header bytes.now) ≡ false)) }
+    ensures passed { result ≡ false → header ≤ length bytes.now
+        → C.accepts check.now (take header bytes.now) ≡ true }
+{
+    header <= bytes.len() && !check.passes(&bytes[..header])
 }
 
 /// What a walk gave: the frames, and what of the bytes is unfinished.
@@ -45,9 +59,14 @@ pub struct Walked<'a> {
 }
 
 /// Takes the frames off the front of the bytes, one after another.
-pub fn walk(alloc: Global, bytes: &[u8]) -> Result<Walked<'_>, AllocError>
+pub fn walk<'a, C: HeaderCheck>(
+    alloc: Global,
+    bytes: &'a [u8],
+    check: &C,
+) -> Result<Walked<'a>, AllocError>
     ensures walks { IfOk result
-        (λ walked. Walks bytes.now walked.frames.items walked.unfinished.now) }
+        (λ walked. Walks (C.accepts check.now) bytes.now walked.frames.items
+        walked.unfinished.now) }
     ensures skipped { IfOk result
         (λ walked. walked.skipped + length (concat walked.frames.items)
         + length walked.unfinished.now ≡ length bytes.now) }
@@ -55,7 +74,7 @@ pub fn walk(alloc: Global, bytes: &[u8]) -> Result<Walked<'_>, AllocError>
     let mut frames = Vec::new(alloc);
     let mut rest = bytes;
     loop {
-        match front_of(rest) {
+        match front_of(rest, check) {
             Front::Whole(length) => {
                 let (frame, after) = rest.split_at(length);
                 frames.push(Bytes::from(Vec::from_slice(alloc, frame)?))?;

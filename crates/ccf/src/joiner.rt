@@ -5,7 +5,7 @@ ghost use Rattle.docsis_wire.specs.Ready.{IsReady};
 ghost use Rattle.ccf.specs.Feed.{Feeds, FeedsAs};
 
 use crate::front::{Front, front_of, walk};
-use docsis_wire::{Bytes, Segment, well_formed};
+use docsis_wire::{Bytes, HeaderCheck, Segment, well_formed};
 use std::alloc::{AllocError, Global};
 use std::marker::Model;
 use std::mem;
@@ -46,14 +46,25 @@ impl Joiner {
     /// fragmentation). Where an allocation fails nothing changes, and the same segment may be fed
     /// again.
     ///
-    /// The answer is the only one: `laws::feed_has_one_answer`. Over
-    /// a modem's segments it is exactly the frames that end in each:
-    /// `laws::each_segment_completes_the_frames_that_end_in_it`,
-    /// and with losses before it
+    /// Bytes whose header is all there and doesn't pass the check are dropped as malformed ones
+    /// are, though their frame isn't whole yet. The check is called at most once for each head that
+    /// is looked at, on a slice of bytes that are there. While a frame is unfinished each segment
+    /// looks at its head anew, so that joining costs a segment at most one check of 246 bytes
+    /// beside those of the heads that begin in it.
+    ///
+    /// The answer is the only one: `laws::feed_has_one_answer`. Over a modem's segments it is
+    /// exactly the frames that end in each:
+    /// `laws::each_segment_completes_the_frames_that_end_in_it`, and with losses before it
     /// `laws::each_segment_completes_the_kept_frames_that_end_in_it`.
-    pub fn feed(&mut self, alloc: Global, segment: &Segment) -> Result<Fed, AllocError>
+    pub fn feed<C: HeaderCheck>(
+        &mut self,
+        alloc: Global,
+        segment: &Segment,
+        check: &C,
+    ) -> Result<Fed, AllocError>
         requires { IsReady segment.now }
-        ensures fed { IfOk result (λ fed. Feeds self.old segment.now fed.frames.items self.new) }
+        ensures fed { IfOk result
+            (λ fed. Feeds (C.accepts check.now) self.old segment.now fed.frames.items self.new) }
         ensures skipped { IfOk result
             (λ fed. fed.skipped + length (concat fed.frames.items) + length self.new
             ≡ length self.old + length segment.now.payload) }
@@ -61,10 +72,21 @@ impl Joiner {
     {
         let payload = segment.payload.as_slice();
         if !segment.head.pfi {
-            return go_on(&mut self.unfinished, alloc, payload);
+            return go_on(&mut self.unfinished, alloc, payload, check);
         }
         let pointer = usize::from(segment.head.pointer);
-        complete(&mut self.unfinished, alloc, payload, pointer)
+        complete(&mut self.unfinished, alloc, payload, pointer, check)
+    }
+
+    /// Drops what is unfinished, since a segment was lost, and answers how many bytes that was. It
+    /// takes no memory. It is what a lost segment does in a settled list: `laws::gap_is_a_loss`.
+    pub fn gap(&mut self) -> usize
+        ensures dropped { result ≡ length self.old }
+        ensures nothing_left { self.new ≡ [] }
+    {
+        let dropped = self.unfinished.len();
+        self.unfinished.clear();
+        dropped
     }
 
     /// Whether nothing is unfinished.
@@ -76,10 +98,15 @@ impl Joiner {
 }
 
 /// Takes the payload of a segment in which no MAC header begins.
-fn go_on(unfinished: &mut Vec<u8>, alloc: Global, payload: &[u8]) -> Result<Fed, AllocError>
+fn go_on<C: HeaderCheck>(
+    unfinished: &mut Vec<u8>,
+    alloc: Global,
+    payload: &[u8],
+    check: &C,
+) -> Result<Fed, AllocError>
     ensures fed { IfOk result
-        (λ fed. FeedsAs false unfinished.old.items 0 payload.now fed.frames.items
-        unfinished.new.items) }
+        (λ fed. FeedsAs (C.accepts check.now) false unfinished.old.items 0 payload.now
+        fed.frames.items unfinished.new.items) }
     ensures skipped { IfOk result
         (λ fed. fed.skipped + length (concat fed.frames.items) + vec_len unfinished.new
         ≡ vec_len unfinished.old + length payload.now) }
@@ -95,7 +122,7 @@ fn go_on(unfinished: &mut Vec<u8>, alloc: Global, payload: &[u8]) -> Result<Fed,
     let kept = unfinished.len();
     unfinished.extend_from_slice(payload)?;
     let mut skipped = 0;
-    match front_of(unfinished) {
+    match front_of(unfinished, check) {
         Front::Waits => {}
         Front::Dropped => {
             skipped = unfinished.len();
@@ -115,16 +142,17 @@ fn go_on(unfinished: &mut Vec<u8>, alloc: Global, payload: &[u8]) -> Result<Fed,
 }
 
 /// Takes the payload of a segment in which a MAC header begins at `pointer`.
-fn complete(
+fn complete<C: HeaderCheck>(
     unfinished: &mut Vec<u8>,
     alloc: Global,
     payload: &[u8],
     pointer: usize,
+    check: &C,
 ) -> Result<Fed, AllocError>
     requires { pointer ≤ length payload.now }
     ensures fed { IfOk result
-        (λ fed. FeedsAs true unfinished.old.items pointer payload.now fed.frames.items
-        unfinished.new.items) }
+        (λ fed. FeedsAs (C.accepts check.now) true unfinished.old.items pointer payload.now
+        fed.frames.items unfinished.new.items) }
     ensures skipped { IfOk result
         (λ fed. fed.skipped + length (concat fed.frames.items) + vec_len unfinished.new
         ≡ vec_len unfinished.old + length payload.now) }
@@ -132,7 +160,7 @@ fn complete(
 {
     let (front, after) = payload.split_at(pointer);
     // All allocations come first, so that one that fails leaves everything as it was.
-    let walked = walk(alloc, after)?;
+    let walked = walk(alloc, after, check)?;
     let next = Vec::from_slice(alloc, walked.unfinished)?;
     let mut frames = walked.frames;
     if unfinished.is_empty() {
@@ -146,7 +174,7 @@ fn complete(
     unfinished.extend_from_slice(front)?;
     let mut skipped = walked.skipped;
     let done = mem::replace(unfinished, next);
-    if well_formed(&done) {
+    if well_formed(&done, check) {
         frames.insert(0, Bytes::from(done)).unwrap();
     } else {
         skipped += done.len();

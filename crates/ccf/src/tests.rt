@@ -3,8 +3,9 @@ ghost use Rattle.std.specs.Prelude.{IfOk};
 ghost use Rattle.docsis_wire.specs.Ready.{IsReady};
 
 use crate::{Fed, Joiner};
-use docsis_wire::{Bytes, Segment, ready};
+use docsis_wire::{Bytes, HeaderCheck, NoCheck, Segment, ready};
 use std::alloc::Global;
+use std::process::Abort;
 use std::test::Fail;
 
 /// A frame of eight bytes without an extended header.
@@ -31,7 +32,14 @@ struct Joining {
     idle: bool,
 }
 
-const JOININGS: [Joining; 6] = [
+const JOININGS: [Joining; 7] = [
+    Joining {
+        name: "the first of the three segments is lost",
+        segments: &[SECOND, THIRD],
+        frames: &[&[], &[EXTENDED]],
+        skipped: &[3, 0],
+        idle: true,
+    },
     Joining {
         name: "two frames cut inside both headers",
         segments: &[FIRST, SECOND, THIRD],
@@ -109,29 +117,128 @@ fn same_bytes(frames: &[Bytes], wanted: &[&[u8]]) -> bool {
             .all(|(frame, want)| frame.as_slice() == *want)
 }
 
+/// Feeds the segments of a flow and compares what each completes.
+fn joins_as<C: HeaderCheck>(
+    rt: &impl Abort,
+    alloc: Global,
+    joining: &Joining,
+    check: &C,
+) -> Result<(), Fail> {
+    let name = joining.name;
+    let mut joiner = Joiner::new(alloc);
+    assert!(rt; joiner.is_idle(), "{name}");
+    for (i, bytes) in joining.segments.iter().enumerate() {
+        let next = Segment::read(alloc, bytes)?;
+        let fed = joiner.feed(alloc, &next, check)?;
+        let frames = joining.frames.get(i).ok_or("no frames")?;
+        assert!(rt;
+            same_bytes(&fed.frames, frames),
+            "{name}, segment {i}: {fed:?}"
+        );
+        assert_eq!(rt;
+            Some(&fed.skipped),
+            joining.skipped.get(i),
+            "{name}, segment {i}"
+        );
+    }
+    assert_eq!(rt; joiner.is_idle(), joining.idle, "{name}");
+    Ok(())
+}
+
 #[test]
 fn joins(rt: HostRuntime) -> Result<(), Fail> {
     for joining in &JOININGS {
-        let name = joining.name;
-        let mut joiner = Joiner::new(rt.alloc());
-        assert!(rt; joiner.is_idle(), "{name}");
-        for (i, bytes) in joining.segments.iter().enumerate() {
-            let next = Segment::read(rt.alloc(), bytes)?;
-            let fed = joiner.feed(rt.alloc(), &next)?;
-            let frames = joining.frames.get(i).ok_or("no frames")?;
-            assert!(rt;
-                same_bytes(&fed.frames, frames),
-                "{name}, segment {i}: {fed:?}"
-            );
-            assert_eq!(rt;
-                Some(&fed.skipped),
-                joining.skipped.get(i),
-                "{name}, segment {i}"
-            );
-        }
-        assert_eq!(rt; joiner.is_idle(), joining.idle, "{name}");
+        joins_as(&rt, rt.alloc(), joining, &NoCheck)?;
     }
     Ok(())
+}
+
+/// What a flow gives of which a segment was lost: the gap is made where the segment would have come.
+#[test]
+fn goes_on_after_a_gap(rt: HostRuntime) -> Result<(), Fail> {
+    let alloc = rt.alloc();
+    assert_eq!(rt; Joiner::new(alloc).gap(), 0, "nothing is unfinished");
+    let last: &[u8] = &[0, 0, 0, 0x10, 0, 0, 0, 0, 0x11, 0xaa, 0xbb];
+    // The second of the three is lost: five bytes are dropped, and those after it belong to no frame.
+    for (name, after, skipped) in [
+        ("the frame's end and the next frame's front", THIRD, 5),
+        ("a segment without payload", last, 3),
+    ] {
+        let mut joiner = Joiner::new(alloc);
+        let before = joiner.feed(alloc, &Segment::read(alloc, FIRST)?, &NoCheck)?;
+        assert_eq!(rt; (before.frames.len(), before.skipped), (0, 0), "{name}");
+        assert!(rt; !joiner.is_idle(), "{name}");
+        assert_eq!(rt; joiner.gap(), 5, "{name}");
+        assert!(rt; joiner.is_idle(), "{name}");
+        let fed = joiner.feed(alloc, &Segment::read(alloc, after)?, &NoCheck)?;
+        assert_eq!(rt; (fed.frames.len(), fed.skipped), (0, skipped), "{name}");
+    }
+    Ok(())
+}
+
+/// A check that says no exactly where the header's last byte is 0x12.
+struct NotEndingIn12;
+
+impl HeaderCheck for NotEndingIn12 {
+    ghost use Rattle.std.specs.Prelude.{◌==◌, ◌-◌, length, not, slice_get, unwrap_or};
+
+    ghost accepts = { λ _ header. not (unwrap_or (slice_get header (length header - 1)) 0 == 18) };
+
+    fn passes(&self, header: &[u8]) -> bool {
+        header.last().copied().unwrap_or(0) != 0x12
+    }
+}
+
+/// A frame of eight bytes whose header does not pass that check.
+const SPOILED: &[u8] = &[0, 0, 0, 2, 0x11, 0x12, 0xaa, 0xbb];
+
+/// The two frames and that one between them, in one segment.
+const BETWEEN: &[u8] = &[
+    0x80, 0, 0, 0, 0, 0, 0, 0, 0, 0, 0, 2, 0x11, 0x11, 0xaa, 0xbb, 0, 0, 0, 2, 0x11, 0x12, 0xaa,
+    0xbb, 1, 1, 0, 3, 0xe0, 0x22, 0x22, 0xcc, 0xdd,
+];
+
+const UNCHECKED: Joining = Joining {
+    name: "without the check the spoiled header is a header",
+    segments: &[BETWEEN],
+    frames: &[&[PLAIN, SPOILED, EXTENDED]],
+    skipped: &[0],
+    idle: true,
+};
+
+const CHECKED: [Joining; 3] = [
+    Joining {
+        name: "a spoiled header hides what follows",
+        segments: &[BETWEEN],
+        frames: &[&[PLAIN]],
+        skipped: &[17],
+        idle: true,
+    },
+    Joining {
+        name: "a spoiled header that the second segment completes",
+        segments: &[FIRST, &[0, 0, 0, 8, 0, 0, 0, 0, 0x12, 0xaa, 0xbb]],
+        frames: &[&[], &[]],
+        skipped: &[0, 8],
+        idle: true,
+    },
+    Joining {
+        name: "a spoiled header whose frame is not whole yet",
+        segments: &[
+            &[0x80, 0, 0, 0, 0, 0, 0, 0, 0, 0, 0, 2, 0x11, 0x12],
+            &[0, 0, 0, 8, 0, 0, 0, 0, 0xaa, 0xbb],
+        ],
+        frames: &[&[], &[]],
+        skipped: &[6, 2],
+        idle: true,
+    },
+];
+
+#[test]
+fn drops_what_fails_the_check(rt: HostRuntime) -> Result<(), Fail> {
+    for joining in &CHECKED {
+        joins_as(&rt, rt.alloc(), joining, &NotEndingIn12)?;
+    }
+    joins_as(&rt, rt.alloc(), &UNCHECKED, &NoCheck)
 }
 
 /// A segment with so many more bytes of payload.
@@ -164,7 +271,7 @@ fn joins_the_longest_frame(rt: HostRuntime) -> Result<(), Fail> {
     let third = Segment::read(alloc, &third)?;
     for (next, wanted) in [(first, 0), (second, 0), (third, 2)] {
         assert!(rt; ready(&next));
-        let fed = joiner.feed(alloc, &next)?;
+        let fed = joiner.feed(alloc, &next, &NoCheck)?;
         assert_eq!(rt; fed.frames.len(), wanted);
         assert_eq!(rt; fed.skipped, 0);
         if let [longest, plain] = fed.frames.as_slice() {
@@ -187,7 +294,7 @@ fn joins_a_long_frame_of_one_segment(rt: HostRuntime) -> Result<(), Fail> {
         let next = long_segment(alloc, &head, usize::from(length) + 2)?;
         assert_eq!(rt; next.payload.len(), size);
         let mut joiner = Joiner::new(alloc);
-        let fed = joiner.feed(alloc, &next)?;
+        let fed = joiner.feed(alloc, &next, &NoCheck)?;
         assert_eq!(rt; fed.frames.len(), 1, "{size}");
         assert!(rt;
             fed.frames
@@ -209,7 +316,7 @@ fn joins_many_frames_of_one_segment(rt: HostRuntime) -> Result<(), Fail> {
         bytes.extend_from_slice(PLAIN)?;
     }
     let next = Segment::read(alloc, &bytes)?;
-    let fed = Joiner::new(alloc).feed(alloc, &next)?;
+    let fed = Joiner::new(alloc).feed(alloc, &next, &NoCheck)?;
     assert_eq!(rt; fed.frames.len(), 1000);
     assert!(rt; fed.frames.iter().all(|frame| frame.as_slice() == PLAIN));
     assert_eq!(rt; fed.skipped, 0);
@@ -229,7 +336,7 @@ fn keeps_what_a_low_pointer_begins(rt: HostRuntime) -> Result<(), Fail> {
         (rest, 1),
     ] {
         assert!(rt; ready(&next));
-        let fed = joiner.feed(alloc, &next)?;
+        let fed = joiner.feed(alloc, &next, &NoCheck)?;
         assert_eq!(rt; fed.frames.len(), wanted);
         if let [frame] = fed.frames.as_slice() {
             assert_eq!(rt; frame.len(), 262);
@@ -262,11 +369,11 @@ mod refusals {
     ) -> Result<Fed, Fail>
         requires { IsReady next.now }
     {
-        if let Ok(fed) = joiner.feed(alloc, next) {
+        if let Ok(fed) = joiner.feed(alloc, next, &NoCheck) {
             return Ok(fed);
         }
         println!(rt; "refused")?;
-        Ok(joiner.feed(alloc, next)?)
+        Ok(joiner.feed(alloc, next, &NoCheck)?)
     }
 
     #[test]

@@ -4,7 +4,7 @@ use Rattle.std.specs.List.{concat, AllByRecursion}
 use Rattle.std.proofs.lemmas.List.{append_assoc, drop-drop, take_at, take_rest, length-drop}
 use Rattle.std.proofs.lemmas.Option.{slice_get_read, slice_get_cases}
 use Rattle.docsis_wire.specs.declared.cursor.Cursor.{Cursor}
-use Rattle.docsis_wire.specs.Frame.{IsFrame}
+use Rattle.docsis_wire.specs.Frame.{IsGenericFrame}
 use Rattle.docsis_wire.specs.Cursor.{place_at, IsPlaced, chunk_at}
 use Rattle.docsis_wire.proofs.FrameHeads.{length-frame}
 use Rattle.docsis_wire.proofs.Places.{place_of-next}
@@ -15,8 +15,8 @@ pub frame_found : (frames : List (List ℕ)) (k : ℕ) (frame bytes : List ℕ) 
 frame_found frames k frame bytes within read same = slice_get_read frames (length frames) k frame refl within read ∙ ap Some (sym same)
 
 -- a frame has bytes
-pub some_bytes : (frames : List (List ℕ)) (k : ℕ) (frame : List ℕ) → AllByRecursion IsFrame frames → slice_get frames k ≡ Some frame → 0 < length frame
-some_bytes frames k frame each e = let h = AllByRecursion-at IsFrame frames k frame each e in omega (arith, length-frame frame h)
+pub some_bytes : (frames : List (List ℕ)) (k : ℕ) (frame : List ℕ) → AllByRecursion IsGenericFrame frames → slice_get frames k ≡ Some frame → 0 < length frame
+some_bytes frames k frame each e = let h = AllByRecursion-at IsGenericFrame frames k frame each e in omega (arith, length-frame frame h)
 
 -- a frame's rest stands at the cursor
 rest_of-frame : (frames : List (List ℕ)) (at : Cursor) (frame : List ℕ) → slice_get frames at.frame ≡ Some frame → at.offset ≤ length frame

@@ -1,5 +1,5 @@
 -- The segments that were made so far are those of a lawful cut.
-use Rattle.std.proofs.Common.{◌≡◌, ℕ, suc, zero, ◌+◌, ◌%◌, inl, inr, ◌⊎◌, Some, List, [], ◌∷◌, ◌++◌, length, replicate, slice_get, refl, sym, ap, ◌∙◌, subst, ⊎_elim}
+use Rattle.std.proofs.Common.{◌≡◌, Bool, ℕ, suc, zero, ◌+◌, ◌%◌, inl, inr, ◌⊎◌, Some, List, [], ◌∷◌, ◌++◌, length, replicate, slice_get, refl, sym, ap, ◌∙◌, subst, ⊎_elim}
 use Rattle.std.specs.List.{concat}
 use Rattle.std.proofs.lemmas.Option.{same_Some}
 use Rattle.docsis_wire.specs.declared.cursor.Cursor.{Cursor}
@@ -10,7 +10,7 @@ use Rattle.docsis_wire.specs.declared.segment.Segment.{Segment}
 use Rattle.docsis_wire.specs.Stream.{place_of, IsBoundary}
 use Rattle.docsis_wire.specs.Cut.{Points, IsCutSegment, IsFillByte, IsLawfulCut}
 use Rattle.docsis_wire.specs.Cursor.{place_at, chunk_at}
-use Rattle.docsis_wire.specs.Pieces.{fill_byte, chunks_of, IsPieceSegment, ArePieceSegments, IsCuttable}
+use Rattle.docsis_wire.specs.Pieces.{fill_byte, chunks_of, IsPieceSegment, ArePieceSegments, IsUnlawful, IsCuttable}
 use Rattle.docsis_wire.specs.CutUnderWay.{IsMade, AreMade}
 use Rattle.docsis_wire.proofs.Places.{place_of-next}
 use Rattle.docsis_wire.proofs.Chunks.{length-chunks_from, chunks_from-front}
@@ -35,11 +35,11 @@ AreMade-push frames pieces first fill before made after each next e = λ k segme
     (slice_get-push before made k segment (ap (λ t. slice_get t k) (sym e) ∙ is))
 
 -- the header and the payload at the cursor are a segment of the piece
-pub IsMade-at : (frames : List (List ℕ)) (pieces : List Piece) (first fill k : ℕ) (piece : Piece) (at to : Cursor) (segment : Segment) → IsCuttable frames pieces → MovesOver frames pieces k piece at to
+pub IsMade-at : (frames : List (List ℕ)) (pieces : List Piece) (first fill k : ℕ) (piece : Piece) (at to : Cursor) (segment : Segment) → ((i : ℕ) → ¬ IsUnlawful frames pieces i) → MovesOver frames pieces k piece at to
     → segment.payload ≡ chunk_at frames at piece.bytes ++ replicate piece.fill fill
     → Points segment.head.pfi segment.head.pointer frames (place_at frames at) (chunk_at frames at piece.bytes)
     → segment.head.sequence ≡ (first + k) % 8192 → IsPieceSegment fill piece (chunk_at frames at piece.bytes) segment → IsMade frames pieces first fill k segment
-IsMade-at frames pieces first fill k piece at to segment cuttable over payload points number named =
+IsMade-at frames pieces first fill k piece at to segment lawful over payload points number named =
     let chunk_is = chunk_is_at frames pieces k piece at piece.bytes over.piece_is refl over.place in
     record {
       piece = piece;
@@ -51,7 +51,7 @@ IsMade-at frames pieces first fill k piece at to segment cuttable over payload p
         payload = payload;
         filled = λ fills.
             let P : ℕ → Type 0 = IsBoundary frames in
-            subst P (place_of-next (chunks_of frames pieces) k (chunk_at frames at piece.bytes) chunk_is) (IsBoundary-from_lawful frames pieces k piece at to over (cuttable.lawful k) fills);
+            subst P (place_of-next (chunks_of frames pieces) k (chunk_at frames at piece.bytes) chunk_is) (IsBoundary-from_lawful frames pieces k piece at to over (lawful k) fills);
         points = let P : ℕ → Type 0 = λ n. Points segment.head.pfi segment.head.pointer frames n (chunk_at frames at piece.bytes) in subst P over.place points;
         number = number;
       };
@@ -64,9 +64,9 @@ IsFillByte-fill_byte Zero = inl refl
 IsFillByte-fill_byte Ones = inr refl
 
 -- as many segments as pieces, each made, are a lawful cut
-pub IsLawfulCut-from_made : (frames : List (List ℕ)) (pieces : List Piece) (first : ℕ) (fill : FillByte) (segments : List Segment) → IsCuttable frames pieces → length segments ≡ length pieces
-    → AreMade frames pieces first (fill_byte fill) segments → IsLawfulCut frames first (fill_byte fill) (chunks_of frames pieces) segments
-IsLawfulCut-from_made frames pieces first fill segments cuttable size made =
+pub IsLawfulCut-from_made : (check : List ℕ → Bool) (frames : List (List ℕ)) (pieces : List Piece) (first : ℕ) (fill : FillByte) (segments : List Segment) → IsCuttable check frames pieces → length segments ≡ length pieces
+    → AreMade frames pieces first (fill_byte fill) segments → IsLawfulCut check frames first (fill_byte fill) (chunks_of frames pieces) segments
+IsLawfulCut-from_made check frames pieces first fill segments cuttable size made =
     let front = chunks_from-front (concat frames) pieces in
     record {
       each = cuttable.each;

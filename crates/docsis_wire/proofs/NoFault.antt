@@ -22,9 +22,9 @@ same_pointer true n m place frames chunk h g = omega (arith, h.1 m g.0, g.1 n h.
 same_pointer false n m place frames chunk h g = absurd (h m g.0)
 
 -- no piece has fill inside a frame
-no_fill_inside : (frames : List (List ℕ)) (pieces : List Piece) (first fill : ℕ) (segments : List Segment) → IsLawfulCut frames first fill (chunks_of frames pieces) segments
+no_fill_inside : (check : List ℕ → Bool) (frames : List (List ℕ)) (pieces : List Piece) (first fill : ℕ) (segments : List Segment) → IsLawfulCut check frames first fill (chunks_of frames pieces) segments
     → ArePieceSegments fill frames pieces segments → (k : ℕ) → ¬ FillsInsideFrame frames pieces k
-no_fill_inside frames pieces first fill segments cut named k = λ h.
+no_fill_inside check frames pieces first fill segments cut named k = λ h.
     let within = slice_get_within pieces k h.piece h.piece_is in
     let place = place_of (chunks_of frames pieces) k in
     let chunk : List ℕ = take h.piece.bytes (drop place (concat frames)) in
@@ -37,9 +37,9 @@ no_fill_inside frames pieces first fill segments cut named k = λ h.
     h.inside (subst P (sym (place_of-next (chunks_of frames pieces) k chunk chunk_is)) (lawful.filled (omega (arith, h.fills, fill_len))))
 
 -- no pointer is too far
-no_far_pointer : (frames : List (List ℕ)) (pieces : List Piece) (first fill : ℕ) (segments : List Segment) → IsLawfulCut frames first fill (chunks_of frames pieces) segments
+no_far_pointer : (check : List ℕ → Bool) (frames : List (List ℕ)) (pieces : List Piece) (first fill : ℕ) (segments : List Segment) → IsLawfulCut check frames first fill (chunks_of frames pieces) segments
     → (k : ℕ) → ¬ PointsTooFar frames pieces k
-no_far_pointer frames pieces first fill segments cut k = λ h.
+no_far_pointer check frames pieces first fill segments cut k = λ h.
     let within = slice_get_within (chunks_of frames pieces) k h.chunk h.chunk_is in
     let segment = element_at segments k (omega (arith, within, cut.same_length)) in
     let lawful = cut.cut k h.chunk segment.0 h.chunk_is segment.1 in
@@ -48,9 +48,9 @@ no_far_pointer frames pieces first fill segments cut k = λ h.
     omega (arith, h.far, pointer, head.pointer_in_range)
 
 -- so that frames and pieces can be cut
-pub IsCuttable-from_cut : (frames : List (List ℕ)) (pieces : List Piece) (first fill : ℕ) (segments : List Segment) → IsLawfulCut frames first fill (chunks_of frames pieces) segments
-    → ArePieceSegments fill frames pieces segments → IsCuttable frames pieces
-IsCuttable-from_cut frames pieces first fill segments cut named = record {
+pub IsCuttable-from_cut : (check : List ℕ → Bool) (frames : List (List ℕ)) (pieces : List Piece) (first fill : ℕ) (segments : List Segment) → IsLawfulCut check frames first fill (chunks_of frames pieces) segments
+    → ArePieceSegments fill frames pieces segments → IsCuttable check frames pieces
+IsCuttable-from_cut check frames pieces first fill segments cut named = record {
   each = cut.each;
-  lawful = λ k. ⊎_elim (no_fill_inside frames pieces first fill segments cut named k) (no_far_pointer frames pieces first fill segments cut k);
+  lawful = λ k. ⊎_elim (no_fill_inside check frames pieces first fill segments cut named k) (no_far_pointer check frames pieces first fill segments cut k);
 }

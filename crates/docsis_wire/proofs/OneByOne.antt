@@ -1,5 +1,5 @@
 -- Segments that are made one after another are, in the end, a lawful cut.
-use Rattle.std.proofs.Common.{◌≡◌, ℕ, ◌+◌, Option, Some, None, List, [], ◌∷◌, ◌++◌, length, refl, sym, ◌∙◌, ap, subst}
+use Rattle.std.proofs.Common.{◌≡◌, Bool, ℕ, ◌+◌, Option, Some, None, List, [], ◌∷◌, ◌++◌, length, refl, sym, ◌∙◌, ap, subst}
 use Rattle.std.proofs.lemmas.List.{length_push}
 use Rattle.docsis_wire.specs.declared.pieces.FillByte.{FillByte}
 use Rattle.docsis_wire.specs.declared.pieces.Piece.{Piece}
@@ -41,34 +41,43 @@ all_made before after None next none = next.0
 all_made before after (Some segment) next none = absurd (none segment refl)
 
 -- these are the segments of the cut, a lawful one
-abbrev IsCutInto : CutUnderWay → List Segment → Type 0
-IsCutInto cut segments =
-    IsLawfulCut cut.frames cut.first (fill_byte cut.fill) (chunks_of cut.frames cut.pieces) segments
+abbrev IsCutInto : (List ℕ → Bool) → CutUnderWay → List Segment → Type 0
+IsCutInto check cut segments =
+    IsLawfulCut check cut.frames cut.first (fill_byte cut.fill) (chunks_of cut.frames cut.pieces) segments
     × ArePieceSegments (fill_byte cut.fill) cut.frames cut.pieces segments
 
 -- the cut at its last moment is the cut at its first
-cut_by_same : (cut other : CutUnderWay) (segments : List Segment) → IsSameCut cut other → IsCutInto other segments → IsCutInto cut segments
-cut_by_same cut other segments same h =
+cut_by_same : (check : List ℕ → Bool) (cut other : CutUnderWay) (segments : List Segment) → IsSameCut cut other → IsCutInto check other segments → IsCutInto check cut segments
+cut_by_same check cut other segments same h =
     let Is : List (List ℕ) → List Piece → ℕ → FillByte → Type 0 = λ frames pieces first fill.
-    IsLawfulCut frames first (fill_byte fill) (chunks_of frames pieces) segments × ArePieceSegments (fill_byte fill) frames pieces segments in
+    IsLawfulCut check frames first (fill_byte fill) (chunks_of frames pieces) segments × ArePieceSegments (fill_byte fill) frames pieces segments in
     subst (λ fill. Is cut.frames cut.pieces cut.first fill) same.same_fill
     (subst (λ first. Is cut.frames cut.pieces first other.fill) same.same_first
     (subst (λ pieces. Is cut.frames pieces other.first other.fill) same.same_pieces
     (subst (λ frames. Is frames other.pieces other.first other.fill) same.same_frames h)))
 
 -- what can be cut can be cut at each moment of the cut
-cuttable_by_same : (cut other : CutUnderWay) → IsSameCut cut other → IsCuttable cut.frames cut.pieces → IsCuttable other.frames other.pieces
-cuttable_by_same cut other same h =
-    subst (λ pieces. IsCuttable other.frames pieces) (sym same.same_pieces) (subst (λ frames. IsCuttable frames cut.pieces) (sym same.same_frames) h)
+cuttable_by_same : (check : List ℕ → Bool) (cut other : CutUnderWay) → IsSameCut cut other → IsCuttable check cut.frames cut.pieces → IsCuttable check other.frames other.pieces
+cuttable_by_same check cut other same h =
+    subst (λ pieces. IsCuttable check other.frames pieces) (sym same.same_pieces) (subst (λ frames. IsCuttable check frames cut.pieces) (sym same.same_frames) h)
 
 -- all of them
-pub HasMade-all : (begun cut after : CutUnderWay) (segments : List Segment) (answer : Option Segment) → IsCuttable begun.frames begun.pieces → IsSameCut begun cut → HasMade cut segments
+pub HasMade-all : (check : List ℕ → Bool) (begun cut after : CutUnderWay) (segments : List Segment) (answer : Option Segment) → IsCuttable check begun.frames begun.pieces → IsSameCut begun cut → HasMade cut segments
     → GivesNext cut after answer → ((segment : Segment) → answer ≡ Some segment → ⊥)
-    → IsLawfulCut begun.frames begun.first (fill_byte begun.fill) (chunks_of begun.frames begun.pieces) segments
+    → IsLawfulCut check begun.frames begun.first (fill_byte begun.fill) (chunks_of begun.frames begun.pieces) segments
     × ArePieceSegments (fill_byte begun.fill) begun.frames begun.pieces segments
-HasMade-all begun cut after segments answer cuttable same so_far next none =
+HasMade-all check begun cut after segments answer cuttable same so_far next none =
     let all = all_made cut after answer next none in
-    cut_by_same begun cut segments same (
-      IsLawfulCut-from_made cut.frames cut.pieces cut.first cut.fill segments (cuttable_by_same begun cut same cuttable) (so_far.size ∙ all) so_far.made_each,
+    cut_by_same check begun cut segments same (
+      IsLawfulCut-from_made check cut.frames cut.pieces cut.first cut.fill segments (cuttable_by_same check begun cut same cuttable) (so_far.size ∙ all) so_far.made_each,
       ArePieceSegments-from_made cut.frames cut.pieces cut.first (fill_byte cut.fill) segments so_far.made_each,
     )
+
+-- all of them have what the pieces name
+pub HasMade-named : (begun cut : CutUnderWay) (segments : List Segment) → IsSameCut begun cut → HasMade cut segments → ArePieceSegments (fill_byte begun.fill) begun.frames begun.pieces segments
+HasMade-named begun cut segments same so_far =
+    let Is : List (List ℕ) → List Piece → FillByte → Type 0 = λ frames pieces fill. ArePieceSegments (fill_byte fill) frames pieces segments in
+    subst (λ fill. Is begun.frames begun.pieces fill) same.same_fill
+    (subst (λ pieces. Is begun.frames pieces cut.fill) same.same_pieces
+    (subst (λ frames. Is frames cut.pieces cut.fill) same.same_frames
+    (ArePieceSegments-from_made cut.frames cut.pieces cut.first (fill_byte cut.fill) segments so_far.made_each)))

@@ -38,9 +38,9 @@ segment-once frames first fill k place piece chunk g h g_cut g_named h_cut h_nam
     (g_named.payload ∙ sym h_named.payload)
 
 -- the pieces make one cut
-pub cut-once : (frames : List (List ℕ)) (pieces : List Piece) (first fill : ℕ) (segments others : List Segment) → IsLawfulCut frames first fill (chunks_of frames pieces) segments
-    → ArePieceSegments fill frames pieces segments → IsLawfulCut frames first fill (chunks_of frames pieces) others → ArePieceSegments fill frames pieces others → segments ≡ others
-cut-once frames pieces first fill segments others cut named other_cut other_named =
+pub cut-once : (check : List ℕ → Bool) (frames : List (List ℕ)) (pieces : List Piece) (first fill : ℕ) (segments others : List Segment) → IsLawfulCut check frames first fill (chunks_of frames pieces) segments
+    → ArePieceSegments fill frames pieces segments → IsLawfulCut check frames first fill (chunks_of frames pieces) others → ArePieceSegments fill frames pieces others → segments ≡ others
+cut-once check frames pieces first fill segments others cut named other_cut other_named =
     same_lists segments others (cut.same_length ∙ sym other_cut.same_length) (λ k d within.
     let inside : k < length pieces = omega (arith, within, cut.same_length, length-chunks_from (concat frames) pieces) in
     let piece_is = slice_get-get_or pieces k record { bytes = 0; fill = 0 } inside in

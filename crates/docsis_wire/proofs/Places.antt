@@ -1,9 +1,9 @@
 -- Where pieces begin when they stand end to end.
-use Rattle.std.proofs.Common.{◌≡◌, ℕ, zero, suc, ◌+◌, ◌<◌, ◌≤◌, Some, List, [], ◌∷◌, ◌++◌, length, take, drop, refl, sym, ap, ◌∙◌, arith, add-one, length-append, append_assoc, inl, inr}
+use Rattle.std.proofs.Common.{Bool, ◌≡◌, ℕ, zero, suc, ◌+◌, ◌<◌, ◌≤◌, Some, List, [], ◌∷◌, ◌++◌, length, take, drop, refl, sym, ap, ◌∙◌, arith, add-one, length-append, append_assoc, inl, inr}
 use Rattle.std.specs.List.{concat, AllByRecursion, slice_get}
 use Rattle.std.proofs.lemmas.Bool.{cases_lt}
 use Rattle.std.proofs.lemmas.List.{take_at}
-use Rattle.docsis_wire.specs.Frame.{IsFrame}
+use Rattle.docsis_wire.specs.Frame.{IsGenericFrame, IsFrame}
 use Rattle.docsis_wire.specs.Stream.{place_of}
 use Rattle.docsis_wire.proofs.FrameHeads.{length-frame}
 
@@ -58,18 +58,23 @@ pub place_of-behind_one : (pieces before : List (List ℕ)) (piece : List ℕ) (
 place_of-behind_one pieces before piece behind e =
     place_of-next pieces (length before) piece (ap (λ t. slice_get t (length before)) e ∙ slice_get-at before piece behind)
 
+-- frames are of the generic format, whatever the check
+pub each_generic : (check : List ℕ → Bool) (frames : List (List ℕ)) → AllByRecursion (IsFrame check) frames → AllByRecursion IsGenericFrame frames
+each_generic check [] each = tt
+each_generic check (f ∷ fs) each = (each.0.generic, each_generic check fs each.1)
+
 -- a frame has some bytes
-pub some_bytes : (frame : List ℕ) → IsFrame frame → 0 < length frame
+pub some_bytes : (frame : List ℕ) → IsGenericFrame frame → 0 < length frame
 some_bytes frame h = omega (arith, length-frame frame h)
 
 -- a frame ends after its beginning
-place_of-lt_suc : (frames : List (List ℕ)) (j : ℕ) → AllByRecursion IsFrame frames → j < length frames → place_of frames j < place_of frames (suc j)
+place_of-lt_suc : (frames : List (List ℕ)) (j : ℕ) → AllByRecursion IsGenericFrame frames → j < length frames → place_of frames j < place_of frames (suc j)
 place_of-lt_suc [] j each h = absurd (omega arith)
 place_of-lt_suc (f ∷ fs) zero each h = omega (arith, some_bytes f each.0, length-append f [])
 place_of-lt_suc (f ∷ fs) (suc j) each h =
     omega (arith, place_of-lt_suc fs j each.1 (omega arith), length-append f (concat (take (suc j) fs)), length-append f (concat (take j fs)))
 
-pub place_of-lt : (frames : List (List ℕ)) (j : ℕ) → AllByRecursion IsFrame frames → j < length frames → place_of frames j < place_of frames (j + 1)
+pub place_of-lt : (frames : List (List ℕ)) (j : ℕ) → AllByRecursion IsGenericFrame frames → j < length frames → place_of frames j < place_of frames (j + 1)
 place_of-lt frames j each h = rw add-one (place_of-lt_suc frames j each h)
 
 -- no piece begins within another

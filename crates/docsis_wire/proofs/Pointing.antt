@@ -14,9 +14,9 @@ Points-within true pointer frames place chunk h e = h.0.0
 Points-within false pointer frames place chunk h e = absurd cc
 
 -- each segment of a cut is ready
-pub ready_of_cut : (frames chunks : List (List ℕ)) (first fill i : ℕ) (segments : List Segment) (segment : Segment)
-    → IsLawfulCut frames first fill chunks segments → slice_get segments i ≡ Some segment → IsReady segment
-ready_of_cut frames chunks first fill i segments segment cut at pfi =
+pub ready_of_cut : (check : List ℕ → Bool) (frames chunks : List (List ℕ)) (first fill i : ℕ) (segments : List Segment) (segment : Segment)
+    → IsLawfulCut check frames first fill chunks segments → slice_get segments i ≡ Some segment → IsReady segment
+ready_of_cut check frames chunks first fill i segments segment cut at pfi =
     let chunk = element_at chunks i (omega (arith, slice_get_within segments i segment at, cut.same_length)) in
     let c = cut.cut i chunk.0 segment chunk.1 at in
     omega (arith, Points-within segment.head.pfi segment.head.pointer frames (place_of chunks i) chunk.0 c.points pfi, ap length c.payload, length-append chunk.0 (replicate c.fill_len fill))

@@ -1,7 +1,7 @@
 -- The span of a frame, by the places of the chunks.
 use Rattle.std.proofs.Common.{◌≡◌, ℕ, ◌+◌, ◌-◌, ◌<◌, ◌≤◌, ◌↔◌, List, length, refl, zero-add, arith}
 use Rattle.std.specs.List.{AllByRecursion}
-use Rattle.docsis_wire.specs.Frame.{IsFrame}
+use Rattle.docsis_wire.specs.Frame.{IsGenericFrame}
 use Rattle.docsis_wire.specs.Stream.{place_of}
 use Rattle.docsis_wire.specs.Span.{IsInSpan}
 use Rattle.docsis_wire.proofs.Places.{place_of-le, place_of-lt, piece_at}
@@ -34,7 +34,7 @@ IsInSpan-by_places frames chunks j n i some within begins ends =
       shares_later = record { place = last_place; frame_from = omega arith; frame_to = omega arith; chunk_from = last.3; chunk_to = last.4 };
     }
 
-pub IsInSpan-iff : (frames chunks : List (List ℕ)) (j n i : ℕ) → AllByRecursion IsFrame frames → j < length frames → place_of frames (j + 1) ≤ place_of chunks n
+pub IsInSpan-iff : (frames chunks : List (List ℕ)) (j n i : ℕ) → AllByRecursion IsGenericFrame frames → j < length frames → place_of frames (j + 1) ≤ place_of chunks n
     → IsInSpan frames chunks j i ↔ ((place_of chunks i < place_of frames (j + 1)) × (place_of frames j < place_of chunks (i + 1)))
 IsInSpan-iff frames chunks j n i each some within = (
   λ h. (IsInSpan-begins frames chunks j i h, IsInSpan-ends frames chunks j i h),

@@ -6,7 +6,7 @@ use Rattle.std.proofs.lemmas.Bool.{cases_lt}
 use Rattle.std.proofs.lemmas.List.{length-take, length-drop}
 use Rattle.std.proofs.lemmas.Option.{slice_get_cases}
 use Rattle.docsis_wire.specs.declared.cursor.Cursor.{Cursor}
-use Rattle.docsis_wire.specs.Frame.{IsFrame}
+use Rattle.docsis_wire.specs.Frame.{IsGenericFrame}
 use Rattle.docsis_wire.specs.Stream.{place_of}
 use Rattle.docsis_wire.specs.Cut.{Points}
 use Rattle.docsis_wire.specs.Cursor.{place_at, chunk_at}
@@ -19,7 +19,7 @@ pub length-chunk : (frames : List (List ℕ)) (at : Cursor) (bytes : ℕ) → le
 length-chunk frames at bytes = length-take bytes (drop (place_at frames at) (concat frames)) ∙ ap (min bytes) (length-drop (place_at frames at) (concat frames))
 
 -- an earlier frame starts at an earlier place
-starts_before : (frames : List (List ℕ)) (i j : ℕ) → AllByRecursion IsFrame frames → i < length frames → i < j → place_of frames i < place_of frames j
+starts_before : (frames : List (List ℕ)) (i j : ℕ) → AllByRecursion IsGenericFrame frames → i < length frames → i < j → place_of frames i < place_of frames j
 starts_before frames i j each within less =
     elim (slice_get_cases frames i).1 [
       | inl h ↦ omega (arith, some_bytes frames i h.0 each h.2, place_of-next frames i h.0 h.2, place_of-le frames (i + 1) j (omega arith))
@@ -32,7 +32,7 @@ pub record StartsNext (frames : List (List ℕ)) (place starting before : ℕ) :
   pub first : (i : ℕ) → i < length frames → place ≤ place_of frames i → starting ≤ i
 
 -- at its first byte the cursor's own frame starts
-pub StartsNext-here : (frames : List (List ℕ)) (at : Cursor) (starting before : ℕ) → AllByRecursion IsFrame frames → at.offset ≡ 0 → starting ≡ at.frame → before ≡ 0
+pub StartsNext-here : (frames : List (List ℕ)) (at : Cursor) (starting before : ℕ) → AllByRecursion IsGenericFrame frames → at.offset ≡ 0 → starting ≡ at.frame → before ≡ 0
     → StartsNext frames (place_at frames at) starting before
 StartsNext-here frames at starting before each none starting_is before_is = record {
   place_is = ap (place_of frames) starting_is ∙ omega (arith, none, before_is);
@@ -54,7 +54,7 @@ StartsNext-behind frames at frame starting before e within some starting_is befo
 }
 
 -- a frame that starts next in the chunk is pointed at
-Points-at : (frames : List (List ℕ)) (at : Cursor) (bytes starting before : ℕ) → AllByRecursion IsFrame frames → StartsNext frames (place_at frames at) starting before
+Points-at : (frames : List (List ℕ)) (at : Cursor) (bytes starting before : ℕ) → AllByRecursion IsGenericFrame frames → StartsNext frames (place_at frames at) starting before
     → starting < length frames → before < bytes → Points true before frames (place_at frames at) (chunk_at frames at bytes)
 Points-at frames at bytes starting before each next within less =
     let bound : place_at frames at + before < length (concat frames) =
@@ -72,7 +72,7 @@ Points-none frames at bytes starting before pointer next none = λ p h.
     none (omega (arith, h.1.1, later)) (omega (arith, next.place_is, place_of-le frames starting h.1.0 later, h.1.2, h.0, length-chunk frames at bytes))
 
 -- what is found of the next frame is what PFI and the pointer say
-pub Points-found : (frames : List (List ℕ)) (at : Cursor) (bytes starting before : ℕ) (found : Bool) (result : Option ℕ) → AllByRecursion IsFrame frames
+pub Points-found : (frames : List (List ℕ)) (at : Cursor) (bytes starting before : ℕ) (found : Bool) (result : Option ℕ) → AllByRecursion IsGenericFrame frames
     → StartsNext frames (place_at frames at) starting before → result ≡ then_some found before
     → (found ≡ true → (starting < length frames) × (before < bytes)) → (found ≡ false → starting < length frames → before < bytes → ⊥)
     → Points (is_some result) (unwrap_or result 0) frames (place_at frames at) (chunk_at frames at bytes)

@@ -1,5 +1,5 @@
 -- Stretches of byte strings that stand end to end: what stands before a place and after it.
-use Rattle.std.proofs.Common.{◌≡◌, ℕ, suc, zero, ◌+◌, ◌≤◌, Some, List, [], ◌∷◌, ◌++◌, length, take, drop, slice_get, refl, sym, ap, ◌∙◌, subst, arith}
+use Rattle.std.proofs.Common.{◌≡◌, ℕ, suc, zero, ◌+◌, ◌<◌, ◌≤◌, Some, List, [], ◌∷◌, ◌++◌, length, take, drop, slice_get, refl, sym, ap, ◌∙◌, subst, arith}
 use Rattle.std.specs.List.{concat, AllByRecursion}
 use Rattle.std.proofs.lemmas.List.{length-append, take-append-drop, take_all, drop_at, drop-drop, drop-append-le, drop-take, take-take, take-append-le, take_min, length-take}
 use Rattle.std.proofs.lemmas.List.Folds.{concat-append}
@@ -10,6 +10,11 @@ pub AllByRecursion-at : {X : Type 0} (P : X → Type 0) (xs : List X) (k : ℕ) 
 AllByRecursion-at P [] k x all e = absurd cc
 AllByRecursion-at P (y ∷ ys) zero x all e = let same : y ≡ x = cc in subst P same all.0
 AllByRecursion-at P (y ∷ ys) (suc k) x all e = AllByRecursion-at P ys k x all.1 e
+
+-- what holds of each by its index holds of all
+pub AllByRecursion-from : {X : Type 0} (P : X → Type 0) (xs : List X) → ((k : ℕ) (x : X) → k < length xs → slice_get xs k ≡ Some x → P x) → AllByRecursion P xs
+AllByRecursion-from P [] each = tt
+AllByRecursion-from P (y ∷ ys) each = (each zero y (omega arith) refl, AllByRecursion-from P ys (λ k x within e. each (suc k) x (omega arith) e))
 
 -- what a list has from the k-th on
 pub drop-from : {X : Type 0} (xs : List X) (k : ℕ) (x : X) → slice_get xs k ≡ Some x → drop k xs ≡ x ∷ drop (suc k) xs

@@ -28,10 +28,10 @@ pub record IsCutSegment (frames : List (List ℕ)) (first fill index place : ℕ
 abbrev pub IsFillByte : ℕ → Type 0
 IsFillByte fill = (fill ≡ 0) ⊎ (fill ≡ 255)
 
--- A modem's frames, cut into these chunks, and the segments that carry them: the chunks end to end are the front of the frames end to end,
--- and the whole flow has one fill byte.
-pub record IsLawfulCut (frames : List (List ℕ)) (first fill : ℕ) (chunks : List (List ℕ)) (segments : List Segment) : Type 0 where
-  pub each : AllByRecursion IsFrame frames
+-- A modem's frames, each with a header that the check says yes of, cut into these chunks, and the segments that carry them: the chunks end
+-- to end are the front of the frames end to end, and the whole flow has one fill byte.
+pub record IsLawfulCut (check : List ℕ → Bool) (frames : List (List ℕ)) (first fill : ℕ) (chunks : List (List ℕ)) (segments : List Segment) : Type 0 where
+  pub each : AllByRecursion (IsFrame check) frames
   pub fill_is : IsFillByte fill
   pub unsent : List ℕ
   pub stream : concat frames ≡ concat chunks ++ unsent

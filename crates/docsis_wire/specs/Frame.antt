@@ -1,4 +1,4 @@
-use Rattle.std.specs.Prelude.{◌≡◌, ◌≢◌, ℕ, ◌+◌, ◌%◌, ◌≤◌, ◌⊎◌, List, [], ◌∷◌, ◌++◌, length}
+use Rattle.std.specs.Prelude.{◌≡◌, ◌≢◌, ℕ, ◌+◌, ◌%◌, ◌≤◌, ◌⊎◌, Bool, IsTrue, List, [], ◌∷◌, ◌++◌, length, take}
 use Rattle.docsis_wire.specs.Limits.{extended_max}
 use Rattle.docsis_wire.specs.Words.{two_bytes}
 
@@ -16,9 +16,9 @@ pub record IsFrameControl (fc : ℕ) : Type 0 where
   pub not_c9 : fc ≢ 0xC9
   pub not_ff : fc ≢ 0xFF
 
--- A frame with its generic MAC header: FC, MAC_PARM, LEN, EHDR, HCS and the rest, end to end. LEN counts EHDR and the rest, so a frame
--- has 6 + LEN bytes.
-pub record IsFrame (frame : List ℕ) : Type 0 where
+-- A generic MAC header and what follows it: FC, MAC_PARM, LEN, EHDR, HCS and the rest, end to end. LEN counts EHDR and the rest, so the
+-- whole has 6 + LEN bytes.
+pub record IsGenericFrame (frame : List ℕ) : Type 0 where
   pub fc : ℕ
   pub parm : ℕ
   pub len : ℕ
@@ -31,3 +31,12 @@ pub record IsFrame (frame : List ℕ) : Type 0 where
   pub ehdr_is : IsExtendedHeader fc parm ehdr
   pub fc_is : IsFrameControl fc
   pub not_fill : fc + parm + len ≢ 0
+
+-- the bytes up to the end of HCS, where the extended header has so many
+abbrev pub header_front : ℕ → List ℕ → List ℕ
+header_front ehdr bytes = take (6 + ehdr) bytes
+
+-- A frame: of its header, up to the end of HCS, the check says yes.
+pub record IsFrame (check : List ℕ → Bool) (frame : List ℕ) : Type 0 where
+  pub generic : IsGenericFrame frame
+  pub checked : IsTrue (check (header_front (length generic.ehdr) frame))

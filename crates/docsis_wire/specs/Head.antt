@@ -1,5 +1,6 @@
-use Rattle.std.specs.Prelude.{◌≡◌, ◌≢◌, ◌<◌, Some, slice_get, ℕ, ◌+◌, ◌*◌, ◌%◌, List, [], ◌∷◌, length, Bool, ◌==◌, ◌&&◌, ◌||◌, nat_lt, if◌then◌else◌}
+use Rattle.std.specs.Prelude.{◌≡◌, ◌≢◌, ◌<◌, Some, slice_get, ℕ, ◌+◌, ◌*◌, ◌%◌, List, [], ◌∷◌, length, Bool, IsTrue, ◌==◌, ◌&&◌, ◌||◌, nat_lt, if◌then◌else◌}
 use Rattle.docsis_wire.specs.Limits.{extended_max}
+use Rattle.docsis_wire.specs.Frame.{header_front}
 use Rattle.docsis_wire.specs.declared.frame.HeadRead.{HeadRead}
 use Rattle.docsis_wire.specs.declared.frame.HeadRead.TheVariants.{Short, Fill, Bad, Head}
 use Rattle.docsis_wire.specs.declared.frame.HeadFault.TheVariants.{NoLength, ExtendedTooLong}
@@ -28,9 +29,9 @@ head_of (fc ∷ parm ∷ []) = if fc == 255 then Fill else Short
 head_of (fc ∷ parm ∷ high ∷ []) = if fc == 255 then Fill else Short
 head_of (fc ∷ parm ∷ high ∷ low ∷ more) = if fc == 255 then Fill else head_of_fields fc parm (high * 256 + low)
 
--- a head that announces this frame's length
-abbrev pub IsHeadOf : List ℕ → HeadRead → Type 0
-IsHeadOf frame read = (ehdr : ℕ) × (read ≡ Head ehdr (length frame))
+-- a head that announces this frame's length, and a header that the check says yes of
+abbrev pub IsHeadOf : (List ℕ → Bool) → List ℕ → HeadRead → Type 0
+IsHeadOf check frame read = (ehdr : ℕ) × (read ≡ Head ehdr (length frame)) × IsTrue (check (header_front ehdr frame))
 
 -- too few bytes to say anything: fewer than four, of which the first, if there is one, is not 0xFF
 abbrev pub IsShort : List ℕ → Type 0

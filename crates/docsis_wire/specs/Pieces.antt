@@ -1,4 +1,4 @@
-use Rattle.std.specs.Prelude.{◌≡◌, ℕ, ◌+◌, ◌<◌, ◌≤◌, ◌⊎◌, true, false, Some, List, [], ◌∷◌, ◌++◌, take, drop, replicate, slice_get}
+use Rattle.std.specs.Prelude.{◌≡◌, ℕ, ◌+◌, ◌<◌, ◌≤◌, ◌⊎◌, Bool, true, false, Some, List, [], ◌∷◌, ◌++◌, take, drop, replicate, slice_get}
 use Rattle.std.specs.List.{concat, AllByRecursion}
 use Rattle.docsis_wire.specs.declared.pieces.FillByte.{FillByte}
 use Rattle.docsis_wire.specs.declared.pieces.FillByte.TheVariants.{Zero, Ones}
@@ -42,11 +42,11 @@ ArePieceSegments fill frames pieces segments = (k : ℕ) (piece : Piece) (chunk 
     → IsPieceSegment fill piece chunk segment
 
 -- the frames up to the k-th are well formed, and the k-th is not
-pub record IsFirstBadFrame (frames : List (List ℕ)) (k : ℕ) : Type 0 where
+pub record IsFirstBadFrame (check : List ℕ → Bool) (frames : List (List ℕ)) (k : ℕ) : Type 0 where
   pub frame : List ℕ
   pub frame_is : slice_get frames k ≡ Some frame
-  pub bad : ¬ IsFrame frame
-  pub earlier : (i : ℕ) (frame : List ℕ) → i < k → slice_get frames i ≡ Some frame → IsFrame frame
+  pub bad : ¬ IsFrame check frame
+  pub earlier : (i : ℕ) (frame : List ℕ) → i < k → slice_get frames i ≡ Some frame → IsFrame check frame
 
 -- piece k has fill, and its data end neither where a frame ends nor at the stream's first place
 pub record FillsInsideFrame (frames : List (List ℕ)) (pieces : List Piece) (k : ℕ) : Type 0 where
@@ -68,26 +68,26 @@ abbrev pub IsUnlawful : List (List ℕ) → List Piece → ℕ → Type 0
 IsUnlawful frames pieces k = FillsInsideFrame frames pieces k ⊎ PointsTooFar frames pieces k
 
 -- all frames are well formed, and each piece makes a lawful segment
-pub record IsCuttable (frames : List (List ℕ)) (pieces : List Piece) : Type 0 where
-  pub each : AllByRecursion IsFrame frames
+pub record IsCuttable (check : List ℕ → Bool) (frames : List (List ℕ)) (pieces : List Piece) : Type 0 where
+  pub each : AllByRecursion (IsFrame check) frames
   pub lawful : (k : ℕ) → ¬ IsUnlawful frames pieces k
 
 -- all frames are well formed, and piece k is the first that makes no lawful segment, by its fill
-pub record IsFirstFillInsideFrame (frames : List (List ℕ)) (pieces : List Piece) (k : ℕ) : Type 0 where
-  pub each : AllByRecursion IsFrame frames
+pub record IsFirstFillInsideFrame (check : List ℕ → Bool) (frames : List (List ℕ)) (pieces : List Piece) (k : ℕ) : Type 0 where
+  pub each : AllByRecursion (IsFrame check) frames
   pub here : FillsInsideFrame frames pieces k
   pub earlier : (i : ℕ) → i < k → ¬ IsUnlawful frames pieces i
 
 -- all frames are well formed, and piece k is the first that makes no lawful segment, by its pointer and not by its fill
-pub record IsFirstPointerTooFar (frames : List (List ℕ)) (pieces : List Piece) (k : ℕ) : Type 0 where
-  pub each : AllByRecursion IsFrame frames
+pub record IsFirstPointerTooFar (check : List ℕ → Bool) (frames : List (List ℕ)) (pieces : List Piece) (k : ℕ) : Type 0 where
+  pub each : AllByRecursion (IsFrame check) frames
   pub here : PointsTooFar frames pieces k
   pub fill_lawful : ¬ FillsInsideFrame frames pieces k
   pub earlier : (i : ℕ) → i < k → ¬ IsUnlawful frames pieces i
 
 -- what a fault says of the frames and pieces; out of memory is reported only where they can be cut
-abbrev pub Reports : List (List ℕ) → List Piece → CutFault → Type 0
-Reports frames pieces (BadFrame k) = IsFirstBadFrame frames k
-Reports frames pieces (FillInsideFrame k) = IsFirstFillInsideFrame frames pieces k
-Reports frames pieces (PointerTooFar k) = IsFirstPointerTooFar frames pieces k
-Reports frames pieces OutOfMemory = IsCuttable frames pieces
+abbrev pub Reports : (List ℕ → Bool) → List (List ℕ) → List Piece → CutFault → Type 0
+Reports check frames pieces (BadFrame k) = IsFirstBadFrame check frames k
+Reports check frames pieces (FillInsideFrame k) = IsFirstFillInsideFrame check frames pieces k
+Reports check frames pieces (PointerTooFar k) = IsFirstPointerTooFar check frames pieces k
+Reports check frames pieces OutOfMemory = IsCuttable check frames pieces

@@ -2,7 +2,7 @@
 ghost use Rattle.std.specs.Prelude.{◌≡◌, ◌+◌, ◌<◌, ◌≤◌, ◌++◌, length, take, drop, min, vec_len};
 ghost use Rattle.std.specs.Prelude.{OnOk, is_some, unwrap_or};
 ghost use Rattle.std.specs.List.{concat, AllByRecursion};
-ghost use Rattle.docsis_wire.specs.Frame.{IsFrame};
+ghost use Rattle.docsis_wire.specs.Frame.{IsGenericFrame};
 ghost use Rattle.docsis_wire.specs.Cut.{Points};
 ghost use Rattle.docsis_wire.specs.Cursor.{place_at, IsPlaced, chunk_at};
 
@@ -27,7 +27,7 @@ pub const START: Cursor = Cursor {
 /// them.
 fn next_part<'a>(frames: &'a [Bytes], at: &mut Cursor, most: usize) -> &'a [u8]
     requires placed { IsPlaced frames.now at.old }
-    requires each { AllByRecursion IsFrame frames.now }
+    requires each { AllByRecursion IsGenericFrame frames.now }
     ensures placed { IsPlaced frames.now at.new }
     ensures part { result.now ≡ chunk_at frames.now at.old (length result.now) }
     ensures moved { place_at frames.now at.new ≡ place_at frames.now at.old + length result.now }
@@ -52,7 +52,7 @@ fn next_part<'a>(frames: &'a [Bytes], at: &mut Cursor, most: usize) -> &'a [u8]
 /// Moves the cursor on by so many bytes, or to the end of the last frame if that is nearer.
 pub fn advance(frames: &[Bytes], at: &mut Cursor, bytes: usize)
     requires placed { IsPlaced frames.now at.old }
-    requires each { AllByRecursion IsFrame frames.now }
+    requires each { AllByRecursion IsGenericFrame frames.now }
     ensures placed { IsPlaced frames.now at.new }
     ensures moved { place_at frames.now at.new
         ≡ min (place_at frames.now at.old + bytes) (length (concat frames.now)) }
@@ -76,7 +76,7 @@ pub fn copy(
     payload: &mut Vec<u8>,
 ) -> Result<(), AllocError>
     requires placed { IsPlaced frames.now at.old }
-    requires each { AllByRecursion IsFrame frames.now }
+    requires each { AllByRecursion IsGenericFrame frames.now }
     ensures placed { OnOk result (IsPlaced frames.now at.new) }
     ensures moved { OnOk result
         (place_at frames.now at.new
@@ -99,7 +99,7 @@ pub fn copy(
 /// How many of the next `bytes` bytes come before the first frame that starts in them, if one does.
 pub fn first_start(frames: &[Bytes], at: Cursor, bytes: usize) -> Option<usize>
     requires placed { IsPlaced frames.now at }
-    requires each { AllByRecursion IsFrame frames.now }
+    requires each { AllByRecursion IsGenericFrame frames.now }
     ensures { Points (is_some result) (unwrap_or result 0) frames.now
         (place_at frames.now at) (chunk_at frames.now at bytes) }
 {

@@ -1,8 +1,8 @@
 //! Frames cut into segments, all at once or a segment at a time.
-ghost use Rattle.std.specs.Prelude.{◌≡◌, ◌≢◌, ◌+◌, ◌<◌, ◌↔◌, ◌⊎◌, ◌++◌, ℕ, false, length, min, replicate};
+ghost use Rattle.std.specs.Prelude.{◌≡◌, ◌≢◌, ◌+◌, ◌<◌, ◌↔◌, ◌⊎◌, ◌++◌, ℕ, Bool, List, false, length, min, replicate};
 ghost use Rattle.std.specs.Prelude.{IfOk, IfErr, IsOk, OnOk, OnErr};
 ghost use Rattle.std.specs.List.{concat, AllByRecursion};
-ghost use Rattle.docsis_wire.specs.Frame.{IsFrame};
+ghost use Rattle.docsis_wire.specs.Frame.{IsGenericFrame};
 ghost use Rattle.docsis_wire.specs.Cut.{IsLawfulCut, Points};
 ghost use Rattle.docsis_wire.specs.Cursor.{place_at, IsPlaced, chunk_at, CanPoint};
 ghost use Rattle.docsis_wire.specs.Pieces.{fill_byte, chunks_of, ArePieceSegments, IsFirstBadFrame};
@@ -13,6 +13,7 @@ ghost use Rattle.docsis_wire.specs.CutUnderWay.{GivesNext};
 use crate::buffer::Bytes;
 use crate::cursor::{Cursor, START, copy, first_start};
 use crate::header::SegmentHeader;
+use crate::header_check::HeaderCheck;
 use crate::pieces::{CutFault, FillByte, Piece, check};
 use crate::segment::Segment;
 use std::alloc::{AllocError, Global};
@@ -24,7 +25,7 @@ const SEQUENCES: u16 = 8192;
 /// The header of a segment whose chunk is the next `bytes` bytes.
 fn header_at(frames: &[Bytes], at: Cursor, bytes: usize, sequence: u16) -> SegmentHeader
     requires placed { IsPlaced frames.now at }
-    requires each { AllByRecursion IsFrame frames.now }
+    requires each { AllByRecursion IsGenericFrame frames.now }
     requires near { CanPoint frames.now at bytes }
     requires number { sequence < sequence_modulus }
     ensures points { Points result.pfi result.pointer frames.now
@@ -58,7 +59,7 @@ fn payload_at(
     fill: FillByte,
 ) -> Result<Bytes, AllocError>
     requires placed { IsPlaced frames.now at.old }
-    requires each { AllByRecursion IsFrame frames.now }
+    requires each { AllByRecursion IsGenericFrame frames.now }
     ensures placed { OnOk result (IsPlaced frames.now at.new) }
     ensures moved { OnOk result
         (place_at frames.now at.new
@@ -104,12 +105,14 @@ impl<'a> Model for Cutter<'a> {
 
 impl<'a> Cutter<'a> {
     /// A cut of which no segment was made yet, or the first fault of the frames and the pieces. The
-    /// first segment's number is `first`, 0 to 8191. It takes no memory.
-    pub fn new(
+    /// first segment's number is `first`, 0 to 8191. The frames' headers have to pass the check,
+    /// which is asked here and not again. It takes no memory.
+    pub fn new<C: HeaderCheck>(
         frames: &'a [Bytes],
         pieces: &'a [Piece],
         first: u16,
         fill: FillByte,
+        header_check: &C,
     ) -> Result<Cutter<'a>, CutFault>
         requires { first < sequence_modulus }
         ensures begins { IfOk result (λ cutter. cutter ≡ record {
@@ -119,11 +122,12 @@ impl<'a> Cutter<'a> {
           fill = fill;
           made = 0;
         }) }
-        ensures cuttable { OnOk result (IsCuttable frames.now pieces.now) }
-        ensures faults { IfErr result (Reports frames.now pieces.now) }
+        ensures cuttable { OnOk result
+            (IsCuttable (C.accepts header_check.now) frames.now pieces.now) }
+        ensures faults { IfErr result (Reports (C.accepts header_check.now) frames.now pieces.now) }
         ensures no_memory { IfErr result (λ fault. fault ≢ CutFault.OutOfMemory) }
     {
-        check(frames, pieces)?;
+        check(frames, pieces, header_check)?;
         Ok(Cutter {
             frames,
             pieces,
@@ -158,10 +162,11 @@ impl<'a> Cutter<'a> {
 
 /// Makes the segment of each piece, of which there are so many.
 fn make(alloc: Global, cutter: Cutter<'_>, count: usize) -> Result<Vec<Segment>, AllocError>
-    requires cuttable { IsCuttable cutter.frames cutter.pieces }
     requires begins { cutter.made ≡ 0 }
     ensures lawful { IfOk result
-        (λ segments. IsLawfulCut cutter.entry.frames cutter.entry.first
+        (λ segments. (check : List ℕ → Bool)
+        → IsCuttable check cutter.entry.frames cutter.entry.pieces
+        → IsLawfulCut check cutter.entry.frames cutter.entry.first
         (fill_byte cutter.entry.fill) (chunks_of cutter.entry.frames cutter.entry.pieces)
         segments.items) }
     ensures named { IfOk result
@@ -191,33 +196,35 @@ fn make(alloc: Global, cutter: Cutter<'_>, count: usize) -> Result<Vec<Segment>,
 /// The pieces make one cut only, and frames and pieces that make one have no fault:
 /// `laws::pieces_make_one_cut`,
 /// `laws::lawful_cut_has_no_fault`.
-pub fn cut(
+pub fn cut<C: HeaderCheck>(
     alloc: Global,
     frames: &[Bytes],
     pieces: &[Piece],
     first: u16,
     fill: FillByte,
+    header_check: &C,
 ) -> Result<Vec<Segment>, CutFault>
     requires { first < sequence_modulus }
     ensures lawful { IfOk result
-        (λ segments. IsLawfulCut frames.now first (fill_byte fill)
+        (λ segments. IsLawfulCut (C.accepts header_check.now) frames.now first (fill_byte fill)
         (chunks_of frames.now pieces.now) segments.items) }
     ensures named { IfOk result
         (λ segments. ArePieceSegments (fill_byte fill) frames.now pieces.now segments.items) }
 
     // Each fault is reported exactly where it is the first.
     ensures bad_frame { (k : ℕ)
-        → (result ≡ Err (CutFault.BadFrame k)) ↔ IsFirstBadFrame frames.now k }
+        → (result ≡ Err (CutFault.BadFrame k))
+        ↔ IsFirstBadFrame (C.accepts header_check.now) frames.now k }
     ensures fill_inside_frame { (k : ℕ)
         → (result ≡ Err (CutFault.FillInsideFrame k))
-        ↔ IsFirstFillInsideFrame frames.now pieces.now k }
+        ↔ IsFirstFillInsideFrame (C.accepts header_check.now) frames.now pieces.now k }
     ensures pointer_too_far { (k : ℕ)
         → (result ≡ Err (CutFault.PointerTooFar k))
-        ↔ IsFirstPointerTooFar frames.now pieces.now k }
+        ↔ IsFirstPointerTooFar (C.accepts header_check.now) frames.now pieces.now k }
     ensures cuttable { (IsOk result ⊎ (result ≡ Err CutFault.OutOfMemory))
-        ↔ IsCuttable frames.now pieces.now }
+        ↔ IsCuttable (C.accepts header_check.now) frames.now pieces.now }
 {
-    let cutter = Cutter::new(frames, pieces, first, fill)?;
+    let cutter = Cutter::new(frames, pieces, first, fill, header_check)?;
     make(alloc, cutter, pieces.len()).or(Err(CutFault::OutOfMemory))
 }
 

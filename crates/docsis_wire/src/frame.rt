@@ -1,9 +1,10 @@
 //! The generic MAC header of a frame: what its first four bytes announce, and what a whole frame
 //! is.
-ghost use Rattle.std.specs.Prelude.{◌≡◌, ◌↔◌, ◌++◌, ℕ, List, length, take, IsTrue, ◌≤◌};
-ghost use Rattle.docsis_wire.specs.Frame.{IsFrame};
+ghost use Rattle.std.specs.Prelude.{◌≡◌, ◌↔◌, ◌++◌, ℕ, ◌+◌, ◌≤◌, Bool, List, length, take, IsTrue};
+ghost use Rattle.docsis_wire.specs.Frame.{IsFrame, header_front};
 ghost use Rattle.docsis_wire.specs.Head.{head_of, IsShort, IsHeadOf};
 
+use crate::header_check::HeaderCheck;
 use thiserror::Error;
 
 /// Extended headers are at most this long, in bytes (this project's profile).
@@ -39,12 +40,15 @@ pub enum HeadRead {
 pub fn read_head(bytes: &[u8]) -> HeadRead
     ensures table { result ≡ head_of bytes.now }
     ensures short { (result ≡ HeadRead.Short) ↔ IsShort bytes.now }
+    // The header ends within the frame that is announced.
+    ensures header { (ehdr total : ℕ) → result ≡ HeadRead.Head ehdr total → 6 + ehdr ≤ total }
     // Whatever follows a frame, its head is read, and its length with it.
-    ensures frame { (frame more : List ℕ) → IsFrame frame
-        → bytes.now ≡ frame ++ more → IsHeadOf frame result }
-    // As many bytes as are announced are a frame, once they are there.
-    ensures whole { (ehdr total : ℕ) → result ≡ HeadRead.Head ehdr total
-        → total ≤ length bytes.now → IsFrame (take total bytes.now) }
+    ensures frame { (check : List ℕ → Bool) (frame more : List ℕ) → IsFrame check frame
+        → bytes.now ≡ frame ++ more → IsHeadOf check frame result }
+    // As many bytes as are announced are a frame, once they are there and the check says yes.
+    ensures whole { (check : List ℕ → Bool) (ehdr total : ℕ)
+        → result ≡ HeadRead.Head ehdr total → total ≤ length bytes.now
+        → IsTrue (check (header_front ehdr bytes.now)) → IsFrame check (take total bytes.now) }
 {
     match bytes {
         [0xFF, ..] => HeadRead::Fill,
@@ -75,12 +79,14 @@ fn read_front(fc: u8, parm: u8, len: u16) -> HeadRead
     }
 }
 
-/// Whether the bytes are one whole frame and nothing else.
-pub fn well_formed(bytes: &[u8]) -> bool
-    ensures { IsTrue result ↔ IsFrame bytes.now }
+/// Whether the bytes are one whole frame and nothing else, with a header that passes the check.
+pub fn well_formed<C: HeaderCheck>(bytes: &[u8], check: &C) -> bool
+    ensures { IsTrue result ↔ IsFrame (C.accepts check.now) bytes.now }
 {
     match read_head(bytes) {
-        HeadRead::Head { total, .. } => total as usize == bytes.len(),
+        HeadRead::Head { ehdr, total } => {
+            total as usize == bytes.len() && check.passes(&bytes[..6 + usize::from(ehdr)])
+        }
         _ => false,
     }
 }
@@ -88,6 +94,7 @@ pub fn well_formed(bytes: &[u8]) -> bool
 #[cfg(test)]
 mod tests {
     use super::*;
+    use crate::header_check::NoCheck;
     use std::test::Fail;
 
     const HEADS: [(&str, &[u8], HeadRead); 11] = [
@@ -164,11 +171,14 @@ mod tests {
     fn knows_frames(rt: HostRuntime) {
         let frame: [u8; 8] = [0, 0, 0, 2, 0x11, 0x11, 0xaa, 0xbb];
         let extended: [u8; 9] = [0x01, 0x01, 0, 0x03, 0xe0, 0x22, 0x22, 0xcc, 0xdd];
-        assert!(rt; well_formed(&frame));
-        assert!(rt; well_formed(&extended));
-        assert!(rt; !well_formed(&frame[..7]), "one byte short");
-        assert!(rt; !well_formed(&extended[..8]), "one byte short, extended");
-        assert!(rt; !well_formed(&[0, 0, 0, 0, 0x11, 0x11]), "fill");
-        assert!(rt; !well_formed(&[]), "nothing");
+        assert!(rt; well_formed(&frame, &NoCheck));
+        assert!(rt; well_formed(&extended, &NoCheck));
+        assert!(rt; !well_formed(&frame[..7], &NoCheck), "one byte short");
+        assert!(rt;
+            !well_formed(&extended[..8], &NoCheck),
+            "one byte short, extended"
+        );
+        assert!(rt; !well_formed(&[0, 0, 0, 0, 0x11, 0x11], &NoCheck), "fill");
+        assert!(rt; !well_formed(&[], &NoCheck), "nothing");
     }
 }

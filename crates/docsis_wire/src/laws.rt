@@ -2,13 +2,14 @@
 //! first fault.
 //!
 //! Each function states a law in its contract and does nothing.
-ghost use Rattle.std.specs.Prelude.{◌≡◌, ◌≢◌, ◌≤◌, ◌↔◌, ℕ, Option, Some, IsSome, IfSome, List, [], ◌∷◌, ◌++◌, length, take};
+ghost use Rattle.std.specs.Prelude.{◌≡◌, ◌≢◌, ◌≤◌, ◌↔◌, ℕ, Bool, true, Option, Some, IsSome, IfSome, List, [], ◌∷◌, ◌++◌, length, take};
 ghost use Rattle.docsis_wire.specs.declared.header.SegmentHeader.{SegmentHeader};
 ghost use Rattle.docsis_wire.specs.declared.pieces.Piece.{Piece};
 ghost use Rattle.docsis_wire.specs.declared.pieces.CutFault.{CutFault};
 ghost use Rattle.docsis_wire.specs.declared.segment.Segment.{Segment};
 ghost use Rattle.docsis_wire.specs.Limits.{header_length};
 ghost use Rattle.docsis_wire.specs.Header.{header_bytes};
+ghost use Rattle.docsis_wire.specs.Frame.{IsGenericFrame, IsFrame};
 ghost use Rattle.docsis_wire.specs.Cut.{IsLawfulCut};
 ghost use Rattle.docsis_wire.specs.CutUnderWay.{CutUnderWay, IsSameCut, HasMade, GivesNext};
 ghost use Rattle.docsis_wire.specs.Pieces.{fill_byte, chunks_of, ArePieceSegments, IsCuttable, Reports};
@@ -37,30 +38,37 @@ pub fn read_header_is_written_back()
         → (head : SegmentHeader) × (answer ≡ Some head) × (header_bytes head ≡ bytes) }
 {}
 
+/// With the check that every header passes, a frame is any frame of the generic format.
+pub fn frame_without_check_is_a_generic_frame()
+    ensures { (frame : List ℕ) → IsFrame (λ _. true) frame ↔ IsGenericFrame frame }
+{}
+
 /// The pieces make one cut of the frames: neither a header nor a payload is left open.
 pub fn pieces_make_one_cut()
-    ensures { (frames : List (List ℕ)) (pieces : List Piece) (first fill : ℕ)
-        (segments others : List Segment)
-        → IsLawfulCut frames first fill (chunks_of frames pieces) segments
+    ensures { (check : List ℕ → Bool) (frames : List (List ℕ)) (pieces : List Piece)
+        (first fill : ℕ) (segments others : List Segment)
+        → IsLawfulCut check frames first fill (chunks_of frames pieces) segments
         → ArePieceSegments fill frames pieces segments
-        → IsLawfulCut frames first fill (chunks_of frames pieces) others
+        → IsLawfulCut check frames first fill (chunks_of frames pieces) others
         → ArePieceSegments fill frames pieces others
         → segments ≡ others }
 {}
 
 /// Frames and pieces have at most one first fault, and none where they can be cut.
 pub fn cut_has_one_fault()
-    ensures { (frames : List (List ℕ)) (pieces : List Piece) (fault other : CutFault)
-        → Reports frames pieces fault → Reports frames pieces other → fault ≡ other }
+    ensures { (check : List ℕ → Bool) (frames : List (List ℕ)) (pieces : List Piece)
+        (fault other : CutFault)
+        → Reports check frames pieces fault → Reports check frames pieces other
+        → fault ≡ other }
 {}
 
 /// Where the pieces make a lawful cut of the frames, nothing is at fault.
 pub fn lawful_cut_has_no_fault()
-    ensures { (frames : List (List ℕ)) (pieces : List Piece) (first fill : ℕ)
-        (segments : List Segment)
-        → IsLawfulCut frames first fill (chunks_of frames pieces) segments
+    ensures { (check : List ℕ → Bool) (frames : List (List ℕ)) (pieces : List Piece)
+        (first fill : ℕ) (segments : List Segment)
+        → IsLawfulCut check frames first fill (chunks_of frames pieces) segments
         → ArePieceSegments fill frames pieces segments
-        → IsCuttable frames pieces }
+        → IsCuttable check frames pieces }
 {}
 
 /// The segments that a `Cutter` makes one after another, until it gives none, are the cut that it
@@ -72,11 +80,11 @@ pub fn segments_made_one_by_one_are_the_cut()
         → IsSameCut begun before → HasMade before segments
         → GivesNext before after (Some segment)
         → IsSameCut begun after × HasMade after (segments ++ segment ∷ []) }
-    ensures all { (begun cut after : CutUnderWay)
+    ensures all { (check : List ℕ → Bool) (begun cut after : CutUnderWay)
         (segments : List Segment) (answer : Option Segment)
-        → IsCuttable begun.frames begun.pieces → IsSameCut begun cut → HasMade cut segments
+        → IsCuttable check begun.frames begun.pieces → IsSameCut begun cut → HasMade cut segments
         → GivesNext cut after answer → ((segment : Segment) → answer ≢ Some segment)
-        → IsLawfulCut begun.frames begun.first (fill_byte begun.fill)
+        → IsLawfulCut check begun.frames begun.first (fill_byte begun.fill)
         (chunks_of begun.frames begun.pieces) segments
         × ArePieceSegments (fill_byte begun.fill) begun.frames begun.pieces segments }
 {}

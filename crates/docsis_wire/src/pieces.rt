@@ -1,12 +1,13 @@
 //! What a cut is to put into each segment, and what can be at fault with it.
-ghost use Rattle.std.specs.Prelude.{◌≡◌, ◌≢◌, IfErr, OnOk};
+ghost use Rattle.std.specs.Prelude.{◌≡◌, ◌≢◌, ℕ, Bool, List, IfErr, OnOk};
 ghost use Rattle.std.specs.List.{AllByRecursion};
-ghost use Rattle.docsis_wire.specs.Frame.{IsFrame};
-ghost use Rattle.docsis_wire.specs.Pieces.{fill_byte, IsCuttable, Reports};
+ghost use Rattle.docsis_wire.specs.Frame.{IsGenericFrame, IsFrame};
+ghost use Rattle.docsis_wire.specs.Pieces.{fill_byte, IsUnlawful, IsCuttable, Reports};
 
 use crate::buffer::Bytes;
 use crate::cursor::{START, advance, first_start};
 use crate::frame::well_formed;
+use crate::header_check::HeaderCheck;
 use thiserror::Error;
 
 /// The greatest number of bytes that a pointer can skip.
@@ -64,24 +65,31 @@ impl FillByte {
 }
 
 /// Looks for the first fault of the frames and then of the pieces. It takes no memory.
-pub fn check(frames: &[Bytes], pieces: &[Piece]) -> Result<(), CutFault>
-    ensures cuttable { OnOk result (IsCuttable frames.now pieces.now) }
-    ensures faults { IfErr result (Reports frames.now pieces.now) }
+pub fn check<C: HeaderCheck>(
+    frames: &[Bytes],
+    pieces: &[Piece],
+    header_check: &C,
+) -> Result<(), CutFault>
+    ensures cuttable { OnOk result (IsCuttable (C.accepts header_check.now) frames.now pieces.now) }
+    ensures faults { IfErr result (Reports (C.accepts header_check.now) frames.now pieces.now) }
     ensures no_memory { IfErr result (λ fault. fault ≢ CutFault.OutOfMemory) }
 {
     for (k, frame) in frames.iter().enumerate() {
-        if !well_formed(frame.as_slice()) {
+        if !well_formed(frame.as_slice(), header_check) {
             return Err(CutFault::BadFrame(k));
         }
     }
     check_pieces(frames, pieces)
 }
 
-/// Looks for the first fault of the pieces.
+/// Looks for the first fault of the pieces. Whatever the check of the frames' headers is, it plays
+/// no part in that.
 fn check_pieces(frames: &[Bytes], pieces: &[Piece]) -> Result<(), CutFault>
-    requires { AllByRecursion IsFrame frames.now }
-    ensures cuttable { OnOk result (IsCuttable frames.now pieces.now) }
-    ensures faults { IfErr result (Reports frames.now pieces.now) }
+    requires { AllByRecursion IsGenericFrame frames.now }
+    ensures cuttable { OnOk result ((k : ℕ) → ¬ IsUnlawful frames.now pieces.now k) }
+    ensures faults { IfErr result
+        (λ fault. (check : List ℕ → Bool) → AllByRecursion (IsFrame check) frames.now
+        → Reports check frames.now pieces.now fault) }
     ensures no_memory { IfErr result (λ fault. fault ≢ CutFault.OutOfMemory) }
 {
     let mut at = START;

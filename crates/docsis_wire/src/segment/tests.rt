@@ -1,3 +1,4 @@
+//! Headers and whole segments, read and written.
 use super::*;
 use std::test::Fail;
 

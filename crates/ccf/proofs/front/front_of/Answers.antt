@@ -1,10 +1,14 @@
--- As many bytes as the head announces are a frame, and a head announces six bytes at least.
-use Rattle.std.proofs.Common.{refl, arith, length-take}
-use Rattle.docsis_wire.proofs.FrameHeads.{length-frame}
+-- As many bytes as the head announces are a frame where the check says yes of the header, which ends within them.
+use Rattle.std.proofs.Common.{◌≡◌, true, refl, ap, ◌∙◌, sym, take, ◌+◌, arith}
+use Rattle.docsis_wire.specs.Frame.{header_front}
 use Rattle.ccf.proofs.front.front_of.Goals as goal
 
 pub returns-else-total-bytes : goal.returns-else-total-bytes
-returns-else-total-bytes c =
+returns-else-total-bytes g c =
+    let bytes = c.args.bytes.now in
+    let check = g.C.HeaderCheck.accepts c.args.check.now in
     let enough = c.if-total-bytes.false in
-    let whole = c.in-Head.ensures.whole c.in-Head.ehdr c.in-Head.total refl enough in
-    (omega (arith, length-frame _ whole, length-take c.in-Head.total c.args.bytes.now), enough, whole)
+    let within = c.in-Head.ensures.header c.in-Head.ehdr c.in-Head.total refl in
+    let passed = c.fails.ensures.passed c.if-fails.false (omega (arith, c.from.ensures)) in
+    let checked : check (header_front c.in-Head.ehdr bytes) ≡ true = sym (ap (λ n. check (header_front n bytes)) c.from.ensures) ∙ passed in
+    (omega arith, enough, c.in-Head.ensures.whole check c.in-Head.ehdr c.in-Head.total refl enough checked)

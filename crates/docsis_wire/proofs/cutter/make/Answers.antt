@@ -1,7 +1,7 @@
 -- The segments were made one after another.
 use Rattle.std.proofs.Common.{Some}
 use Rattle.docsis_wire.specs.CutUnderWay.{GivesNext}
-use Rattle.docsis_wire.proofs.OneByOne.{HasMade-more, HasMade-all}
+use Rattle.docsis_wire.proofs.OneByOne.{HasMade-more, HasMade-all, HasMade-named}
 use Rattle.docsis_wire.proofs.cutter.make.Goals as goal
 
 pub loop-segments-preserved : goal.loop-segments-preserved
@@ -12,11 +12,9 @@ loop-segments-preserved c =
     record { same = more.0; made = rw c.in_ok-push.ensures.items more.1 }
 
 pub returns-clause-lawful : goal.returns-clause-lawful
-returns-clause-lawful c =
-    (HasMade-all c.args.cutter c.loop-segments.cutter c.next.new.self c.loop-segments.segments.items c.in_ok-segment.field-0 c.requires.cuttable c.loop-segments.invariant.same c.loop-segments.invariant.made
+returns-clause-lawful c = λ check cuttable.
+    (HasMade-all check c.args.cutter c.loop-segments.cutter c.next.new.self c.loop-segments.segments.items c.in_ok-segment.field-0 cuttable c.loop-segments.invariant.same c.loop-segments.invariant.made
     c.in_ok-segment.ensures.next c.in_default.not-Some).0
 
 pub returns-clause-named : goal.returns-clause-named
-returns-clause-named c =
-    (HasMade-all c.args.cutter c.loop-segments.cutter c.next.new.self c.loop-segments.segments.items c.in_ok-segment.field-0 c.requires.cuttable c.loop-segments.invariant.same c.loop-segments.invariant.made
-    c.in_ok-segment.ensures.next c.in_default.not-Some).1
+returns-clause-named c = HasMade-named c.args.cutter c.loop-segments.cutter c.loop-segments.segments.items c.loop-segments.invariant.same c.loop-segments.invariant.made

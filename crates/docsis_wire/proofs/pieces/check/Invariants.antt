@@ -3,4 +3,4 @@ use Rattle.docsis_wire.specs.Frame.{IsFrame}
 use Rattle.docsis_wire.proofs.pieces.check.Given as goal
 
 abbrev pub invariant-loop-k : goal.invariant-loop-k
-invariant-loop-k l = (i : ℕ) (frame : List ℕ) → i < l.k → slice_get l.frames i ≡ Some frame → IsFrame frame
+invariant-loop-k g l = (i : ℕ) (frame : List ℕ) → i < l.k → slice_get l.frames i ≡ Some frame → IsFrame (g.C.HeaderCheck.accepts l.header_check) frame

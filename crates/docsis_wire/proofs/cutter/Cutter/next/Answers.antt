@@ -23,7 +23,7 @@ header_at-head-requires-clause-near c =
     let cutter = c.self.inside in
     let piece_is : slice_get cutter.pieces.now cutter.made ≡ Some c.in-Some.piece.now = slice_get_read cutter.pieces.now (length cutter.pieces.now) cutter.made c.in-Some.piece.now refl c.in-Some.ensures.lookup.3.0 c.in-Some.ensures.lookup.1 in
     CanPoint-from_lawful cutter.frames.now cutter.pieces.now cutter.made c.in-Some.piece.now cutter.at c.from-2.result piece_is c.from-2.ensures c.self.invariant.place
-    (c.self.invariant.cuttable.lawful cutter.made)
+    (c.self.invariant.lawful cutter.made)
 
 pub invariant_of-self : goal.invariant_of-self
 invariant_of-self c =
@@ -32,7 +32,8 @@ invariant_of-self c =
     let over = MovesOver-from cutter.frames.now cutter.pieces.now cutter.made c.in-Some.piece.now cutter.at c.payload_at.new.at c.in-Some.piece.now.bytes piece_is refl
     c.in_ok-payload.ensures.placed c.self.invariant.place c.in_ok-payload.ensures.moved in
     record {
-      cuttable = c.self.invariant.cuttable;
+      each = c.self.invariant.each;
+      lawful = c.self.invariant.lawful;
       first_in_range = c.self.invariant.first_in_range;
       within = omega (arith, slice_get_within cutter.pieces.now cutter.made c.in-Some.piece.now piece_is);
       placed = c.in_ok-payload.ensures.placed;
@@ -53,7 +54,7 @@ returns-clause-next c =
     let after : CutUnderWay = record { frames = cutter.frames.now; pieces = cutter.pieces.now; first = cutter.first; fill = cutter.fill; made = cutter.made + 1 } in
     let Q : CutUnderWay → Type 0 = λ before. GivesNext before after (Some segment) in
     subst Q c.self.view_is (
-      IsMade-at cutter.frames.now cutter.pieces.now cutter.first (fill_byte cutter.fill) cutter.made piece cutter.at c.payload_at.new.at segment c.self.invariant.cuttable over
+      IsMade-at cutter.frames.now cutter.pieces.now cutter.first (fill_byte cutter.fill) cutter.made piece cutter.at c.payload_at.new.at segment c.self.invariant.lawful over
           c.in_ok-payload.ensures.payload (subst P c.from-2.ensures head.ensures.points) number
           record {
             payload = c.in_ok-payload.ensures.payload;
