@@ -99,7 +99,8 @@ impl<T> Window<T> {
         ensures item { option_copied result ≡ held_at self.now self.now.expected }
         ensures lawful { IsLawful self.now }
     {
-        self.places.front()?.as_ref()
+        let front = self.places.front()?;
+        front.as_ref()
     }
 
     /// Takes out the item that is held under the expected number, and then expects the next number.

@@ -8,5 +8,5 @@ pub returns-clause-item : goal.returns-clause-item
 returns-clause-item g c =
     let in_range = c.self.invariant.lawful.expected_in_range in
     c.as_ref.ensures.value
-    ∙ sym (held-at_place _ _ _ c.self.invariant c.self.inside.expected 0 c.in_ok-front.field-0.now in_range (sym (offset-expected _ in_range)) (sym c.in_ok-front.ensures))
+    ∙ sym (held-at_place _ _ _ c.self.invariant c.self.inside.expected 0 c.in_ok-front.front.now in_range (sym (offset-expected _ in_range)) (sym c.in_ok-front.ensures))
     ∙ ap (λ (w : WindowView _). held_at w w.expected) c.self.view_is
