@@ -1,9 +1,9 @@
 -- What a window holds after offers and takes, said by the indexes of the offered numbers.
-use Rattle.std.proofs.Common.{◌≡◌, ◌≢◌, ℕ, zero, suc, ◌+◌, ◌<◌, length, slice_get, ◌≤◌, Bool, true, false, cond, ⊎_elim, List, [], ◌∷◌, ◌++◌, nat_lt, nat_eq, Option, None, Some, is_some, refl, ap, sym, subst, ◌∙◌, arith, eq-eqb}
+use Rattle.std.proofs.Common.{◌≡◌, ◌≢◌, ℕ, zero, suc, ◌+◌, ◌<◌, length, slice_get, ◌≤◌, true, false, cond, ⊎_elim, List, [], ◌∷◌, ◌++◌, nat_lt, nat_eq, Option, None, Some, is_some, refl, ap, sym, subst, ◌∙◌, arith, eq-eqb}
 use Rattle.std.specs.Ordering.{nat_cmp, is_eq, eq_by_cmp}
 use Rattle.std.specs.declared.cmp.Ordering.TheVariants.{Less, Equal, Greater}
 use Rattle.std.specs.Cmp.{nat_cmp_total, eq_by_cmp_equiv}
-use Rattle.std.specs.FinMap.{FinMap, nat_cmp-IsAntisymmetric, get, insert, remove, get-empty, get-insert, get-remove}
+use Rattle.std.specs.FinMap.{nat_cmp-IsAntisymmetric, get, insert, get-empty, get-insert, get-remove}
 use Rattle.std.proofs.lemmas.Bool.{cases_eq, cases_lt, lt-ltb, le-ltb, ne_eqb}
 use Rattle.reorder.specs.View.{WindowView, IsLawful, held_at, empty_window, next_taken}
 use Rattle.reorder.specs.Answers.{IsVerdict, after_offer}
