@@ -1,5 +1,6 @@
 /* Loaded before the C library, refuses one request for memory: the one whose number REFUSE_ALLOCATION gives, counted from 1.
- * When it does so it makes the file that REFUSE_MET names. */
+ * Where REFUSE_LATER is set, to anything but nothing, it refuses all later ones too. When it refuses one it makes the
+ * file that REFUSE_MET names. */
 #include <errno.h>
 #include <fcntl.h>
 #include <stddef.h>
@@ -16,8 +17,14 @@ static long asked;
 static int refused(void)
 {
     const char *number = getenv("REFUSE_ALLOCATION");
+    const char *later = getenv("REFUSE_LATER");
     const char *met = getenv("REFUSE_MET");
-    if (number == NULL || __sync_add_and_fetch(&asked, 1) != strtol(number, NULL, 10))
+    if (number == NULL)
+        return 0;
+    long first = strtol(number, NULL, 10);
+    long now = __sync_add_and_fetch(&asked, 1);
+    int all = later != NULL && *later != 0;
+    if (first == 0 || now < first || (now > first && !all))
         return 0;
     if (met != NULL)
         close(open(met, O_WRONLY | O_CREAT, 0600));

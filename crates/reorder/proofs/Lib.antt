@@ -1,7 +1,8 @@
 pub mod Offsets
-pub mod Entries
 pub mod Items
 pub mod Lawful
-pub mod Seen
-pub mod Passing
 pub mod OneReading
+pub mod LaidOut
+pub mod Kept
+pub mod Declaring
+pub mod Passing

@@ -1,6 +1,6 @@
 -- How the offset of a number changes as the expected number moves on.
 use Rattle.std.proofs.Common.{◌≡◌, ◌≢◌, ℕ, ◌+◌, ◌<◌, arith}
-use Rattle.reorder.specs.Number.{offset, following}
+use Rattle.reorder.specs.Number.{offset, following, number_ahead}
 
 -- the next number is a sequence number
 pub following-in_range : (e : ℕ) → following e < 8192
@@ -13,3 +13,31 @@ offset-expected e h = omega arith
 -- any other number comes one nearer as the expected number moves on
 pub offset-following : (e n : ℕ) → e < 8192 → n < 8192 → n ≢ e → offset (following e) n + 1 ≡ offset e n
 offset-following e n h k apart = omega arith
+
+-- two numbers at one offset are one
+pub offset-injective : (e m n : ℕ) → e < 8192 → m < 8192 → n < 8192 → offset e m ≡ offset e n → m ≡ n
+offset-injective e m n h k l same = omega arith
+
+-- the number at an offset has that offset
+pub offset-number_ahead : (e d : ℕ) → e < 8192 → d < 8192 → offset e (number_ahead e d) ≡ d
+offset-number_ahead e d h k = omega arith
+
+-- as the expected number moves on, its own offset becomes the greatest
+pub offset-passed : (e : ℕ) → e < 8192 → offset (following e) e ≡ 8191
+offset-passed e h = omega arith
+
+-- a number is the one at its offset
+pub number_ahead-offset : (e n : ℕ) → e < 8192 → n < 8192 → number_ahead e (offset e n) ≡ n
+number_ahead-offset e n h k = omega arith
+
+-- no number ahead is the expected one itself
+pub number_ahead-zero : (e : ℕ) → e < 8192 → number_ahead e 0 ≡ e
+number_ahead-zero e h = omega arith
+
+-- and one number more
+pub number_ahead-next : (e d : ℕ) → following (number_ahead e d) ≡ number_ahead e (d + 1)
+number_ahead-next e d = omega arith
+
+-- or from the next number one less
+pub number_ahead-following : (e d : ℕ) → number_ahead (following e) d ≡ number_ahead e (d + 1)
+number_ahead-following e d = omega arith

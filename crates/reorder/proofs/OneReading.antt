@@ -1,4 +1,4 @@
--- The definitions leave one answer open to each call, but for want of memory.
+-- The definitions leave one answer to each call.
 use Rattle.std.proofs.Common.{◌≡◌, ℕ, is_some, refl, ap, sym, ◌∙◌, arith}
 use Rattle.std.specs.Ordering.{nat_cmp}
 use Rattle.std.specs.Cmp.{nat_cmp_total}
@@ -18,7 +18,7 @@ module _ {T : Type 0} where
       λ i. record { expected = agree.same_expected i; width = agree.same_width i; held = items i }
 
   -- where nothing is held, no number is
-  free-none_held : (w : WindowView T) (number : ℕ) → map.len w.held ≡ 0 → ¬ (IsHeld w number)
+  pub free-none_held : (w : WindowView T) (number : ℕ) → map.len w.held ≡ 0 → ¬ (IsHeld w number)
   free-none_held w number none held =
       let nothing = ap (λ m. map.get m number) (map.empty_of_len w.held none) ∙ map.get-empty nat_cmp number in
       let found = sym (ap is_some nothing) ∙ held in

@@ -1,9 +1,8 @@
 -- Calls of a window one after another, and what two windows agree on.
-use Rattle.std.specs.Prelude.{◌≡◌, ℕ, List, [], ◌∷◌, sum_by, Option, None, Some}
-use Rattle.reorder.specs.View.{WindowView, held_at}
-use Rattle.reorder.specs.Answers.{after_offer, after_take_next, after_declare}
+use Rattle.std.specs.Prelude.{◌≡◌, ℕ, zero, suc, List, [], ◌∷◌, sum_by, Option, None, Some}
+use Rattle.reorder.specs.View.{WindowView, held_at, moved_on_by}
+use Rattle.reorder.specs.Answers.{after_offer, after_take_next, IsDeclared, after_declare}
 use Rattle.reorder.specs.declared.answer.Verdict.{Verdict}
-use Rattle.reorder.specs.declared.answer.Verdict.TheVariants.{Late, Beyond, Repeat, NoMemory, Kept}
 use Rattle.reorder.specs.declared.answer.Declared.{Declared}
 use Rattle.reorder.specs.declared.answer.Declared.TheVariants.{NextIsHere, NothingHeld, Lost}
 
@@ -12,6 +11,7 @@ pub data Call (T : Type 0) : Type 0 where
   offer : ℕ → T → Verdict T → Call T
   take_next : Option T → Call T
   declare : Declared → Call T
+  declare_to : ℕ → ℕ → Call T
 
 module _ {T : Type 0} where
   -- the window after the call
@@ -19,6 +19,7 @@ module _ {T : Type 0} where
   after_call w (offer number item verdict) = after_offer w number item verdict
   after_call w (take_next taken) = after_take_next w taken
   after_call w (declare declared) = after_declare w declared
+  after_call w (declare_to number count) = moved_on_by w count
 
   -- the window after the calls, made in turn
   abbrev pub after_calls : WindowView T → List (Call T) → WindowView T
@@ -33,6 +34,7 @@ module _ {T : Type 0} where
   passed_by (declare (Lost _)) = 1
   passed_by (declare NextIsHere) = 0
   passed_by (declare NothingHeld) = 0
+  passed_by (declare_to _ count) = count
 
   -- how many numbers passed in all
   abbrev pub numbers_passed : List (Call T) → ℕ
@@ -44,10 +46,8 @@ module _ {T : Type 0} where
     pub same_width : v.width ≡ w.width
     pub same_items : (number : ℕ) → held_at v number ≡ held_at w number
 
-  -- the verdict where memory is ample
-  abbrev pub with_memory : Verdict T → Verdict T
-  with_memory (Late back) = Late back
-  with_memory (Beyond back) = Beyond back
-  with_memory (Repeat back) = Repeat back
-  with_memory (NoMemory _) = Kept
-  with_memory Kept = Kept
+  -- `declare` was called so many times, answered `Lost` each time, and left this window
+  abbrev pub LosesInTurn : WindowView T → ℕ → WindowView T → Type 0
+  LosesInTurn w zero after = after ≡ w
+  LosesInTurn w (suc count) after =
+      IsDeclared w (Lost w.expected) × LosesInTurn (after_declare w (Lost w.expected)) count after

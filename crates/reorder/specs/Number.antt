@@ -8,3 +8,7 @@ offset expected number = (number + 8192 - expected) % 8192
 -- the number after this one
 abbrev pub following : ℕ → ℕ
 following number = (number + 1) % 8192
+
+-- the number that lies so far ahead of the expected one
+abbrev pub number_ahead : ℕ → ℕ → ℕ
+number_ahead expected offset = (expected + offset) % 8192

@@ -1,9 +1,9 @@
 -- What contracts see of a resequencing window, and what its calls make of it.
-use Rattle.std.specs.Prelude.{ℕ, ◌<◌, ◌≤◌, List, Option, IsSome, refl}
+use Rattle.std.specs.Prelude.{ℕ, ◌<◌, ◌≤◌, Option, IsSome, refl}
 use Rattle.std.specs.Ordering.{nat_cmp}
 use Rattle.std.specs.Coded.{Coded, code_by, coded×, coded_ℕ}
 use Rattle.std.specs.FinMap as map
-use Rattle.reorder.specs.Number.{offset, following}
+use Rattle.reorder.specs.Number.{offset, following, number_ahead}
 
 -- The number that is expected, how many numbers from it on may be held, and the held items by their
 -- numbers. The key is the number and not its offset, so that what is held stays as it is when the
@@ -23,11 +23,6 @@ module _ {T : Type 0} where
       (λ w. (w.expected, (w.width, w.held)))
       (λ p. record { expected = p.0; width = p.1.0; held = p.1.1 })
       (λ _. refl)
-
-  -- the window with these parts, and with these entries held
-  abbrev pub seen : ℕ → ℕ → List (ℕ × T) → WindowView T
-  seen expected width entries =
-      record { expected = expected; width = width; held = map.from_entries entries }
 
   -- how far a number lies ahead of the expected one
   abbrev pub offset_in : WindowView T → ℕ → ℕ
@@ -64,3 +59,7 @@ module _ {T : Type 0} where
   -- the same, with the item of the number that it waited for taken out
   abbrev pub next_taken : WindowView T → WindowView T
   next_taken w = record w { expected = following w.expected; held = map.remove w.held w.expected }
+
+  -- the window that waits for the number so many after the one it waited for
+  abbrev pub moved_on_by : WindowView T → ℕ → WindowView T
+  moved_on_by w count = record w { expected = number_ahead w.expected count }

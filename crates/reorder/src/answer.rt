@@ -9,8 +9,6 @@ pub enum Verdict<T> {
     Beyond(T),
     /// An item is held under this number already.
     Repeat(T),
-    /// There was no memory to hold the item.
-    NoMemory(T),
     /// The window holds the item.
     Kept,
 }

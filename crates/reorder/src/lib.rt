@@ -5,7 +5,7 @@
 //! expected. Contracts see a window as its expected number, its width and a finite map from the
 //! held numbers to the items, and each call is an equation on these three. The contract that
 //! matters most is that of [`Window::offer`]: which verdict comes when, and that only `Kept`
-//! changes anything.
+//! changes anything. All memory is reserved by [`Window::new`].
 #![tactic(auto)]
 
 mod answer;

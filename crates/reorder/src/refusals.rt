@@ -1,5 +1,7 @@
-//! Tests to be run with the Nth request for memory refused. Each says `refused` when one was.
-use crate::{Verdict, Window};
+//! Tests to be run with the Nth request for memory refused, and those whose names end in
+//! `without_memory` with all later ones refused too. Each says `refused` when `Window::new` was.
+use crate::{Declared, SEQUENCE_NUMBERS, Verdict, Window};
+use std::process::Abort;
 use std::test::Fail;
 
 #[test]
@@ -16,40 +18,41 @@ fn new_refused(rt: HostRuntime) -> Result<(), Fail> {
     Ok(())
 }
 
-#[test]
-fn offer_refused(rt: HostRuntime) -> Result<(), Fail> {
-    let mut window = Window::new(rt.alloc(), 0, 4096)?;
-    let mut verdict = window.offer(4095, 7_u8);
-    if let Verdict::NoMemory(item) = verdict {
-        println!(rt; "refused")?;
-        assert_eq!(rt; item, 7);
-        assert_eq!(rt; window.expected(), 0);
-        assert_eq!(rt; window.held(), 0);
-        verdict = window.offer(4095, item);
+/// Fills the window of width 4,096 that waits for 8191, backwards but for the first number, and
+/// empties it again.
+fn fill_and_empty(rt: &impl Abort, window: &mut Window<u16>) {
+    assert_eq!(rt; window.offer(8191, 0), Verdict::Kept);
+    for index in (1_u16..4096).rev() {
+        let number = (8191 + index) % SEQUENCE_NUMBERS;
+        assert_eq!(rt; window.offer(number, index), Verdict::Kept, "{number}");
     }
-    assert_eq!(rt; verdict, Verdict::Kept);
-    assert_eq!(rt; window.held(), 1);
-    Ok(())
+    assert_eq!(rt; window.held(), 4096);
+    assert_eq!(rt; window.offer(4094, 7), Verdict::Repeat(7));
+    assert_eq!(rt; window.offer(4095, 7), Verdict::Late(7));
+    for index in 0_u16..4096 {
+        assert_eq!(rt; window.next().copied(), Some(index));
+        assert_eq!(rt; window.take_next(), Some(index));
+    }
+    assert_eq!(rt; window.expected(), 4095);
+    assert_eq!(rt; window.declare(), Declared::NothingHeld);
+    assert_eq!(rt; window.offer(4097, 7), Verdict::Kept);
+    assert_eq!(rt; window.declare(), Declared::Lost(4095));
+    assert_eq!(rt; window.declare_to(4098), 1);
+    assert_eq!(rt; window.take_next(), Some(7));
 }
 
+/// In the end it asks for memory itself, so that a run is known in which nothing else did.
 #[test]
-fn offers_refused_later(rt: HostRuntime) -> Result<(), Fail> {
-    let mut window = Window::new(rt.alloc(), 0, 64)?;
-    for number in 0_u16..64 {
-        let held = window.held();
-        let mut verdict = window.offer(number, number);
-        if let Verdict::NoMemory(item) = verdict {
-            println!(rt; "refused")?;
-            assert_eq!(rt; item, number);
-            assert_eq!(rt; window.held(), held);
-            assert_eq!(rt; window.expected(), 0);
-            verdict = window.offer(number, item);
+fn calls_after_new_without_memory(rt: HostRuntime) -> Result<(), Fail> {
+    match Window::new(rt.alloc(), 8191, 4096) {
+        Err(_) => println!(rt; "refused")?,
+        Ok(mut window) => {
+            fill_and_empty(&rt, &mut window);
+            match Vec::<u8>::with_capacity(rt.alloc(), 1) {
+                Ok(_) => println!(rt; "memory after all calls")?,
+                Err(_) => println!(rt; "all calls after `new` were made without memory")?,
+            }
         }
-        assert_eq!(rt; verdict, Verdict::Kept, "at {number}");
     }
-    for number in 0_u16..64 {
-        assert_eq!(rt; window.take_next(), Some(number));
-    }
-    assert_eq!(rt; window.expected(), 64);
     Ok(())
 }

@@ -1,16 +1,16 @@
-//! The resequencing window, over an ordered map from the held numbers to the items.
+//! The resequencing window, over a ring of places: one for each number that may be held.
 ghost use Rattle.std.specs.Prelude.{◌≡◌, ◌<◌, ◌≤◌, IfOk};
 ghost use Rattle.std.specs.Option.{option_copied};
 ghost use Rattle.std.specs.FinMap as map;
 ghost use Rattle.reorder.specs.Number.{offset, following};
-ghost use Rattle.reorder.specs.View.{IsLawful, held_at, empty_window};
+ghost use Rattle.reorder.specs.View.{IsLawful, held_at, empty_window, next_taken, moved_on_by};
 ghost use Rattle.reorder.specs.Answers.{IsVerdict, after_offer, after_take_next};
-ghost use Rattle.reorder.specs.Answers.{IsDeclared, after_declare};
+ghost use Rattle.reorder.specs.Answers.{IsDeclared, after_declare, declared_count};
 
 use crate::answer::{Declared, Verdict};
 use crate::{NUMBERS_AHEAD, SEQUENCE_NUMBERS};
+use circular_buffer::HeapCircularBuffer;
 use std::alloc::{AllocError, Global};
-use std::collections::BTreeMap;
 use std::marker::Model;
 
 /// Holds the items that came ahead of their turn, and gives out the one whose number is expected.
@@ -23,25 +23,27 @@ use std::marker::Model;
 #[derive(Drop)]
 pub struct Window<T> {
     expected: u16,
-    width: u16,
-    held: BTreeMap<u16, T>,
+    held: usize,
+    /// The places of the expected number and of those after it, in order, as many as the width.
+    places: HeapCircularBuffer<Option<T>>,
 }
 
 impl<T> Model for Window<T> {
-    ghost use Rattle.reorder.specs.View.{WindowView, view_code, seen, IsLawful};
+    ghost use Rattle.reorder.specs.View.{WindowView, view_code};
+    ghost use Rattle.reorder.specs.Places.{seen, IsKept};
 
     ghost Value = { WindowView T };
 
     ghost coded = { view_code T.code };
 
-    ghost view = { λ w. seen w.expected w.width w.held.entries };
+    ghost view = { λ w. seen w.expected w.places.items };
 
-    ghost invariant = { λ w. IsLawful (seen w.expected w.width w.held.entries) };
+    ghost invariant = { λ w. IsKept w.expected w.held w.places };
 }
 
 impl<T> Window<T> {
     /// A window that holds nothing and waits for the number `first`, 0 to 8191. Its `width` is 1 to
-    /// 4096. It keeps `alloc` for what it will hold. `Err` comes only for want of memory.
+    /// 4096. All memory that it will use is reserved here. `Err` comes only where memory ran out.
     pub fn new(alloc: Global, first: u16, width: u16) -> Result<Window<T>, AllocError>
         requires first_in_range { first < 8192 }
         requires width_positive { 1 ≤ width }
@@ -49,17 +51,23 @@ impl<T> Window<T> {
         ensures empty { IfOk result (λ window. window ≡ empty_window first width) }
         ensures lawful { IfOk result IsLawful }
     {
+        let mut places = HeapCircularBuffer::with_capacity(alloc, usize::from(width))?;
+        for _count in 0..width {
+            match places.try_push_back(None) {
+                Ok(()) => {}
+                Err(_place) => unreachable!(),
+            }
+        }
         Ok(Window {
             expected: first,
-            width,
-            held: BTreeMap::new(alloc),
+            held: 0,
+            places,
         })
     }
 
-    /// Takes the item in if its number, 0 to 8191, is less than the width ahead and is not held yet.
-    /// Otherwise it answers, looked for in this order, `Late`, `Beyond` or `Repeat`. `NoMemory` comes
-    /// only where `Kept` would come otherwise; the same offer may then be made again. Only `Kept`
-    /// changes anything.
+    /// Takes the item in if its number, 0 to 8191, is less than the width ahead and is not held
+    /// yet. Otherwise it answers, looked for in this order, `Late`, `Beyond` or `Repeat`. Only
+    /// `Kept` changes anything.
     pub fn offer(&mut self, number: u16, item: T) -> Verdict<T>
         requires { number < 8192 }
         ensures verdict { IsVerdict self.old number item result }
@@ -70,16 +78,19 @@ impl<T> Window<T> {
         if offset >= NUMBERS_AHEAD {
             return Verdict::Late(item);
         }
-        if offset >= self.width {
-            return Verdict::Beyond(item);
-        }
-        if self.held.contains_key(&number) {
-            return Verdict::Repeat(item);
-        }
-        match self.held.insert(number, item) {
-            Ok(None) => Verdict::Kept,
-            Ok(Some(_replaced)) => unreachable!(),
-            Err(refused) => Verdict::NoMemory(refused.value.1),
+        match self.places.get_mut(usize::from(offset)) {
+            None => Verdict::Beyond(item),
+            Some(place) => {
+                if place.is_some() {
+                    return Verdict::Repeat(item);
+                }
+                match place.replace(item) {
+                    None => {}
+                    Some(_replaced) => unreachable!(),
+                }
+                self.held += 1;
+                Verdict::Kept
+            }
         }
     }
 
@@ -88,7 +99,8 @@ impl<T> Window<T> {
         ensures item { option_copied result ≡ held_at self.now self.now.expected }
         ensures lawful { IsLawful self.now }
     {
-        self.held.get(&self.expected)
+        let front = self.places.front()?;
+        front.as_ref()
     }
 
     /// Takes out the item that is held under the expected number, and then expects the next number.
@@ -98,28 +110,53 @@ impl<T> Window<T> {
         ensures after { self.new ≡ after_take_next self.old result }
         ensures lawful { IsLawful self.new }
     {
-        let item = self.held.remove(&self.expected)?;
-        self.expected = number_after(self.expected);
-        Some(item)
+        if self.next().is_none() {
+            return None;
+        }
+        self.advance()
     }
 
     /// Gives the expected number up as lost, if it is not held and something else is, and then
-    /// expects the next number. Otherwise it says why not, and changes nothing. When to declare a
-    /// number lost is for the caller to decide.
+    /// expects the next number. Otherwise it reports why not, and changes nothing. When to declare
+    /// a number lost is for the caller to decide.
     pub fn declare(&mut self) -> Declared
         ensures answer { IsDeclared self.old result }
         ensures after { self.new ≡ after_declare self.old result }
         ensures lawful { IsLawful self.new }
     {
-        if self.held.contains_key(&self.expected) {
+        if self.next().is_some() {
             return Declared::NextIsHere;
         }
-        if self.held.is_empty() {
+        if self.held == 0 {
             return Declared::NothingHeld;
         }
         let lost = self.expected;
-        self.expected = number_after(lost);
-        Declared::Lost(lost)
+        match self.advance() {
+            None => Declared::Lost(lost),
+            Some(_taken) => unreachable!(),
+        }
+    }
+
+    /// Gives up as lost, one after another, the expected number and those after it, up to but not
+    /// including `number`, 0 to 8191, and only as far as [`Window::declare`] would. It answers how
+    /// many it gave up: 0 if `number` is the expected one or lies behind, or if nothing is held.
+    pub fn declare_to(&mut self, number: u16) -> u16
+        requires { number < 8192 }
+        ensures count { result ≡ declared_count self.old number }
+        ensures after { self.new ≡ moved_on_by self.old result }
+        ensures lawful { IsLawful self.new }
+    {
+        let ahead = offset_of(self.expected, number);
+        if ahead >= NUMBERS_AHEAD {
+            return 0;
+        }
+        for count in 0..ahead {
+            match self.declare() {
+                Declared::Lost(_) => {}
+                Declared::NextIsHere | Declared::NothingHeld => return count,
+            }
+        }
+        ahead
     }
 
     /// The number of the next item to be given out, 0 to 8191.
@@ -135,7 +172,19 @@ impl<T> Window<T> {
         ensures count { result ≡ map.len self.now.held }
         ensures lawful { IsLawful self.now }
     {
-        self.held.len()
+        self.held
+    }
+
+    /// Takes out the item of the expected number, if it is held, and then expects the next number.
+    fn advance(&mut self) -> Option<T>
+        ensures item { result ≡ held_at self.old self.old.expected }
+        ensures after { self.new ≡ next_taken self.old }
+        ensures lawful { IsLawful self.new }
+    {
+        let item = self.places.push_back(None).flatten();
+        self.held -= usize::from(item.is_some());
+        self.expected = number_after(self.expected);
+        item
     }
 }
 

@@ -1,6 +1,6 @@
 use Rattle.std.proofs.Common.{ap, subst}
 use Rattle.reorder.specs.View.{WindowView}
-use Rattle.reorder.specs.Answers.{IsDeclared}
+use Rattle.reorder.specs.Answers.{IsDeclared, declared_count}
 use Rattle.reorder.specs.Calls.{after_call}
 use Rattle.reorder.proofs.OneReading.{Agree-same, one_declared}
 use Rattle.reorder.proofs.laws.agreeing_windows_answer_alike.Goals as goal
@@ -13,3 +13,6 @@ returns-clause-declare g c = λ v w a b agree p q. one_declared w a b (subst (λ
 
 pub returns-clause-after : goal.returns-clause-after
 returns-clause-after g c = λ v w call agree. ap (λ u. after_call u call) (Agree-same v w agree)
+
+pub returns-clause-declare_to : goal.returns-clause-declare_to
+returns-clause-declare_to g c = λ v w number agree. ap (λ u. declared_count u number) (Agree-same v w agree)

@@ -1,15 +1,16 @@
-use Rattle.std.proofs.Common.{◌≡◌, ℕ, ◌<◌, ◌≤◌, List, [], subst, sym}
-use Rattle.reorder.specs.View.{IsLawful, seen}
-use Rattle.reorder.proofs.Lawful.{empty_window-lawful}
+use Rattle.std.proofs.Common.{◌≡◌, replicate, None, ap, ◌∙◌, arith}
+use Rattle.reorder.proofs.Kept.{seen-empty, kept-empty}
 use Rattle.reorder.proofs.window.Window.new.Goals as goal
 
--- a window with no entries is lawful
-no_entries : {T : Type 0} (first width : ℕ) (es : List (ℕ × T)) → es ≡ [] → first < 8192 → 1 ≤ width → width ≤ 4096 → IsLawful (seen first width es)
-no_entries first width es none in_range positive widest =
-    subst (λ (all : List _). IsLawful (seen first width all)) (sym none) (empty_window-lawful first width in_range positive widest)
-
 pub invariant_of-result : goal.invariant_of-result
-invariant_of-result g c = no_entries _ _ _ c.new.ensures.empty c.requires.first_in_range c.requires.width_positive c.requires.width_in_range
+invariant_of-result g c =
+    let all : c.loop-count._count ≡ c.args.width = omega arith in
+    kept-empty _ _ _ c.requires.first_in_range c.requires.width_positive c.requires.width_in_range (c.loop-count.invariant.empty ∙ ap (λ n. replicate n None) all) c.loop-count.invariant.capacity
+
+pub returns-clause-empty : goal.returns-clause-empty
+returns-clause-empty g c =
+    let all : c.loop-count._count ≡ c.args.width = omega arith in
+    seen-empty _ _ _ c.requires.first_in_range c.requires.width_in_range (c.loop-count.invariant.empty ∙ ap (λ n. replicate n None) all)
 
 pub returns-clause-lawful : goal.returns-clause-lawful
-returns-clause-lawful g c = invariant_of-result g c
+returns-clause-lawful g c = (invariant_of-result g c).lawful

@@ -1,58 +1,62 @@
-use Rattle.std.proofs.Common.{◌≡◌, ℕ, ◌<◌, Some, refl, ap, sym, subst, ◌∙◌, arith}
-use Rattle.std.specs.Ordering.{nat_cmp}
-use Rattle.std.specs.BTreeMap.{BTreeMap, Updates}
+use Rattle.std.proofs.Common.{◌≡◌, ◌+◌, ◌<◌, length, ◌≤◌, Some, is_some, refl, ap, sym, subst, ◌∙◌, arith, slice_set}
+use Rattle.circular_buffer.specs.Buffer.{buffer}
+use Rattle.std.proofs.lemmas.Option.{slice_get_within}
 use Rattle.reorder.specs.Number.{offset}
-use Rattle.reorder.specs.View.{WindowView, IsHeld, IsLawful, seen, with_item}
-use Rattle.reorder.specs.Answers.{IsVerdict, after_offer}
-use Rattle.reorder.proofs.Lawful.{with_item-lawful}
-use Rattle.reorder.proofs.Seen.{seen-put, held-listed, free-unlisted}
+use Rattle.reorder.specs.View.{WindowView, IsHeld, with_item}
+use Rattle.reorder.specs.Places.{seen, IsKept}
+use Rattle.reorder.proofs.Kept.{held-at_place, count-small, seen-put, kept-put, set-same, past_places}
 use Rattle.reorder.proofs.window.Window.offer.Goals as goal
-use Rattle.reorder.proofs.window.Window.offer.Goals.{in-Ok-None, in-Err}
 
-module _ {T : Type 0} (m n : BTreeMap ℕ T) (expected width : ℕ) (lawful : IsLawful (seen expected width m.entries)) where
-  -- the entries stayed
-  stays_lawful : n.entries ≡ m.entries → IsLawful (seen expected width n.entries)
-  stays_lawful same = subst (λ es. IsLawful (seen expected width es)) (sym same) lawful
+pub invariant_of-self-then-is_some : goal.invariant_of-self-then-is_some
+invariant_of-self-then-is_some g c =
+    subst (λ ps. IsKept c.self.inside.expected c.self.inside.held (buffer ps c.self.inside.places.capacity)) (sym (set-same _ _ _ (sym c.in-Some.ensures.value))) c.self.invariant
 
-  -- an entry was put in
-  put_lawful : (number : ℕ) (item : T) → number < 8192 → offset expected number < width → Updates nat_cmp m n number (Some item) → IsLawful (seen expected width n.entries)
-  put_lawful number item in_range within updates =
-      subst (λ (w : WindowView T). IsLawful w) (sym (seen-put m n expected width number item updates)) (with_item-lawful _ lawful number item in_range within)
+pub returns-then-is_some-clause-verdict : goal.returns-then-is_some-clause-verdict
+returns-then-is_some-clause-verdict g c =
+    let place = c.from.ensures ∙ c.offset_of-offset.ensures in
+    let there = sym c.in-Some.ensures.value in
+    let held = held-at_place _ _ _ c.self.invariant c.args.number _ _ c.requires place there in
+    subst (λ (w : WindowView _). (offset w.expected c.args.number < w.width) × IsHeld w c.args.number × (c.args.item ≡ c.args.item)) c.self.view_is
+    (subst (λ n. n < length c.self.inside.places.items) place (slice_get_within _ _ _ there), ap is_some held ∙ sym c.is_some.ensures ∙ c.if-is_some.true, refl)
 
-pub returns-then-contains_key-clause-verdict : goal.returns-then-contains_key-clause-verdict
-returns-then-contains_key-clause-verdict g c =
-    let within : offset c.self.inside.expected c.args.number < c.self.inside.width = omega arith in
-    subst (λ (w : WindowView _). (offset w.expected c.args.number < w.width) × IsHeld w c.args.number × (c.args.item ≡ c.args.item)) c.self.view_is (within, held-listed _ _ _ c.contains_key.ensures c.self.inside.expected c.self.inside.width c.if-contains_key.true, refl)
+pub returns-then-is_some-clause-after : goal.returns-then-is_some-clause-after
+returns-then-is_some-clause-after g c =
+    ap (λ ps. seen c.self.inside.expected ps) (set-same _ _ _ (sym c.in-Some.ensures.value)) ∙ c.self.view_is
 
-pub invariant_of-self : goal.invariant_of-self
-invariant_of-self g c =
-    let within : offset c.self.inside.expected c.args.number < c.self.inside.width = omega arith in
-    elim c.match-insert.branch [
-      | in-Ok-None w ↦ put_lawful c.self.inside.held c.insert.new.self _ _ c.self.invariant _ _ c.requires within w.in-Ok-None.ensures.updates
-      | in-Err w ↦ stays_lawful c.self.inside.held c.insert.new.self _ _ c.self.invariant w.in-Err.ensures.err
-    ]
+pub returns-then-is_some-clause-lawful : goal.returns-then-is_some-clause-lawful
+returns-then-is_some-clause-lawful g c = (invariant_of-self-then-is_some g c).lawful
 
-pub returns-clause-lawful : goal.returns-clause-lawful
-returns-clause-lawful g c = invariant_of-self g c
+pub overflow_add-self : goal.overflow_add-self
+overflow_add-self g c = let small = count-small _ _ _ c.self.invariant in omega arith
 
-pub returns-clause-verdict : goal.returns-clause-verdict
-returns-clause-verdict g c =
-    let within : offset c.self.inside.expected c.args.number < c.self.inside.width = omega arith in
-    let free : ¬ (IsHeld (seen c.self.inside.expected c.self.inside.width c.self.inside.held.entries) c.args.number) = free-unlisted _ _ _ c.contains_key.ensures c.self.inside.expected c.self.inside.width c.if-contains_key.false in
-    elim c.match-insert.branch [
-      | in-Ok-None w ↦ subst (IsVerdict c.args.self.now c.args.number c.args.item) (sym w.result-is) (
-          subst (λ (w : WindowView _). (offset w.expected c.args.number < w.width) × ¬ (IsHeld w c.args.number)) c.self.view_is (within, free))
-      | in-Err w ↦ subst (IsVerdict c.args.self.now c.args.number c.args.item) (sym w.result-is) (
-          subst (λ (v : WindowView _). (offset v.expected c.args.number < v.width) × ¬ (IsHeld v c.args.number) × (w.in-Err.refused.value.1 ≡ c.args.item)) c.self.view_is (within, free, ap (λ p. p.1) w.in-Err.ensures.value_returned))
-    ]
+pub invariant_of-self-in-Some : goal.invariant_of-self-in-Some
+invariant_of-self-in-Some g c =
+    let place = c.from.ensures ∙ c.offset_of-offset.ensures in
+    let there = sym c.in-Some.ensures.value ∙ ap Some (sym c.in-None-replace.ensures.value) in
+    subst (λ p. IsKept c.self.inside.expected (c.self.inside.held + 1) (buffer (slice_set c.self.inside.places.items c.from.result p) c.self.inside.places.capacity)) (sym c.replace.ensures.after) (kept-put _ _ _ c.self.invariant c.args.number _ c.args.item c.requires place there)
 
-pub returns-clause-after : goal.returns-clause-after
-returns-clause-after g c =
-    elim c.match-insert.branch [
-      | in-Ok-None w ↦ seen-put c.self.inside.held c.insert.new.self _ _ _ _ w.in-Ok-None.ensures.updates
-          ∙ ap (λ v. with_item v c.args.number c.args.item) c.self.view_is
-          ∙ ap (after_offer c.args.self.now c.args.number c.args.item) (sym w.result-is)
-      | in-Err w ↦ ap (seen c.self.inside.expected c.self.inside.width) w.in-Err.ensures.err
-          ∙ c.self.view_is
-          ∙ ap (after_offer c.args.self.now c.args.number c.args.item) (sym w.result-is)
-    ]
+pub returns-in-None-clause-verdict : goal.returns-in-None-clause-verdict
+returns-in-None-clause-verdict g c =
+    let place = c.from.ensures ∙ c.offset_of-offset.ensures in
+    let past = past_places _ _ c.in-None.ensures.value in
+    subst (λ (w : WindowView _). (offset w.expected c.args.number < 4096) × (w.width ≤ offset w.expected c.args.number) × (c.args.item ≡ c.args.item)) c.self.view_is
+    (subst (λ n. n < 4096) c.offset_of-offset.ensures c.if-offset-ge-NUMBERS_AHEAD.false, subst (λ n. length c.self.inside.places.items ≤ n) place past, refl)
+
+pub returns-in-None-replace-clause-verdict : goal.returns-in-None-replace-clause-verdict
+returns-in-None-replace-clause-verdict g c =
+    let place = c.from.ensures ∙ c.offset_of-offset.ensures in
+    let there = sym c.in-Some.ensures.value ∙ ap Some (sym c.in-None-replace.ensures.value) in
+    let free = held-at_place _ _ _ c.self.invariant c.args.number _ _ c.requires place there in
+    subst (λ (w : WindowView _). (offset w.expected c.args.number < w.width) × ¬ (IsHeld w c.args.number)) c.self.view_is
+    (subst (λ n. n < length c.self.inside.places.items) place (slice_get_within _ _ _ there), λ held. let found = sym (ap is_some free) ∙ held in cc)
+
+pub returns-in-None-replace-clause-after : goal.returns-in-None-replace-clause-after
+returns-in-None-replace-clause-after g c =
+    let place = c.from.ensures ∙ c.offset_of-offset.ensures in
+    let there = sym c.in-Some.ensures.value in
+    ap (λ p. seen c.self.inside.expected (slice_set c.self.inside.places.items c.from.result p)) c.replace.ensures.after
+    ∙ seen-put _ _ _ c.self.invariant c.args.number _ c.args.item c.requires place (slice_get_within _ _ _ there)
+    ∙ ap (λ w. with_item w c.args.number c.args.item) c.self.view_is
+
+pub returns-in-None-replace-clause-lawful : goal.returns-in-None-replace-clause-lawful
+returns-in-None-replace-clause-lawful g c = (invariant_of-self-in-Some g c).lawful

@@ -1,0 +1,11 @@
+use Rattle.std.proofs.Common.{◌≡◌}
+use Rattle.reorder.specs.View.{IsLawful, moved_on_by}
+use Rattle.reorder.proofs.Declaring.{AreLost}
+use Rattle.reorder.proofs.window.Window.declare_to.Given as goal
+
+abbrev pub invariant-loop-count : goal.invariant-loop-count
+invariant-loop-count g l = record {
+  moved : l.self ≡ moved_on_by l.fn.self l.count;
+  lawful : IsLawful l.self;
+  lost : AreLost l.fn.self l.count;
+}
