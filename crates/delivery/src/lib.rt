@@ -19,3 +19,8 @@ pub use feeder::{ClosedFeeder, Feeder, Refused};
 pub use opening::{OpenFault, ring};
 pub use settling::settle;
 pub use taker::{Taker, Took};
+
+#[cfg(test)]
+mod refusals;
+#[cfg(test)]
+mod tests;
