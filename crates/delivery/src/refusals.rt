@@ -31,8 +31,8 @@ fn frame(rt: &impl Print, alloc: Global, number: u8) -> Result<Vec<u8>, Fail> {
     Ok([number, 7].to_vec(alloc)?)
 }
 
-/// Offers a frame, and once more the one that came back where the backlog could not grow. In between
-/// as many frames wait as before, none of which the ring has room for.
+/// Offers a frame, and once more the one that came back where the backlog could not grow. In
+/// between as many frames wait as before, none of which the ring has room for.
 fn offer_again(
     rt: &(impl Print + Abort),
     feeder: &mut Feeder,

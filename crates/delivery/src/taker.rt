@@ -36,7 +36,8 @@ impl Taker {
         ensures taken { taken self.new ≡ taken self.old ++ frames_given result }
         ensures closed { IsTrue (is_closed self.new) ↔ (result ≡ Took.Closed) }
         ensures ever_after { IsTrue (is_closed self.old) → result ≡ Took.Closed }
-        ensures nothing_yet { result ≡ Took.NothingYet → (known self.old ≡ 0) × (known self.new ≡ 0) }
+        ensures nothing_yet { result ≡ Took.NothingYet
+            → (known self.old ≡ 0) × (known self.new ≡ 0) }
     {
         if self.closed {
             return Took::Closed;
