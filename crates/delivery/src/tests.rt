@@ -157,3 +157,49 @@ fn greatest_ring_and_longest_frame(rt: HostRuntime) -> Result<(), Fail> {
     assert_eq!(rt; taker.take(), Took::Closed);
     Ok(())
 }
+
+/// A ring of two places that are full, and one frame more in the backlog.
+fn full_ring(alloc: Global) -> Result<(Feeder, Taker), Fail> {
+    let (mut feeder, taker) = ring(alloc, 2)?;
+    offer(alloc, &mut feeder, PLAIN)?;
+    offer(alloc, &mut feeder, EXTENDED)?;
+    offer(alloc, &mut feeder, PLAIN)?;
+    Ok((feeder, taker))
+}
+
+/// Whoever still holds a frame drops it. `scripts/frames-dropped-once` runs this test and the others
+/// under a checker of memory, which finds a frame that is dropped twice or never.
+#[test]
+fn ends_dropped_with_frames_left(rt: HostRuntime) -> Result<(), Fail> {
+    let (mut feeder, taker) = full_ring(rt.alloc())?;
+    drop(taker);
+    assert_eq!(rt; feeder.flush(), 1);
+    offer(rt.alloc(), &mut feeder, EXTENDED)?;
+    drop(feeder);
+
+    let (feeder, mut taker) = full_ring(rt.alloc())?;
+    drop(feeder);
+    takes(&rt, &mut taker, PLAIN);
+    drop(taker);
+
+    let (feeder, mut taker) = full_ring(rt.alloc())?;
+    takes(&rt, &mut taker, PLAIN);
+    drop(feeder.abandon());
+    takes(&rt, &mut taker, EXTENDED);
+    assert_eq!(rt; taker.take(), Took::NothingYet);
+
+    let (feeder, mut taker) = full_ring(rt.alloc())?;
+    takes(&rt, &mut taker, PLAIN);
+    let feeder = comes_back(&rt, feeder);
+    takes(&rt, &mut taker, EXTENDED);
+    drop(close(&rt, feeder));
+    drop(taker);
+
+    let (feeder, mut taker) = full_ring(rt.alloc())?;
+    takes(&rt, &mut taker, PLAIN);
+    takes(&rt, &mut taker, EXTENDED);
+    let feeder = close(&rt, feeder);
+    drop(taker);
+    drop(feeder);
+    Ok(())
+}
