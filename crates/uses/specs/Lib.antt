@@ -1,1 +1,2 @@
 pub mod DeliveryRun
+pub mod DeliveryFlows

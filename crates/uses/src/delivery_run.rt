@@ -91,7 +91,7 @@ fn take_all<R: Wait>(rt: &R, alloc: Global, taker: Taker) -> Option<Served>
 }
 
 /// The frames with one more, or nothing where there were none or memory ran out.
-fn append(frames: Option<Vec<Vec<u8>>>, frame: Vec<u8>) -> Option<Vec<Vec<u8>>>
+pub(crate) fn append(frames: Option<Vec<Vec<u8>>>, frame: Vec<u8>) -> Option<Vec<Vec<u8>>>
     ensures { Appends frames frame result }
 {
     let mut frames = frames?;

@@ -2,4 +2,5 @@
 //! the public contracts of the library alone.
 #![tactic(auto)]
 
+pub mod delivery_flows;
 pub mod delivery_run;
