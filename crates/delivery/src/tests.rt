@@ -167,8 +167,8 @@ fn full_ring(alloc: Global) -> Result<(Feeder, Taker), Fail> {
     Ok((feeder, taker))
 }
 
-/// Whoever still holds a frame drops it. `scripts/frames-dropped-once` runs this test and the others
-/// under a checker of memory, which finds a frame that is dropped twice or never.
+/// Whoever still holds a frame drops it. `scripts/frames-dropped-once` runs this test and the
+/// others under a checker of memory, which finds a frame that is dropped twice or never.
 #[test]
 fn ends_dropped_with_frames_left(rt: HostRuntime) -> Result<(), Fail> {
     let (mut feeder, taker) = full_ring(rt.alloc())?;

@@ -1,4 +1,4 @@
-use Rattle.std.proofs.Common.{rules, ◌<◌, length, ap, ◌∙◌}
+use Rattle.std.proofs.Common.{rules, ◌<◌, length, ◌∙◌}
 use Rattle.std.proofs.Math.Seq.{map-set_same}
 use Rattle.delivery.specs.Takers.{taker_ring}
 use Rattle.uses.proofs.DeliveryRounds.{closed_by_look, closed_below-set}
