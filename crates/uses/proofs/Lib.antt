@@ -1,1 +1,2 @@
+pub mod DeliveryRounds
 pub mod WindowLemmas

@@ -1,1 +1,3 @@
+pub mod DeliveryFlows
+pub mod DeliveryRun
 pub mod Window

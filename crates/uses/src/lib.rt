@@ -1,5 +1,7 @@
-//! Callers of the other crates, as a stranger or the layer above would write them, each proved
-//! from the public contracts alone.
+//! Small programs over the other crates, as a stranger or the layer above would write them, each proved
+//! from the public contracts of those crates alone.
 #![tactic(auto)]
 
+pub mod delivery_flows;
+pub mod delivery_run;
 pub mod window;

@@ -1,0 +1,6 @@
+pub mod RingName
+pub mod Frames
+pub mod Parcels
+pub mod Left
+pub mod Feeders
+pub mod Takers

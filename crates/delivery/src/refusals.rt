@@ -1,0 +1,112 @@
+//! Tests to be run with the Nth request for memory refused. Each says `refused` when one was.
+use crate::{Feeder, Refused, Took, ring, settle};
+use std::alloc::Global;
+use std::io;
+use std::io::Print;
+use std::process::Abort;
+use std::test::Fail;
+
+#[test]
+fn ring_refused(rt: HostRuntime) -> Result<(), Fail> {
+    let (feeder, mut taker) = match ring(rt.alloc(), 16) {
+        Ok(ends) => ends,
+        Err(_) => {
+            println!(rt; "refused")?;
+            ring(rt.alloc(), 16)?
+        }
+    };
+    let Ok(_closed) = feeder.close() else {
+        panic!(&rt; "the feeder came back");
+    };
+    assert_eq!(rt; taker.take(), Took::Closed);
+    Ok(())
+}
+
+/// A frame of two bytes, made once more where the memory for it was refused.
+fn frame(rt: &impl Print, alloc: Global, number: u8) -> Result<Vec<u8>, Fail> {
+    if let Ok(frame) = [number, 7].to_vec(alloc) {
+        return Ok(frame);
+    }
+    println!(rt; "refused")?;
+    Ok([number, 7].to_vec(alloc)?)
+}
+
+/// Offers a frame, and once more the one that came back where the backlog could not grow. In
+/// between as many frames wait as before, none of which the ring has room for.
+fn offer_again(
+    rt: &(impl Print + Abort),
+    feeder: &mut Feeder,
+    frame: Vec<u8>,
+    waiting: usize,
+) -> io::Result<bool> {
+    let number = frame.as_slice().first().copied();
+    let Err(Refused(back)) = feeder.offer(frame) else {
+        return Ok(true);
+    };
+    println!(rt; "refused")?;
+    assert_eq!(rt; back.len(), 2);
+    assert_eq!(rt; back.as_slice().first().copied(), number);
+    assert_eq!(rt; feeder.flush(), waiting);
+    Ok(feeder.offer(back).is_ok())
+}
+
+/// The backlog grows several times. The first frame is in the ring, which has room for one.
+#[test]
+fn offer_refused(rt: HostRuntime) -> Result<(), Fail> {
+    let (mut feeder, mut taker) = match ring(rt.alloc(), 1) {
+        Ok(ends) => ends,
+        Err(_) => {
+            println!(rt; "refused")?;
+            ring(rt.alloc(), 1)?
+        }
+    };
+    for number in 0_u8..40 {
+        let frame = frame(&rt, rt.alloc(), number)?;
+        let waiting = usize::from(number.saturating_sub(1));
+        assert!(rt; offer_again(&rt, &mut feeder, frame, waiting)?);
+    }
+    for number in 0_u8..40 {
+        let Took::Frame(frame) = taker.take() else {
+            panic!(&rt; "no frame was taken");
+        };
+        assert_eq!(rt; frame.as_slice(), [number, 7].as_slice());
+        assert_eq!(rt; feeder.flush(), usize::from(38_u8.saturating_sub(number)));
+    }
+    let Ok(_closed) = feeder.close() else {
+        panic!(&rt; "the feeder came back");
+    };
+    assert_eq!(rt; taker.take(), Took::Closed);
+    Ok(())
+}
+
+/// Only the ring, the two frames and the backlog take memory.
+#[test]
+fn whole_run_refused(rt: HostRuntime) -> Result<(), Fail> {
+    let (mut feeder, mut taker) = match ring(rt.alloc(), 1) {
+        Ok(ends) => ends,
+        Err(_) => {
+            println!(rt; "refused")?;
+            ring(rt.alloc(), 1)?
+        }
+    };
+    let first = frame(&rt, rt.alloc(), 1)?;
+    let second = frame(&rt, rt.alloc(), 2)?;
+    assert!(rt; feeder.offer(first).is_ok());
+    if let Err(Refused(second)) = feeder.offer(second) {
+        println!(rt; "refused")?;
+        assert!(rt; feeder.offer(second).is_ok());
+    }
+    let Err(feeder) = feeder.close() else {
+        panic!(&rt; "the feeder closed");
+    };
+    assert!(rt; matches!(taker.take(), Took::Frame(_)));
+    let mut feeder = feeder;
+    assert_eq!(rt; feeder.flush(), 0);
+    assert!(rt; matches!(taker.take(), Took::Frame(_)));
+    let Ok(mut closed) = feeder.close() else {
+        panic!(&rt; "the feeder came back");
+    };
+    assert_eq!(rt; taker.take(), Took::Closed);
+    assert_eq!(rt; settle(&mut closed, &mut taker), 0);
+    Ok(())
+}

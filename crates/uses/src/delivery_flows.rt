@@ -1,0 +1,13 @@
+//! Many flows with a ring each, whose takers one thread serves in turn: of each flow, all that was
+//! offered is taken.
+
+mod consumed;
+mod consuming;
+mod settling;
+
+pub use consumed::{Consumed, Look};
+pub use consuming::{begin, take_all};
+pub use settling::settle_all;
+
+#[cfg(test)]
+mod tests;
