@@ -22,3 +22,8 @@ pub use opening::{OpenFault, Ports, open};
 pub use port::{ClosedPort, Full, Port};
 pub use settling::{ClosedPorts, Settled, settle};
 pub use taken::Taken;
+
+#[cfg(test)]
+mod refusals;
+#[cfg(test)]
+mod tests;

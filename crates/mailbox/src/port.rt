@@ -40,7 +40,7 @@ pub struct ClosedPort<T> {
 }
 
 /// The mailbox was full at one moment of the call. The item comes back.
-#[derive(Debug, Drop)]
+#[derive(Debug, PartialEq, Eq, Drop)]
 pub struct Full<T>(pub T);
 
 impl<T: Drop> Port<T> {
