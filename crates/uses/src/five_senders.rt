@@ -52,3 +52,6 @@ where
     };
     Ok(gathered)
 }
+
+#[cfg(test)]
+mod tests;
