@@ -1,4 +1,5 @@
--- Each kind of step keeps the rule.
+-- Each of the seven kinds of step keeps the rule: making the queue, splitting off a port's pass, a push that adds, a push that is
+-- refused, a pop that takes, a pop that finds nothing, and joining a port's pass to the mouth's.
 use Rattle.std.proofs.Common.{◌≡◌, ◌≢◌, ℕ, zero, suc, ◌+◌, ◌<◌, ◌⊎◌, true, false, List, [], ◌∷◌, ◌++◌, length, set, sym, refl, ap, ◌∙◌, subst, ⊎_elim, append_assoc, arith, inl, inr}
 use Rattle.std.specs.Prelude.{◌==◌, if◌then◌else◌}
 use Rattle.std.proofs.lemmas.Bool.{cases_eq}
@@ -54,6 +55,7 @@ module _ {T : Type 0} where
   not_taker : (v : View T) → v.takes ≡ false → v.takes ≡ true → ⊥
   not_taker v isnt is = cc
 
+  -- making the queue with its first pass: all begin empty
   pub begins : Delivers {T = T} [] (newcomer ∷ [])
   begins = record {
     reader = 0;
@@ -69,7 +71,7 @@ module _ {T : Type 0} where
       only zero u e = refl
       only (suc q) u e = absurd (some-ne-none u (sym e))
 
-  -- a push that adds
+  -- a push that adds an entry
   pub posts : (n p : ℕ) (k : ℕ) (es : List (Entry T)) (x : Stamped T) → x.from ≡ k → Pushes Delivers n p (port k es) x (λ w. w ≡ port k (es ++ x.entry ∷ []))
   posts n p k es x from items views room h at =
       let w : View T = port k (es ++ x.entry ∷ []) in
@@ -164,11 +166,15 @@ module _ {T : Type 0} where
             (λ q y other e. each_set (MayTake h.reader h.made h.got) views p both (λ _. mine) (λ q y apart e. h.taker q y e) q y e);
       }
 
-  -- what the mouth learns of what the queue holds
-  pub learns : (p : ℕ) (v : View T) → v.takes ≡ true → Learns Delivers p v (Accounts v)
-  learns p v may items views h at =
+  -- a pop that finds nothing: no view changes, and the mouth learns of what the queue holds, which is nothing
+  pub finds_nothing : (p : ℕ) (v : View T) → v.takes ≡ true → Learns Delivers p v (Accounts v)
+  finds_nothing p v may items views h at =
       let mine = h.taker p v at may in
       λ hd has. (h.logs p v at hd has).2 ∙ ap (λ l. sent_by hd.from (l ++ items)) (sym mine.2)
+
+  -- a push that is refused: no view changes, and nothing is learned
+  pub refuses : (p : ℕ) (v : View T) → Learns Delivers p v (λ items. Unit {0})
+  refuses p v items views h at = tt
 
   -- the same, by what a port knows
   pub posts_own : (n p : ℕ) (v : View T) (x : Stamped T) → v ≡ port x.from (own v) → Pushes Delivers n p v x (Posted v x)

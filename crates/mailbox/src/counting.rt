@@ -4,7 +4,7 @@ ghost use Rattle.crossbeam_queue.specs.Passes.{view, IsPassOf};
 ghost use Rattle.mailbox.specs.Counting.{Counts, AddsOne};
 
 use crate::entry::{Entry, Stamped};
-use crate::port::Line;
+use crate::port::Queue;
 use crate::rule::Takes;
 use crate::view::View;
 use crossbeam_queue::Pass;
@@ -13,16 +13,16 @@ use std::sync::Wait;
 /// Takes all that is left, and counts the items of each sender.
 pub fn count_left<T: Drop, R: Wait>(
     rt: &R,
-    line: &Line<T>,
+    queue: &Queue<T>,
     pass: &mut Pass<Stamped<T>, View<T>>,
 ) -> [usize; 5]
-    requires queue { IsPassOf line.now pass.old }
+    requires of_queue { IsPassOf queue.now pass.old }
     requires taker { (view pass.old).takes ≡ true }
     ensures { Counts (view pass.old) result }
 {
     let mut left = [0; 5];
     for _ in rt.forever() {
-        let Some(stamped) = line.pop_as::<Takes, R>(rt, pass) else {
+        let Some(stamped) = queue.pop_as::<Takes, R>(rt, pass) else {
             return left;
         };
         count(&mut left, stamped);

@@ -5,7 +5,7 @@ ghost use Rattle.crossbeam_queue.specs.Passes.{view, IsPassOf};
 ghost use Rattle.mailbox.specs.Delivers.{mouth, got_by, ends_in};
 
 use crate::entry::{Entry, Stamped};
-use crate::port::Line;
+use crate::port::Queue;
 use crate::rule::Takes;
 use crate::taken::Taken;
 use crate::view::View;
@@ -16,10 +16,10 @@ use std::sync::{Arc, Wait};
 /// The one taker of a mailbox.
 #[derive(Drop)]
 pub struct Mouth<T> {
-    pub(crate) line: Arc<Line<T>, Global>,
+    pub(crate) queue: Arc<Queue<T>, Global>,
     pub(crate) pass: Pass<Stamped<T>, View<T>>,
     pub(crate) ends: [bool; 5],
-    ghost of_line: { IsPassOf (arc_value line) pass },
+    ghost of_queue: { IsPassOf (arc_value queue) pass },
     ghost knows: { view pass ≡ mouth [] 5 (got_by (view pass)) },
     ghost marks: { ends ≡ ends_in (got_by (view pass)) },
 }
@@ -33,8 +33,8 @@ impl<T: Drop> Mouth<T> {
         ensures places { places self.new ≡ places self.old }
         ensures takes { TakesOne result self.old self.new }
     {
-        let line: &Line<T> = &self.line;
-        let Some(stamped) = line.pop_as::<Takes, R>(rt, &mut self.pass) else {
+        let queue: &Queue<T> = &self.queue;
+        let Some(stamped) = queue.pop_as::<Takes, R>(rt, &mut self.pass) else {
             return Taken::Empty;
         };
         let Stamped { from, entry } = stamped;

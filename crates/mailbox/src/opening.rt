@@ -9,7 +9,7 @@ ghost use Rattle.mailbox.specs.Openings.{addresses, NonePosted, NoneTaken};
 
 use crate::entry::Stamped;
 use crate::mouth::Mouth;
-use crate::port::{Line, Port};
+use crate::port::{Port, Queue};
 use crate::rule::NewPort;
 use crate::view::View;
 use crossbeam_queue::Pass;
@@ -58,17 +58,17 @@ pub fn open<T: Drop>(alloc: Global, capacity: u16) -> Result<(Ports<T>, Mouth<T>
     if capacity == 0 {
         return Err(OpenFault::NoCapacity);
     }
-    let (line, mut pass) = Line::ruled(alloc, usize::from(capacity))?;
-    let Ok(line) = Arc::new(alloc, line) else {
+    let (queue, mut pass) = Queue::ruled(alloc, usize::from(capacity))?;
+    let Ok(queue) = Arc::new(alloc, queue) else {
         return Err(OpenFault::OutOfMemory);
     };
-    let p0 = new_port(&line, &mut pass, 0)?;
-    let p1 = new_port(&line, &mut pass, 1)?;
-    let p2 = new_port(&line, &mut pass, 2)?;
-    let p3 = new_port(&line, &mut pass, 3)?;
-    let p4 = new_port(&line, &mut pass, 4)?;
+    let p0 = new_port(&queue, &mut pass, 0)?;
+    let p1 = new_port(&queue, &mut pass, 1)?;
+    let p2 = new_port(&queue, &mut pass, 2)?;
+    let p3 = new_port(&queue, &mut pass, 3)?;
+    let p4 = new_port(&queue, &mut pass, 4)?;
     let mouth = Mouth {
-        line,
+        queue,
         pass,
         ends: [false; 5],
     };
@@ -77,23 +77,23 @@ pub fn open<T: Drop>(alloc: Global, capacity: u16) -> Result<(Ports<T>, Mouth<T>
 
 // Splits off the pass of port `from`.
 fn new_port<T: Drop>(
-    line: &Arc<Line<T>, Global>,
+    queue: &Arc<Queue<T>, Global>,
     pass: &mut Pass<Stamped<T>, View<T>>,
     from: u8,
 ) -> Result<Port<T>, AllocError>
-    requires queue { IsPassOf (arc_value line.now) pass.old }
+    requires of_queue { IsPassOf (arc_value queue.now) pass.old }
     requires next { (view pass.old ≡ mouth [] from []) × (from < 5) }
-    ensures queue { IsPassOf (arc_value line.now) pass.new }
+    ensures of_queue { IsPassOf (arc_value queue.now) pass.new }
     ensures next { IfOk result (λ _. view pass.new ≡ mouth [] (from + 1) []) }
     ensures address { IfOk result (λ port. address port ≡ (pass.old.table_id, from)) }
     ensures same { pass.new.table_id ≡ pass.old.table_id }
     ensures posted { IfOk result (λ port. posted port ≡ []) }
 {
-    let theirs = Arc::try_clone(line)?;
-    let mine: &Line<T> = line;
+    let theirs = Arc::try_clone(queue)?;
+    let mine: &Queue<T> = queue;
     let pass = mine.another::<NewPort>(pass);
     Ok(Port {
-        line: theirs,
+        queue: theirs,
         pass,
         from,
     })

@@ -13,16 +13,16 @@ use std::alloc::Global;
 use std::sync::{Arc, Wait};
 
 /// The queue of one mailbox.
-pub type Line<T> = RuledArrayQueue<Stamped<T>, View<T>, InOrder>;
+pub type Queue<T> = RuledArrayQueue<Stamped<T>, View<T>, InOrder>;
 
 /// One of the five senders of a mailbox.
 #[derive(Drop)]
 pub struct Port<T> {
-    pub(crate) line: Arc<Line<T>, Global>,
+    pub(crate) queue: Arc<Queue<T>, Global>,
     pub(crate) pass: Pass<Stamped<T>, View<T>>,
     pub(crate) from: u8,
     ghost sender: { from < 5 },
-    ghost of_line: { IsPassOf (arc_value line) pass },
+    ghost of_queue: { IsPassOf (arc_value queue) pass },
     ghost knows: { view pass ≡ port from (own (view pass)) },
     ghost unended: { has_end (own (view pass)) ≡ false },
 }
@@ -30,11 +30,11 @@ pub struct Port<T> {
 /// A sender whose end mark is posted. It posts nothing more.
 #[derive(Drop)]
 pub struct ClosedPort<T> {
-    pub(crate) line: Arc<Line<T>, Global>,
+    pub(crate) queue: Arc<Queue<T>, Global>,
     pub(crate) pass: Pass<Stamped<T>, View<T>>,
     pub(crate) from: u8,
     ghost sender: { from < 5 },
-    ghost of_line: { IsPassOf (arc_value line) pass },
+    ghost of_queue: { IsPassOf (arc_value queue) pass },
     ghost knows: { view pass ≡ port from (own (view pass)) },
     ghost closed: { ends_once (own (view pass)) ≡ true },
 }
@@ -61,8 +61,8 @@ impl<T: Drop> Port<T> {
             from,
             entry: Entry::Item(item),
         };
-        let line: &Line<T> = &self.line;
-        let Err(back) = line.push_as::<Posts, R>(rt, &mut self.pass, stamped) else {
+        let queue: &Queue<T> = &self.queue;
+        let Err(back) = queue.push_as::<Posts, R>(rt, &mut self.pass, stamped) else {
             return Ok(());
         };
         let Stamped { from: _, entry } = back;
@@ -80,7 +80,7 @@ impl<T: Drop> Port<T> {
         ensures full { IfErr result (λ port. (address port ≡ address self) × (posted port ≡ posted self)) }
     {
         let Port {
-            line,
+            queue,
             mut pass,
             from,
         } = self;
@@ -88,10 +88,10 @@ impl<T: Drop> Port<T> {
             from,
             entry: Entry::End,
         };
-        let shared: &Line<T> = &line;
+        let shared: &Queue<T> = &queue;
         match shared.push_as::<Posts, R>(rt, &mut pass, stamped) {
-            Ok(()) => Ok(ClosedPort { line, pass, from }),
-            Err(_) => Err(Port { line, pass, from }),
+            Ok(()) => Ok(ClosedPort { queue, pass, from }),
+            Err(_) => Err(Port { queue, pass, from }),
         }
     }
 }

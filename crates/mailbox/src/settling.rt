@@ -9,7 +9,7 @@ ghost use Rattle.mailbox.specs.Settling.{closed_addresses, Leaves};
 use crate::counting::count_left;
 use crate::entry::Stamped;
 use crate::mouth::Mouth;
-use crate::port::{ClosedPort, Line};
+use crate::port::{ClosedPort, Queue};
 use crate::rule::Joins;
 use crate::view::View;
 use crossbeam_queue::Pass;
@@ -33,19 +33,19 @@ pub struct Settled {
 }
 
 // The pass of a port is joined to the mouth's.
-fn join<T: Drop>(line: &Line<T>, pass: &mut Pass<Stamped<T>, View<T>>, closed: ClosedPort<T>)
-    requires queue { IsPassOf line.now pass.old }
+fn join<T: Drop>(queue: &Queue<T>, pass: &mut Pass<Stamped<T>, View<T>>, closed: ClosedPort<T>)
+    requires of_queue { IsPassOf queue.now pass.old }
     requires taker { (view pass.old).takes ≡ true }
     requires same { closed.pass.table_id ≡ pass.old.table_id }
-    ensures queue { IsSamePass pass.old pass.new }
+    ensures same_pass { IsSamePass pass.old pass.new }
     ensures joined { view pass.new ≡ joined (view pass.old) (view closed.pass) }
 {
     let ClosedPort {
-        line: _,
+        queue: _,
         pass: theirs,
         from: _,
     } = closed;
-    line.absorb::<Joins>(pass, theirs);
+    queue.absorb::<Joins>(pass, theirs);
 }
 
 /// Counts of each sender the items that were posted and not taken. Called once the threads have
@@ -60,18 +60,18 @@ pub fn settle<T: Drop, R: Wait>(rt: &R, ports: ClosedPorts<T>, mouth: Mouth<T>) 
     ensures p4 { Leaves (closed_posted ports.p4) (taken mouth 4) (ended mouth 4) (slice_index result.left 4) }
 {
     let Mouth {
-        line,
+        queue,
         mut pass,
         ends: _,
     } = mouth;
     let ClosedPorts { p0, p1, p2, p3, p4 } = ports;
-    let line: &Line<T> = &line;
-    join(line, &mut pass, p0);
-    join(line, &mut pass, p1);
-    join(line, &mut pass, p2);
-    join(line, &mut pass, p3);
-    join(line, &mut pass, p4);
+    let queue: &Queue<T> = &queue;
+    join(queue, &mut pass, p0);
+    join(queue, &mut pass, p1);
+    join(queue, &mut pass, p2);
+    join(queue, &mut pass, p3);
+    join(queue, &mut pass, p4);
     Settled {
-        left: count_left(rt, line, &mut pass),
+        left: count_left(rt, queue, &mut pass),
     }
 }

@@ -1,16 +1,16 @@
 use Rattle.std.proofs.Common.{rules, arith}
 use Rattle.crossbeam_queue.specs.Passes.{view}
-use Rattle.mailbox.proofs.Steps.{takes, learns}
+use Rattle.mailbox.proofs.Steps.{takes, finds_nothing}
 use Rattle.mailbox.proofs.Counts.{nothing_counted, still_takes, has_room, another, finished}
 use Rattle.mailbox.proofs.counting.count_left.Goals as goal
 
 pub loop-init : goal.loop-init
-loop-init g c = (c.requires.queue, (0, nothing_counted (view c.args.pass.now) c.requires.taker, omega arith))
+loop-init g c = (c.requires.of_queue, (0, nothing_counted (view c.args.pass.now) c.requires.taker, omega arith))
 
 pub pop_as-requires-clause-rule : goal.pop_as-requires-clause-rule
 pop_as-requires-clause-rule g c =
     let may = still_takes _ _ _ _ c.loop.invariant.1.1 in
-    (takes _ _ may, learns _ _ may)
+    (takes _ _ may, finds_nothing _ _ may)
 
 pub count-requires : goal.count-requires
 count-requires g c =

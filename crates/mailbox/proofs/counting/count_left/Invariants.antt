@@ -5,5 +5,5 @@ use Rattle.mailbox.proofs.counting.count_left.Given as goal
 
 abbrev pub invariant-loop : goal.invariant-loop
 invariant-loop g l =
-    IsPassOf l.line l.pass
+    IsPassOf l.queue l.pass
     × ((rounds : ℕ) × Counted (view l.fn.pass) (view l.pass) l.left rounds × (rounds + (goal.iterator-loop g).remaining l.iterator' ≤ (goal.iterator-loop g).remaining l.initial.iterator'))
