@@ -1,2 +1,3 @@
 pub mod DeliveryRounds
+pub mod FiveSenders
 pub mod WindowLemmas

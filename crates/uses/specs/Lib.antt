@@ -1,3 +1,4 @@
 pub mod DeliveryFlows
 pub mod DeliveryRun
+pub mod FiveSenders
 pub mod Window

@@ -4,4 +4,5 @@
 
 pub mod delivery_flows;
 pub mod delivery_run;
+pub mod five_senders;
 pub mod window;

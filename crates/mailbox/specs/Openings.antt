@@ -1,0 +1,24 @@
+-- What a clause sees of the five ports of one mailbox.
+use Rattle.std.specs.Prelude.{◌≡◌, ℕ, false, List, [], ◌∷◌}
+use Rattle.mailbox.specs.Ports.{Address, address, posted}
+use Rattle.mailbox.specs.Mouths.{taken, ended}
+use Rattle.mailbox.specs.declared.mouth.Mouth.{Mouth}
+use Rattle.mailbox.specs.declared.opening.Ports.{Ports}
+
+module _ {T : Type 0} where
+  -- where the five ports came from, in order
+  abbrev pub addresses : Ports T → List Address
+  addresses ps = address ps.p0 ∷ address ps.p1 ∷ address ps.p2 ∷ address ps.p3 ∷ address ps.p4 ∷ []
+
+  -- no port has posted anything
+  pub record NonePosted (ports : Ports T) : Type 0 where
+    pub p0 : posted ports.p0 ≡ []
+    pub p1 : posted ports.p1 ≡ []
+    pub p2 : posted ports.p2 ≡ []
+    pub p3 : posted ports.p3 ≡ []
+    pub p4 : posted ports.p4 ≡ []
+
+  -- nothing was taken of any sender, and no end mark
+  pub record NoneTaken (mouth : Mouth T) : Type 0 where
+    pub taken_is : (k : ℕ) → taken mouth k ≡ []
+    pub ended_is : (k : ℕ) → ended mouth k ≡ false
