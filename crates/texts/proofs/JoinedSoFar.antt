@@ -7,13 +7,14 @@ use Rattle.ccf.specs.Feed.{Feeds}
 use Rattle.ccf.specs.Join.{Joins}
 use Rattle.texts.specs.Join.{IsJoinedSoFar, frame_line}
 use Rattle.texts.specs.Join.Line.{Carries, AddsSegment}
+use Rattle.texts.specs.AnyHeader.{any_header}
 
 -- one more segment is fed
 Joins-fed_last : (before : List ℕ) (segments : List Segment) (frames : List (List ℕ)) (between : List ℕ) (segment : Segment) (fed : List (List ℕ)) (after : List ℕ)
-    → Joins before (map Some segments) frames between → Feeds between segment fed after
-    → Joins before (map Some (segments ++ segment ∷ [])) (frames ++ fed) after
+    → Joins any_header before (map Some segments) frames between → Feeds any_header between segment fed after
+    → Joins any_header before (map Some (segments ++ segment ∷ [])) (frames ++ fed) after
 Joins-fed_last before [] frames between segment fed after joined feeds =
-    let begun : Feeds before segment fed after = subst (λ bytes. Feeds bytes segment fed after) joined.1 feeds in
+    let begun : Feeds any_header before segment fed after = subst (λ bytes. Feeds any_header bytes segment fed after) joined.1 feeds in
     let all : frames ++ fed ≡ fed ++ [] = ap (λ front. front ++ fed) joined.0 ∙ sym (append-nil fed) in
     (fed, [], after, begun, (refl, refl), all)
 Joins-fed_last before (first ∷ segments) frames between segment fed after joined feeds =
@@ -22,7 +23,7 @@ Joins-fed_last before (first ∷ segments) frames between segment fed after join
 
 -- a line's segment is joined, and its frames are printed
 pub JoinedSoFar-more : (segments : List Segment) (fields : List (List ℕ)) (segment : Segment) (before text : List ℕ) (fed : List (List ℕ)) (after text' : List ℕ)
-    → IsJoinedSoFar segments before text → Carries fields segment → Feeds before segment fed after → text' ≡ text ++ flat_map frame_line fed
+    → IsJoinedSoFar segments before text → Carries fields segment → Feeds any_header before segment fed after → text' ≡ text ++ flat_map frame_line fed
     → (more : List Segment) × AddsSegment segments fields more × IsJoinedSoFar more after text'
 JoinedSoFar-more segments fields segment before text fed after text' so_far carries feeds printed = (
   segments ++ segment ∷ [],

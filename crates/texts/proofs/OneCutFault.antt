@@ -13,10 +13,11 @@ use Rattle.texts.specs.Cut.Line.{FramesAndPieces, nothing, cut_format}
 use Rattle.texts.proofs.OneReading.{one_reading}
 use Rattle.texts.proofs.OneReading as lines
 use Rattle.texts.proofs.OneCutLine.{cut_is_determined}
+use Rattle.texts.specs.AnyHeader.{any_header}
 
 -- frames and pieces have one fault
 abbrev pub OneReport : Type 0
-OneReport = (frames : List (List ℕ)) (pieces : List Piece) (fault other : CutFault) → Reports frames pieces fault → Reports frames pieces other → fault ≡ other
+OneReport = (frames : List (List ℕ)) (pieces : List Piece) (fault other : CutFault) → Reports any_header frames pieces fault → Reports any_header frames pieces other → fault ≡ other
 
 -- the lines of an input say these frames and pieces
 abbrev ReadsAs : List ℕ → List (List ℕ) → List Piece → Type 0
@@ -32,7 +33,7 @@ one_input input frames others pieces more a b =
     (ap (λ read. read.frames) same, ap (λ read. read.pieces) same)
 
 -- a fault of frames and pieces is one that `cut` reports of them, and no failed allocation
-reported : (frames : List (List ℕ)) (pieces : List Piece) (fault : CutFault) → IsPieceFault frames pieces fault → Reports frames pieces fault
+reported : (frames : List (List ℕ)) (pieces : List Piece) (fault : CutFault) → IsPieceFault frames pieces fault → Reports any_header frames pieces fault
 reported frames pieces (cut_fault.BadFrame k) h = h
 reported frames pieces (cut_fault.FillInsideFrame k) h = h
 reported frames pieces (cut_fault.PointerTooFar k) h = h
@@ -68,7 +69,7 @@ one_fault one_report input (Cut fault) OutOfMemory a some b more = absurd (more 
 
 -- an input whose frames and pieces can be cut has none
 pub cut_without_fault : OneReport → (input : List ℕ) (frames : List (List ℕ)) (pieces : List Piece) (fault : TextFault) → ReadsAs input frames pieces
-    → IsCuttable frames pieces → IsCutFault input fault → fault ≡ OutOfMemory
+    → IsCuttable any_header frames pieces → IsCutFault input fault → fault ≡ OutOfMemory
 cut_without_fault one_report input frames pieces (Trace fault) read can h =
     absurd (lines.read_without_fault cut_format cut_is_determined nothing (lines_of input) _ fault read h)
 cut_without_fault one_report input frames pieces (Cut fault) read can h =

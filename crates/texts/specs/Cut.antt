@@ -16,10 +16,11 @@ use Rattle.texts.specs.declared.fault.TextFault.TheVariants.{Trace, Cut, OutOfMe
 use Rattle.texts.specs.Lines.{lines_of, line_feed}
 use Rattle.texts.specs.Format.{IsRead, IsFirstFaultyLine}
 use Rattle.texts.specs.Cut.Line.{FramesAndPieces, nothing, cut_format}
+use Rattle.texts.specs.AnyHeader.{any_header}
 
 -- the segments of the lawful cut that the pieces name: their numbers begin with the first, and the fields that a cut gives no meaning are 0
 pub record IsCutInto (first : ℕ) (fill : FillByte) (frames : List (List ℕ)) (pieces : List Piece) (segments : List Segment) : Type 0 where
-  pub lawful : IsLawfulCut frames first (fill_byte fill) (chunks_of frames pieces) segments
+  pub lawful : IsLawfulCut any_header frames first (fill_byte fill) (chunks_of frames pieces) segments
   pub named : ArePieceSegments (fill_byte fill) frames pieces segments
 
 -- a segment's line: its header and its payload as lower-case digits, and a line feed
@@ -49,9 +50,9 @@ pub record IsCutText (first : ℕ) (fill : FillByte) (input text : List ℕ) : T
 
 -- the first fault of frames and pieces
 abbrev pub IsPieceFault : List (List ℕ) → List Piece → CutFault → Type 0
-IsPieceFault frames pieces (cut_fault.BadFrame k) = IsFirstBadFrame frames k
-IsPieceFault frames pieces (cut_fault.FillInsideFrame k) = IsFirstFillInsideFrame frames pieces k
-IsPieceFault frames pieces (cut_fault.PointerTooFar k) = IsFirstPointerTooFar frames pieces k
+IsPieceFault frames pieces (cut_fault.BadFrame k) = IsFirstBadFrame any_header frames k
+IsPieceFault frames pieces (cut_fault.FillInsideFrame k) = IsFirstFillInsideFrame any_header frames pieces k
+IsPieceFault frames pieces (cut_fault.PointerTooFar k) = IsFirstPointerTooFar any_header frames pieces k
 IsPieceFault frames pieces cut_fault.OutOfMemory = ⊥
 
 -- no line of an input has a fault, and this is the first fault of its frames and pieces

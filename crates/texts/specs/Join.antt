@@ -8,6 +8,7 @@ use Rattle.texts.specs.declared.fault.TextFault.{TextFault}
 use Rattle.texts.specs.Lines.{lines_of, line_feed}
 use Rattle.texts.specs.Format.{IsRead, IsReadingFault}
 use Rattle.texts.specs.Join.Line.{join_format}
+use Rattle.texts.specs.AnyHeader.{any_header}
 
 -- a frame's line: its bytes as lower-case digits, and a line feed
 abbrev pub frame_line : List ℕ → List ℕ
@@ -16,7 +17,7 @@ frame_line frame = encode_lower frame ++ line_feed ∷ []
 -- these segments, none of them lost, join to frames whose lines are this text, and leave these bytes unfinished
 pub record IsJoinedSoFar (segments : List Segment) (unfinished text : List ℕ) : Type 0 where
   pub frames : List (List ℕ)
-  pub joined : Joins [] (map Some segments) frames unfinished
+  pub joined : Joins any_header [] (map Some segments) frames unfinished
   pub printed : text ≡ flat_map frame_line frames
 
 -- the text that stands for an input: a line for each frame that its segments, none of them lost, join to
@@ -25,7 +26,7 @@ pub record IsJoined (input text : List ℕ) : Type 0 where
   pub frames : List (List ℕ)
   pub unfinished : List ℕ
   pub read : IsRead join_format [] (lines_of input) segments
-  pub joined : Joins [] (map Some segments) frames unfinished
+  pub joined : Joins any_header [] (map Some segments) frames unfinished
   pub printed : text ≡ flat_map frame_line frames
 
 -- why an input was not joined: its first faulty line, or a failed allocation

@@ -1,3 +1,4 @@
+pub mod AnyHeader
 pub mod Kinds
 pub mod Lines
 pub mod Field

@@ -2,6 +2,7 @@
 ghost use Rattle.std.specs.Prelude.{◌≡◌, ◌≢◌, ◌<◌, ◌++◌, min, false, flat_map, IfOk, IfErr, IfSome, OnOk};
 ghost use Rattle.docsis_wire.specs.Limits.{sequence_modulus};
 ghost use Rattle.docsis_wire.specs.Pieces.{IsCuttable};
+ghost use Rattle.texts.specs.AnyHeader.{any_header};
 ghost use Rattle.texts.specs.Lines.{lines_of};
 ghost use Rattle.texts.specs.Format.{IsRead, IsReadingFault};
 ghost use Rattle.texts.specs.Cut.Line.{nothing, cut_format};
@@ -12,7 +13,7 @@ mod line;
 use crate::fault::{LineFault, TextFault};
 use crate::field::append_hex;
 use crate::lines::{TakeLine, take_lines};
-use docsis_wire::{Bytes, Cutter, FillByte, Piece, Segment, write_segment};
+use docsis_wire::{Bytes, Cutter, FillByte, NoCheck, Piece, Segment, write_segment};
 use line::{CutLine, read_cut_line};
 use std::alloc::{AllocError, Global};
 
@@ -95,7 +96,7 @@ fn append_segment(alloc: Global, text: &mut Vec<u8>, segment: &Segment) -> Resul
 /// A line for each segment of a cut, in a text that begins with so much room. Each segment is freed
 /// once its line is there.
 fn segment_lines(alloc: Global, cutter: Cutter<'_>, room: usize) -> Result<Vec<u8>, AllocError>
-    requires cuttable { IsCuttable cutter.frames cutter.pieces }
+    requires cuttable { IsCuttable any_header cutter.frames cutter.pieces }
     requires none_made { cutter.made ≡ 0 }
     ensures { IfOk result
         (λ text. IsPrinted cutter.entry.first cutter.entry.fill
@@ -130,7 +131,7 @@ pub fn cut_lines(
     ensures fault { IfErr result (IsCutFault input.items) }
 {
     let read = read_cut_input(alloc, input)?;
-    let cutter = Cutter::new(&read.frames, &read.pieces, first, fill)?;
+    let cutter = Cutter::new(&read.frames, &read.pieces, first, fill, &NoCheck)?;
     Ok(segment_lines(alloc, cutter, text_length(&read))?)
 }
 

@@ -8,7 +8,7 @@ use crate::fault::{LineFault, TextFault};
 use crate::field::append_hex;
 use crate::lines::{TakeLine, take_lines};
 use ccf::Joiner;
-use docsis_wire::Bytes;
+use docsis_wire::{Bytes, NoCheck};
 use line::read_segment;
 use std::alloc::{AllocError, Global};
 
@@ -45,7 +45,7 @@ impl TakeLine for Joining {
 
     fn take_line(&mut self, alloc: Global, field: &[u8], rest: &[u8]) -> Result<(), LineFault> {
         let segment = read_segment(alloc, field, rest)?;
-        let fed = self.joiner.feed(alloc, &segment)?;
+        let fed = self.joiner.feed(alloc, &segment, &NoCheck)?;
         append_frames(alloc, &mut self.text, &fed.frames)?;
         Ok(())
     }

@@ -3,6 +3,7 @@ use Rattle.std.proofs.Common.{Some}
 use Rattle.docsis_wire.specs.CutUnderWay.{GivesNext}
 use Rattle.texts.proofs.PrintedSoFar.{PrintedSoFar-more}
 use Rattle.texts.proofs.cut.segment_lines.Goals as goal
+use Rattle.texts.specs.AnyHeader.{any_header}
 
 pub loop-text-preserved : goal.loop-text-preserved
 loop-text-preserved c =
@@ -20,6 +21,6 @@ loop-text-preserved c =
 pub returns : goal.returns
 returns c =
     let so_far = c.loop-text.invariant.so_far in
-    let cut = c.segments_made_one_by_one_are_the_cut.ensures.all c.args.cutter c.loop-text.cutter c.next.new.self so_far.segments c.in_ok-segment.field-0 c.requires.cuttable c.loop-text.invariant.same
+    let cut = c.segments_made_one_by_one_are_the_cut.ensures.all any_header c.args.cutter c.loop-text.cutter c.next.new.self so_far.segments c.in_ok-segment.field-0 c.requires.cuttable c.loop-text.invariant.same
     so_far.made c.in_ok-segment.ensures.next c.in_default.not-Some in
     record { segments = so_far.segments; cut = record { lawful = cut.0; named = cut.1 }; printed = so_far.printed }
