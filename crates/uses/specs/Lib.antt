@@ -1,4 +1,5 @@
 pub mod DeliveryFlows
 pub mod DeliveryRun
 pub mod FiveSenders
+pub mod Flow
 pub mod Window

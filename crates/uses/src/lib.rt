@@ -5,4 +5,5 @@
 pub mod delivery_flows;
 pub mod delivery_run;
 pub mod five_senders;
+pub mod flow;
 pub mod window;

@@ -1,0 +1,81 @@
+//! One flow whose segments come out of order: the window puts them in order, and the joiner cuts the
+//! frames out.
+ghost use Rattle.std.specs.Prelude.{◌<◌, ◌≤◌, Some, [], List, ℕ, All, IfOk, map};
+ghost use Rattle.ccf.specs.Join.{Joins};
+ghost use Rattle.uses.specs.Flow.{ComesOutAs};
+
+mod ready;
+
+use crate::window::in_order;
+use ccf::{Joiner, laws};
+use docsis_wire::{Bytes, HeaderCheck};
+pub use ready::ReadySegment;
+use std::alloc::{AllocError, Global};
+
+/// Joins segments, in their order and none of them lost.
+fn join_ready<C: HeaderCheck>(
+    alloc: Global,
+    segments: &[ReadySegment],
+    check: &C,
+) -> Result<Vec<Bytes>, AllocError>
+    ensures { IfOk result (λ joined. (after : List ℕ) × Joins (C.accepts check.now) []
+        (map (λ ready. Some ready.segment) segments.now) joined.items after) }
+{
+    laws::settled_lists_join_one_after_the_other();
+    let mut joiner = Joiner::new(alloc);
+    let mut joined = Vec::new(alloc);
+    for ready in segments {
+        let fed = joiner.feed(alloc, &ready.segment, check)?;
+        let mut frames = fed.frames;
+        joined.append(&mut frames)?;
+    }
+    Ok(joined)
+}
+
+/// The frames of segments that came in any order, each under its number. The numbers are 0 to 8191,
+/// as is `first`, which is the first segment's; `width` is 1 to 4096. It stops at the first number
+/// that is missing.
+pub fn frames_in_order<C: HeaderCheck>(
+    alloc: Global,
+    first: u16,
+    width: u16,
+    offers: Vec<(u16, ReadySegment)>,
+    check: &C,
+) -> Result<Vec<Bytes>, AllocError>
+    requires first_in_range { first < 8192 }
+    requires width_positive { 1 ≤ width }
+    requires width_in_range { width ≤ 4096 }
+    requires numbers_in_range { All (λ offer. offer.0 < 8192) offers.items }
+    ensures { IfOk result
+        (λ frames. ComesOutAs (C.accepts check.now) first width offers.items frames.items) }
+{
+    let segments = in_order(alloc, first, width, offers)?;
+    join_ready(alloc, &segments, check)
+}
+
+#[cfg(test)]
+mod tests {
+    use super::*;
+    use docsis_wire::{NoCheck, Segment};
+    use std::test::Fail;
+
+    fn offer(alloc: Global, bytes: &[u8]) -> Result<(u16, ReadySegment), Fail> {
+        let segment = Segment::read(alloc, bytes)?;
+        Ok((segment.head.sequence, ReadySegment { segment }))
+    }
+
+    #[test]
+    fn joins_segments_that_come_backwards(rt: HostRuntime) -> Result<(), Fail> {
+        let alloc = rt.alloc();
+        let last = offer(alloc, &[0, 0, 0, 8, 0, 0, 0, 0, 0x11, 0xaa, 0xbb])?;
+        let front = offer(alloc, &[0x80, 0, 0, 0, 0, 0, 0, 0, 0, 0, 0, 2, 0x11])?;
+        let mut offers = Vec::new(alloc);
+        offers.push(last)?;
+        offers.push(front)?;
+        let frames = frames_in_order(alloc, 0, 16, offers, &NoCheck)?;
+        assert_eq!(rt; frames.len(), 1);
+        let frame: &[u8] = &[0, 0, 0, 2, 0x11, 0x11, 0xaa, 0xbb];
+        assert!(rt; frames.iter().all(|one| one.as_slice() == frame));
+        Ok(())
+    }
+}
