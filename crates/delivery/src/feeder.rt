@@ -17,7 +17,7 @@ pub struct Feeder {
     ghost unended: { has_end (sent producer) ≡ false },
 }
 
-/// A feeder whose end mark is in the ring, after all its frames. It offers nothing more.
+/// A feeder whose end mark was put into the ring, after all its frames. It offers nothing more.
 #[derive(Drop)]
 pub struct ClosedFeeder {
     pub(crate) producer: Producer<Parcel>,

@@ -19,7 +19,7 @@ pub struct Taker {
 pub enum Took {
     /// The next frame.
     Frame(Vec<u8>),
-    /// Nothing is in the ring.
+    /// Nothing was in the ring at one moment of the call.
     NothingYet,
     /// All frames were taken, and the feeder is closed.
     Closed,

@@ -1,10 +1,10 @@
 //! The check of a frame's header that a caller hands in.
 ghost use Rattle.std.specs.Prelude.{◌≡◌, ℕ, List, Bool, true};
 
-/// A check of the header of a frame: of its bytes from FC to the end of the header check sequence,
-/// 6 to 246 of them.
+/// A check of the header of a frame: of its bytes from FC to the end of the header check sequence.
+/// This crate and the joiner ask it of such bytes alone, 6 to 246 of them.
 ///
-/// Its answer is a function of these bytes alone, and it takes no memory.
+/// The answer of one check is a function of the bytes. It is meant to take no memory.
 pub trait HeaderCheck {
     ghost accepts: { Self → List ℕ → Bool };
 

@@ -4,6 +4,7 @@
 //! Each function states a law in its contract and does nothing.
 ghost use Rattle.std.specs.Prelude.{◌≡◌, ◌≢◌, ◌≤◌, ◌↔◌, ℕ, Bool, true, Option, Some, IsSome, IfSome, List, [], ◌∷◌, ◌++◌, length, take};
 ghost use Rattle.docsis_wire.specs.declared.header.SegmentHeader.{SegmentHeader};
+ghost use Rattle.docsis_wire.specs.declared.header_check.NoCheck.{NoCheck};
 ghost use Rattle.docsis_wire.specs.declared.pieces.Piece.{Piece};
 ghost use Rattle.docsis_wire.specs.declared.pieces.CutFault.{CutFault};
 ghost use Rattle.docsis_wire.specs.declared.segment.Segment.{Segment};
@@ -13,6 +14,8 @@ ghost use Rattle.docsis_wire.specs.Frame.{IsGenericFrame, IsFrame};
 ghost use Rattle.docsis_wire.specs.Cut.{IsLawfulCut};
 ghost use Rattle.docsis_wire.specs.CutUnderWay.{CutUnderWay, IsSameCut, HasMade, GivesNext};
 ghost use Rattle.docsis_wire.specs.Pieces.{fill_byte, chunks_of, ArePieceSegments, IsCuttable, Reports};
+
+use crate::header_check::{HeaderCheck, NoCheck};
 
 /// The same eight bytes are the bytes of one header only.
 pub fn eight_bytes_spell_one_header()
@@ -38,9 +41,10 @@ pub fn read_header_is_written_back()
         → (head : SegmentHeader) × (answer ≡ Some head) × (header_bytes head ≡ bytes) }
 {}
 
-/// With the check that every header passes, a frame is any frame of the generic format.
+/// With `NoCheck` a frame is any frame of the generic format.
 pub fn frame_without_check_is_a_generic_frame()
-    ensures { (frame : List ℕ) → IsFrame (λ _. true) frame ↔ IsGenericFrame frame }
+    ensures { (check : NoCheck) (frame : List ℕ)
+        → IsFrame (⟦<NoCheck as HeaderCheck>⟧.accepts check) frame ↔ IsGenericFrame frame }
 {}
 
 /// The pieces make one cut of the frames: neither a header nor a payload is left open.
@@ -54,7 +58,7 @@ pub fn pieces_make_one_cut()
         → segments ≡ others }
 {}
 
-/// Frames and pieces have at most one first fault, and none where they can be cut.
+/// Frames and pieces have at most one first fault, and none but out of memory where they can be cut.
 pub fn cut_has_one_fault()
     ensures { (check : List ℕ → Bool) (frames : List (List ℕ)) (pieces : List Piece)
         (fault other : CutFault)

@@ -44,7 +44,7 @@ pub enum CutFault {
     /// piece.
     #[error("piece {0} has fill inside a frame")]
     FillInsideFrame(usize),
-    /// The first frame that starts in this piece has more than 16,383 of its bytes before it.
+    /// More than 16,383 bytes of this piece precede the first frame that starts in it.
     #[error("piece {0} has a pointer past 16383")]
     PointerTooFar(usize),
     /// An allocation failed. It is reported only of frames and pieces without a fault.

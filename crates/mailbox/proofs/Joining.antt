@@ -1,10 +1,10 @@
 -- What the mouth knows once five ports have joined it.
-use Rattle.std.specs.Prelude.{◌≡◌, ℕ, ◌<◌, true, List, slice_index, [], ◌∷◌, ◌++◌, refl}
+use Rattle.std.specs.Prelude.{◌≡◌, ℕ, suc, zero, ◌<◌, ◌≤◌, true, List, slice_index, [], ◌∷◌, ◌++◌, refl}
 use Rattle.std.proofs.Common.{ap, sym, ◌∙◌, subst, arith}
 use Rattle.std.proofs.lemmas.Bool.{cases_eq}
 use Rattle.std.proofs.lemmas.Bool.Decides.{nat_tests}
-use Rattle.mailbox.proofs.Lists.{items_of-append}
-use Rattle.mailbox.specs.Entries.{items_of, has_end, ends_once}
+use Rattle.mailbox.proofs.Lists.{items_of-append, ends_of-append}
+use Rattle.mailbox.specs.Entries.{items_of, has_end, ends_of, ends_once}
 use Rattle.mailbox.specs.Delivers.{sent_by, log, port, mouth, joined, Has, Accounts}
 use Rattle.mailbox.specs.Counting.{Counts}
 use Rattle.mailbox.specs.Settling.{Leaves}
@@ -46,6 +46,30 @@ module _ {T : Type 0} where
         count = counts.counts k five;
         none = λ ended. ap items_of (none_after (sent_by k got) (sent_by k counts.rest) (ap ends_once (sym e) ∙ once) ended);
       }
+
+  -- an end mark that stands once is one
+  one_end : (es : List (Entry T)) → ends_once es ≡ true → ends_of es ≡ 1
+  one_end [] once = cc
+  one_end (Item x ∷ es) once = one_end es once
+  one_end (End ∷ []) once = refl
+  one_end (End ∷ (e ∷ es)) once = cc
+
+  -- of a closed port's sender at most one end mark was taken
+  pub ends_at_most_once : (v : View T) (logs : List (PortLog T)) (n : ℕ) (got : List (Stamped T)) (left : List ℕ) → v ≡ mouth logs n got → Counts v left
+      → (k : ℕ) (es : List (Entry T)) → Has (log k es) logs → ends_once es ≡ true → ends_of (sent_by k got) ≤ 1
+  ends_at_most_once v logs n got left is counts k es has once =
+      let P : View T → Type 0 = λ u. Accounts u counts.rest in
+      let e = ap ends_of (subst P is counts.told (log k es) has ∙ sent_by-append k got counts.rest) in
+      omega (arith, e, ends_of-append (sent_by k got) (sent_by k counts.rest), one_end es once)
+
+-- what holds of the five senders
+pub of_each : (P : ℕ → Type 0) → P 0 → P 1 → P 2 → P 3 → P 4 → (k : ℕ) → k < 5 → P k
+of_each P p0 p1 p2 p3 p4 zero below = p0
+of_each P p0 p1 p2 p3 p4 (suc zero) below = p1
+of_each P p0 p1 p2 p3 p4 (suc (suc zero)) below = p2
+of_each P p0 p1 p2 p3 p4 (suc (suc (suc zero))) below = p3
+of_each P p0 p1 p2 p3 p4 (suc (suc (suc (suc zero)))) below = p4
+of_each P p0 p1 p2 p3 p4 (suc (suc (suc (suc (suc k))))) below = absurd (omega arith)
 
 -- five equations
 pub each_of : {A : Type 0} {a0 a1 a2 a3 a4 b0 b1 b2 b3 b4 : A} → a0 ∷ a1 ∷ a2 ∷ a3 ∷ a4 ∷ [] ≡ b0 ∷ b1 ∷ b2 ∷ b3 ∷ b4 ∷ []

@@ -1,7 +1,7 @@
 -- One entry more.
-use Rattle.std.specs.Prelude.{◌≡◌, true, false, List, [], ◌∷◌, ◌++◌, refl}
-use Rattle.std.proofs.Common.{ap}
-use Rattle.mailbox.specs.Entries.{items_of, has_end, ends_once}
+use Rattle.std.specs.Prelude.{◌≡◌, ◌+◌, true, false, List, [], ◌∷◌, ◌++◌, refl}
+use Rattle.std.proofs.Common.{ap, arith}
+use Rattle.mailbox.specs.Entries.{items_of, has_end, ends_of, ends_once}
 use Rattle.mailbox.specs.declared.entry.Entry.{Entry}
 use Rattle.mailbox.specs.declared.entry.Entry.TheVariants.{Item, End}
 
@@ -32,5 +32,16 @@ pub items_of-end : {T : Type 0} (xs : List (Entry T)) → items_of (xs ++ End �
 items_of-end [] = refl
 items_of-end (Item y ∷ es) = ap (λ l. y ∷ l) (items_of-end es)
 items_of-end (End ∷ es) = items_of-end es
+
+pub ends_of-append : {T : Type 0} (xs ys : List (Entry T)) → ends_of (xs ++ ys) ≡ ends_of xs + ends_of ys
+ends_of-append [] ys = omega arith
+ends_of-append (Item y ∷ es) ys = ends_of-append es ys
+ends_of-append (End ∷ es) ys = let more = ends_of-append es ys in omega (arith, more)
+
+pub ends_of-item : {T : Type 0} (xs : List (Entry T)) (x : T) → ends_of (xs ++ Item x ∷ []) ≡ ends_of xs
+ends_of-item xs x = omega (arith, ends_of-append xs (Item x ∷ []))
+
+pub ends_of-end : {T : Type 0} (xs : List (Entry T)) → ends_of (xs ++ End ∷ []) ≡ ends_of xs + 1
+ends_of-end xs = ends_of-append xs (End ∷ [])
 
 pub ruleset pushes = (has_end-item, has_end-end, ends_once-end, items_of-item, items_of-end)

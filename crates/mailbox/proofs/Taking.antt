@@ -1,11 +1,11 @@
 -- What a pop leaves of the mouth.
-use Rattle.std.specs.Prelude.{◌≡◌, ◌≢◌, ℕ, ◌==◌, true, List, [], ◌∷◌, ◌++◌, if◌then◌else◌, refl}
+use Rattle.std.specs.Prelude.{◌≡◌, ◌≢◌, ℕ, ◌+◌, ◌==◌, true, List, [], ◌∷◌, ◌++◌, if◌then◌else◌, refl}
 use Rattle.std.proofs.Common.{ap, sym, ◌∙◌, subst, arith}
 use Rattle.std.proofs.lemmas.Bool.{cases_eq}
 use Rattle.std.proofs.lemmas.Bool.Decides.{nat_tests}
-use Rattle.mailbox.proofs.Lists.{has_end-item, has_end-end, items_of-item, items_of-end}
+use Rattle.mailbox.proofs.Lists.{has_end-item, has_end-end, items_of-item, items_of-end, ends_of-item, ends_of-end}
 use Rattle.mailbox.proofs.Steps.{sent_by-other, sent_by-same}
-use Rattle.mailbox.specs.Entries.{has_end, items_of}
+use Rattle.mailbox.specs.Entries.{has_end, ends_of, items_of}
 use Rattle.mailbox.specs.Delivers.{sent_by, mouth, got_by, Taken}
 use Rattle.mailbox.specs.declared.entry.Entry.{Entry}
 use Rattle.mailbox.specs.declared.entry.Entry.TheVariants.{Item, End}
@@ -31,15 +31,18 @@ module _ {T : Type 0} where
     grown f k = ap (λ v. f (sent_by k v.got)) told ∙ one_behind f k old.got x
 
     pub took_item : (i : T) → x.entry ≡ Item i
-        → ((k : ℕ) → items_of (sent_by k new.got) ≡ (if k == x.from then items_of (sent_by k old.got) ++ i ∷ [] else items_of (sent_by k old.got))) × ((k : ℕ) → has_end (sent_by k new.got) ≡ has_end (sent_by k old.got))
+        → ((k : ℕ) → items_of (sent_by k new.got) ≡ (if k == x.from then items_of (sent_by k old.got) ++ i ∷ [] else items_of (sent_by k old.got))) × ((k : ℕ) → has_end (sent_by k new.got) ≡ has_end (sent_by k old.got)) × ((k : ℕ) → ends_of (sent_by k new.got) ≡ ends_of (sent_by k old.got))
     took_item i is = (
       (λ k. let g = grown items_of k in let s : items_of (sent_by k old.got ++ x.entry ∷ []) ≡ items_of (sent_by k old.got) ++ i ∷ [] = rw is (items_of-item (sent_by k old.got) i) in rw (← s) g),
       (λ k. let g = grown has_end k in let s : has_end (sent_by k old.got ++ x.entry ∷ []) ≡ has_end (sent_by k old.got) = rw is (has_end-item (sent_by k old.got) i) in grind (arith, nat_tests, cases_eq k x.from)),
+      (λ k. let g = grown ends_of k in let s : ends_of (sent_by k old.got ++ x.entry ∷ []) ≡ ends_of (sent_by k old.got) = rw is (ends_of-item (sent_by k old.got) i) in grind (arith, nat_tests, cases_eq k x.from)),
     )
 
     pub took_end : x.entry ≡ End
         → ((k : ℕ) → items_of (sent_by k new.got) ≡ items_of (sent_by k old.got)) × ((k : ℕ) → has_end (sent_by k new.got) ≡ (if k == x.from then true else has_end (sent_by k old.got)))
+        × ((k : ℕ) → ends_of (sent_by k new.got) ≡ (if k == x.from then ends_of (sent_by k old.got) + 1 else ends_of (sent_by k old.got)))
     took_end is = (
       (λ k. let g = grown items_of k in let s : items_of (sent_by k old.got ++ x.entry ∷ []) ≡ items_of (sent_by k old.got) = rw is (items_of-end (sent_by k old.got)) in grind (arith, nat_tests, cases_eq k x.from)),
       (λ k. let g = grown has_end k in let s : has_end (sent_by k old.got ++ x.entry ∷ []) ≡ true = rw is (has_end-end (sent_by k old.got)) in rw (← s) g),
+      (λ k. let g = grown ends_of k in let s : ends_of (sent_by k old.got ++ x.entry ∷ []) ≡ ends_of (sent_by k old.got) + 1 = rw is (ends_of-end (sent_by k old.got)) in rw (← s) g),
     )

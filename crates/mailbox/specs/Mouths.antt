@@ -1,7 +1,7 @@
 -- What a clause sees of a mouth.
-use Rattle.std.specs.Prelude.{◌≡◌, ℕ, ◌<◌, ◌==◌, Bool, true, List, [], ◌∷◌, ◌++◌, if◌then◌else◌}
+use Rattle.std.specs.Prelude.{◌≡◌, ℕ, ◌+◌, ◌<◌, ◌==◌, Bool, true, List, [], ◌∷◌, ◌++◌, if◌then◌else◌}
 use Rattle.crossbeam_queue.specs.Passes.{view}
-use Rattle.mailbox.specs.Entries.{items_of, has_end}
+use Rattle.mailbox.specs.Entries.{items_of, has_end, ends_of}
 use Rattle.mailbox.specs.Delivers.{sent_by}
 use Rattle.mailbox.specs.Ports.{Address}
 use Rattle.mailbox.specs.declared.mouth.Mouth.{Mouth}
@@ -24,22 +24,29 @@ module _ {T : Type 0} where
   abbrev pub ended : Mouth T → ℕ → Bool
   ended m k = has_end (sent_by k (view m.pass).got)
 
+  -- how many end marks of sender k were taken
+  abbrev pub ends_taken : Mouth T → ℕ → ℕ
+  ends_taken m k = ends_of (sent_by k (view m.pass).got)
+
   -- one item more of this sender was taken, and nothing else
   pub record TakesItem (from : ℕ) (item : T) (old new : Mouth T) : Type 0 where
     pub five : from < 5
     pub taken_is : (k : ℕ) → taken new k ≡ (if k == from then taken old k ++ item ∷ [] else taken old k)
     pub ended_is : (k : ℕ) → ended new k ≡ ended old k
+    pub ends_are : (k : ℕ) → ends_taken new k ≡ ends_taken old k
 
   -- the end mark of this sender was taken, and nothing else
   pub record TakesEnd (from : ℕ) (old new : Mouth T) : Type 0 where
     pub five : from < 5
     pub taken_is : (k : ℕ) → taken new k ≡ taken old k
     pub ended_is : (k : ℕ) → ended new k ≡ (if k == from then true else ended old k)
+    pub ends_are : (k : ℕ) → ends_taken new k ≡ (if k == from then ends_taken old k + 1 else ends_taken old k)
 
   -- nothing was taken
   pub record TakesNothing (old new : Mouth T) : Type 0 where
     pub taken_is : (k : ℕ) → taken new k ≡ taken old k
     pub ended_is : (k : ℕ) → ended new k ≡ ended old k
+    pub ends_are : (k : ℕ) → ends_taken new k ≡ ends_taken old k
 
   -- what one take answers and changes
   abbrev pub TakesOne : Taken T → Mouth T → Mouth T → Type 0

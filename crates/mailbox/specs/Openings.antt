@@ -1,7 +1,7 @@
 -- What a clause sees of the five ports of one mailbox.
 use Rattle.std.specs.Prelude.{◌≡◌, ℕ, false, List, [], ◌∷◌}
 use Rattle.mailbox.specs.Ports.{Address, address, posted}
-use Rattle.mailbox.specs.Mouths.{taken, ended}
+use Rattle.mailbox.specs.Mouths.{taken, ended, ends_taken}
 use Rattle.mailbox.specs.declared.mouth.Mouth.{Mouth}
 use Rattle.mailbox.specs.declared.opening.Ports.{Ports}
 
@@ -22,3 +22,4 @@ module _ {T : Type 0} where
   pub record NoneTaken (mouth : Mouth T) : Type 0 where
     pub taken_is : (k : ℕ) → taken mouth k ≡ []
     pub ended_is : (k : ℕ) → ended mouth k ≡ false
+    pub ends_are : (k : ℕ) → ends_taken mouth k ≡ 0

@@ -30,8 +30,10 @@ pub struct Ports<T> {
 /// Why no mailbox was made.
 #[derive(Debug, PartialEq, Eq, Drop, Error)]
 pub enum OpenFault {
+    /// The capacity is 0.
     #[error("a mailbox needs room for an entry")]
     NoCapacity,
+    /// There is no memory for the mailbox.
     #[error("out of memory")]
     OutOfMemory,
 }
@@ -47,7 +49,8 @@ impl From<AllocError> for OpenFault {
     }
 }
 
-/// Opens a mailbox with room for `capacity` entries, 1 to 65,535, of all senders together. An end
+/// Opens a mailbox with room for `capacity` entries, 1 to 65,535, of all senders together; 0 is
+/// `NoCapacity`. An end
 /// mark is an entry too. No other call takes memory.
 pub fn open<T: Drop>(alloc: Global, capacity: u16) -> Result<(Ports<T>, Mouth<T>), OpenFault>
     ensures no_capacity { (result ≡ Err OpenFault.NoCapacity) ↔ (capacity ≡ 0) }

@@ -1,9 +1,9 @@
 //! What is left once the threads have returned.
-ghost use Rattle.std.specs.Prelude.{◌≡◌, true, slice_index};
+ghost use Rattle.std.specs.Prelude.{◌≡◌, ◌<◌, ◌≤◌, ℕ, true, slice_index};
 ghost use Rattle.crossbeam_queue.specs.Passes.{view, IsPassOf, IsSamePass};
 ghost use Rattle.mailbox.specs.Delivers.{joined};
 ghost use Rattle.mailbox.specs.Ports.{closed_posted};
-ghost use Rattle.mailbox.specs.Mouths.{taken, ended, places};
+ghost use Rattle.mailbox.specs.Mouths.{taken, ended, ends_taken, places};
 ghost use Rattle.mailbox.specs.Settling.{closed_addresses, Leaves};
 
 use crate::counting::count_left;
@@ -48,16 +48,22 @@ fn join<T: Drop>(queue: &Queue<T>, pass: &mut Pass<Stamped<T>, View<T>>, closed:
     queue.absorb::<Joins>(pass, theirs);
 }
 
-/// Counts of each sender the items that were posted and not taken. Called once the threads have
-/// returned; the condition is that all six came from one [`open`](crate::open), each port in its
-/// own place.
+/// Counts of each sender the items that were posted and not taken, and drops them. Called once the
+/// threads have returned; the condition is that all six came from one [`open`](crate::open), each
+/// port in its own place.
 pub fn settle<T: Drop, R: Wait>(rt: &R, ports: ClosedPorts<T>, mouth: Mouth<T>) -> Settled
     requires { closed_addresses ports ≡ places mouth }
-    ensures p0 { Leaves (closed_posted ports.p0) (taken mouth 0) (ended mouth 0) (slice_index result.left 0) }
-    ensures p1 { Leaves (closed_posted ports.p1) (taken mouth 1) (ended mouth 1) (slice_index result.left 1) }
-    ensures p2 { Leaves (closed_posted ports.p2) (taken mouth 2) (ended mouth 2) (slice_index result.left 2) }
-    ensures p3 { Leaves (closed_posted ports.p3) (taken mouth 3) (ended mouth 3) (slice_index result.left 3) }
-    ensures p4 { Leaves (closed_posted ports.p4) (taken mouth 4) (ended mouth 4) (slice_index result.left 4) }
+    ensures p0 { Leaves (closed_posted ports.p0) (taken mouth 0) (ended mouth 0)
+        (slice_index result.left 0) }
+    ensures p1 { Leaves (closed_posted ports.p1) (taken mouth 1) (ended mouth 1)
+        (slice_index result.left 1) }
+    ensures p2 { Leaves (closed_posted ports.p2) (taken mouth 2) (ended mouth 2)
+        (slice_index result.left 2) }
+    ensures p3 { Leaves (closed_posted ports.p3) (taken mouth 3) (ended mouth 3)
+        (slice_index result.left 3) }
+    ensures p4 { Leaves (closed_posted ports.p4) (taken mouth 4) (ended mouth 4)
+        (slice_index result.left 4) }
+    ensures once { (k : ℕ) → k < 5 → ends_taken mouth k ≤ 1 }
 {
     let Mouth {
         queue,

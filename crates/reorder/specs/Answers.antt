@@ -47,7 +47,7 @@ module _ {T : Type 0} where
   after_declare w (Lost _) = moved_on w
   after_declare w _ = w
 
-  -- a number with a greater offset is to be reached, and something is held
+  -- the number lies ahead of the expected one, and something is held
   abbrev pub has_gap_to : WindowView T → ℕ → Bool
   has_gap_to w number =
       nat_lt 0 (offset_in w number) && nat_lt (offset_in w number) 4096 && nat_lt 0 (map.len w.held)

@@ -17,11 +17,11 @@ pub use window::Window;
 
 /// How many sequence numbers there are. They run from 0 to 8191 and then begin again
 /// (CM-SP-MULPIv3.0, the sequence number of the segment header).
-pub const SEQUENCE_NUMBERS: u16 = 8192;
+pub(crate) const SEQUENCE_NUMBERS: u16 = 8192;
 
 /// How many numbers lie ahead of an expected number, itself included: half of them all. The others
 /// lie behind it. No window is wider (this project's profile).
-pub const NUMBERS_AHEAD: u16 = 4096;
+pub(crate) const NUMBERS_AHEAD: u16 = 4096;
 
 #[cfg(test)]
 mod refusals;

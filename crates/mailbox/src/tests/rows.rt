@@ -34,6 +34,7 @@ fn room_for_one(rt: HostRuntime) -> Result<(), Fail> {
     assert!(rt; !mouth.all_ended());
     let p4 = close_and_take(&rt, &mut mouth, p4, 4);
     assert!(rt; mouth.all_ended());
+    assert_eq!(rt; mouth.next(&rt), Taken::Empty);
     let settled = settle(&rt, ClosedPorts { p0, p1, p2, p3, p4 }, mouth);
     assert_eq!(rt; settled, Settled { left: [0; 5] });
     Ok(())

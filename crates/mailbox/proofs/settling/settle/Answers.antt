@@ -1,7 +1,8 @@
-use Rattle.std.proofs.Common.{ap, inl, inr, arith, refl}
+use Rattle.std.proofs.Common.{ℕ, ◌≤◌, ap, inl, inr, arith, refl}
 use Rattle.crossbeam_queue.specs.Passes.{view}
 use Rattle.mailbox.specs.Delivers.{own}
-use Rattle.mailbox.proofs.Joining.{step, leaves, each_of}
+use Rattle.mailbox.specs.Mouths.{ends_taken}
+use Rattle.mailbox.proofs.Joining.{step, leaves, ends_at_most_once, of_each, each_of}
 use Rattle.mailbox.proofs.settling.settle.Goals as goal
 
 pub returns : goal.returns
@@ -20,4 +21,10 @@ returns g c =
       p2 = leaves _ _ _ _ _ five counts 2 (own (view p.p2.pass)) (omega arith) (inr (inr (inl refl))) p.p2.closed;
       p3 = leaves _ _ _ _ _ five counts 3 (own (view p.p3.pass)) (omega arith) (inr (inr (inr (inl refl)))) p.p3.closed;
       p4 = leaves _ _ _ _ _ five counts 4 (own (view p.p4.pass)) (omega arith) (inr (inr (inr (inr (inl refl))))) p.p4.closed;
+      once = of_each (λ k. ends_taken c.args.mouth k ≤ 1)
+          (ends_at_most_once _ _ _ _ _ five counts 0 (own (view p.p0.pass)) (inl refl) p.p0.closed)
+          (ends_at_most_once _ _ _ _ _ five counts 1 (own (view p.p1.pass)) (inr (inl refl)) p.p1.closed)
+          (ends_at_most_once _ _ _ _ _ five counts 2 (own (view p.p2.pass)) (inr (inr (inl refl))) p.p2.closed)
+          (ends_at_most_once _ _ _ _ _ five counts 3 (own (view p.p3.pass)) (inr (inr (inr (inl refl)))) p.p3.closed)
+          (ends_at_most_once _ _ _ _ _ five counts 4 (own (view p.p4.pass)) (inr (inr (inr (inr (inl refl))))) p.p4.closed);
     }

@@ -13,12 +13,12 @@ pop_as-requires-clause-rule g c =
 pub returns-in-Item-clause-takes : goal.returns-in-Item-clause-takes
 returns-in-Item-clause-takes g c =
     let t = took_item (view c.args.self.now.pass) (view c.pop_as.new.pass) c.in-Some.stamped c.in-Some.ensures.rule c.in-Item.item c.in-Item.is in
-    record { five = c.in-Some.stamped.below; taken_is = t.0; ended_is = t.1 }
+    record { five = c.in-Some.stamped.below; taken_is = t.0; ended_is = t.1; ends_are = t.2 }
 
 pub returns-in-End-clause-takes : goal.returns-in-End-clause-takes
 returns-in-End-clause-takes g c =
     let t = took_end (view c.args.self.now.pass) (view c.pop_as.new.pass) c.in-Some.stamped c.in-Some.ensures.rule c.in-End.is in
-    record { five = c.in-Some.stamped.below; taken_is = t.0; ended_is = t.1 }
+    record { five = c.in-Some.stamped.below; taken_is = t.0; ended_is = t.1; ends_are = t.2 }
 
 pub invariant_of-self-in-Item-1 : goal.invariant_of-self-in-Item-1
 invariant_of-self-in-Item-1 g c =
