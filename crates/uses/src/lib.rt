@@ -2,8 +2,11 @@
 //! from the public contracts of those crates alone.
 #![tactic(auto)]
 
+pub mod burst;
+pub mod cut_joined_again;
 pub mod delivery_flows;
 pub mod delivery_run;
 pub mod five_senders;
 pub mod flow;
+pub mod header_check;
 pub mod window;
