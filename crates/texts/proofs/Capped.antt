@@ -1,6 +1,5 @@
 -- Sums and products that stay at a greatest number.
-use Rattle.std.proofs.Common.{◌≡◌, ℕ, ◌+◌, ◌*◌, ◌<◌, List, length, take, min, arith, refl, ◌∙◌, ap, sym}
-use Rattle.std.specs.Prelude.{sum_by}
+use Rattle.std.proofs.Common.{◌≡◌, ℕ, ◌+◌, ◌*◌, min, arith}
 
 -- what is above the greatest number before a sum is above it after the sum
 pub capped-add : (most a b : ℕ) → min (min a most + b) most ≡ min (a + b) most

@@ -1,15 +1,15 @@
 -- How long the lines of a cut's segments are.
-use Rattle.std.proofs.Common.{◌≡◌, ℕ, zero, suc, ◌+◌, ◌*◌, ◌/◌, ◌%◌, ◌-◌, List, [], ◌∷◌, ◌++◌, length, take, drop, min, Some, refl, sym, ap, ◌∙◌, arith, length-append, length-take, length-drop}
+use Rattle.std.proofs.Common.{◌≡◌, ℕ, suc, ◌+◌, ◌*◌, ◌-◌, List, [], ◌∷◌, ◌++◌, length, take, drop, min, Some, refl, sym, ap, ◌∙◌, arith, length-append, length-take, length-drop}
 use Rattle.std.proofs.lemmas.List.{length-replicate}
 use Rattle.std.proofs.lemmas.List.Sums.{sum_by-cons}
-use Rattle.std.specs.Prelude.{flat_map, sum_by, replicate, slice_get, slice_index}
+use Rattle.std.specs.Prelude.{flat_map, sum_by, replicate, slice_get}
 use Rattle.std.specs.List.{concat}
 use Rattle.hex.specs.Hex.{encode_with, encode_lower, lower_digits}
 use Rattle.docsis_wire.specs.declared.segment.Segment.{Segment}
 use Rattle.docsis_wire.specs.declared.pieces.Piece.{Piece}
 use Rattle.docsis_wire.specs.declared.pieces.FillByte.{FillByte}
 use Rattle.docsis_wire.specs.SegmentBytes.{segment_bytes}
-use Rattle.docsis_wire.specs.Pieces.{fill_byte, chunks_from, IsPieceSegment}
+use Rattle.docsis_wire.specs.Pieces.{fill_byte, chunks_from}
 use Rattle.texts.specs.Cut.{IsCutInto, segment_line, cut_text_length}
 
 -- a byte has two digits

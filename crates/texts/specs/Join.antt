@@ -5,8 +5,9 @@ use Rattle.docsis_wire.specs.declared.segment.Segment.{Segment}
 use Rattle.ccf.specs.Join.{Joins}
 use Rattle.hex.specs.Hex.{encode_lower}
 use Rattle.texts.specs.declared.fault.TextFault.{TextFault}
+use Rattle.texts.specs.declared.fault.TextFault.TheVariants.{Trace, Cut, OutOfMemory}
 use Rattle.texts.specs.Lines.{lines_of, line_feed}
-use Rattle.texts.specs.Format.{IsRead, IsReadingFault}
+use Rattle.texts.specs.Format.{IsRead, IsFirstFaultyLine}
 use Rattle.texts.specs.Join.Line.{join_format}
 use Rattle.texts.specs.AnyHeader.{any_header}
 
@@ -31,4 +32,6 @@ pub record IsJoined (input text : List ℕ) : Type 0 where
 
 -- why an input was not joined: its first faulty line, or a failed allocation
 abbrev pub IsJoinFault : List ℕ → TextFault → Type 0
-IsJoinFault input fault = IsReadingFault join_format [] (lines_of input) fault
+IsJoinFault input (Trace fault) = IsFirstFaultyLine join_format [] (lines_of input) fault
+IsJoinFault input (Cut fault) = ⊥
+IsJoinFault input OutOfMemory = Unit {0}

@@ -51,8 +51,9 @@ impl TakeLine for Joining {
     }
 }
 
-/// The text that stands for an input of `join`: the frames that its segments join to, one a line, as
-/// lower-case digits. The segments are taken in order, none of them lost, whatever their numbers.
+/// The text that stands for an input of `join`: the frames that its segments join to, one a line,
+/// as lower-case digits. The segments are taken in order, none of them lost, whatever their
+/// numbers.
 ///
 /// Otherwise it reports the first faulty line, or that an allocation failed. That an input has one
 /// text or one fault is stated by [`join_has_one_text`](crate::laws::join_has_one_text),

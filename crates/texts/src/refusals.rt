@@ -1,7 +1,9 @@
-// An allocation that fails, at one place of each call. Each test takes running out of memory as lawful
-// there, says so by the word `refused`, and calls again; where no allocation fails it says nothing.
+//! An allocation that fails, at one place of each call. Each test takes running out of memory as
+//! lawful there, says so by the word `refused`, and calls again; where no allocation fails it says
+//! nothing.
 use crate::{TextFault, cut_lines, join_lines};
 use docsis_wire::FillByte;
+use std::alloc::Global;
 use std::test::Fail;
 
 /// Three segments that split the headers of two frames, and the frames.
@@ -25,14 +27,18 @@ fn join_lines_is_refused(rt: HostRuntime) -> Result<(), Fail> {
     Ok(())
 }
 
+/// Cuts the frames of a copy of the input, which the call takes.
+fn cut(alloc: Global) -> Result<Vec<u8>, TextFault> {
+    let input = Vec::from_slice(alloc, FRAMES_AND_PIECES)?;
+    cut_lines(alloc, input, 0, FillByte::Zero)
+}
+
 #[test]
 fn cut_lines_is_refused(rt: HostRuntime) -> Result<(), Fail> {
-    let again = Vec::from_slice(rt.alloc(), FRAMES_AND_PIECES)?;
-    let input = Vec::from_slice(rt.alloc(), FRAMES_AND_PIECES)?;
-    let mut text = cut_lines(rt.alloc(), input, 0, FillByte::Zero);
+    let mut text = cut(rt.alloc());
     if let Err(TextFault::OutOfMemory) = text {
         println!(rt; "refused")?;
-        text = cut_lines(rt.alloc(), again, 0, FillByte::Zero);
+        text = cut(rt.alloc());
     }
     assert_eq!(rt; text?.as_slice(), SEGMENTS.as_slice());
     Ok(())

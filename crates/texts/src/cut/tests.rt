@@ -13,12 +13,9 @@ fn cuts_into_seventy_thousand_pieces(rt: HostRuntime) -> Result<(), Fail> {
     }
     let text = cut_lines(rt.alloc(), input, 8191, FillByte::Zero)?;
     assert_eq!(rt; text.len(), 17 * PIECES);
-    assert_eq!(rt;
-        text.starts_with(b"0000fff800000000\n0000000000000000\n"),
-        true
-    );
+    assert!(rt; text.starts_with(b"0000fff800000000\n0000000000000000\n"));
     // The last one has the number 8191 + 69,999 modulo 8192, 4,462.
-    assert_eq!(rt; text.ends_with(b"\n00008b7000000000\n"), true);
+    assert!(rt; text.ends_with(b"\n00008b7000000000\n"));
     Ok(())
 }
 
@@ -28,8 +25,8 @@ fn cuts_the_greatest_frame_by_the_greatest_piece(rt: HostRuntime) -> Result<(), 
     input.extend_from_slice(&vec![in rt.alloc(); b'0'; 2 * 65_537]?)?;
     let text = cut_lines(rt.alloc(), input, 0, FillByte::Ones)?;
     assert_eq!(rt; text.len(), 2 * (8 + 65_535 + 8 + 6 + 65_535) + 2);
-    assert_eq!(rt; text.starts_with(b"80000000000000000101ffff00"), true);
-    assert_eq!(rt; text.ends_with(b"ffff\n"), true);
+    assert!(rt; text.starts_with(b"80000000000000000101ffff00"));
+    assert!(rt; text.ends_with(b"ffff\n"));
     Ok(())
 }
 

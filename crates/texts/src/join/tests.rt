@@ -10,8 +10,8 @@ fn joins_the_greatest_frame(rt: HostRuntime) -> Result<(), Fail> {
     input.push(b'\n')?;
     let text = join_lines(rt.alloc(), &input)?;
     assert_eq!(rt; text.len(), 2 * 65_541 + 1);
-    assert_eq!(rt; text.starts_with(b"0101ffff0000"), true);
-    assert_eq!(rt; text.ends_with(b"0000\n"), true);
+    assert!(rt; text.starts_with(b"0101ffff0000"));
+    assert!(rt; text.ends_with(b"0000\n"));
     Ok(())
 }
 
