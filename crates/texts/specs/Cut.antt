@@ -62,12 +62,6 @@ pub record IsFirstPieceFault (input : List ℕ) (fault : CutFault) : Type 0 wher
   pub read : IsRead cut_format nothing (lines_of input) (record { frames = frames; pieces = pieces })
   pub reported : IsPieceFault frames pieces fault
 
--- why frames were not cut into pieces: their first fault, or a failed allocation
-abbrev pub IsCuttingFault : List (List ℕ) → List Piece → TextFault → Type 0
-IsCuttingFault frames pieces (Trace fault) = ⊥
-IsCuttingFault frames pieces (Cut fault) = IsPieceFault frames pieces fault
-IsCuttingFault frames pieces OutOfMemory = Unit {0}
-
 -- why an input was not cut: its first faulty line, or else the first fault of its frames and pieces, or a failed allocation
 abbrev pub IsCutFault : List ℕ → TextFault → Type 0
 IsCutFault input (Trace fault) = IsFirstFaultyLine cut_format nothing (lines_of input) fault

@@ -98,6 +98,7 @@ fn append_segment(alloc: Global, text: &mut Vec<u8>, segment: &Segment) -> Resul
 fn segment_lines(alloc: Global, cutter: Cutter<'_>, room: usize) -> Result<Vec<u8>, AllocError>
     requires cuttable { IsCuttable any_header cutter.frames cutter.pieces }
     requires none_made { cutter.made ≡ 0 }
+    requires room { room ≡ min (cut_text_length cutter.frames cutter.pieces) usize.MAX }
     ensures { IfOk result
         (λ text. IsPrinted cutter.entry.first cutter.entry.fill
         cutter.entry.frames cutter.entry.pieces text.items) }

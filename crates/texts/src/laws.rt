@@ -1,5 +1,5 @@
-//! The definitions of `join` and of `cut` determine their answers: an input has one text, or one
-//! first fault.
+//! The definitions of `join` and of `cut` determine their answers: an input has at most one text, at
+//! most one first fault, and never both.
 //!
 //! Each function states a law in its contract and does nothing.
 ghost use Rattle.std.specs.Prelude.{◌≡◌, ◌≢◌, ℕ, List, length, flat_map};
@@ -45,7 +45,7 @@ pub fn cut_has_one_text()
 }
 
 /// The lines of the segments that frames are cut into are exactly as long as the frames and the
-/// pieces say, so that `cut_lines` reserves just the room that its text takes.
+/// pieces say: the room that `cut_lines` reserves is just what its text takes.
 pub fn cut_text_has_this_length()
     ensures { (first : ℕ) (fill : FillByte) (frames : List (List ℕ)) (pieces : List Piece)
         (segments : List Segment)
