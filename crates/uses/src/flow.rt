@@ -59,19 +59,17 @@ mod tests {
     use docsis_wire::{NoCheck, Segment};
     use std::test::Fail;
 
-    fn offer(alloc: Global, bytes: &[u8]) -> Result<(u16, ReadySegment), Fail> {
+    fn ready(alloc: Global, bytes: &[u8]) -> Result<ReadySegment, Fail> {
         let segment = Segment::read(alloc, bytes)?;
-        Ok((segment.head.sequence, ReadySegment { segment }))
+        Ok(ReadySegment { segment })
     }
 
     #[test]
     fn joins_segments_that_come_backwards(rt: HostRuntime) -> Result<(), Fail> {
         let alloc = rt.alloc();
-        let last = offer(alloc, &[0, 0, 0, 8, 0, 0, 0, 0, 0x11, 0xaa, 0xbb])?;
-        let front = offer(alloc, &[0x80, 0, 0, 0, 0, 0, 0, 0, 0, 0, 0, 2, 0x11])?;
-        let mut offers = Vec::new(alloc);
-        offers.push(last)?;
-        offers.push(front)?;
+        let last = ready(alloc, &[0, 0, 0, 8, 0, 0, 0, 0, 0x11, 0xaa, 0xbb])?;
+        let front = ready(alloc, &[0x80, 0, 0, 0, 0, 0, 0, 0, 0, 0, 0, 2, 0x11])?;
+        let offers = vec![in alloc; (1, last), (0, front)]?;
         let frames = frames_in_order(alloc, 0, 16, offers, &NoCheck)?;
         assert_eq!(rt; frames.len(), 1);
         let frame: &[u8] = &[0, 0, 0, 2, 0x11, 0x11, 0xaa, 0xbb];
