@@ -20,7 +20,8 @@ pub struct Fed {
 }
 
 /// Joins the segments of one service flow, fed in order, into frames. Contracts see the bytes that
-/// are unfinished: those that wait for more, as the front of a frame whose other bytes have not come.
+/// are unfinished: those that wait for more, as the front of a frame whose other bytes have not
+/// come.
 #[derive(Debug, Drop)]
 pub struct Joiner {
     unfinished: Vec<u8>,

@@ -58,7 +58,8 @@ pub fn pieces_make_one_cut()
         → segments ≡ others }
 {}
 
-/// Frames and pieces have at most one first fault, and none but out of memory where they can be cut.
+/// Frames and pieces have at most one first fault, and none but out of memory where they can be
+/// cut.
 pub fn cut_has_one_fault()
     ensures { (check : List ℕ → Bool) (frames : List (List ℕ)) (pieces : List Piece)
         (fault other : CutFault)

@@ -28,7 +28,8 @@ impl<T: Drop> Mouth<T> {
     ghost use Rattle.std.specs.Prelude.{◌≡◌, ◌<◌, ℕ, true, IsTrue, ◌↔◌};
     ghost use Rattle.mailbox.specs.Mouths.{places, ended, TakesOne};
 
-    /// Takes the oldest entry, which of its sender is the oldest too. `Empty` only where the mailbox was empty at one moment of the call.
+    /// Takes the oldest entry, which of its sender is the oldest too. `Empty` only where the
+    /// mailbox was empty at one moment of the call.
     pub fn next<R: Wait>(&mut self, rt: &R) -> Taken<T>
         ensures places { places self.new ≡ places self.old }
         ensures takes { TakesOne result self.old self.new }
