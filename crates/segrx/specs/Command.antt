@@ -49,6 +49,12 @@ Asks words Join = AsksToJoin words
 Asks words (Cut first fill) = AsksToCut words × HasNoHelpWord words × (first < sequence_modulus)
 Asks words (Help text) = AsksForHelp words
 
+-- a cut begins with the number of a segment
+abbrev pub IsInRange : Command → Type 0
+IsInRange Join = Unit {0}
+IsInRange (Cut first fill) = first < sequence_modulus
+IsInRange (Help text) = Unit {0}
+
 -- the number that the option `first` asks for, 0 where it is left out
 abbrev pub IsFirst : Option (List ℕ) → ℕ → Type 0
 IsFirst None first = first ≡ 0
