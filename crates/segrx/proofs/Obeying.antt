@@ -1,21 +1,18 @@
 -- What the step that obeys the words promises, by the command that they were read as.
-use Rattle.std.proofs.Common.{◌≡◌, ◌⊎◌, ℕ, length, List, [], ◌∷◌, Option, Result, Ok, Err, inl, inr, refl, ap, sym, ◌∙◌, subst, arith}
+use Rattle.std.proofs.Common.{◌≡◌, ℕ, length, List, [], ◌∷◌, Option, Result, Ok, Err, inl, ap, sym, ◌∙◌, subst, arith}
 use Rattle.std.specs.Prelude.{string_bytes}
 use Rattle.segrx.specs.declared.device.Device.{Device}
 use Rattle.segrx.specs.declared.command.Command.{Command}
 use Rattle.segrx.specs.declared.command.Command.TheVariants.{Join, Cut, Help}
-use Rattle.segrx.specs.declared.command.UsageFault.{UsageFault}
-use Rattle.segrx.specs.declared.command.UsageFault.TheVariants as usage
 use Rattle.segrx.specs.declared.fault.EngineFault.{EngineFault}
-use Rattle.segrx.specs.declared.fault.EngineFault.TheVariants.{OutOfMemory, Read, Write, Usage}
+use Rattle.segrx.specs.declared.fault.EngineFault.TheVariants.{Read, Write}
 use Rattle.texts.specs.declared.fault.TextFault.{TextFault}
 use Rattle.texts.specs.Join.{IsJoined, IsJoinFault}
 use Rattle.texts.specs.Cut.{IsCutText, IsCutFault}
 use Rattle.segrx.specs.Device.{inner_of, IsFresh}
-use Rattle.segrx.specs.Fault.{usage_fault}
 use Rattle.segrx.specs.Engine.{HasCause, RunsEngine}
-use Rattle.segrx.specs.Command.{AsksToJoin, AsksToCut, HasNoHelpWord, Asks, IsInRange}
-use Rattle.segrx.specs.Program.{AsksToCutOnly, AsksForNothing, RunsCut, IsRefused, WritesHelp, Performs, Obeys}
+use Rattle.segrx.specs.Command.{AsksToJoin, AsksToCut, HasNoHelpWord, Asks}
+use Rattle.segrx.specs.Program.{AsksToCutOnly, AsksForNothing, RunsCut, WritesHelp, Performs, Obeys}
 
 -- no words ask both to join and to cut
 joins_and_cuts : (words : List (List ℕ)) → AsksToJoin words → AsksToCut words → ⊥
@@ -23,38 +20,6 @@ joins_and_cuts [] joins cuts = cuts
 joins_and_cuts (name ∷ []) joins cuts = cuts
 joins_and_cuts (name ∷ word ∷ []) joins cuts = let e : 4 ≡ 3 = ap length (sym joins ∙ cuts) in absurd (omega (arith, e))
 joins_and_cuts (name ∷ word ∷ another ∷ more) joins cuts = joins
-
--- a cut that words ask for begins with the number of a segment
-pub IsInRange-asked : (words : List (List ℕ)) (command : Command) → Asks words command → IsInRange command
-IsInRange-asked words Join asked = tt
-IsInRange-asked words (Cut first fill) asked = asked.2
-IsInRange-asked words (Help text) asked = tt
-
--- words that were not read are refused as usage, or since an allocation failed
-refused_fault : (fault : UsageFault) → (usage_fault fault ≡ Usage) ⊎ (usage_fault fault ≡ OutOfMemory)
-refused_fault usage.Usage = inl refl
-refused_fault usage.OutOfMemory = inr refl
-
--- words that do not ask to join are refused before a device is used
-pub Obeys-refused : {R W : Type 0} (remaining : R → Option (List ℕ)) (contents : W → Option (List ℕ)) (words : List (List ℕ)) (reader : Device R) (writer : Device W) (fault : UsageFault)
-    → ¬ AsksToJoin words → IsFresh reader → Obeys remaining contents words reader reader writer writer (Err (usage_fault fault))
-Obeys-refused remaining contents words reader writer fault other fresh =
-    let reported = refused_fault fault in
-    let refused : IsRefused reader reader writer writer (Err (usage_fault fault)) = record {
-      fault = elim reported [ inl e ↦ inl (ap Err e) | inr e ↦ inr (ap Err e) ];
-      unread = refl;
-      unwritten = refl;
-    } in
-    record {
-      join = λ joins. absurd (other joins);
-      cut = λ _. inr refused;
-      nothing = λ _. refused;
-      help = λ _ _. inr refused;
-      no_cause = tt;
-      read_fault = λ is. absurd (elim reported [ inl e ↦ cc | inr e ↦ cc ]);
-      write_fault = λ is. absurd (elim reported [ inl e ↦ cc | inr e ↦ cc ]);
-      read_first = λ _. (fresh.0, omega (arith, fresh.1));
-    }
 
 -- words that ask to join or to cut, and not for help, have what an engine promises
 Obeys-engine : {R W : Type 0} (remaining : R → Option (List ℕ)) (contents : W → Option (List ℕ)) (words : List (List ℕ)) (IsText : List ℕ → List ℕ → Type 0)
@@ -68,6 +33,7 @@ Obeys-engine remaining contents words IsText IsFault reader reader' writer write
   cut = λ asks. inl (cuts asks);
   nothing = λ asks. absurd (something asks);
   help = λ other asks. absurd (asks (no_help other));
+  flushed = ran.flushed;
   no_cause = ran.no_cause.1;
   read_fault = λ is. absurd cc;
   write_fault = λ is. absurd cc;
@@ -80,6 +46,7 @@ Obeys-engine remaining contents words IsText IsFault reader reader' writer write
       cut = λ asks. inl (cuts asks);
       nothing = λ asks. absurd (something asks);
       help = λ other asks. absurd (asks (no_help other));
+      flushed = tt;
       no_cause = tt;
       read_fault = λ is. let same : fault ≡ Read = cc in subst P same ran.cause;
       write_fault = λ is. let same : fault ≡ Write = cc in subst P same ran.cause;
@@ -96,6 +63,7 @@ Obeys-help remaining contents words text reader reader' writer writer' (Ok done)
   cut = λ asks. absurd (no_cut asks);
   nothing = λ asks. absurd (something asks);
   help = λ _ _. inl (text, wrote);
+  flushed = wrote.left_flushed;
   no_cause = wrote.writes.sound ∙ unwritten.0;
   read_fault = λ is. absurd cc;
   write_fault = λ is. absurd cc;
@@ -106,6 +74,7 @@ Obeys-help remaining contents words text reader reader' writer writer' (Err faul
   cut = λ asks. absurd (no_cut asks);
   nothing = λ asks. absurd (something asks);
   help = λ _ _. inl (text, wrote);
+  flushed = tt;
   no_cause = tt;
   read_fault = λ is. absurd (cc wrote.only);
   write_fault = λ _. wrote.writes.failed;

@@ -1,5 +1,5 @@
 -- What the program's exit status says of its input, by what came of its words.
-use Rattle.std.proofs.Common.{◌≡◌, ◌≢◌, ◌⊎◌, inl, inr, ℕ, ◌<◌, List, Option, Some, None, Result, Ok, Err, IfSome, refl, ap, sym, subst, arith}
+use Rattle.std.proofs.Common.{◌≡◌, ◌≢◌, ◌⊎◌, inl, inr, ℕ, ◌<◌, List, Option, Some, None, Result, Ok, Err, IfSome, refl, ap, subst, arith}
 use Rattle.docsis_wire.specs.declared.pieces.CutFault.TheVariants as cut_fault
 use Rattle.segrx.specs.declared.device.Device.{Device}
 use Rattle.segrx.specs.declared.fault.EngineFault.{EngineFault}
@@ -120,10 +120,9 @@ SaysOfWords-outcome remaining contents words reader reader' writer writer' resul
 }
 
 -- so does the status of a whole run
-pub SaysOfWords-run : {R W E : Type 0} (remaining : R → Option (List ℕ)) (contents : W → Option (List ℕ)) (reported : E → Option (List ℕ)) (words : List (List ℕ))
-    (reader : R) (input input' : Device R) (output output' : Device W) (err err' : Device E) (n : ℕ) → inner_of input ≡ reader
+pub SaysOfWords-run : {R W E : Type 0} {remaining : R → Option (List ℕ)} {contents : W → Option (List ℕ)} {reported : E → Option (List ℕ)} {words : List (List ℕ)}
+    {reader : R} {input input' : Device R} {output output' : Device W} {err err' : Device E} {n : ℕ} → inner_of input ≡ reader
     → RunsWords remaining contents reported words input input' output output' err err' n → SaysOfWords remaining words reader n
-SaysOfWords-run {R = R} remaining contents reported words reader input input' output output' err err' n reads ran =
-    let P : R → Type 0 = λ r. SaysOfWords remaining words r n in
-    let Q : ℕ → Type 0 = λ k. SaysOfWords remaining words (inner_of input) k in
-    subst P reads (subst Q (sym ran.ends) (SaysOfWords-outcome remaining contents words input input' output output' ran.outcome ran.obeyed))
+SaysOfWords-run {R = R} {remaining = remaining} {contents = contents} {words = words} {input = input} {input' = input'} {output = output} {output' = output'} reads ran =
+    let P : R → Type 0 = λ r. SaysOfWords remaining words r (exit_status_of ran.outcome) in
+    rw ran.ends (subst P reads (SaysOfWords-outcome remaining contents words input input' output output' ran.outcome ran.obeyed))

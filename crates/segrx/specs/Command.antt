@@ -1,11 +1,12 @@
 -- Words that ask for what the program does, the program's name first.
 use Rattle.std.specs.Prelude.{◌≡◌, ◌<◌, ◌⊎◌, ℕ, List, [], ◌∷◌, ◌++◌, length, codes, slice_get, Option, Some, None, Result, Ok, Err}
+use Rattle.docsis_wire.specs.Limits.{sequence_modulus}
 use Rattle.docsis_wire.specs.declared.pieces.FillByte.{FillByte}
 use Rattle.docsis_wire.specs.declared.pieces.FillByte.TheVariants.{Zero, Ones}
 use Rattle.segrx.specs.declared.command.UsageFault.{UsageFault}
 use Rattle.segrx.specs.declared.command.UsageFault.TheVariants.{Usage, OutOfMemory}
 use Rattle.texts.specs.Number.{IsNumber}
-use Rattle.segrx.specs.Limits.{sequence_modulus, sequence_max}
+use Rattle.segrx.specs.Limits.{sequence_max}
 use Rattle.segrx.specs.declared.command.Command.{Command}
 use Rattle.segrx.specs.declared.command.Command.TheVariants.{Join, Cut, Help}
 

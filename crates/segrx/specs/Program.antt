@@ -2,16 +2,16 @@
 use Rattle.std.specs.Prelude.{◌≡◌, ◌≢◌, ◌⊎◌, ◌<◌, ℕ, List, [], Option, Result, Ok, Err, true, false, IfErr, OnOk, OnErr, string_bytes}
 use Rattle.std.specs.Io.KnownBytes.{Appends}
 use Rattle.docsis_wire.specs.declared.pieces.FillByte.{FillByte}
+use Rattle.docsis_wire.specs.Limits.{sequence_modulus}
 use Rattle.segrx.specs.declared.device.Device.{Device}
 use Rattle.segrx.specs.declared.fault.WriteFault.{WriteFault}
 use Rattle.segrx.specs.declared.fault.EngineFault.{EngineFault}
 use Rattle.segrx.specs.declared.fault.EngineFault.TheVariants.{OutOfMemory, Read, Write, Usage}
 use Rattle.texts.specs.declared.fault.TextFault.{TextFault}
-use Rattle.segrx.specs.Limits.{sequence_modulus}
 use Rattle.segrx.specs.declared.command.Command.{Command}
 use Rattle.segrx.specs.declared.command.Command.TheVariants.{Join, Cut, Help}
 use Rattle.segrx.specs.Device.{inner_of, has_failed, is_flushed, IsFresh}
-use Rattle.segrx.specs.Transfer.{AppendsFront, IsReadFault, IsRead}
+use Rattle.segrx.specs.Transfer.{AppendsFront, IsLeftFlushed, IsReadFault, IsRead}
 use Rattle.segrx.specs.Fault.{status_of, exit_status_of, fault_line}
 use Rattle.segrx.specs.Engine.{engine_fault, RunsEngine}
 use Rattle.segrx.specs.Command.{AsksToJoin, AsksToCut, AsksForHelp, HasNoHelpWord}
@@ -44,6 +44,7 @@ pub record Writes {W E : Type 0} (contents : W → Option (List ℕ)) (text : Li
 pub record WritesHelp {R W : Type 0} (contents : W → Option (List ℕ)) (text : List ℕ) (reader reader' : Device R) (writer writer' : Device W) (result : Result (Unit {0}) EngineFault) : Type 0 where
   pub unread : reader' ≡ reader
   pub writes : Writes contents text writer writer' result
+  pub left_flushed : OnOk result (IsLeftFlushed writer writer')
   pub only : IfErr result (λ fault. fault ≡ Write)
 
 -- what a command does: its engine runs, or the text of help is written
@@ -69,6 +70,8 @@ pub record Obeys {R W : Type 0} (remaining : R → Option (List ℕ)) (contents 
   pub cut : AsksToCutOnly words → RunsCut remaining contents reader reader' writer writer' result ⊎ IsRefused reader reader' writer writer' result
   pub nothing : AsksForNothing words → IsRefused reader reader' writer writer' result
   pub help : ¬ AsksToJoin words → ¬ HasNoHelpWord words → Helps contents reader reader' writer writer' result ⊎ IsRefused reader reader' writer writer' result
+  -- where the work was done all that was written is flushed
+  pub flushed : OnOk result (IsLeftFlushed writer writer')
   -- each failed device has its fault, also where help is written
   pub no_cause : OnOk result (has_failed writer' ≡ false)
   pub read_fault : result ≡ Err Read → IsReadFault reader'

@@ -6,7 +6,8 @@ ghost use Rattle.segrx.specs.Fault.{exit_status_of};
 ghost use Rattle.segrx.specs.Command.{AsksToJoin, IsInRange};
 ghost use Rattle.texts.specs.Join.{IsJoinFault};
 ghost use Rattle.texts.specs.Cut.{IsCutFault};
-ghost use Rattle.segrx.specs.Program.{IsStatus, AsksToCutOnly, AsksForNothing, HasJoinedText, HasCutText, SaysOf, Performs, Obeys, IsReported, RunsWords, ComesOf};
+ghost use Rattle.segrx.specs.Program.{AsksToCutOnly, AsksForNothing, Performs, Obeys, IsReported, RunsWords, ComesOf};
+ghost use Rattle.segrx.specs.Program.{IsStatus, HasJoinedText, HasCutText, SaysOf};
 
 use crate::command::{Command, read_words};
 use crate::cut::cut_text;
@@ -19,8 +20,8 @@ use std::alloc::Global;
 use std::convert::AsStr;
 use std::io::{Read, Write};
 
-/// Does what a command asks for: `join` and `cut` are run between the reader and the writer, and the
-/// text of help is written.
+/// Does what a command asks for: runs the engine of `join` or of `cut` between the reader and the
+/// writer, or writes the text of help.
 fn perform<R: Read, W: Write>(
     alloc: Global,
     command: Command,
@@ -56,8 +57,8 @@ fn obey<S: AsStr, R: Read, W: Write>(
     perform(alloc, command, reader, out)
 }
 
-/// Reports an outcome's fault, if it has one and that can be reported, and answers the outcome's exit
-/// status. That a fault cannot be reported changes nothing.
+/// Answers the exit status of an outcome, and writes the line of its fault, if it has one. That the
+/// line cannot be written changes nothing.
 pub fn report<E: Write>(outcome: &Result<(), EngineFault>, err: &mut Device<E>) -> u8
     ensures report { IsReported E.contents err.old err.new outcome.now }
     ensures status { result ≡ exit_status_of outcome.now }
@@ -68,8 +69,8 @@ pub fn report<E: Write>(outcome: &Result<(), EngineFault>, err: &mut Device<E>) 
     exit_status(outcome)
 }
 
-/// Does what the words ask for, between a reader and a writer of which no call was made yet, reports
-/// a fault to `err`, and answers the exit status.
+/// Does what the words ask for between a reader and a writer that were not used yet, reports a
+/// fault to `err`, and answers the exit status.
 pub fn run_words<S: AsStr, R: Read, O: Write, E: Write>(
     alloc: Global,
     words: &[S],

@@ -1,4 +1,4 @@
-use Rattle.std.proofs.Common.{◌≡◌, sym, ◌∙◌}
+use Rattle.std.proofs.Common.{◌≡◌}
 use Rattle.std.specs.Prelude.{map}
 use Rattle.segrx.specs.declared.command.Command.TheVariants.{Join}
 use Rattle.segrx.specs.Command.{AsksToJoin}

@@ -1,11 +1,9 @@
-use Rattle.std.specs.Prelude.{map}
 use Rattle.segrx.proofs.Statuses.{SaysOfWords-run}
 use Rattle.segrx.proofs.program.program.Goals as goal
 
 pub returns-clause-outcome : goal.returns-clause-outcome
 returns-clause-outcome g c =
-    let ran = c.run_words-status.ensures in
-    (
+    let ran = c.run_words-status.ensures in (
       ran.outcome,
       ran.ends,
       record {
@@ -25,26 +23,16 @@ returns-clause-outcome g c =
     )
 
 pub returns-clause-status : goal.returns-clause-status
-returns-clause-status g c =
-    (SaysOfWords-run g.R.Read.remaining g.O.Write.contents g.E.Write.contents (map g.S.AsStr.text c.args.words.now) c.args.reader _ _ _ _ _ _ _ c.new-reader.ensures.inner
-    c.run_words-status.ensures).status
+returns-clause-status g c = (SaysOfWords-run c.new-reader.ensures.inner c.run_words-status.ensures).status
 
 pub returns-clause-join : goal.returns-clause-join
-returns-clause-join g c =
-    (SaysOfWords-run g.R.Read.remaining g.O.Write.contents g.E.Write.contents (map g.S.AsStr.text c.args.words.now) c.args.reader _ _ _ _ _ _ _ c.new-reader.ensures.inner
-    c.run_words-status.ensures).join
+returns-clause-join g c = (SaysOfWords-run c.new-reader.ensures.inner c.run_words-status.ensures).join
 
 pub returns-clause-join_is_known : goal.returns-clause-join_is_known
-returns-clause-join_is_known g c =
-    (SaysOfWords-run g.R.Read.remaining g.O.Write.contents g.E.Write.contents (map g.S.AsStr.text c.args.words.now) c.args.reader _ _ _ _ _ _ _ c.new-reader.ensures.inner
-    c.run_words-status.ensures).join_is_known
+returns-clause-join_is_known g c = (SaysOfWords-run c.new-reader.ensures.inner c.run_words-status.ensures).join_is_known
 
 pub returns-clause-cut : goal.returns-clause-cut
-returns-clause-cut g c =
-    (SaysOfWords-run g.R.Read.remaining g.O.Write.contents g.E.Write.contents (map g.S.AsStr.text c.args.words.now) c.args.reader _ _ _ _ _ _ _ c.new-reader.ensures.inner
-    c.run_words-status.ensures).cut
+returns-clause-cut g c = (SaysOfWords-run c.new-reader.ensures.inner c.run_words-status.ensures).cut
 
 pub returns-clause-usage : goal.returns-clause-usage
-returns-clause-usage g c =
-    (SaysOfWords-run g.R.Read.remaining g.O.Write.contents g.E.Write.contents (map g.S.AsStr.text c.args.words.now) c.args.reader _ _ _ _ _ _ _ c.new-reader.ensures.inner
-    c.run_words-status.ensures).usage
+returns-clause-usage g c = (SaysOfWords-run c.new-reader.ensures.inner c.run_words-status.ensures).usage

@@ -6,8 +6,7 @@ pub returns-clause-report : goal.returns-clause-report
 returns-clause-report g c =
     elim c.match-outcome.branch [
       | in-Err w ↦
-          rw (w.in-Err.is, w.err-is)
-          (
+          rw (w.in-Err.is, w.err-is) (
             w.write_fault.result,
             record {
               written = w.write_fault.ensures.written;
