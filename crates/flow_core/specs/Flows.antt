@@ -1,0 +1,76 @@
+-- All flows of a core, and what becomes of them.
+use Rattle.std.specs.Prelude.{◌≡◌, ◌≢◌, ℕ, ◌<◌, ◌↔◌, Bool, IsTrue, Some, List, [], length, slice_get}
+use Rattle.docsis_wire.specs.Ready.{IsReady}
+use Rattle.docsis_wire.specs.Limits.{sequence_modulus}
+use Rattle.flow_core.specs.declared.record.FlowRecord.{FlowRecord}
+use Rattle.flow_core.specs.declared.flow.Flow.{Flow}
+use Rattle.flow_core.specs.declared.flows.Core.{Core}
+use Rattle.flow_core.specs.declared.event.Event.{Event}
+use Rattle.flow_core.specs.declared.event.Event.TheVariants.{Arrive, Gap, GapTo}
+use Rattle.flow_core.specs.declared.event.Applied.{Applied}
+use Rattle.flow_core.specs.declared.event.Applied.TheVariants.{Decision}
+use Rattle.flow_core.specs.declared.event.Step.{Step}
+use Rattle.reorder.specs.declared.answer.Declared.{Declared}
+use Rattle.reorder.specs.declared.answer.Declared.TheVariants.{Lost}
+use Rattle.flow_core.specs.Events.{FlowEvent, arrives, gap, gap_to}
+use Rattle.flow_core.specs.Stands.{StandsFor, IsDrained, TakesEvent, Advances}
+
+-- the flow that an event names, and what happens to it
+abbrev pub flow_of : Event → ℕ
+flow_of (Arrive flow segment) = flow
+flow_of (Gap flow) = flow
+flow_of (GapTo flow number) = flow
+
+abbrev pub event_of : Event → FlowEvent
+event_of (Arrive flow segment) = arrives segment
+event_of (Gap flow) = gap
+event_of (GapTo flow number) = gap_to number
+
+-- an arriving segment is ready, and a loss is declared up to a sequence number
+abbrev pub IsTakable : Event → Type 0
+IsTakable (Arrive flow segment) = IsReady segment
+IsTakable (Gap flow) = Unit {0}
+IsTakable (GapTo flow number) = number < sequence_modulus
+
+-- the answer is that a number was declared lost
+abbrev pub IsLoss : Declared → Type 0
+IsLoss declared = (number : ℕ) × (declared ≡ Lost number)
+
+module _ {C : Type 0} where
+  -- the core has this flow at this index
+  abbrev pub HasFlow : Core C → ℕ → Flow → Type 0
+  HasFlow core k flow = slice_get core.flows.items k ≡ Some flow
+
+  -- there are as many flows as before, with the same check, and all but flow k are as they were
+  pub record OthersStay (core after : Core C) (k : ℕ) : Type 0 where
+    pub check : after.check ≡ core.check
+    pub count : length after.flows.items ≡ length core.flows.items
+    pub others : (j : ℕ) → j ≢ k → slice_get after.flows.items j ≡ slice_get core.flows.items j
+
+  -- flow k takes an event
+  abbrev pub TakesEventAt : Core C → ℕ → FlowEvent → Applied → Core C → Type 0
+  TakesEventAt core k event answer after =
+      (flow flow' : Flow) → HasFlow core k flow → HasFlow after k flow' → TakesEvent flow event answer flow'
+
+  -- flow k advances
+  abbrev pub AdvancesAt : (C → List ℕ → Bool) → Core C → ℕ → Step → Core C → Type 0
+  AdvancesAt accepts core k step after =
+      (flow flow' : Flow) → HasFlow core k flow → HasFlow after k flow' → Advances (accepts core.check) flow step flow'
+
+  -- Flow k takes a gap, which declares the expected index lost exactly if the answer says so. Otherwise nothing changes.
+  pub record ClosesGapAt (core : Core C) (k : ℕ) (lost : Bool) (after : Core C) : Type 0 where
+    pub declared : Declared
+    pub answer : IsTrue lost ↔ IsLoss declared
+    pub taken : TakesEventAt core k gap (Decision declared) after
+    pub unchanged : ¬ (IsTrue lost) → after ≡ core
+
+  -- every flow of a new core stands for no events
+  pub record IsNewCore (check : C) (records : List FlowRecord) (core : Core C) : Type 0 where
+    pub check_is : core.check ≡ check
+    pub count : length core.flows.items ≡ length records
+    pub each : (k : ℕ) (flow_record : FlowRecord) (flow : Flow) → slice_get records k ≡ Some flow_record → HasFlow core k flow
+        → (accepted : List ℕ → Bool) → StandsFor accepted flow_record flow [] [] 0 []
+
+  -- no segment of flow k is next
+  abbrev pub IsDrainedAt : Core C → ℕ → Type 0
+  IsDrainedAt core k = (flow : Flow) × HasFlow core k flow × IsDrained flow

@@ -1,0 +1,103 @@
+//! Laws about the definitions: events have one outcome, what a flow gives is the delivery sequence,
+//! and the delivery sequence only grows.
+//!
+//! Each function states a law in its contract and does nothing.
+ghost use Rattle.std.specs.Prelude.{◌≡◌, ◌↔◌, ◌<◌, ◌≤◌, ℕ, Bool, Option, List, [], ◌++◌, length};
+ghost use Rattle.std.specs.List.{AllByRecursion};
+ghost use Rattle.docsis_wire.specs.declared.segment.Segment.{Segment};
+ghost use Rattle.docsis_wire.specs.Frame.{IsFrame};
+ghost use Rattle.docsis_wire.specs.Cut.{IsLawfulCut};
+ghost use Rattle.docsis_wire.specs.Span.{IsSettledOf};
+ghost use Rattle.ccf.specs.Filter.{FiltersTo};
+ghost use Rattle.ccf.specs.Join.{Joins};
+ghost use Rattle.flow_core.specs.declared.record.FlowRecord.{FlowRecord};
+ghost use Rattle.flow_core.specs.declared.flow.Flow.{Flow};
+ghost use Rattle.flow_core.specs.declared.event.Applied.{Applied};
+ghost use Rattle.flow_core.specs.Fates.{Fates, IsExpected, IsSettledBelow};
+ghost use Rattle.flow_core.specs.Events.{FlowEvent, IsAfter};
+ghost use Rattle.flow_core.specs.Near.{AreNear, AreOfCut};
+ghost use Rattle.flow_core.specs.Delivery.{IsDelivered, IsDeliverySequence};
+ghost use Rattle.flow_core.specs.Stands.{StandsFor, IsDrained};
+
+/// Every list of events has one outcome: one list of answers and one fate of each index, of which
+/// one is the expected index.
+pub fn events_have_one_outcome()
+    ensures some { (first width : ℕ) (events : List FlowEvent) → 1 ≤ width
+        → (answers : List Applied) × (fates : Fates) × (x : ℕ)
+        × IsAfter first width events answers fates × IsExpected fates x }
+    ensures only { (first width : ℕ) (events : List FlowEvent)
+        (answers others : List Applied) (fates after : Fates)
+        → IsAfter first width events answers fates → IsAfter first width events others after
+        → (answers ≡ others) × (fates ≡ after) }
+    ensures expected { (fates : Fates) (x y : ℕ)
+        → IsExpected fates x → IsExpected fates y → x ≡ y }
+{}
+
+/// Where what is settled below an index is of one lawful cut, it joins to exactly the modem's
+/// frames that lie wholly in the cut and of which each segment was kept and lies below that index.
+pub fn settled_segments_join_to_the_delivered_frames()
+    ensures { (check : List ℕ → Bool) (frames chunks : List (List ℕ)) (first fill n : ℕ)
+        (segments : List Segment) (fates : Fates) (settled : List (Option Segment))
+        (joined : List (List ℕ)) (unfinished : List ℕ)
+        → IsLawfulCut check frames first fill chunks segments → IsSettledOf segments settled
+        → IsSettledBelow fates n settled → Joins check [] settled joined unfinished
+        → FiltersTo (IsDelivered frames chunks fates n) frames joined }
+{}
+
+/// The delivery sequence after some events is the front of what it is after more of them.
+pub fn delivery_sequence_only_grows()
+    ensures { (check : List ℕ → Bool) (frames chunks : List (List ℕ)) (first width : ℕ)
+        (events more : List FlowEvent) (answers later : List Applied) (fates after : Fates)
+        (given grown : List (List ℕ))
+        → AllByRecursion (IsFrame check) frames
+        → IsAfter first width events answers fates
+        → IsAfter first width (events ++ more) later after
+        → IsDeliverySequence frames chunks fates given
+        → IsDeliverySequence frames chunks after grown
+        → (rest : List (List ℕ)) × (grown ≡ given ++ rest) }
+{}
+
+/// Over a cut of at most 4,096 segments every list of events is near.
+pub fn events_of_a_short_cut_are_near()
+    ensures { (first width : ℕ) (segments : List Segment) (events : List FlowEvent)
+        → length segments ≤ 4096 → AreOfCut segments events
+        → AreNear first width segments events }
+{}
+
+/// A flow has come to its expected index exactly if it is drained.
+pub fn drained_flow_has_come_to_its_expected_index()
+    ensures { (check : List ℕ → Bool) (flow_record : FlowRecord) (flow : Flow)
+        (events : List FlowEvent) (answers : List Applied) (y : ℕ) (given : List (List ℕ))
+        (fates : Fates)
+        → StandsFor check flow_record flow events answers y given
+        → IsAfter flow_record.first flow_record.window events answers fates
+        → IsDrained flow ↔ IsExpected fates y }
+{}
+
+/// **What a flow gave is the delivery sequence.** For every modem's frames, every lawful cut of
+/// them and every near list of events, whatever arrives, is repeated, delayed or lost and whenever
+/// losses are declared: a drained flow that stands for the events has given exactly the modem's
+/// frames whose segments were all kept, in the modem's order. A flow that isn't drained has given
+/// a front of them.
+pub fn flow_gives_the_delivery_sequence()
+    ensures drained { (check : List ℕ → Bool) (frames chunks : List (List ℕ)) (fill : ℕ)
+        (segments : List Segment) (flow_record : FlowRecord) (flow : Flow)
+        (events : List FlowEvent) (answers : List Applied) (y : ℕ) (given : List (List ℕ))
+        (fates : Fates)
+        → IsLawfulCut check frames flow_record.first fill chunks segments
+        → AreNear flow_record.first flow_record.window segments events
+        → StandsFor check flow_record flow events answers y given
+        → IsAfter flow_record.first flow_record.window events answers fates
+        → IsDrained flow
+        → IsDeliverySequence frames chunks fates given }
+    ensures ahead { (check : List ℕ → Bool) (frames chunks : List (List ℕ)) (fill : ℕ)
+        (segments : List Segment) (flow_record : FlowRecord) (flow : Flow)
+        (events : List FlowEvent) (answers : List Applied) (y : ℕ) (given : List (List ℕ))
+        (fates : Fates) (sequence : List (List ℕ))
+        → IsLawfulCut check frames flow_record.first fill chunks segments
+        → AreNear flow_record.first flow_record.window segments events
+        → StandsFor check flow_record flow events answers y given
+        → IsAfter flow_record.first flow_record.window events answers fates
+        → IsDeliverySequence frames chunks fates sequence
+        → (rest : List (List ℕ)) × (sequence ≡ given ++ rest) }
+{}
