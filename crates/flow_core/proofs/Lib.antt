@@ -1,1 +1,6 @@
 pub mod Outcome
+pub mod Numbers
+pub mod Windows
+pub mod Counting
+pub mod Standing
+pub mod Arriving
