@@ -1,3 +1,4 @@
+pub mod Deciding
 pub mod Outcome
 pub mod Numbers
 pub mod Windows
