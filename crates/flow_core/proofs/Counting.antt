@@ -21,39 +21,43 @@ push-no p answers answer is = let pushed = sum_by_push (λ x. cond (p x) 1 0) an
 push-yes : (p : Applied → Bool) (answers : List Applied) (answer : Applied) → p answer ≡ true → count_by p (answers ++ answer ∷ []) ≡ count_by p answers + 1
 push-yes p answers answer is = let pushed = sum_by_push (λ x. cond (p x) 1 0) answers answer in let one : cond {A = ℕ} (p answer) 1 0 ≡ 1 = ap (λ b. cond {A = ℕ} b 1 0) is in omega arith
 
--- the count of one kind of answer after one more of them
-pub count-push : (p : Applied → Bool) (answers : List Applied) (answer : Applied) (b : Bool) (count count' : ℕ) → p answer ≡ b
-    → count ≡ counted (count_by p answers) → count' ≡ min (count + cond b 1 0) 18446744073709551615 → count' ≡ counted (count_by p (answers ++ answer ∷ []))
-count-push p answers answer true count count' is before after =
-    after ∙ counted-more _ 1 count before ∙ ap counted (sym (push-yes p answers answer is))
-count-push p answers answer false count count' is before after =
-    let same = push-no p answers answer is in omega arith
+-- a count of one kind of answer goes up by one with such an answer, and stays at its greatest value
+abbrev pub one_more : Bool → ℕ → ℕ
+one_more true n = min (n + 1) 18446744073709551615
+one_more false n = n
 
--- counts after an answer that changes no more than these four
-pub counts-answered : (answers : List Applied) (answer : Applied) (settled : List (Option Segment)) (given : List (List ℕ)) (unfinished : List ℕ) (counts after : FlowCounts)
-    → AreCounts answers settled given unfinished counts
-    → after.kept ≡ min (counts.kept + cond (says_kept answer) 1 0) 18446744073709551615
-    → after.late ≡ min (counts.late + cond (says_late answer) 1 0) 18446744073709551615
-    → after.repeat ≡ min (counts.repeat + cond (says_repeat answer) 1 0) 18446744073709551615
-    → after.beyond ≡ min (counts.beyond + cond (says_beyond answer) 1 0) 18446744073709551615
-    → after.lost ≡ counts.lost → after.frames ≡ counts.frames → after.skipped ≡ counts.skipped
-    → AreCounts (answers ++ answer ∷ []) settled given unfinished after
-counts-answered answers answer settled given unfinished counts after are kept late repeat beyond lost frames skipped =
-    record {
-      kept = count-push says_kept answers answer _ counts.kept after.kept refl are.kept kept;
-      late = count-push says_late answers answer _ counts.late after.late refl are.late late;
-      repeat = count-push says_repeat answers answer _ counts.repeat after.repeat refl are.repeat repeat;
-      beyond = count-push says_beyond answers answer _ counts.beyond after.beyond refl are.beyond beyond;
-      lost = lost ∙ are.lost;
-      frames = frames ∙ are.frames;
-      skipped_bytes = are.skipped_bytes;
-      balance = are.balance;
-      skipped = skipped ∙ are.skipped;
+-- the counts after an answer
+abbrev pub answered : FlowCounts → Applied → FlowCounts
+answered counts answer =
+    record counts {
+      kept = one_more (says_kept answer) counts.kept;
+      late = one_more (says_late answer) counts.late;
+      repeat = one_more (says_repeat answer) counts.repeat;
+      beyond = one_more (says_beyond answer) counts.beyond;
     }
 
--- a count that is at most the greatest stays with nothing more
-pub counted-same : (n k : ℕ) → k ≡ counted n → k ≡ min (k + 0) 18446744073709551615
-counted-same n k is = omega arith
+count-push : (p : Applied → Bool) (answers : List Applied) (answer : Applied) (b : Bool) (count : ℕ) → p answer ≡ b
+    → count ≡ counted (count_by p answers) → one_more b count ≡ counted (count_by p (answers ++ answer ∷ []))
+count-push p answers answer true count is before =
+    counted-more _ 1 count before ∙ ap counted (sym (push-yes p answers answer is))
+count-push p answers answer false count is before = before ∙ ap counted (sym (push-no p answers answer is))
+
+-- counts after an answer, where nothing was joined
+pub counts-answered : (answers : List Applied) (answer : Applied) (settled : List (Option Segment)) (given : List (List ℕ)) (unfinished : List ℕ) (counts : FlowCounts)
+    → AreCounts answers settled given unfinished counts
+    → AreCounts (answers ++ answer ∷ []) settled given unfinished (answered counts answer)
+counts-answered answers answer settled given unfinished counts are =
+    record {
+      kept = count-push says_kept answers answer _ counts.kept refl are.kept;
+      late = count-push says_late answers answer _ counts.late refl are.late;
+      repeat = count-push says_repeat answers answer _ counts.repeat refl are.repeat;
+      beyond = count-push says_beyond answers answer _ counts.beyond refl are.beyond;
+      lost = are.lost;
+      frames = are.frames;
+      skipped_bytes = are.skipped_bytes;
+      balance = are.balance;
+      skipped = are.skipped;
+    }
 
 pub counts-new : (unfinished : List ℕ) → unfinished ≡ [] → AreCounts [] [] [] unfinished no_counts
 counts-new unfinished empty =

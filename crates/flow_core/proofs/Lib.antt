@@ -5,3 +5,4 @@ pub mod Windows
 pub mod Counting
 pub mod Standing
 pub mod Arriving
+pub mod Losing

@@ -1,6 +1,6 @@
 -- What a flow stands for, put together and taken apart.
 use Rattle.std.proofs.Common.{◌≡◌, ℕ, ◌+◌, ◌<◌, ◌≤◌, ◌⊎◌, inl, inr, ⊎_elim, Bool, true, Option, None, Some, IsSome, is_some, List, [], ◌∷◌, ◌++◌, length, slice_get, get_or, refl, sym, ap, subst, ◌∙◌, arith}
-use Rattle.std.specs.Option.{option_map}
+use Rattle.std.specs.Option.{option_map, option_flatten}
 use Rattle.std.specs.FinMap as map
 use Rattle.std.proofs.lemmas.Bool.{cases_lt}
 use Rattle.std.proofs.lemmas.Option.{slice_get-get_or}
@@ -29,6 +29,13 @@ settled-cases fates i some = fate-cases fates i (map.get fates i) refl some
 
 pub open-apart : (fates : Fates) (i : ℕ) → IsOpen fates i → IsSome (map.get fates i) → ⊥
 open-apart fates i free some = let tests = ap is_some free in cc
+
+-- no index is open and kept, or kept and lost
+pub open-kept : (fates : Fates) (i : ℕ) → IsOpen fates i → IsKept fates i → ⊥
+open-kept fates i free kept = open-apart fates i free (ap is_some kept.1)
+
+pub kept-not-lost : (segment : Segment) → Some (Some segment) ≡ Some None → ⊥
+kept-not-lost segment same = let tests = ap (λ (o : Option (Option Segment)). is_some (option_flatten o)) same in cc
 
 -- what is listed as settled is settled
 pub listed-settled : (fates : Fates) (n : ℕ) (settled : List (Option Segment)) → IsSettledBelow fates n settled → (i : ℕ) → i < n → IsSome (map.get fates i)

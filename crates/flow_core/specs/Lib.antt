@@ -6,3 +6,4 @@ pub mod Counts
 pub mod Stands
 pub mod Setup
 pub mod Flows
+pub mod Losses

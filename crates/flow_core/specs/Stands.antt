@@ -51,19 +51,25 @@ pub record StandsFor (check : List ℕ → Bool) (flow_record : FlowRecord) (flo
 abbrev pub IsDrained : Flow → Type 0
 IsDrained flow = held_at flow.window flow.window.expected ≡ None
 
--- Whatever events a flow stood for, it stands for them with this one at the end, answered so, and has given the same frames.
+-- each index from n up to, not including, m was declared lost
+abbrev pub AreLost : Fates → ℕ → ℕ → Type 0
+AreLost fates n m = (i : ℕ) → n ≤ i → i < m → IsLost fates i
+
+-- Whatever events a flow stood for, it stands for them with this one at the end, answered so, and has given the same frames. No segment was
+-- joined: it has come further by losses alone.
 abbrev pub TakesEvent : Flow → FlowEvent → Applied → Flow → Type 0
 TakesEvent flow event answer after =
     (check : List ℕ → Bool) (flow_record : FlowRecord) (events : List FlowEvent) (answers : List Applied) (y : ℕ) (given : List (List ℕ))
     → StandsFor check flow_record flow events answers y given
-    → (z : ℕ) × StandsFor check flow_record after (events ++ event ∷ []) (answers ++ answer ∷ []) z given
+    → (z : ℕ) × (stands : StandsFor check flow_record after (events ++ event ∷ []) (answers ++ answer ∷ []) z given) × AreLost stands.fates y z
 
--- Whatever events a flow stood for, it still stands for them, has come further, and has given these frames more.
+-- Whatever events a flow stood for, it still stands for them, and has given these frames more. One segment was joined, that of the index to
+-- which it had come; from there on it has come further by losses alone.
 abbrev pub Gives : (List ℕ → Bool) → Flow → List (List ℕ) → Flow → Type 0
 Gives check flow frames after =
     (flow_record : FlowRecord) (events : List FlowEvent) (answers : List Applied) (y : ℕ) (given : List (List ℕ))
     → StandsFor check flow_record flow events answers y given
-    → (z : ℕ) × (y < z) × StandsFor check flow_record after events answers z (given ++ frames)
+    → (z : ℕ) × (y < z) × (stands : StandsFor check flow_record after events answers z (given ++ frames)) × AreLost stands.fates (y + 1) z
 
 -- What a step answers, and what becomes of the flow: a segment was next, and these frames were given; or none was, and nothing changed.
 abbrev pub Advances : (List ℕ → Bool) → Flow → Step → Flow → Type 0

@@ -1,11 +1,15 @@
 //! One service flow: its window, its joiner, its counts.
-ghost use Rattle.std.specs.Prelude.{◌≡◌, ◌<◌, ◌↔◌, ℕ, Bool, List, [], IsTrue, IfOk, OnErr};
+ghost use Rattle.std.specs.Prelude.{◌≡◌, ◌<◌, ◌↔◌, ℕ, Bool, List, [], IsTrue, Ok, IfOk, OnErr};
 ghost use Rattle.docsis_wire.specs.Limits.{sequence_modulus};
 ghost use Rattle.docsis_wire.specs.Ready.{IsReady};
 ghost use Rattle.flow_core.specs.Setup.{IsInRange};
 ghost use Rattle.flow_core.specs.Events.{arrives, gap, gap_to};
+ghost use Rattle.reorder.specs.View.{IsLawful};
+ghost use Rattle.reorder.specs.Answers.{declared_count};
+ghost use Rattle.flow_core.specs.Losses.{after_losses, after_declaring, GoesOn};
 ghost use Rattle.flow_core.specs.Stands.{StandsFor, IsDrained, TakesEvent, Advances};
 ghost use Rattle.flow_core.specs.declared.event.Applied.{Applied};
+ghost use Rattle.flow_core.specs.declared.event.Step.{Step};
 
 use crate::counts::FlowCounts;
 use crate::event::Step;
@@ -14,7 +18,7 @@ use crate::record::FlowRecord;
 use crate::sequence::SequenceNumber;
 use ccf::Joiner;
 use docsis_wire::{HeaderCheck, Segment};
-use reorder::{Declared, Verdict, Window};
+use reorder::{Declared, Verdict, Window, laws};
 use std::alloc::{AllocError, Global};
 
 /// One service flow.
@@ -90,8 +94,8 @@ impl Flow {
         requires number { number < sequence_modulus }
         ensures { TakesEvent self.old (gap_to number) (Applied.DecisionTo result) self.new }
     {
-        let count = self.window.declare_to(number);
-        self.lose(count);
+        laws::declare_to_stops_at_number_or_held::<ReadySegment>();
+        let count = self.declare_to(number);
         if count > 0 && self.window.expected() != number {
             self.declared_to = Some(SequenceNumber { number });
         }
@@ -102,8 +106,10 @@ impl Flow {
     pub fn advance<C: HeaderCheck>(&mut self, alloc: Global, check: &C) -> Result<Step, AllocError>
         ensures step { IfOk result
             (λ step. Advances (C.accepts check.now) self.old step self.new) }
+        ensures nothing { result ≡ Ok Step.Nothing ↔ IsDrained self.old }
         ensures refused { OnErr result (self.new ≡ self.old) }
     {
+        laws::declare_to_stops_at_number_or_held::<ReadySegment>();
         let Some(ready) = self.window.next() else {
             return Ok(Step::Nothing);
         };
@@ -116,19 +122,36 @@ impl Flow {
     }
 
     /// Declares on up to the remembered number, and forgets it once it is reached.
-    fn go_on_declaring(&mut self) {
+    fn go_on_declaring(&mut self)
+        ensures after { GoesOn self.old.declared_to self.old self.new }
+        ensures lawful { IsLawful self.old.window → IsLawful self.new.window }
+    {
         let Some(SequenceNumber { number }) = self.declared_to else {
             return;
         };
-        let count = self.window.declare_to(number);
-        self.lose(count);
+        self.declare_to(number);
         if self.window.held() == 0 || self.window.expected() == number {
             self.declared_to = None;
         }
     }
 
+    /// Declares lost what isn't held before this number and before the next held one, and answers
+    /// how many numbers that is.
+    fn declare_to(&mut self, number: u16) -> u16
+        requires { number < sequence_modulus }
+        ensures count { result ≡ declared_count self.old.window number }
+        ensures after { self.new ≡ after_declaring number self.old }
+        ensures lawful { IsLawful self.new.window }
+    {
+        let count = self.window.declare_to(number);
+        self.lose(count);
+        count
+    }
+
     /// Counts declared losses, and drops what is unfinished.
-    fn lose(&mut self, count: u16) {
+    fn lose(&mut self, count: u16)
+        ensures { self.new ≡ after_losses count self.old }
+    {
         if count > 0 {
             self.counts.lost = self.counts.lost.saturating_add(u64::from(count));
             let dropped = self.joiner.gap();

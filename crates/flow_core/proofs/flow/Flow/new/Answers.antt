@@ -1,0 +1,4 @@
+use Rattle.flow_core.proofs.flow.Flow.new.Goals as goal
+
+pub returns : goal.returns
+returns c = ?
