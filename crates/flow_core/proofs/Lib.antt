@@ -1,3 +1,7 @@
 pub mod Deciding
 pub mod Outcome
 pub mod OneOutcome
+pub mod Nearness
+pub mod Deliveries
+pub mod Growth
+pub mod Standing

@@ -21,7 +21,7 @@ pub record IsSound (width : ℕ) (fates : Fates) (x : ℕ) : Type 0 where
   pub kept_within : (i : ℕ) → IsKept fates i → i < x + width
 
 -- an open index is not settled
-open_and_settled : (fates : Fates) (i : ℕ) → IsOpen fates i → IsSome (map.get fates i) → ⊥
+pub open_and_settled : (fates : Fates) (i : ℕ) → IsOpen fates i → IsSome (map.get fates i) → ⊥
 open_and_settled fates i free settled = false≢true (sym (ap is_some free) ∙ settled)
 
 -- there is one expected index
