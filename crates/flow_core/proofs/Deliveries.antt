@@ -1,5 +1,5 @@
 -- Which frames are delivered: the frames that settled segments join to, and how they grow.
-use Rattle.std.proofs.Common.{◌≡◌, ℕ, ◌+◌, ◌-◌, ◌<◌, ◌≤◌, ◌⊎◌, inl, inr, Bool, IsSome, Option, Some, None, List, [], ◌∷◌, ◌++◌, length, slice_get, refl, ap, sym, subst, ◌∙◌, zero-add, arith}
+use Rattle.std.proofs.Common.{◌≡◌, ℕ, ◌+◌, ◌-◌, ◌<◌, ◌≤◌, inl, inr, Bool, IsSome, Option, Some, List, [], ◌∷◌, ◌++◌, length, slice_get, ap, sym, ◌∙◌, zero-add, arith}
 use Rattle.std.specs.List.{AllByRecursion}
 use Rattle.std.proofs.lemmas.Bool.{cases_lt}
 use Rattle.std.proofs.lemmas.Option.{slice_get_within}
@@ -13,7 +13,7 @@ use Rattle.docsis_wire.proofs.Places.{each_generic, place_of-le, place_of-lt, pi
 use Rattle.docsis_wire.proofs.Spans.{IsInSpan-begins, IsInSpan-by_places}
 use Rattle.ccf.specs.Filter.{FiltersFrom, FiltersTo}
 use Rattle.ccf.proofs.Filters.{FiltersFrom-none, FiltersFrom-same, FiltersFrom-once}
-use Rattle.flow_core.specs.Fates.{Fates, IsKept, IsSettledBelow}
+use Rattle.flow_core.specs.Fates.{Fates, IsSettledBelow}
 use Rattle.flow_core.specs.Delivery.{IsDelivered}
 use Rattle.flow_core.proofs.Deciding.{open_or_settled}
 use Rattle.flow_core.proofs.Outcome.{open_and_settled}

@@ -1,7 +1,6 @@
 -- Every list of events has one outcome.
-use Rattle.std.proofs.Common.{◌≡◌, ℕ, ◌+◌, ◌<◌, ◌≤◌, ◌⊎◌, inl, inr, Bool, true, false, IsTrue, Option, Some, None, List, [], ◌∷◌, ◌++◌, refl, ap, sym, subst, ◌∙◌, arith}
-use Rattle.std.proofs.lemmas.Bool.{cases_lt, false≢true}
-use Rattle.std.specs.Ordering.{nat_cmp}
+use Rattle.std.proofs.Common.{◌≡◌, ℕ, ◌+◌, inl, inr, Bool, true, false, IsTrue, Some, None, List, [], ◌∷◌, refl, ap, sym, subst, ◌∙◌, arith}
+use Rattle.std.proofs.lemmas.Bool.{cases_lt}
 use Rattle.std.specs.Cmp.{nat_cmp_total}
 use Rattle.std.specs.FinMap.{nat_cmp-IsAntisymmetric}
 use Rattle.std.specs.FinMap as map
@@ -13,7 +12,7 @@ use Rattle.reorder.specs.declared.answer.Declared.TheVariants.{NextIsHere, Nothi
 use Rattle.flow_core.specs.declared.event.Applied.{Applied}
 use Rattle.flow_core.specs.declared.event.Applied.TheVariants.{Arrival, Decision, DecisionTo}
 use Rattle.flow_core.specs.Fates.{Fates, no_fates, number_of, IsKept, IsExpected}
-use Rattle.flow_core.specs.Events.{FlowEvent, arrives, gap, gap_to, IsAhead, IsVerdictOn, Keeps, Declares, IsDeclaredTo, DeclaresTo, Changes, Leads, IsAfter}
+use Rattle.flow_core.specs.Events.{FlowEvent, arrives, gap, gap_to, IsVerdictOn, Keeps, Declares, IsDeclaredTo, DeclaresTo, Changes, Leads, IsAfter}
 use Rattle.flow_core.proofs.Deciding.{IsKept-decided, IsMissed-decided, IsAhead-once, ahead_or_behind, IsDeclaredTo-decided}
 use Rattle.flow_core.proofs.Outcome.{IsSound, expected-unique, sound-changes, sound-none, declared-to}
 
@@ -119,15 +118,14 @@ same_test P false false to from to' from' = refl
 
 DeclaresTo-once : (first width x number : ℕ) (fates after other : Fates) (a b : Bool) → IsSound width fates x
     → DeclaresTo first x number a fates after → DeclaresTo first x number b fates other → (a ≡ b) × (after ≡ other)
-DeclaresTo-once first width x number fates after other a b sound p q =
-    (
-      same_test ((i : ℕ) × IsDeclaredTo first x number fates i) a b p.answer.0 p.answer.1 q.answer.0 q.answer.1,
-      map.same_map nat_cmp_total nat_cmp-IsAntisymmetric after other (λ i.
+DeclaresTo-once first width x number fates after other a b sound p q = (
+  same_test ((i : ℕ) × IsDeclaredTo first x number fates i) a b p.answer.0 p.answer.1 q.answer.0 q.answer.1,
+  map.same_map nat_cmp_total nat_cmp-IsAntisymmetric after other (λ i.
       elim (IsDeclaredTo-decided first x number fates (x + width) i sound.kept_within) [
         | inl declared ↦ p.lost i declared ∙ sym (q.lost i declared)
         | inr not_so ↦ p.others i not_so ∙ sym (q.others i not_so)
       ]),
-    )
+)
 
 -- each event is answered in one way, and changes fates in one way
 Changes-once : (first width x : ℕ) (event : FlowEvent) (a b : Applied) (fates after other : Fates) → IsSound width fates x

@@ -1,7 +1,9 @@
 -- What follows for a flow from the events that it stands for.
-use Rattle.std.proofs.Common.{◌≡◌, ℕ, ◌+◌, ◌<◌, ◌≤◌, ◌⊎◌, inl, inr, Bool, Option, Some, None, List, [], ◌++◌, length, refl, ap, sym, subst, ◌∙◌, arith}
+use Rattle.std.proofs.Common.{◌≡◌, ℕ, ◌≤◌, inl, inr, Bool, Option, Some, None, List, ◌++◌, refl, ap, sym, subst, ◌∙◌, arith}
+use Rattle.std.specs.List.{AllByRecursion}
 use Rattle.std.specs.Option.{option_map, option_flatten}
 use Rattle.docsis_wire.specs.declared.segment.Segment.{Segment}
+use Rattle.docsis_wire.specs.Frame.{IsFrame}
 use Rattle.docsis_wire.specs.Cut.{IsLawfulCut}
 use Rattle.docsis_wire.specs.Span.{IsSettledOf}
 use Rattle.ccf.specs.Filter.{FiltersTo}
@@ -17,7 +19,7 @@ use Rattle.flow_core.specs.Delivery.{IsDelivered, IsDeliverySequence}
 use Rattle.flow_core.specs.Stands.{StandsFor, IsDrained}
 use Rattle.flow_core.proofs.Outcome.{expected-unique, sound-after}
 use Rattle.flow_core.proofs.OneOutcome.{after-once}
-use Rattle.flow_core.proofs.Nearness.{AreNumbered, AreOfIndex, numbered_of_cut, of_index-after, expected-within}
+use Rattle.flow_core.proofs.Nearness.{AreOfIndex, numbered_of_cut, of_index-after, expected-within}
 use Rattle.flow_core.proofs.Deliveries.{delivered_is_front}
 
 -- where nothing is mapped, nothing is there
@@ -73,16 +75,17 @@ module _ (check : List ℕ → Bool) (flow_record : FlowRecord) (flow : Flow) (e
           kept = λ i segment at. of_index i segment (s.below.each i (Some segment) at);
         }
 
-    module _ (filters : FiltersTo (IsDelivered frames chunks s.fates y) frames given) (fates : Fates)
-        (is : IsAfter flow_record.first flow_record.window events answers fates) where
-      -- what a drained flow gave is the delivery sequence
-      pub drained_sequence : IsDrained flow → IsDeliverySequence frames chunks fates given
-      drained_sequence drained =
-          subst (λ (f : Fates). IsDeliverySequence frames chunks f given) (same_fates fates is) (y, expected_of_drained drained, filters)
+  module _ (frames chunks : List (List ℕ)) (fates : Fates) (is : IsAfter flow_record.first flow_record.window events answers fates)
+      (filters : FiltersTo (IsDelivered frames chunks s.fates y) frames given) where
+    -- what a drained flow gave is the delivery sequence
+    pub drained_sequence : IsDrained flow → IsDeliverySequence frames chunks fates given
+    drained_sequence drained =
+        subst (λ (f : Fates). IsDeliverySequence frames chunks f given) (same_fates fates is) (y, expected_of_drained drained, filters)
 
-      -- and what any flow gave is a front of it
-      pub front_of_sequence : (sequence : List (List ℕ)) → IsDeliverySequence frames chunks fates sequence → (rest : List (List ℕ)) × (sequence ≡ given ++ rest)
-      front_of_sequence sequence delivered =
-          let all = subst (λ (f : Fates). IsDeliverySequence frames chunks f sequence) (sym (same_fates fates is)) delivered in
-          let further = onward all.0 all.1 in
-          delivered_is_front check frames chunks s.fates s.fates y all.0 given sequence cut.each further (λ i below. all.1.settled i (omega arith)) (λ i fate at. at) filters all.2
+    -- and what any flow gave is a front of it
+    pub front_of_sequence : AllByRecursion (IsFrame check) frames → (sequence : List (List ℕ)) → IsDeliverySequence frames chunks fates sequence
+        → (rest : List (List ℕ)) × (sequence ≡ given ++ rest)
+    front_of_sequence each sequence delivered =
+        let all = subst (λ (f : Fates). IsDeliverySequence frames chunks f sequence) (sym (same_fates fates is)) delivered in
+        let further = onward all.0 all.1 in
+        delivered_is_front check frames chunks s.fates s.fates y all.0 given sequence each further (λ i below. all.1.settled i (omega arith)) (λ i fate at. at) filters all.2
