@@ -4,4 +4,4 @@ pub mod OneOutcome
 pub mod Nearness
 pub mod Deliveries
 pub mod Growth
-pub mod Standing
+pub mod Giving

@@ -1,6 +1,6 @@
 use Rattle.std.proofs.Common.{sym, subst}
 use Rattle.flow_core.specs.Fates.{Fates, IsExpected}
-use Rattle.flow_core.proofs.Standing.{same_fates, expected_of_drained, drained_of_expected}
+use Rattle.flow_core.proofs.Giving.{same_fates, expected_of_drained, drained_of_expected}
 use Rattle.flow_core.proofs.laws.drained_flow_has_come_to_its_expected_index.Goals as goal
 
 pub returns : goal.returns

@@ -1,4 +1,4 @@
-use Rattle.flow_core.proofs.Standing.{settled_of_cut, drained_sequence, front_of_sequence}
+use Rattle.flow_core.proofs.Giving.{settled_of_cut, drained_sequence, front_of_sequence}
 use Rattle.flow_core.proofs.laws.flow_gives_the_delivery_sequence.Goals as goal
 
 pub returns-clause-drained : goal.returns-clause-drained
