@@ -1,5 +1,10 @@
 pub mod Deciding
 pub mod Outcome
+pub mod OneOutcome
+pub mod Nearness
+pub mod Deliveries
+pub mod Growth
+pub mod Giving
 pub mod Numbers
 pub mod Windows
 pub mod Counting

@@ -1,5 +1,5 @@
 -- What events make of a flow's fates: what is known after every list of them.
-use Rattle.std.proofs.Common.{◌≡◌, ℕ, zero, suc, ◌+◌, ◌<◌, ◌≤◌, ◌⊎◌, inl, inr, Bool, true, false, IsSome, is_some, IsTrue, Option, Some, None, List, [], ◌∷◌, ◌++◌, refl, ap, sym, subst, ◌∙◌, arith}
+use Rattle.std.proofs.Common.{◌≡◌, ℕ, zero, suc, ◌+◌, ◌<◌, ◌≤◌, inl, inr, Bool, true, false, IsSome, is_some, Option, Some, None, List, [], ◌∷◌, ◌++◌, refl, ap, sym, subst, ◌∙◌, arith}
 use Rattle.std.proofs.lemmas.Bool.{cases_eq, cases_lt, cases_order, false≢true}
 use Rattle.std.specs.Ordering.{nat_cmp}
 use Rattle.std.specs.FinMap as map
@@ -10,7 +10,7 @@ use Rattle.reorder.proofs.Items.{get-insert_same, get-insert_other}
 use Rattle.flow_core.specs.declared.event.Applied.{Applied}
 use Rattle.flow_core.specs.declared.event.Applied.TheVariants.{Arrival, Decision, DecisionTo}
 use Rattle.flow_core.specs.Fates.{Fates, no_fates, IsKept, IsLost, IsOpen, IsExpected, IsMissed}
-use Rattle.flow_core.specs.Events.{FlowEvent, arrives, gap, gap_to, IsAhead, IsDeclaredTo, Changes, DeclaresTo, Leads, IsAfter}
+use Rattle.flow_core.specs.Events.{FlowEvent, arrives, gap, gap_to, IsDeclaredTo, Changes, DeclaresTo, Leads, IsAfter}
 use Rattle.flow_core.proofs.Deciding.{Decided, found-below, open_or_settled, IsDeclaredTo-decided, marked-lost}
 
 -- what holds after every list of events, where x is the expected index
@@ -21,7 +21,7 @@ pub record IsSound (width : ℕ) (fates : Fates) (x : ℕ) : Type 0 where
   pub kept_within : (i : ℕ) → IsKept fates i → i < x + width
 
 -- an open index is not settled
-open_and_settled : (fates : Fates) (i : ℕ) → IsOpen fates i → IsSome (map.get fates i) → ⊥
+pub open_and_settled : (fates : Fates) (i : ℕ) → IsOpen fates i → IsSome (map.get fates i) → ⊥
 open_and_settled fates i free settled = false≢true (sym (ap is_some free) ∙ settled)
 
 -- there is one expected index

@@ -42,7 +42,9 @@ pub fn settled_segments_join_to_the_delivered_frames()
         → IsLawfulCut check frames first fill chunks segments → IsSettledOf segments settled
         → IsSettledBelow fates n settled → Joins check [] settled joined unfinished
         → FiltersTo (IsDelivered frames chunks fates n) frames joined }
-{}
+{
+    ccf::laws::settled_list_joins_to_the_frames_wholly_kept();
+}
 
 /// The delivery sequence after some events is the front of what it is after more of them.
 pub fn delivery_sequence_only_grows()
@@ -57,9 +59,11 @@ pub fn delivery_sequence_only_grows()
         → (rest : List (List ℕ)) × (grown ≡ given ++ rest) }
 {}
 
-/// Over a cut of at most 4,096 segments every list of events is near.
+/// Over a lawful cut of at most 4,096 segments every list of events is near.
 pub fn events_of_a_short_cut_are_near()
-    ensures { (first width : ℕ) (segments : List Segment) (events : List FlowEvent)
+    ensures { (check : List ℕ → Bool) (frames chunks : List (List ℕ)) (first fill width : ℕ)
+        (segments : List Segment) (events : List FlowEvent)
+        → IsLawfulCut check frames first fill chunks segments
         → length segments ≤ 4096 → AreOfCut segments events
         → AreNear first width segments events }
 {}
@@ -100,4 +104,6 @@ pub fn flow_gives_the_delivery_sequence()
         → IsAfter flow_record.first flow_record.window events answers fates
         → IsDeliverySequence frames chunks fates sequence
         → (rest : List (List ℕ)) × (sequence ≡ given ++ rest) }
-{}
+{
+    settled_segments_join_to_the_delivered_frames();
+}
