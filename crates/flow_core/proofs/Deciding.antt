@@ -4,7 +4,7 @@ use Rattle.std.proofs.lemmas.Bool.{cases_eq, cases_lt}
 use Rattle.std.specs.FinMap as map
 use Rattle.docsis_wire.specs.declared.segment.Segment.{Segment}
 use Rattle.reorder.proofs.Items.{get-insert_same, get-insert_other}
-use Rattle.flow_core.specs.Fates.{Fates, IsKept, IsOpen, IsMissed, number_of}
+use Rattle.flow_core.specs.Fates.{Fates, IsKept, IsOpen, HasLaterKept, number_of}
 use Rattle.flow_core.specs.Events.{IsAhead, IsDeclaredTo}
 
 -- a fact that holds or does not
@@ -52,12 +52,12 @@ kept_or_not (Some (Some segment)) = inl (segment, refl)
 pub IsKept-decided : (fates : Fates) (i : ℕ) → Decided (IsKept fates i)
 IsKept-decided fates i = kept_or_not (map.get fates i)
 
--- an index is missed or not, where no segment from a bound on was kept
-pub IsMissed-decided : (fates : Fates) (bound i : ℕ) → ((j : ℕ) → IsKept fates j → j < bound) → Decided (IsMissed fates i)
-IsMissed-decided fates bound i within =
+-- an index is later_kept or not, where no segment from a bound on was kept
+pub HasLaterKept-decided : (fates : Fates) (bound i : ℕ) → ((j : ℕ) → IsKept fates j → j < bound) → Decided (HasLaterKept fates i)
+HasLaterKept-decided fates bound i within =
     elim (found-below (λ j. (i < j) × IsKept fates j) (λ j. both (i < j) (IsKept fates j) (below-decided i j) (IsKept-decided fates j)) bound) [
       | inl h ↦ inl (h.0, h.2.0, h.2.1)
-      | inr none ↦ inr (λ missed. none missed.0 (within missed.0 missed.2) (missed.1, missed.2))
+      | inr none ↦ inr (λ later_kept. none later_kept.0 (within later_kept.0 later_kept.2) (later_kept.1, later_kept.2))
     ]
 
 -- a number has one index ahead
@@ -96,9 +96,9 @@ IsDeclaredTo-decided first x number fates bound i within =
           | inr not_so ↦ inr (λ declared. not_so (subst (λ e. i < e) (IsAhead-once first x number declared.end end.0 declared.ahead end.1) declared.before))
           | inl before ↦ elim (IsOpen-decided fates i) [
             | inr not_so ↦ inr (λ declared. not_so declared.open_itself)
-            | inl free ↦ elim (IsMissed-decided fates bound i within) [
-              | inr not_so ↦ inr (λ declared. not_so declared.missed)
-              | inl missed ↦ inl record { end = end.0; ahead = end.1; from = from; before = before; open_itself = free; missed = missed }
+            | inl free ↦ elim (HasLaterKept-decided fates bound i within) [
+              | inr not_so ↦ inr (λ declared. not_so declared.later_kept)
+              | inl later_kept ↦ inl record { end = end.0; ahead = end.1; from = from; before = before; open_itself = free; later_kept = later_kept }
             ]
           ]
         ]

@@ -84,7 +84,7 @@ counts-losses : (answers : List Applied) (n : ℕ) (settled : List (Option Segme
 counts-losses answers n settled given unfinished counts are =
     let balance = are.balance in
     let losses = sum_by-append (λ fate. cond {A = ℕ} (not (is_some fate)) 1 0) settled (replicate n None) in
-    let each = sum_by-replicate (λ fate. cond {A = ℕ} (not (is_some fate)) 1 0) n (None {T = Segment}) in
+    let each = sum_by-replicate (λ fate. cond {A = ℕ} (not (is_some fate)) 1 0) n None in
     let bytes = sum_by-append payload_bytes settled (replicate n None) in
     let none = sum_by-replicate payload_bytes n None in
     let lost = are.lost in

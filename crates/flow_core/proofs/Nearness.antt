@@ -121,8 +121,8 @@ expected-within width x segments fates sound of_index =
         | inl free ↦ absurd (open_and_settled fates n free (sound.expected.settled n below))
         | inr (Some segment, is) ↦ absurd (omega (arith, slice_get_within segments n segment (of_index n segment is)))
         | inr (None, is) ↦
-            let missed = sound.lost_missed n is in
-            absurd (omega (arith, missed.1, slice_get_within segments missed.0 missed.2.0 (of_index missed.0 missed.2.0 missed.2.1)))
+            let later_kept = sound.lost_have_later n is in
+            absurd (omega (arith, later_kept.1, slice_get_within segments later_kept.0 later_kept.2.0 (of_index later_kept.0 later_kept.2.0 later_kept.2.1)))
       ]
     ]
 

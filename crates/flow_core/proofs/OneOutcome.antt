@@ -13,7 +13,7 @@ use Rattle.flow_core.specs.declared.event.Applied.{Applied}
 use Rattle.flow_core.specs.declared.event.Applied.TheVariants.{Arrival, Decision, DecisionTo}
 use Rattle.flow_core.specs.Fates.{Fates, no_fates, number_of, IsKept, IsExpected}
 use Rattle.flow_core.specs.Events.{FlowEvent, arrives, gap, gap_to, IsVerdictOn, Keeps, Declares, IsDeclaredTo, DeclaresTo, Changes, Leads, IsAfter}
-use Rattle.flow_core.proofs.Deciding.{IsKept-decided, IsMissed-decided, IsAhead-once, ahead_or_behind, IsDeclaredTo-decided}
+use Rattle.flow_core.proofs.Deciding.{IsKept-decided, HasLaterKept-decided, IsAhead-once, ahead_or_behind, IsDeclaredTo-decided}
 use Rattle.flow_core.proofs.Outcome.{IsSound, expected-unique, sound-changes, sound-none, declared-to}
 
 -- a segment that arrives is answered
@@ -43,8 +43,8 @@ changes-exists first width x (arrives segment) fates sound =
     let found = verdict-exists first width x fates segment in
     (Arrival found.0, found.1, (found.2, found.3))
 changes-exists first width x gap fates sound =
-    elim (IsMissed-decided fates (x + width) x sound.kept_within) [
-      | inl missed ↦ (Decision (Lost (number_of first x)), map.insert fates x None, (missed, refl, refl))
+    elim (HasLaterKept-decided fates (x + width) x sound.kept_within) [
+      | inl later_kept ↦ (Decision (Lost (number_of first x)), map.insert fates x None, (later_kept, refl, refl))
       | inr none ↦ (Decision NothingHeld, fates, (none, refl))
     ]
 changes-exists first width x (gap_to number) fates sound =

@@ -9,7 +9,7 @@ use Rattle.reorder.specs.declared.answer.Declared.TheVariants.{NextIsHere, Nothi
 use Rattle.reorder.proofs.Items.{get-insert_same, get-insert_other}
 use Rattle.flow_core.specs.declared.event.Applied.{Applied}
 use Rattle.flow_core.specs.declared.event.Applied.TheVariants.{Arrival, Decision, DecisionTo}
-use Rattle.flow_core.specs.Fates.{Fates, no_fates, IsKept, IsLost, IsOpen, IsExpected, IsMissed}
+use Rattle.flow_core.specs.Fates.{Fates, no_fates, IsKept, IsLost, IsOpen, IsExpected, HasLaterKept}
 use Rattle.flow_core.specs.Events.{FlowEvent, arrives, gap, gap_to, IsDeclaredTo, Changes, DeclaresTo, Leads, IsAfter}
 use Rattle.flow_core.proofs.Deciding.{Decided, found-below, open_or_settled, IsDeclaredTo-decided, marked-lost}
 
@@ -17,7 +17,7 @@ use Rattle.flow_core.proofs.Deciding.{Decided, found-below, open_or_settled, IsD
 pub record IsSound (width : ℕ) (fates : Fates) (x : ℕ) : Type 0 where
   pub expected : IsExpected fates x
   pub lost_below : (i : ℕ) → IsLost fates i → i < x
-  pub lost_missed : (i : ℕ) → IsLost fates i → IsMissed fates i
+  pub lost_have_later : (i : ℕ) → IsLost fates i → HasLaterKept fates i
   pub kept_within : (i : ℕ) → IsKept fates i → i < x + width
 
 -- an open index is not settled
@@ -55,7 +55,7 @@ expected-exists fates bound open_from = expected-from fates bound 0 bound (omega
 record Grows (width x : ℕ) (fates after : Fates) : Type 0 where
   stays : (i : ℕ) (fate : Option Segment) → map.get fates i ≡ Some fate → map.get after i ≡ Some fate
   lost : (i j : ℕ) → IsLost after i → j ≤ i → IsSome (map.get after j)
-  missed : (i : ℕ) → IsLost after i → IsMissed after i
+  later_kept : (i : ℕ) → IsLost after i → HasLaterKept after i
   within : (i : ℕ) → IsKept after i → i < x + width
 
 -- nothing that was settled is open after
@@ -71,7 +71,7 @@ open-behind : (width x : ℕ) (fates after : Fates) → Grows width x fates afte
 open-behind width x fates after grows i from =
     elim (open_or_settled after i) [
       | inl free ↦ free
-      | inr (None, is) ↦ let missed = grows.missed i is in let near = grows.within missed.0 missed.2 in absurd (omega (arith, missed.1))
+      | inr (None, is) ↦ let later_kept = grows.later_kept i is in let near = grows.within later_kept.0 later_kept.2 in absurd (omega (arith, later_kept.1))
       | inr (Some segment, is) ↦ let near = grows.within i (segment, is) in absurd (omega arith)
     ]
 
@@ -89,7 +89,7 @@ Grows-sound width x fates after sound grows =
       record {
         expected = is;
         lost_below = λ i lost. elim (cases_lt i y) [ inl below ↦ below | inr from ↦ absurd (open_and_settled after y is.open_itself (grows.lost i y lost from)) ];
-        lost_missed = grows.missed;
+        lost_have_later = grows.later_kept;
         kept_within = λ i kept. let near = grows.within i kept in omega arith;
       },
     )
@@ -99,7 +99,7 @@ Grows-same : (width x : ℕ) (fates : Fates) → IsSound width fates x → Grows
 Grows-same width x fates sound = record {
   stays = λ i fate is. is;
   lost = λ i j lost up_to. sound.expected.settled j (let below = sound.lost_below i lost in omega arith);
-  missed = sound.lost_missed;
+  later_kept = sound.lost_have_later;
   within = sound.kept_within;
 }
 
@@ -142,7 +142,7 @@ Grows-keeps width x i fates segment sound from to not_so =
             | inl none ↦ absurd (open_and_settled fates k none (sound.expected.settled k (omega arith)))
             | inr fate ↦ ap is_some (stays k fate.0 fate.1)
           ];
-      missed = λ j lost. let missed = sound.lost_missed j (before j lost) in (missed.0, missed.1, kept-insert fates i missed.0 (Some segment) free missed.2);
+      later_kept = λ j lost. let later_kept = sound.lost_have_later j (before j lost) in (later_kept.0, later_kept.1, kept-insert fates i later_kept.0 (Some segment) free later_kept.2);
       within = λ j kept. elim (cases_eq j i) [
         | inl same ↦ omega arith
         | inr differ ↦ sound.kept_within j (kept.0, sym (get-insert_other fates i (Some segment) j differ) ∙ kept.1)
@@ -155,7 +155,7 @@ record Loses (x : ℕ) (fates after : Fates) (P : ℕ → Type 0) : Type 0 where
   lost : (i : ℕ) → P i → map.get after i ≡ Some None
   others : (i : ℕ) → (P i → ⊥) → map.get after i ≡ map.get fates i
   free : (i : ℕ) → P i → IsOpen fates i
-  missed : (i : ℕ) → P i → IsMissed fates i
+  later_kept : (i : ℕ) → P i → HasLaterKept fates i
   down : (i j : ℕ) → P i → x ≤ j → j ≤ i → IsOpen fates j → P j
 
 Loses-stays : (x : ℕ) (fates after : Fates) (P : ℕ → Type 0) → Loses x fates after P → (i : ℕ) (fate : Option Segment) → map.get fates i ≡ Some fate
@@ -173,7 +173,7 @@ Grows-loses width x fates after P sound loses =
       | inl none ↦ absurd (open_and_settled fates j none h)
       | inr fate ↦ ap is_some (stays j fate.0 fate.1)
     ] in
-    let still : (i : ℕ) → IsMissed fates i → IsMissed after i = λ i missed. (missed.0, missed.1, (missed.2.0, stays missed.0 (Some missed.2.0) missed.2.1)) in
+    let still : (i : ℕ) → HasLaterKept fates i → HasLaterKept after i = λ i later_kept. (later_kept.0, later_kept.1, (later_kept.2.0, stays later_kept.0 (Some later_kept.2.0) later_kept.2.1)) in
     record {
       stays = stays;
       lost = λ i j lost up_to. elim (cases_lt j x) [
@@ -186,21 +186,21 @@ Grows-loses width x fates after P sound loses =
           | inr not_so ↦ let below = sound.lost_below i (sym (loses.others i not_so) ∙ lost) in absurd (omega arith)
         ]
       ];
-      missed = λ i lost. elim (loses.decide i) [
-        | inl p ↦ still i (loses.missed i p)
-        | inr not_so ↦ still i (sound.lost_missed i (sym (loses.others i not_so) ∙ lost))
+      later_kept = λ i lost. elim (loses.decide i) [
+        | inl p ↦ still i (loses.later_kept i p)
+        | inr not_so ↦ still i (sound.lost_have_later i (sym (loses.others i not_so) ∙ lost))
       ];
       within = λ i kept. sound.kept_within i (Loses-kept x fates after P loses i kept);
     }
 
 -- the expected index is declared lost
-Loses-gap : (width x : ℕ) (fates : Fates) → IsSound width fates x → IsMissed fates x → Loses x fates (map.insert fates x None) (λ i. i ≡ x)
-Loses-gap width x fates sound missed = record {
+Loses-gap : (width x : ℕ) (fates : Fates) → IsSound width fates x → HasLaterKept fates x → Loses x fates (map.insert fates x None) (λ i. i ≡ x)
+Loses-gap width x fates sound later_kept = record {
   decide = λ i. cases_eq i x;
   lost = λ i same. ap (map.get (map.insert fates x None)) same ∙ get-insert_same fates x None;
   others = λ i differ. get-insert_other fates x None i differ;
   free = λ i same. ap (map.get fates) same ∙ sound.expected.open_itself;
-  missed = λ i same. subst (IsMissed fates) (sym same) missed;
+  later_kept = λ i same. subst (HasLaterKept fates) (sym same) later_kept;
   down = λ i j same from up_to free. omega arith;
 }
 
@@ -212,14 +212,14 @@ Loses-gap_to first width x number declared fates after sound declares = record {
   lost = declares.lost;
   others = declares.others;
   free = λ i p. p.open_itself;
-  missed = λ i p. p.missed;
+  later_kept = λ i p. p.later_kept;
   down = λ i j p from up_to free. record {
     end = p.end;
     ahead = p.ahead;
     from = from;
     before = omega arith;
     open_itself = free;
-    missed = (p.missed.0, omega (arith, p.missed.1), p.missed.2);
+    later_kept = (p.later_kept.0, omega (arith, p.later_kept.1), p.later_kept.2);
   };
 }
 
@@ -269,7 +269,7 @@ sound-none width =
     record {
       expected = record { open_itself = free 0; settled = λ i below. absurd (omega arith) };
       lost_below = λ i lost. let none = free i in absurd cc;
-      lost_missed = λ i lost. let none = free i in absurd cc;
+      lost_have_later = λ i lost. let none = free i in absurd cc;
       kept_within = λ i kept. let none = free i in let is = kept.1 in absurd cc;
     }
 

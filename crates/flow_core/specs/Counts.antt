@@ -33,8 +33,8 @@ abbrev pub payload_bytes : Option Segment → ℕ
 payload_bytes (Some segment) = length segment.payload
 payload_bytes None = 0
 
--- The counts of a flow whose events had these answers, of which this is settled and joined, and which gave these frames and left these
--- bytes unfinished. The bytes of the settled segments were given in frames, are unfinished, or were skipped.
+-- The counts of a flow whose events had these answers and whose settled segments are these, which gave these frames and left these bytes
+-- unfinished. The bytes of the settled segments were given in frames, are unfinished, or were skipped.
 pub record AreCounts (answers : List Applied) (settled : List (Option Segment)) (given : List (List ℕ)) (unfinished : List ℕ) (counts : FlowCounts) : Type 0 where
   pub kept : counts.kept ≡ counted (count_by says_kept answers)
   pub late : counts.late ≡ counted (count_by says_late answers)

@@ -8,9 +8,9 @@ use Rattle.reorder.specs.declared.answer.Declared.{Declared}
 use Rattle.reorder.specs.declared.answer.Declared.TheVariants.{NextIsHere, NothingHeld, Lost}
 use Rattle.flow_core.specs.declared.event.Applied.{Applied}
 use Rattle.flow_core.specs.declared.event.Applied.TheVariants.{Arrival, Decision, DecisionTo}
-use Rattle.flow_core.specs.Fates.{Fates, no_fates, number_of, IsKept, IsOpen, IsExpected, IsMissed}
+use Rattle.flow_core.specs.Fates.{Fates, no_fates, number_of, IsKept, IsOpen, IsExpected, HasLaterKept}
 
--- what happens to one flow: a segment arrives, or a loss is declared, of one index or of all up to a number
+-- What happens to one flow: a segment arrives, or a decision declares a loss, a gap, which is of one index or of all up to a number.
 pub data FlowEvent : Type 0 where
   arrives : Segment → FlowEvent
   gap : FlowEvent
@@ -47,8 +47,8 @@ Keeps first x segment Kept fates after =
 -- never there, since x is open.)
 abbrev pub Declares : ℕ → ℕ → Declared → Fates → Fates → Type 0
 Declares first x (Lost number) fates after =
-    IsMissed fates x × (number ≡ number_of first x) × (after ≡ map.insert fates x None)
-Declares first x NothingHeld fates after = ¬ (IsMissed fates x) × (after ≡ fates)
+    HasLaterKept fates x × (number ≡ number_of first x) × (after ≡ map.insert fates x None)
+Declares first x NothingHeld fates after = ¬ (HasLaterKept fates x) × (after ≡ fates)
 Declares first x NextIsHere fates after = ⊥
 
 -- the indexes that a loss up to a number declares: open ones from the expected one on, before the one with that number, with a kept
@@ -59,7 +59,7 @@ pub record IsDeclaredTo (first x number : ℕ) (fates : Fates) (i : ℕ) : Type 
   pub from : x ≤ i
   pub before : i < end
   pub open_itself : IsOpen fates i
-  pub missed : IsMissed fates i
+  pub later_kept : HasLaterKept fates i
 
 -- A declared loss up to a number: these indexes are lost, and what became of all others stays. The answer says whether there is one.
 pub record DeclaresTo (first x number : ℕ) (declared : Bool) (fates after : Fates) : Type 0 where

@@ -41,9 +41,9 @@ pub record IsExpected (fates : Fates) (x : ℕ) : Type 0 where
   pub open_itself : IsOpen fates x
   pub settled : (i : ℕ) → i < x → IsSome (map.get fates i)
 
--- a segment with a greater index was kept, which shows that this one is missing
-abbrev pub IsMissed : Fates → ℕ → Type 0
-IsMissed fates i = (j : ℕ) × (i < j) × IsKept fates j
+-- a segment with a greater index was kept
+abbrev pub HasLaterKept : Fates → ℕ → Type 0
+HasLaterKept fates i = (j : ℕ) × (i < j) × IsKept fates j
 
 -- the number that the segment of an index has in its header
 abbrev pub number_of : ℕ → ℕ → ℕ

@@ -11,7 +11,7 @@ use Rattle.flow_core.specs.declared.ready.ReadySegment.{ReadySegment}
 use Rattle.flow_core.specs.declared.event.Applied.{Applied}
 use Rattle.flow_core.specs.declared.event.Step.{Step}
 use Rattle.flow_core.specs.declared.event.Step.TheVariants.{Frames, Nothing}
-use Rattle.flow_core.specs.Fates.{Fates, number_of, kept_at, IsKept, IsLost, IsExpected, IsMissed, IsSettledBelow}
+use Rattle.flow_core.specs.Fates.{Fates, number_of, kept_at, IsKept, IsLost, IsExpected, HasLaterKept, IsSettledBelow}
 use Rattle.flow_core.specs.Events.{FlowEvent, IsAhead, IsAfter}
 use Rattle.flow_core.specs.Counts.{AreCounts}
 
@@ -24,16 +24,16 @@ pub record IsWindowFrom (flow_record : FlowRecord) (fates : Fates) (y : ℕ) (wi
       → option_map (λ ready. ready.segment) (held_at window (number_of flow_record.first i)) ≡ kept_at fates i
   pub within : (i : ℕ) → IsKept fates i → i < y + flow_record.window
 
--- What a flow remembers of losses that were declared up to a number: nothing where none is declared from y on, and else the number before
--- whose index all missing ones are lost, those that have a kept segment after them. Then the segment of y itself was kept.
+-- What a flow remembers of losses that were declared up to a number. Nothing, if no index from y on was declared lost. Otherwise a number: from
+-- y on, exactly those indexes before its own are lost that were not kept and have a later kept one. Then the segment of y was kept.
 abbrev pub IsRemembered : ℕ → Fates → ℕ → Option ℕ → Type 0
 IsRemembered first fates y None = (i : ℕ) → y ≤ i → ¬ (IsLost fates i)
 IsRemembered first fates y (Some number) =
     (end : ℕ) × IsAhead first y number end × IsKept fates y
-    × ((i : ℕ) → y ≤ i → IsLost fates i ↔ ((i < end) × ¬ (IsKept fates i) × IsMissed fates i))
+    × ((i : ℕ) → y ≤ i → IsLost fates i ↔ ((i < end) × ¬ (IsKept fates i) × HasLaterKept fates i))
 
--- After these events, with these answers, the flow has come to the index y and has given these frames: y is the expected index, or one below
--- it whose segment was kept and is the next to be joined. What is settled below y was joined.
+-- After these events, with these answers, the flow has come to the index y and has given these frames: y is the index whose number the window
+-- expects, and all below it is joined or lost. It is the expected index, or one below it whose segment was kept and is the next to be joined.
 pub record StandsFor (check : List ℕ → Bool) (flow_record : FlowRecord) (flow : Flow) (events : List FlowEvent) (answers : List Applied) (y : ℕ) (given : List (List ℕ)) : Type 0 where
   pub fates : Fates
   pub after : IsAfter flow_record.first flow_record.window events answers fates

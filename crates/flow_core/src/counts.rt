@@ -13,11 +13,12 @@ pub struct FlowCounts {
     pub repeat: u64,
     /// Segments whose number was beyond the window.
     pub beyond: u64,
-    /// Segments that were declared lost.
+    /// Segments that were declared lost. It grows as the flow comes to them.
     pub lost: u64,
     /// Frames that were given.
     pub frames: u64,
-    /// Bytes that were neither given nor are unfinished: fill, malformed bytes, and the parts of frames with a lost segment.
+    /// Bytes of payload that were neither given nor are unfinished: fill, malformed bytes, and the
+    /// parts of frames with a lost segment.
     pub skipped: u64,
 }
 

@@ -7,9 +7,11 @@ use reorder::{Declared, Verdict};
 pub enum Event {
     /// A segment arrives. It is ready.
     Arrive { flow: usize, segment: Segment },
-    /// The expected segment is declared lost.
+    /// The decision that the expected segment is lost. It has an effect only if a later segment was
+    /// kept.
     Gap { flow: usize },
-    /// The segments before the one with this number, 0 to 8191, that haven't come are declared lost.
+    /// The decision that the segments before the one with this number, 0 to 8191, are lost if they
+    /// haven't come. It reaches only those with a later segment that was kept.
     GapTo { flow: usize, number: u16 },
 }
 
@@ -20,7 +22,7 @@ pub enum Applied {
     Arrival(Verdict<Segment>),
     /// Of a declared loss.
     Decision(Declared),
-    /// Of a declared loss up to a number: whether it declares anything.
+    /// Of a declared loss up to a number: whether at least one segment is declared lost.
     DecisionTo(bool),
 }
 

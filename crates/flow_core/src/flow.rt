@@ -86,9 +86,9 @@ impl Flow {
         declared
     }
 
-    /// Declares lost what hasn't come before this number, 0 to 8191, and answers whether that is
-    /// anything. Segments that are held before it are joined first, so that the number is
-    /// remembered until it is reached.
+    /// Declares lost what hasn't come before this number, 0 to 8191, and answers whether at least
+    /// one segment is declared lost. Where held segments lie before the number they are joined
+    /// first; until then the flow remembers the number.
     pub fn gap_to(&mut self, number: u16) -> bool
         requires drained { IsDrained self.old }
         requires number { number < sequence_modulus }

@@ -33,7 +33,8 @@ pub enum SetupFault {
     /// A field of this record is out of its range. It is the first such record.
     #[error("flow {0} is out of range")]
     BadFlow(usize),
-    /// This record's service flow identifier stands in an earlier record. It is the first such record.
+    /// This record's service flow identifier stands in an earlier record. It is the first such
+    /// record.
     #[error("flow {0} has an identifier given before")]
     SameSfid(usize),
     /// An allocation failed.
