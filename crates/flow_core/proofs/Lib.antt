@@ -10,4 +10,7 @@ pub mod Windows
 pub mod Counting
 pub mod Standing
 pub mod Arriving
+pub mod Held
 pub mod Losing
+pub mod Declaring
+pub mod Joining
