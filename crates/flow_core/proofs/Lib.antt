@@ -12,3 +12,4 @@ pub mod Standing
 pub mod Arriving
 pub mod Losing
 pub mod Setup
+pub mod OneFlow
