@@ -14,3 +14,5 @@ pub mod Held
 pub mod Losing
 pub mod Declaring
 pub mod Joining
+pub mod Setup
+pub mod OneFlow
