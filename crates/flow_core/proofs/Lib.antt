@@ -13,3 +13,4 @@ pub mod Arriving
 pub mod Losing
 pub mod Setup
 pub mod OneFlow
+pub mod NewFlows
