@@ -16,3 +16,4 @@ pub mod Declaring
 pub mod Joining
 pub mod Setup
 pub mod OneFlow
+pub mod NewFlows

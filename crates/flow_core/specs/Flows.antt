@@ -37,6 +37,12 @@ IsTakable (GapTo flow number) = number < sequence_modulus
 abbrev pub IsLoss : Declared → Type 0
 IsLoss declared = (number : ℕ) × (declared ≡ Lost number)
 
+-- each record has a flow, at the same index, that stands for no events
+abbrev pub AreNewFlows : List FlowRecord → List Flow → Type 0
+AreNewFlows records flows =
+    (k : ℕ) (flow_record : FlowRecord) → slice_get records k ≡ Some flow_record
+    → (flow : Flow) × (slice_get flows k ≡ Some flow) × ((check : List ℕ → Bool) → StandsFor check flow_record flow [] [] 0 [])
+
 -- whatever events a flow stands for, no segment was kept after the index to which it has come
 abbrev pub HasNoneLater : Flow → Type 0
 HasNoneLater flow =
@@ -77,8 +83,7 @@ module _ {C : Type 0} where
   pub record IsNewCore (check : C) (records : List FlowRecord) (core : Core C) : Type 0 where
     pub check_is : core.check ≡ check
     pub count : length core.flows.items ≡ length records
-    pub each : (k : ℕ) (flow_record : FlowRecord) (flow : Flow) → slice_get records k ≡ Some flow_record → HasFlow core k flow
-        → (accepted : List ℕ → Bool) → StandsFor accepted flow_record flow [] [] 0 []
+    pub each : AreNewFlows records core.flows.items
 
   -- no segment of flow k is next
   abbrev pub IsDrainedAt : Core C → ℕ → Type 0
