@@ -11,3 +11,4 @@ pub mod Counting
 pub mod Standing
 pub mod Arriving
 pub mod Losing
+pub mod Closing

@@ -7,3 +7,4 @@ pub mod Stands
 pub mod Setup
 pub mod Flows
 pub mod Losses
+pub mod Closing

@@ -2,7 +2,7 @@
 //! and the delivery sequence only grows.
 //!
 //! Each function states a law in its contract and does nothing.
-ghost use Rattle.std.specs.Prelude.{◌≡◌, ◌↔◌, ◌<◌, ◌≤◌, ℕ, Bool, Option, List, [], ◌++◌, length};
+ghost use Rattle.std.specs.Prelude.{◌≡◌, ◌↔◌, ◌<◌, ◌≤◌, ℕ, Bool, Option, List, [], ◌++◌, length, count_by, replicate};
 ghost use Rattle.std.specs.List.{AllByRecursion};
 ghost use Rattle.docsis_wire.specs.declared.segment.Segment.{Segment};
 ghost use Rattle.docsis_wire.specs.Frame.{IsFrame};
@@ -14,10 +14,12 @@ ghost use Rattle.flow_core.specs.declared.record.FlowRecord.{FlowRecord};
 ghost use Rattle.flow_core.specs.declared.flow.Flow.{Flow};
 ghost use Rattle.flow_core.specs.declared.event.Applied.{Applied};
 ghost use Rattle.flow_core.specs.Fates.{Fates, IsExpected, IsSettledBelow};
-ghost use Rattle.flow_core.specs.Events.{FlowEvent, IsAfter};
+ghost use Rattle.flow_core.specs.Events.{FlowEvent, gap, Declares, Leads, IsAfter};
 ghost use Rattle.flow_core.specs.Near.{AreNear, AreOfCut};
 ghost use Rattle.flow_core.specs.Delivery.{IsDelivered, IsDeliverySequence};
 ghost use Rattle.flow_core.specs.Stands.{StandsFor, IsDrained};
+ghost use Rattle.flow_core.specs.Closing.{IsClosed, Closes, says_lost};
+ghost use Rattle.reorder.specs.declared.answer.Declared.{Declared};
 
 /// Every list of events has one outcome: one list of answers and one fate of each index, of which
 /// one is the expected index.
@@ -107,3 +109,22 @@ pub fn flow_gives_the_delivery_sequence()
 {
     settled_segments_join_to_the_delivered_frames();
 }
+
+/// After every list of events a flow has one close, and it ends: gaps lose fewer segments than the
+/// window is wide. A gap loses nothing exactly if the flow is closed.
+pub fn flow_has_one_close()
+    ensures some { (first width : ℕ) (events : List FlowEvent) (answers : List Applied)
+        (fates : Fates)
+        → IsAfter first width events answers fates
+        → (after : Fates) × Closes first width fates after }
+    ensures only { (first width : ℕ) (fates after other : Fates)
+        → Closes first width fates after → Closes first width fates other → after ≡ other }
+    ensures ends { (first width n : ℕ) (events : List FlowEvent) (answers gaps : List Applied)
+        (fates after : Fates)
+        → 1 ≤ width → IsAfter first width events answers fates
+        → Leads first width fates (replicate n gap) gaps after
+        → count_by says_lost gaps < width }
+    ensures closed { (first x : ℕ) (fates after : Fates) (declared : Declared)
+        → IsExpected fates x → Declares first x declared fates after
+        → IsClosed fates ↔ (declared ≡ Declared.NothingHeld) }
+{}
