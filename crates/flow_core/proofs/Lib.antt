@@ -12,3 +12,5 @@ pub mod Standing
 pub mod Arriving
 pub mod Losing
 pub mod Closing
+pub mod Turns
+pub mod Draining
