@@ -14,3 +14,4 @@ pub mod Losing
 pub mod Closing
 pub mod Turns
 pub mod Draining
+pub mod FlowOutcomes

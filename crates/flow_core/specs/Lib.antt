@@ -8,3 +8,4 @@ pub mod Setup
 pub mod Flows
 pub mod Losses
 pub mod Closing
+pub mod Outcome

@@ -12,12 +12,14 @@ ghost use Rattle.ccf.specs.Filter.{FiltersTo};
 ghost use Rattle.ccf.specs.Join.{Joins};
 ghost use Rattle.flow_core.specs.declared.record.FlowRecord.{FlowRecord};
 ghost use Rattle.flow_core.specs.declared.flow.Flow.{Flow};
+ghost use Rattle.flow_core.specs.declared.counts.FlowCounts.{FlowCounts};
 ghost use Rattle.flow_core.specs.declared.event.Applied.{Applied};
 ghost use Rattle.flow_core.specs.Fates.{Fates, number_of, IsKept, IsExpected, IsSettledBelow};
 ghost use Rattle.flow_core.specs.Events.{FlowEvent, gap, Declares, DeclaresTo, Leads, IsAfter};
 ghost use Rattle.flow_core.specs.Near.{AreNear, AreOfCut};
 ghost use Rattle.flow_core.specs.Delivery.{IsDelivered, IsDeliverySequence};
 ghost use Rattle.flow_core.specs.Stands.{StandsFor, IsDrained};
+ghost use Rattle.flow_core.specs.Outcome.{IsFlowOutcome};
 ghost use Rattle.flow_core.specs.Closing.{IsClosed, Closes, says_lost, IsAllKept, HaveNoArrival};
 ghost use Rattle.flow_core.specs.Flows.{IsLoss};
 ghost use Rattle.reorder.specs.declared.answer.Declared.{Declared};
@@ -184,3 +186,36 @@ pub fn gaps_behind_keep_events_near()
         → AreNear first width segments events → HaveNoArrival more
         → AreNear first width segments (events ++ more) }
 {}
+
+/// What a flow gives by the definitions is one list of frames, and one record of counts.
+pub fn flow_has_one_outcome()
+    ensures { (check : List ℕ → Bool) (flow_record : FlowRecord) (events : List FlowEvent)
+        (frames others : List (List ℕ)) (counts more : FlowCounts)
+        → IsFlowOutcome check flow_record events frames counts
+        → IsFlowOutcome check flow_record events others more
+        → (frames ≡ others) × (counts ≡ more) }
+{
+    ccf::laws::joining_has_one_answer();
+}
+
+/// A drained flow that stands for some events has given what the definitions say.
+pub fn drained_flow_has_its_outcome()
+    ensures { (check : List ℕ → Bool) (flow_record : FlowRecord) (flow : Flow)
+        (events : List FlowEvent) (answers : List Applied) (y : ℕ) (given : List (List ℕ))
+        → StandsFor check flow_record flow events answers y given → IsDrained flow
+        → IsFlowOutcome check flow_record events given flow.counts }
+{}
+
+/// What the definitions say that near events of a lawful cut give is the delivery sequence.
+pub fn outcome_of_near_events_is_the_delivery_sequence()
+    ensures { (check : List ℕ → Bool) (frames chunks : List (List ℕ)) (fill : ℕ)
+        (segments : List Segment) (flow_record : FlowRecord) (events : List FlowEvent)
+        (answers : List Applied) (given : List (List ℕ)) (counts : FlowCounts) (fates : Fates)
+        → IsLawfulCut check frames flow_record.first fill chunks segments
+        → AreNear flow_record.first flow_record.window segments events
+        → IsFlowOutcome check flow_record events given counts
+        → IsAfter flow_record.first flow_record.window events answers fates
+        → IsDeliverySequence frames chunks fates given }
+{
+    settled_segments_join_to_the_delivered_frames();
+}
