@@ -1,6 +1,6 @@
 -- The close of a flow: it ends, and has one result.
-use Rattle.std.proofs.Common.{◌≡◌, ℕ, zero, suc, ◌+◌, ◌<◌, ◌≤◌, ◌⊎◌, ◌↔◌, inl, inr, Bool, true, false, Option, Some, None, List, [], ◌∷◌, ◌++◌, replicate, refl, ap, sym, subst, ◌∙◌, arith, cond, count_by}
-use Rattle.std.proofs.lemmas.Bool.{cases_eq, cases_order}
+use Rattle.std.proofs.Common.{◌≡◌, ℕ, zero, suc, ◌+◌, ◌<◌, ◌≤◌, ◌⊎◌, ◌↔◌, inl, inr, Bool, true, false, None, List, [], ◌∷◌, replicate, refl, ap, sym, subst, ◌∙◌, arith, cond, count_by}
+use Rattle.std.proofs.lemmas.Bool.{cases_eq}
 use Rattle.std.proofs.lemmas.List.Sums.{sum_by-cons}
 use Rattle.std.specs.FinMap as map
 use Rattle.reorder.specs.declared.answer.Declared.{Declared}
@@ -73,7 +73,7 @@ losses-bounded first width bound (suc n) x answers fates after sound within (x',
           let one : count_by says_lost (answer ∷ rest) ≡ 1 + count_by says_lost rest = lost-more answer rest true lost in
           let near = within later_kept.0 later_kept.2 in
           elim (losses-bounded first width bound n next.0 rest between after next.2
-              (λ i kept. within i (kept-lost fates x i (subst (λ (f : Fates). IsKept f i) is kept))) leads) [
+          (λ i kept. within i (kept-lost fates x i (subst (λ (f : Fates). IsKept f i) is kept))) leads) [
             | inl none ↦ inr (omega (arith, later_kept.1))
             | inr some ↦ inr (omega arith)
           ]

@@ -1,6 +1,6 @@
 -- How far a flow can fall behind, and what a closed one has come past.
-use Rattle.std.proofs.Common.{◌≡◌, ℕ, ◌+◌, ◌<◌, ◌≤◌, ◌↔◌, inl, inr, Bool, true, false, IsTrue, List, Some, None, refl, ap, sym, subst, ◌∙◌, arith}
-use Rattle.std.proofs.lemmas.Bool.{cases_eq, cases_lt, cases_order, false≢true}
+use Rattle.std.proofs.Common.{◌≡◌, ℕ, ◌+◌, ◌<◌, ◌≤◌, ◌↔◌, inl, inr, Bool, true, false, IsTrue, List, None, refl, ap, sym, subst, ◌∙◌, arith}
+use Rattle.std.proofs.lemmas.Bool.{cases_lt, cases_order, false≢true}
 use Rattle.std.specs.FinMap as map
 use Rattle.reorder.specs.declared.answer.Declared.{Declared}
 use Rattle.reorder.specs.declared.answer.Declared.TheVariants.{NextIsHere, NothingHeld, Lost}
@@ -11,7 +11,7 @@ use Rattle.flow_core.specs.declared.record.FlowRecord.{FlowRecord}
 use Rattle.flow_core.specs.declared.flow.Flow.{Flow}
 use Rattle.flow_core.specs.declared.event.Applied.{Applied}
 use Rattle.flow_core.specs.Fates.{Fates, number_of, IsKept, IsExpected, HasLaterKept}
-use Rattle.flow_core.specs.Events.{FlowEvent, IsAhead, IsDeclaredTo, Declares, DeclaresTo, IsAfter}
+use Rattle.flow_core.specs.Events.{FlowEvent, IsDeclaredTo, Declares, DeclaresTo, IsAfter}
 use Rattle.flow_core.specs.Delivery.{IsDelivered, IsDeliverySequence}
 use Rattle.flow_core.specs.Stands.{StandsFor}
 use Rattle.flow_core.specs.Flows.{IsLoss}
@@ -66,7 +66,7 @@ sequence-closed frames chunks given fates closed = (
     closed.0,
     closed.1,
     FiltersFrom-same (IsAllKept frames chunks fates) (IsDelivered frames chunks fates closed.0) 0 frames given
-    (λ j low high p. (delivered-closed frames chunks fates closed.0 j closed closed.1).1 p) (λ j low high p. (delivered-closed frames chunks fates closed.0 j closed closed.1).0 p) filters,
+        (λ j low high p. (delivered-closed frames chunks fates closed.0 j closed closed.1).1 p) (λ j low high p. (delivered-closed frames chunks fates closed.0 j closed closed.1).0 p) filters,
   ),
 )
 
@@ -93,7 +93,7 @@ pub gap-to_next : (first x : ℕ) (fates after : Fates) (declared : Declared) �
 gap-to_next first x fates after NextIsHere expected declares = absurd declares
 gap-to_next first x fates after NothingHeld expected declares =
     let none : (i : ℕ) → IsDeclaredTo first x (number_of first (x + 1)) fates i → ⊥ =
-        λ i p. (let alone = next-alone first x i fates p in declares.0 (subst (HasLaterKept fates) alone.0 alone.1)) in (
+    λ i p. (let alone = next-alone first x i fates p in declares.0 (subst (HasLaterKept fates) alone.0 alone.1)) in (
       false,
       record {
         lost = λ i p. absurd (none i p);
@@ -102,14 +102,13 @@ gap-to_next first x fates after NothingHeld expected declares =
       },
       (λ wrong. absurd (false≢true wrong), λ loss. let is = loss.1 in absurd cc),
     )
-gap-to_next first x fates after (Lost number) expected (later_kept, is, changed) =
-    (
-      true,
-      record {
-        lost = λ i p. ap (λ (f : Fates). map.get f i) changed ∙ ap (map.get (map.insert fates x None)) (next-alone first x i fates p).0 ∙ get-insert_same fates x None;
-        others = λ i not_so. ap (λ (f : Fates). map.get f i) changed
-            ∙ get-insert_other fates x None i (λ same. not_so (subst (IsDeclaredTo first x (number_of first (x + 1)) fates) (sym same) (next-lost first x fates expected later_kept)));
-        answer = (λ _. (x, next-lost first x fates expected later_kept), λ _. refl);
-      },
-      (λ _. (number, refl), λ _. refl),
-    )
+gap-to_next first x fates after (Lost number) expected (later_kept, is, changed) = (
+  true,
+  record {
+    lost = λ i p. ap (λ (f : Fates). map.get f i) changed ∙ ap (map.get (map.insert fates x None)) (next-alone first x i fates p).0 ∙ get-insert_same fates x None;
+    others = λ i not_so. ap (λ (f : Fates). map.get f i) changed
+        ∙ get-insert_other fates x None i (λ same. not_so (subst (IsDeclaredTo first x (number_of first (x + 1)) fates) (sym same) (next-lost first x fates expected later_kept)));
+    answer = (λ _. (x, next-lost first x fates expected later_kept), λ _. refl);
+  },
+  (λ _. (number, refl), λ _. refl),
+)

@@ -1,9 +1,7 @@
 -- What a flow gives by the definitions: it is one thing, a drained flow has it, and of near events it is the delivery sequence.
-use Rattle.std.proofs.Common.{◌≡◌, ℕ, ◌+◌, ◌<◌, Bool, Option, Some, List, [], length, get_or, slice_get, refl, ap, sym, subst, ◌∙◌, arith}
-use Rattle.std.specs.List.{concat}
+use Rattle.std.proofs.Common.{◌≡◌, ℕ, ◌<◌, Bool, Option, Some, List, [], length, get_or, ap, sym, subst, ◌∙◌, arith}
 use Rattle.std.proofs.lemmas.List.{same_lists}
 use Rattle.std.proofs.lemmas.Option.{slice_get-get_or}
-use Rattle.std.specs.FinMap as map
 use Rattle.docsis_wire.specs.declared.segment.Segment.{Segment}
 use Rattle.docsis_wire.specs.Cut.{IsLawfulCut}
 use Rattle.docsis_wire.specs.Span.{IsSettledOf}
@@ -13,7 +11,7 @@ use Rattle.flow_core.specs.declared.flow.Flow.{Flow}
 use Rattle.flow_core.specs.declared.counts.FlowCounts.{FlowCounts}
 use Rattle.flow_core.specs.declared.event.Applied.{Applied}
 use Rattle.flow_core.specs.Fates.{Fates, IsExpected, IsSettledBelow}
-use Rattle.flow_core.specs.Events.{FlowEvent, IsAfter}
+use Rattle.flow_core.specs.Events.{FlowEvent}
 use Rattle.flow_core.specs.Near.{AreNear}
 use Rattle.flow_core.specs.Counts.{counted, AreCounts}
 use Rattle.flow_core.specs.Stands.{StandsFor, IsDrained}
@@ -56,7 +54,7 @@ counts-once answers settled given unfinished counts others p q =
 
 pub one-outcome : (check : List ℕ → Bool) (flow_record : FlowRecord) (events : List FlowEvent) (frames others : List (List ℕ)) (counts more : FlowCounts)
     → ((before : List ℕ) (settled : List (Option Segment)) (joined again : List (List ℕ)) (after rest : List ℕ)
-      → Joins check before settled joined after → Joins check before settled again rest → (joined ≡ again) × (after ≡ rest))
+    → Joins check before settled joined after → Joins check before settled again rest → (joined ≡ again) × (after ≡ rest))
     → IsFlowOutcome check flow_record events frames counts → IsFlowOutcome check flow_record events others more → (frames ≡ others) × (counts ≡ more)
 one-outcome check flow_record events frames others counts more joining p q =
     let same = after-once flow_record.first flow_record.window events p.answers q.answers p.fates q.fates p.after q.after in
@@ -65,9 +63,9 @@ one-outcome check flow_record events frames others counts more joining p q =
     let settled = settled-once q.fates q.x p.settled q.settled below q.below in
     let joined = joining [] q.settled frames others p.unfinished q.unfinished (subst (λ s. Joins check [] s frames p.unfinished) settled p.joined) q.joined in
     let counted : AreCounts q.answers q.settled others q.unfinished counts =
-        subst (λ u. AreCounts q.answers q.settled others u counts) joined.1
-        (subst (λ g. AreCounts q.answers q.settled g p.unfinished counts) joined.0
-        (subst (λ s. AreCounts q.answers s frames p.unfinished counts) settled (subst (λ a. AreCounts a p.settled frames p.unfinished counts) same.0 p.counted))) in
+    subst (λ u. AreCounts q.answers q.settled others u counts) joined.1
+    (subst (λ g. AreCounts q.answers q.settled g p.unfinished counts) joined.0
+    (subst (λ s. AreCounts q.answers s frames p.unfinished counts) settled (subst (λ a. AreCounts a p.settled frames p.unfinished counts) same.0 p.counted))) in
     (joined.0, counts-once q.answers q.settled others q.unfinished counts more counted q.counted)
 
 -- a drained flow gave what the definitions say
