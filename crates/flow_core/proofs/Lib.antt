@@ -11,6 +11,7 @@ pub mod Counting
 pub mod Standing
 pub mod Arriving
 pub mod Losing
+pub mod Setup
 pub mod Closing
 pub mod Turns
 pub mod Draining
