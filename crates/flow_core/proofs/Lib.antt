@@ -10,8 +10,11 @@ pub mod Windows
 pub mod Counting
 pub mod Standing
 pub mod Arriving
+pub mod Held
 pub mod Losing
 pub mod Setup
+pub mod Declaring
+pub mod Joining
 pub mod Closing
 pub mod Turns
 pub mod Draining
