@@ -17,3 +17,7 @@ pub mod Joining
 pub mod Setup
 pub mod OneFlow
 pub mod NewFlows
+pub mod Closing
+pub mod Turns
+pub mod Draining
+pub mod FlowOutcomes
