@@ -1,0 +1,26 @@
+-- Which lists of events are those of a modem's cut.
+use Rattle.std.specs.Prelude.{◌≡◌, ℕ, ◌+◌, ◌<◌, ◌≤◌, Some, List, ◌∷◌, ◌++◌, slice_get}
+use Rattle.docsis_wire.specs.declared.segment.Segment.{Segment}
+use Rattle.flow_core.specs.declared.event.Applied.{Applied}
+use Rattle.flow_core.specs.Fates.{Fates, IsExpected}
+use Rattle.flow_core.specs.Events.{FlowEvent, arrives, IsAfter}
+
+-- a segment of the cut, with an index from 4096 before the expected index x up to, not including, 4096 after it
+pub record IsNearTo (segments : List Segment) (x : ℕ) (segment : Segment) : Type 0 where
+  pub index : ℕ
+  pub of_cut : slice_get segments index ≡ Some segment
+  pub from : x ≤ index + 4096
+  pub to : index < x + 4096
+
+-- Near events: each segment that arrives is one of the cut's, and comes when the expected index is so near to its own.
+abbrev pub AreNear : ℕ → ℕ → List Segment → List FlowEvent → Type 0
+AreNear first width segments events =
+    (before behind : List FlowEvent) (segment : Segment) (answers : List Applied) (fates : Fates) (x : ℕ)
+    → events ≡ before ++ arrives segment ∷ behind → IsAfter first width before answers fates → IsExpected fates x
+    → IsNearTo segments x segment
+
+-- each segment that arrives is one of the cut's
+abbrev pub AreOfCut : List Segment → List FlowEvent → Type 0
+AreOfCut segments events =
+    (before behind : List FlowEvent) (segment : Segment) → events ≡ before ++ arrives segment ∷ behind
+    → (i : ℕ) × (slice_get segments i ≡ Some segment)

@@ -1,0 +1,47 @@
+-- Which records of flows can be set up.
+use Rattle.std.specs.Prelude.{◌≡◌, ℕ, ◌<◌, ◌≤◌, Some, List, length, slice_get}
+use Rattle.docsis_wire.specs.Limits.{sequence_modulus}
+use Rattle.flow_core.specs.declared.record.FlowRecord.{FlowRecord}
+use Rattle.flow_core.specs.declared.record.SetupFault.{SetupFault}
+use Rattle.flow_core.specs.declared.record.SetupFault.TheVariants.{TooManyFlows, BadFlow, SameSfid, OutOfMemory}
+
+-- the greatest number of flows
+abbrev pub flows_max : ℕ
+flows_max = 64
+
+-- each field of a record lies in its range
+pub record IsInRange (flow_record : FlowRecord) : Type 0 where
+  pub first : flow_record.first < sequence_modulus
+  pub window_positive : 1 ≤ flow_record.window
+  pub window_in_range : flow_record.window ≤ 4096
+  pub clusters_positive : 1 ≤ flow_record.clusters
+  pub clusters_in_range : flow_record.clusters ≤ 8
+  pub ring_positive : 1 ≤ flow_record.ring
+
+-- record k is out of range
+abbrev pub IsBad : List FlowRecord → ℕ → Type 0
+IsBad records k = (flow_record : FlowRecord) × (slice_get records k ≡ Some flow_record) × ¬ (IsInRange flow_record)
+
+-- the service flow identifier of record k stands in an earlier record
+abbrev pub IsRepeated : List FlowRecord → ℕ → Type 0
+IsRepeated records k =
+    (j : ℕ) × (j < k) × (flow_record : FlowRecord) × (earlier : FlowRecord)
+    × (slice_get records k ≡ Some flow_record) × (slice_get records j ≡ Some earlier) × (earlier.sfid ≡ flow_record.sfid)
+
+-- k is the least number with the property
+abbrev pub IsLeast : (ℕ → Type 0) → ℕ → Type 0
+IsLeast P k = P k × ((j : ℕ) → j < k → ¬ (P j))
+
+-- The first fault of some records, in the order in which they are looked for.
+abbrev pub IsSetupFault : List FlowRecord → SetupFault → Type 0
+IsSetupFault records TooManyFlows = flows_max < length records
+IsSetupFault records (BadFlow k) = (length records ≤ flows_max) × IsLeast (IsBad records) k
+IsSetupFault records (SameSfid k) =
+    (length records ≤ flows_max) × ((j : ℕ) → ¬ (IsBad records j)) × IsLeast (IsRepeated records) k
+IsSetupFault records OutOfMemory = ⊥
+
+-- the records have no fault
+pub record CanBeSetUp (records : List FlowRecord) : Type 0 where
+  pub few : length records ≤ flows_max
+  pub in_range : (k : ℕ) → ¬ (IsBad records k)
+  pub apart : (k : ℕ) → ¬ (IsRepeated records k)

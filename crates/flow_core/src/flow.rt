@@ -1,0 +1,177 @@
+//! One service flow: its window, its joiner, its counts.
+ghost use Rattle.std.specs.Prelude.{◌≡◌, ◌<◌, ◌↔◌, ℕ, Bool, List, [], IsTrue, Ok, IfOk, OnErr};
+ghost use Rattle.docsis_wire.specs.Limits.{sequence_modulus};
+ghost use Rattle.docsis_wire.specs.Ready.{IsReady};
+ghost use Rattle.flow_core.specs.Setup.{IsInRange};
+ghost use Rattle.flow_core.specs.Events.{arrives, gap, gap_to};
+ghost use Rattle.reorder.specs.View.{IsLawful};
+ghost use Rattle.reorder.specs.Answers.{declared_count};
+ghost use Rattle.flow_core.specs.Flows.{IsLoss};
+ghost use Rattle.flow_core.specs.Losses.{after_losses, after_declaring, GoesOn};
+ghost use Rattle.flow_core.specs.Stands.{StandsFor, IsDrained, TakesEvent, Advances};
+ghost use Rattle.flow_core.specs.declared.event.Applied.{Applied};
+ghost use Rattle.flow_core.specs.declared.event.Step.{Step};
+
+use crate::counts::FlowCounts;
+use crate::event::Step;
+use crate::ready::ReadySegment;
+use crate::record::FlowRecord;
+use crate::sequence::SequenceNumber;
+use ccf::Joiner;
+use docsis_wire::{HeaderCheck, Segment};
+use reorder::{Declared, Verdict, Window, laws};
+use std::alloc::{AllocError, Global};
+
+/// One service flow.
+#[derive(Drop)]
+pub struct Flow {
+    window: Window<ReadySegment>,
+    joiner: Joiner,
+    counts: FlowCounts,
+    /// The number up to which losses are declared, while segments that are held before it wait to
+    /// be joined.
+    declared_to: Option<SequenceNumber>,
+}
+
+impl Flow {
+    /// A flow to which nothing happened yet.
+    pub fn new(alloc: Global, flow_record: &FlowRecord) -> Result<Flow, AllocError>
+        requires { IsInRange flow_record.now }
+        ensures stands { IfOk result
+            (λ flow. (check : List ℕ → Bool) → StandsFor check flow_record.now flow [] [] 0 []) }
+    {
+        Ok(Flow {
+            window: Window::new(alloc, flow_record.first, flow_record.window)?,
+            joiner: Joiner::new(alloc),
+            counts: FlowCounts::none(),
+            declared_to: None,
+        })
+    }
+
+    /// Offers an arriving segment to the window.
+    pub fn arrive(&mut self, segment: Segment) -> Verdict<Segment>
+        requires ready { IsReady segment }
+        requires drained { IsDrained self.old }
+        ensures { TakesEvent self.old (arrives segment) (Applied.Arrival result) self.new }
+    {
+        let number = segment.head.sequence;
+        match self.window.offer(number, ReadySegment { segment }) {
+            Verdict::Kept => {
+                self.counts.kept = self.counts.kept.saturating_add(1);
+                Verdict::Kept
+            }
+            Verdict::Late(back) => {
+                self.counts.late = self.counts.late.saturating_add(1);
+                Verdict::Late(back.segment)
+            }
+            Verdict::Repeat(back) => {
+                self.counts.repeat = self.counts.repeat.saturating_add(1);
+                Verdict::Repeat(back.segment)
+            }
+            Verdict::Beyond(back) => {
+                self.counts.beyond = self.counts.beyond.saturating_add(1);
+                Verdict::Beyond(back.segment)
+            }
+        }
+    }
+
+    /// Declares the expected segment lost.
+    pub fn gap(&mut self) -> Declared
+        requires { IsDrained self.old }
+        ensures taken { TakesEvent self.old gap (Applied.Decision result) self.new }
+        ensures unchanged { ¬ (IsLoss result) → self.new ≡ self.old }
+    {
+        let declared = self.window.declare();
+        if let Declared::Lost(_) = declared {
+            self.lose(1);
+        }
+        declared
+    }
+
+    /// Declares lost what hasn't come before this number, 0 to 8191, and answers whether at least
+    /// one segment is declared lost. Where held segments lie before the number they are joined
+    /// first; until then the flow remembers the number.
+    pub fn gap_to(&mut self, number: u16) -> bool
+        requires drained { IsDrained self.old }
+        requires number { number < sequence_modulus }
+        ensures { TakesEvent self.old (gap_to number) (Applied.DecisionTo result) self.new }
+    {
+        laws::declare_to_stops_at_number_or_held::<ReadySegment>();
+        let count = self.declare_to(number);
+        if count > 0 && self.window.expected() != number {
+            self.declared_to = Some(SequenceNumber { number });
+        }
+        count > 0
+    }
+
+    /// Joins the next segment. Where an allocation failed nothing changed.
+    pub fn advance<C: HeaderCheck>(&mut self, alloc: Global, check: &C) -> Result<Step, AllocError>
+        ensures step { IfOk result
+            (λ step. Advances (C.accepts check.now) self.old step self.new) }
+        ensures nothing { result ≡ Ok Step.Nothing ↔ IsDrained self.old }
+        ensures refused { OnErr result (self.new ≡ self.old) }
+    {
+        laws::declare_to_stops_at_number_or_held::<ReadySegment>();
+        let Some(ready) = self.window.next() else {
+            return Ok(Step::Nothing);
+        };
+        let fed = self.joiner.feed(alloc, &ready.segment, check)?;
+        self.window.take_next();
+        self.counts.frames = self.counts.frames.saturating_add(fed.frames.len() as u64);
+        self.counts.skipped = self.counts.skipped.saturating_add(fed.skipped as u64);
+        self.go_on_declaring();
+        Ok(Step::Frames(fed.frames))
+    }
+
+    /// Declares on up to the remembered number, and forgets it once it is reached.
+    fn go_on_declaring(&mut self)
+        ensures after { GoesOn self.old.declared_to self.old self.new }
+        ensures lawful { IsLawful self.old.window → IsLawful self.new.window }
+    {
+        let Some(SequenceNumber { number }) = self.declared_to else {
+            return;
+        };
+        self.declare_to(number);
+        if self.window.held() == 0 || self.window.expected() == number {
+            self.declared_to = None;
+        }
+    }
+
+    /// Declares lost what isn't held before this number and before the next held one, and answers
+    /// how many numbers that is.
+    fn declare_to(&mut self, number: u16) -> u16
+        requires { number < sequence_modulus }
+        ensures count { result ≡ declared_count self.old.window number }
+        ensures after { self.new ≡ after_declaring number self.old }
+        ensures lawful { IsLawful self.new.window }
+    {
+        let count = self.window.declare_to(number);
+        self.lose(count);
+        count
+    }
+
+    /// Counts declared losses, and drops what is unfinished.
+    fn lose(&mut self, count: u16)
+        ensures { self.new ≡ after_losses count self.old }
+    {
+        if count > 0 {
+            self.counts.lost = self.counts.lost.saturating_add(u64::from(count));
+            let dropped = self.joiner.gap();
+            self.counts.skipped = self.counts.skipped.saturating_add(dropped as u64);
+        }
+    }
+
+    /// Whether no segment is next.
+    pub fn is_drained(&self) -> bool
+        ensures { IsTrue result ↔ IsDrained self.now }
+    {
+        self.window.next().is_none()
+    }
+
+    /// What was counted so far.
+    pub fn counts(&self) -> FlowCounts
+        ensures { result ≡ self.now.counts }
+    {
+        self.counts
+    }
+}

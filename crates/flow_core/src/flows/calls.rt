@@ -1,0 +1,112 @@
+//! The calls of the core.
+ghost use Rattle.std.specs.Prelude.{◌≡◌, ◌<◌, ◌↔◌, ℕ, length, IsTrue, IfOk, IsOk, OnErr, Ok, Err};
+ghost use Rattle.flow_core.specs.Setup.{IsSetupFault, CanBeSetUp};
+ghost use Rattle.flow_core.specs.Flows.{flow_of, event_of, IsTakable, IsNewCore, HasFlow, AreNewFlows};
+ghost use Rattle.flow_core.specs.Flows.{IsDrainedAt, AdvancesAt, OthersStay, TakesEventAt, ClosesGapAt};
+ghost use Rattle.flow_core.specs.declared.event.Step.{Step};
+ghost use Rattle.flow_core.specs.declared.flow.Flow.{Flow};
+ghost use Rattle.flow_core.specs.declared.record.SetupFault.{SetupFault};
+
+use super::Core;
+use crate::counts::FlowCounts;
+use crate::event::{Applied, Event, Step};
+use crate::flow::Flow;
+use crate::record::{FlowRecord, SetupFault, check_records};
+use docsis_wire::HeaderCheck;
+use reorder::Declared;
+use std::alloc::{AllocError, Global};
+
+/// A flow for each record, in their order.
+fn new_flows(alloc: Global, records: &[FlowRecord]) -> Result<Vec<Flow>, AllocError>
+    requires { CanBeSetUp records.now }
+    ensures count { IfOk result (λ flows. length flows.items ≡ length records.now) }
+    ensures each { IfOk result (λ flows. AreNewFlows records.now flows.items) }
+{
+    let mut flows = Vec::with_capacity(alloc, records.len())?;
+    for record in records {
+        flows.push_reserved(Flow::new(alloc, record)?);
+    }
+    Ok(flows)
+}
+
+impl<C: HeaderCheck + Drop> Core<C> {
+    /// Flows to which nothing happened yet, or the first fault of their records. All windows are
+    /// made here.
+    pub fn new(alloc: Global, records: &[FlowRecord], check: C) -> Result<Core<C>, SetupFault>
+        ensures new { IfOk result (λ core. IsNewCore check records.now core) }
+        ensures can_be_set_up { IsOk result → CanBeSetUp records.now }
+        ensures too_many { result ≡ Err SetupFault.TooManyFlows
+            ↔ IsSetupFault records.now SetupFault.TooManyFlows }
+        ensures bad { (k : ℕ) → result ≡ Err (SetupFault.BadFlow k)
+            ↔ IsSetupFault records.now (SetupFault.BadFlow k) }
+        ensures memory { result ≡ Err SetupFault.OutOfMemory → CanBeSetUp records.now }
+        ensures repeated { (k : ℕ) → result ≡ Err (SetupFault.SameSfid k)
+            ↔ IsSetupFault records.now (SetupFault.SameSfid k) }
+    {
+        check_records(records)?;
+        let flows = new_flows(alloc, records)?;
+        Ok(Core { flows, check })
+    }
+
+    /// Takes an event of a flow that exists and is drained. It takes no memory.
+    pub fn apply(&mut self, event: Event) -> Applied
+        requires exists { flow_of event < length self.old.flows.items }
+        requires drained { IsDrainedAt self.old (flow_of event) }
+        requires takable { IsTakable event }
+        ensures flow { TakesEventAt self.old (flow_of event) (event_of event) result self.new }
+        ensures others { OthersStay self.old self.new (flow_of event) }
+    {
+        match event {
+            Event::Arrive { flow, segment } => Applied::Arrival(self.flows[flow].arrive(segment)),
+            Event::Gap { flow } => Applied::Decision(self.flows[flow].gap()),
+            Event::GapTo { flow, number } => Applied::DecisionTo(self.flows[flow].gap_to(number)),
+        }
+    }
+
+    /// Joins the next segment of a flow that exists. `Nothing`: none is next. Where an allocation
+    /// failed nothing changed.
+    pub fn advance(&mut self, alloc: Global, flow: usize) -> Result<Step, AllocError>
+        requires exists { flow < length self.old.flows.items }
+        ensures step { IfOk result
+            (λ step. AdvancesAt C.accepts self.old flow step self.new) }
+        ensures nothing { result ≡ Ok Step.Nothing ↔ IsDrainedAt self.old flow }
+        ensures others { OthersStay self.old self.new flow }
+        ensures refused { OnErr result (self.new ≡ self.old) }
+    {
+        self.flows[flow].advance(alloc, &self.check)
+    }
+
+    /// Whether no segment of the flow is next.
+    pub fn is_drained(&self, flow: usize) -> bool
+        requires exists { flow < length self.now.flows.items }
+        ensures { IsTrue result ↔ IsDrainedAt self.now flow }
+    {
+        self.flows[flow].is_drained()
+    }
+
+    /// How many flows there are.
+    pub fn flow_count(&self) -> usize
+        ensures { result ≡ length self.now.flows.items }
+    {
+        self.flows.len()
+    }
+
+    /// Declares the expected segment of a drained flow lost, as a flow's close does, and says
+    /// whether it was.
+    pub fn close_gap(&mut self, flow: usize) -> bool
+        requires exists { flow < length self.old.flows.items }
+        requires drained { IsDrainedAt self.old flow }
+        ensures flow { ClosesGapAt self.old flow result self.new }
+        ensures others { OthersStay self.old self.new flow }
+    {
+        matches!(self.flows[flow].gap(), Declared::Lost(_))
+    }
+
+    /// What was counted of a flow so far.
+    pub fn counts(&self, flow: usize) -> FlowCounts
+        requires exists { flow < length self.now.flows.items }
+        ensures { (one : Flow) → HasFlow self.now flow one → result ≡ one.counts }
+    {
+        self.flows[flow].counts()
+    }
+}
