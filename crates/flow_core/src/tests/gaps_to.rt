@@ -109,3 +109,37 @@ fn unfinished_bytes_before_a_loss(rt: HostRuntime) -> Result<(), Fail> {
     ];
     play(&rt, rt.alloc(), &mut core, 0, &calls)
 }
+
+/// A number that was reached is forgotten, also where later segments are still held, so that it
+/// means nothing when it lies ahead again.
+#[test]
+fn number_that_was_reached(rt: HostRuntime) -> Result<(), Fail> {
+    let mut core = one_flow(rt.alloc(), 0, 16)?;
+    let reached = [
+        Call::Arrive(Part(1, Some(0), FRAME_1), Answer::Kept),
+        Call::Arrive(SEGMENT_3, Answer::Kept),
+        Call::Arrive(Part(5, Some(0), FRAME_1), Answer::Kept),
+        Call::GapTo(3, true),
+        Call::Frames(&[FRAME_1]),
+        Call::Frames(&[FRAME_3]),
+        Call::Nothing,
+    ];
+    play(&rt, rt.alloc(), &mut core, 0, &reached)?;
+    for expected in (4_u16..5000).step_by(2) {
+        let onward = [
+            Call::Arrive(Part(expected + 3, Some(0), FRAME_1), Answer::Kept),
+            Call::Arrive(Part(expected, Some(0), FRAME_0), Answer::Kept),
+            Call::Frames(&[FRAME_0]),
+            Call::Frames(&[FRAME_1]),
+            Call::Nothing,
+        ];
+        play(&rt, rt.alloc(), &mut core, 0, &onward)?;
+    }
+    play(
+        &rt,
+        rt.alloc(),
+        &mut core,
+        0,
+        &[Call::Counts([4999, 0, 0, 0, 2, 4998, 0])],
+    )
+}
