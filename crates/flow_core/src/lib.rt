@@ -15,7 +15,11 @@ mod flows;
 pub mod laws;
 mod ready;
 mod record;
+#[cfg(test)]
+mod refusals;
 mod sequence;
+#[cfg(test)]
+mod tests;
 
 pub use counts::FlowCounts;
 pub use event::{Applied, Event, Step};
