@@ -12,13 +12,12 @@ use Rattle.reorder.specs.declared.answer.Declared.{Declared}
 use Rattle.reorder.specs.declared.answer.Declared.TheVariants.{Lost}
 use Rattle.flow_core.specs.declared.flow.Flow.{Flow}
 use Rattle.flow_core.specs.declared.flows.Core.{Core}
-use Rattle.flow_core.specs.declared.event.Applied.{Applied}
 use Rattle.flow_core.specs.declared.event.Applied.TheVariants.{Decision}
 use Rattle.flow_core.specs.Setup.{flows_max}
 use Rattle.flow_core.specs.Fates.{number_of}
 use Rattle.flow_core.specs.Events.{gap}
 use Rattle.flow_core.specs.Stands.{IsDrained, TakesEvent}
-use Rattle.flow_core.specs.Flows.{IsLoss, HasNoneLater, HasFlow, OthersStay}
+use Rattle.flow_core.specs.Flows.{IsLoss, HasNoneLater, OthersStay}
 use Rattle.flow_core.proofs.Outcome.{after-append}
 use Rattle.flow_core.proofs.OneOutcome.{after-once}
 use Rattle.flow_core.proofs.Standing.{drained-sound}

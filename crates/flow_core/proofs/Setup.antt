@@ -1,11 +1,11 @@
 -- Records have at most one fault, and none if they can be set up.
-use Rattle.std.proofs.Common.{◌≡◌, ℕ, ◌<◌, ◌≤◌, ◌↔◌, ⊎_elim, Result, Ok, Err, List, length, ap, subst, ◌∙◌, refl, arith}
+use Rattle.std.proofs.Common.{◌≡◌, ℕ, ◌<◌, ◌≤◌, ◌↔◌, ⊎_elim, Result, Err, List, ap, subst, ◌∙◌, refl, arith}
 use Rattle.std.proofs.lemmas.Bool.{cases_lt}
 use Rattle.docsis_wire.specs.Limits.{sequence_modulus}
 use Rattle.flow_core.specs.declared.record.FlowRecord.{FlowRecord}
 use Rattle.flow_core.specs.declared.record.SetupFault.{SetupFault}
 use Rattle.flow_core.specs.declared.record.SetupFault.TheVariants.{TooManyFlows, BadFlow, SameSfid, OutOfMemory}
-use Rattle.flow_core.specs.Setup.{flows_max, IsInRange, IsLeast, IsBad, IsRepeated, IsSetupFault, CanBeSetUp}
+use Rattle.flow_core.specs.Setup.{IsInRange, IsLeast, IsBad, IsRepeated, IsSetupFault, CanBeSetUp}
 
 -- the least number with a property is one number
 least-one : (P : ℕ → Type 0) (k j : ℕ) → IsLeast P k → IsLeast P j → k ≡ j

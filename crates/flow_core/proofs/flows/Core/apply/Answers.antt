@@ -1,5 +1,5 @@
 -- One flow takes an event.
-use Rattle.std.proofs.Common.{◌<◌, length, refl, sym, ap, subst, arith}
+use Rattle.std.proofs.Common.{refl, sym, ap, subst, arith}
 use Rattle.std.proofs.lemmas.Option.{slice_get_read}
 use Rattle.flow_core.specs.declared.event.Applied.TheVariants.{Arrival, Decision, DecisionTo}
 use Rattle.flow_core.specs.Stands.{TakesEvent}

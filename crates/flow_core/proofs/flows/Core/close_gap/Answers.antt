@@ -1,7 +1,6 @@
 -- The flow takes a gap.
 use Rattle.std.proofs.Common.{refl, sym, subst, ◌∙◌}
 use Rattle.std.proofs.lemmas.Option.{slice_get_read, same_Some}
-use Rattle.reorder.specs.declared.answer.Declared.TheVariants.{Lost}
 use Rattle.flow_core.specs.declared.event.Applied.TheVariants.{Decision}
 use Rattle.flow_core.specs.Events.{gap}
 use Rattle.flow_core.specs.Stands.{IsDrained, TakesEvent}
