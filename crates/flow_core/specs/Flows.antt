@@ -86,5 +86,7 @@ module _ {C : Type 0} where
     pub each : AreNewFlows records core.flows.items
 
   -- no segment of flow k is next
-  abbrev pub IsDrainedAt : Core C → ℕ → Type 0
-  IsDrainedAt core k = (flow : Flow) × HasFlow core k flow × IsDrained flow
+  pub record IsDrainedAt (core : Core C) (k : ℕ) : Type 0 where
+    pub flow : Flow
+    pub is : HasFlow core k flow
+    pub drained : IsDrained flow
