@@ -14,7 +14,7 @@ ghost use Rattle.flow_core.specs.declared.record.FlowRecord.{FlowRecord};
 ghost use Rattle.flow_core.specs.declared.flow.Flow.{Flow};
 ghost use Rattle.flow_core.specs.declared.counts.FlowCounts.{FlowCounts};
 ghost use Rattle.flow_core.specs.declared.event.Applied.{Applied};
-ghost use Rattle.flow_core.specs.Fates.{Fates, number_of, IsKept, IsExpected, IsSettledBelow};
+ghost use Rattle.flow_core.specs.Fates.{Fates, number_of, IsKept, IsLost, IsExpected, HasLaterKept, IsSettledBelow};
 ghost use Rattle.flow_core.specs.Events.{FlowEvent, gap, Declares, DeclaresTo, Leads, IsAfter};
 ghost use Rattle.flow_core.specs.Near.{AreNear, AreOfCut};
 ghost use Rattle.flow_core.specs.Delivery.{IsDelivered, IsDeliverySequence};
@@ -218,4 +218,25 @@ pub fn outcome_of_near_events_is_the_delivery_sequence()
         → IsDeliverySequence frames chunks fates given }
 {
     settled_segments_join_to_the_delivered_frames();
+}
+
+/// Each index that was declared lost lies before the expected one, and a later one was kept. So
+/// the losses that a drained flow has counted are all that were declared.
+pub fn lost_indexes_lie_before_the_expected_one()
+    ensures { (first width x i : ℕ) (events : List FlowEvent) (answers : List Applied)
+        (fates : Fates)
+        → IsAfter first width events answers fates → IsExpected fates x
+        → IsLost fates i → (i < x) × HasLaterKept fates i }
+{}
+
+/// However many gaps close a flow, the frames and the counts are the same.
+pub fn closed_flow_has_one_outcome()
+    ensures { (check : List ℕ → Bool) (flow_record : FlowRecord) (n m : ℕ)
+        (events : List FlowEvent) (frames others : List (List ℕ)) (counts more : FlowCounts)
+        → (one : IsFlowOutcome check flow_record (events ++ replicate n gap) frames counts)
+        → (other : IsFlowOutcome check flow_record (events ++ replicate m gap) others more)
+        → IsClosed one.fates → IsClosed other.fates
+        → (frames ≡ others) × (counts ≡ more) }
+{
+    ccf::laws::joining_has_one_answer();
 }
