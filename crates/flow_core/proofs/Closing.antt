@@ -8,7 +8,7 @@ use Rattle.reorder.specs.declared.answer.Declared.TheVariants.{NextIsHere, Nothi
 use Rattle.reorder.proofs.Items.{get-insert_same, get-insert_other}
 use Rattle.flow_core.specs.declared.event.Applied.{Applied}
 use Rattle.flow_core.specs.declared.event.Applied.TheVariants.{Arrival, Decision, DecisionTo}
-use Rattle.flow_core.specs.Fates.{Fates, no_fates, number_of, IsKept, IsExpected, HasLaterKept}
+use Rattle.flow_core.specs.Fates.{Fates, no_fates, number_of, IsKept, IsOpen, IsExpected, HasLaterKept}
 use Rattle.flow_core.specs.Events.{FlowEvent, gap, Changes, Declares, Leads, IsAfter}
 use Rattle.flow_core.specs.Closing.{IsClosed, Closes, says_lost}
 use Rattle.flow_core.proofs.Deciding.{HasLaterKept-decided}
@@ -152,3 +152,26 @@ closed-answers first x fates after NextIsHere expected declares = absurd declare
 closed-answers first x fates after NothingHeld expected declares = (λ closed. refl, λ same. (x, expected, declares.0))
 closed-answers first x fates after (Lost number) expected declares =
     (λ closed. absurd (closed.2 (subst (HasLaterKept fates) (expected-unique fates x closed.0 expected closed.1) declares.0)), λ same. absurd cc)
+
+-- a loss of an open index leaves what is kept
+kept-stays : (fates : Fates) (x i : ℕ) → IsOpen fates x → IsKept fates i → IsKept (map.insert fates x None) i
+kept-stays fates x i free kept =
+    elim (cases_eq i x) [
+      | inl same ↦ let here = ap (map.get fates) same in let is = kept.1 in absurd cc
+      | inr differ ↦ (kept.0, get-insert_other fates x None i differ ∙ kept.1)
+    ]
+
+-- gaps neither keep nor drop a segment
+pub gaps-kept : (first width n i : ℕ) (answers : List Applied) (fates after : Fates) → Leads first width fates (replicate n gap) answers after → IsKept after i ↔ IsKept fates i
+gaps-kept first width zero i answers fates after leads =
+    (subst (λ (f : Fates). IsKept f i) leads.1, subst (λ (f : Fates). IsKept f i) (sym leads.1))
+gaps-kept first width (suc n) i answers fates after (x, answer, rest, between, expected, changes, leads, are) =
+    let more = gaps-kept first width n i rest between after leads in
+    elim (gap-cases first width x answer fates between changes) [
+      | inl (later_kept, is, lost) ↦ (
+        λ kept. kept-lost fates x i (subst (λ (f : Fates). IsKept f i) is (more.0 kept)),
+        λ kept. more.1 (subst (λ (f : Fates). IsKept f i) (sym is) (kept-stays fates x i expected.open_itself kept)),
+      )
+      | inr (none, is, not_so) ↦
+          (λ kept. subst (λ (f : Fates). IsKept f i) is (more.0 kept), λ kept. more.1 (subst (λ (f : Fates). IsKept f i) (sym is) kept))
+    ]

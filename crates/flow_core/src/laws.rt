@@ -240,3 +240,29 @@ pub fn closed_flow_has_one_outcome()
 {
     ccf::laws::joining_has_one_answer();
 }
+
+/// **What a closed flow gave.** For every modem's frames, every lawful cut of them and every near
+/// list of events: with gaps behind them until the flow is closed, what it gives by the
+/// definitions is exactly the modem's frames whose segments were all kept, in the modem's order.
+pub fn closed_flow_gives_the_frames_that_were_all_kept()
+    ensures { (check : List ℕ → Bool) (frames chunks : List (List ℕ)) (fill n : ℕ)
+        (segments : List Segment) (flow_record : FlowRecord) (events : List FlowEvent)
+        (given : List (List ℕ)) (counts : FlowCounts)
+        → IsLawfulCut check frames flow_record.first fill chunks segments
+        → AreNear flow_record.first flow_record.window segments events
+        → (outcome : IsFlowOutcome check flow_record (events ++ replicate n gap) given counts)
+        → IsClosed outcome.fates
+        → FiltersTo (IsAllKept frames chunks outcome.fates) frames given }
+{
+    gaps_behind_keep_events_near();
+    outcome_of_near_events_is_the_delivery_sequence();
+    closed_flow_has_come_past_all_kept();
+}
+
+/// Gaps neither keep a segment nor drop one: the segments that were kept are the same before a
+/// close and after it.
+pub fn gaps_leave_what_was_kept()
+    ensures { (first width n i : ℕ) (answers : List Applied) (fates after : Fates)
+        → Leads first width fates (replicate n gap) answers after
+        → IsKept after i ↔ IsKept fates i }
+{}
