@@ -153,13 +153,15 @@ fn joins(rt: HostRuntime) -> Result<(), Fail> {
     Ok(())
 }
 
-/// What a flow gives of which a segment was lost: the gap is made where the segment would have come.
+/// What a flow gives of which a segment was lost: the gap is made where the segment would have
+/// come.
 #[test]
 fn goes_on_after_a_gap(rt: HostRuntime) -> Result<(), Fail> {
     let alloc = rt.alloc();
     assert_eq!(rt; Joiner::new(alloc).gap(), 0, "nothing is unfinished");
     let last: &[u8] = &[0, 0, 0, 0x10, 0, 0, 0, 0, 0x11, 0xaa, 0xbb];
-    // The second of the three is lost: five bytes are dropped, and those after it belong to no frame.
+    // The second of the three is lost: five bytes are dropped, and those after it belong to no
+    // frame.
     for (name, after, skipped) in [
         ("the frame's end and the next frame's front", THIRD, 5),
         ("a segment without payload", last, 3),

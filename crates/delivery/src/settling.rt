@@ -7,8 +7,8 @@ ghost use Rattle.delivery.specs.Left.{IsLeft};
 use crate::feeder::ClosedFeeder;
 use crate::taker::Taker;
 
-/// How many frames were offered and not taken. The condition is that both ends are of one ring; what was
-/// offered and taken stays.
+/// How many frames were offered and not taken. The condition is that both ends are of one ring;
+/// what was offered and taken stays.
 #[tactic(auto, using(crate::proofs::Ends::ends))]
 pub fn settle(feeder: &mut ClosedFeeder, taker: &mut Taker) -> usize
     requires { closed_ring feeder.old ≡ taker_ring taker.old }

@@ -107,7 +107,7 @@ module _ (r : FlowRecord) (fates : Fates) (y : ℕ) (w : WindowView ReadySegment
 remembered-on : (first y : ℕ) (fates after : Fates) (declared_to : Option ℕ) → ¬ (IsKept fates y) → ((i : ℕ) → IsLost after i → IsLost fates i)
     → IsRemembered first fates y declared_to → IsRemembered first after y declared_to
 remembered-on first y fates after None free stays remembered = λ i from lost. remembered i from (stays i lost)
-remembered-on first y fates after (Some number) free stays remembered = absurd (free remembered.2)
+remembered-on first y fates after (Some number) free stays remembered = absurd (free remembered.3)
 
 lost-before : (fates : Fates) (k : ℕ) (segment : Segment) (verdict : Verdict ReadySegment) (i : ℕ) → IsLost (after_verdict fates k segment verdict) i → IsLost fates i
 lost-before fates k segment (Late back) i lost = lost

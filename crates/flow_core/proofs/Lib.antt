@@ -10,4 +10,14 @@ pub mod Windows
 pub mod Counting
 pub mod Standing
 pub mod Arriving
+pub mod Held
 pub mod Losing
+pub mod Declaring
+pub mod Joining
+pub mod Setup
+pub mod OneFlow
+pub mod NewFlows
+pub mod Closing
+pub mod Turns
+pub mod Draining
+pub mod FlowOutcomes

@@ -83,8 +83,8 @@ counts-losses : (answers : List Applied) (n : ℕ) (settled : List (Option Segme
     (record counts { lost = counted (counts.lost + n); skipped = counted (counts.skipped + length unfinished) })
 counts-losses answers n settled given unfinished counts are =
     let balance = are.balance in
-    let losses = sum_by-append (λ fate. cond {A = ℕ} (not (is_some fate)) 1 0) settled (replicate n None) in
-    let each = sum_by-replicate (λ fate. cond {A = ℕ} (not (is_some fate)) 1 0) n None in
+    let losses = sum_by-append (λ (fate : Option Segment). cond {A = ℕ} (not (is_some fate)) 1 0) settled (replicate n None) in
+    let each = sum_by-replicate (λ (fate : Option Segment). cond {A = ℕ} (not (is_some fate)) 1 0) n None in
     let bytes = sum_by-append payload_bytes settled (replicate n None) in
     let none = sum_by-replicate payload_bytes n None in
     let lost = are.lost in
@@ -122,4 +122,27 @@ losses-pass check r fates answers y given flow (suc n) come few lost lawful =
           (settled-more fates y come.settled (replicate (suc n) None) (lost-fate fates y (suc n) lost) come.below);
       joined = joins-losses check n come.settled given flow.joiner come.joined;
       counts = counts-losses answers (suc n) come.settled given flow.joiner flow.counts come.counts;
+    }
+
+-- losses leave the window and the memory as they are
+pub losses-window : (n : ℕ) (flow : Flow) → (after_losses n flow).window ≡ flow.window
+losses-window zero flow = refl
+losses-window (suc n) flow = refl
+
+pub losses-memory : (n : ℕ) (flow : Flow) → (after_losses n flow).declared_to ≡ flow.declared_to
+losses-memory zero flow = refl
+losses-memory (suc n) flow = refl
+
+-- a flow that differs in what it remembers alone has come as far
+pub come-same : (check : List ℕ → Bool) (r : FlowRecord) (fates : Fates) (answers : List Applied) (y : ℕ) (given : List (List ℕ)) (flow after : Flow)
+    → HasComeTo check r fates answers y given flow → after.window ≡ flow.window → after.joiner ≡ flow.joiner → after.counts ≡ flow.counts
+    → HasComeTo check r fates answers y given after
+come-same check r fates answers y given flow after come window joiner counts =
+    record {
+      window = subst (IsWindowFrom r fates y) (sym window) come.window;
+      settled = come.settled;
+      below = come.below;
+      joined = subst (Joins check [] come.settled given) (sym joiner) come.joined;
+      counts = subst (λ u. AreCounts answers come.settled given u after.counts) (sym joiner)
+          (subst (AreCounts answers come.settled given flow.joiner) (sym counts) come.counts);
     }

@@ -3,7 +3,14 @@ use Rattle.std.proofs.Common.{◌≡◌, ℕ, ◌+◌, ◌<◌, ◌≤◌, ◌�
 use Rattle.std.specs.Option.{option_map, option_flatten}
 use Rattle.std.specs.FinMap as map
 use Rattle.std.proofs.lemmas.Bool.{cases_lt}
-use Rattle.std.proofs.lemmas.Option.{slice_get-get_or}
+use Rattle.std.proofs.lemmas.Option.{slice_get-get_or, slice_get_within}
+use Rattle.std.specs.Ordering.{nat_cmp}
+use Rattle.reorder.specs.View.{IsLawful, empty_window}
+use Rattle.flow_core.specs.Setup.{IsInRange}
+use Rattle.flow_core.specs.Counts.{no_counts}
+use Rattle.flow_core.specs.Fates.{no_fates}
+use Rattle.flow_core.proofs.Counting.{counts-new}
+use Rattle.flow_core.proofs.Windows.{window-new}
 use Rattle.docsis_wire.specs.declared.segment.Segment.{Segment}
 use Rattle.ccf.specs.Join.{Joins}
 use Rattle.reorder.specs.View.{WindowView, held_at}
@@ -55,7 +62,7 @@ expected-after fates x n settled expected below =
 -- where nothing is remembered the index itself is not lost
 remembered-kept : (first y : ℕ) (fates : Fates) (declared_to : Option ℕ) → IsRemembered first fates y declared_to → ¬ (IsLost fates y)
 remembered-kept first y fates None remembered lost = remembered y (omega arith) lost
-remembered-kept first y fates (Some number) remembered lost = ((remembered.3 y (omega arith)).0 lost).1 remembered.2
+remembered-kept first y fates (Some number) remembered lost = ((remembered.4 y (omega arith)).0 lost).1 remembered.3
 
 -- put together
 pub stands : (check : List ℕ → Bool) (r : FlowRecord) (flow : Flow) (events : List FlowEvent) (answers : List Applied) (y : ℕ) (given : List (List ℕ))
@@ -63,25 +70,27 @@ pub stands : (check : List ℕ → Bool) (r : FlowRecord) (flow : Flow) (events 
     → IsAfter r.first r.window events answers fates → IsExpected fates x → IsWindowFrom r fates y flow.window
     → IsRemembered r.first fates y (option_map (λ sequence. sequence.number) flow.declared_to)
     → IsSettledBelow fates y settled → Joins check [] settled given flow.joiner → AreCounts answers settled given flow.joiner flow.counts
-    → StandsFor check r flow events answers y given
+    → (whole : StandsFor check r flow events answers y given) × (whole.fates ≡ fates)
 stands check r flow events answers y given fates x settled after expected window remembered below joined counts =
-    let upto = expected-after fates x y settled expected below in
-    record {
-      fates = fates;
-      after = after;
-      x = x;
-      expected = expected;
-      come_to = ⊎_elim
-          (λ (before : y < x). inr (before, ⊎_elim (λ kept. kept) (λ lost. absurd (remembered-kept r.first y fates _ remembered lost)) (settled-cases fates y (expected.settled y before))))
-          (λ (past : x ≤ y). inl (omega arith))
-          (cases_lt y x);
-      window = window;
-      remembered = remembered;
-      settled = settled;
-      below = below;
-      joined = joined;
-      counts = counts;
-    }
+    let upto = expected-after fates x y settled expected below in (
+      record {
+        fates = fates;
+        after = after;
+        x = x;
+        expected = expected;
+        come_to = ⊎_elim
+            (λ (before : y < x). inr (before, ⊎_elim (λ kept. kept) (λ lost. absurd (remembered-kept r.first y fates _ remembered lost)) (settled-cases fates y (expected.settled y before))))
+            (λ (past : x ≤ y). inl (omega arith))
+            (cases_lt y x);
+        window = window;
+        remembered = remembered;
+        settled = settled;
+        below = below;
+        joined = joined;
+        counts = counts;
+      },
+      refl,
+    )
 
 -- A drained flow has come to the expected index, and nothing is lost from there on.
 pub drained-at : (check : List ℕ → Bool) (r : FlowRecord) (flow : Flow) (events : List FlowEvent) (answers : List Applied) (y : ℕ) (given : List (List ℕ))
@@ -111,7 +120,7 @@ pub stands-next : (check : List ℕ → Bool) (r : FlowRecord) (flow after : Flo
 stands-next check r flow after events answers y given event answer fates s drained changes window remembered joiner counts =
     let sound = drained-sound check r flow events answers y given s drained in
     let next = sound-changes r.first r.window y event answer s.fates fates sound changes in
-    stands check r after (events ++ event ∷ []) (answers ++ answer ∷ []) y given fates next.0 s.settled
+    (stands check r after (events ++ event ∷ []) (answers ++ answer ∷ []) y given fates next.0 s.settled
     (after-append r.first r.window y events answers event answer s.fates fates s.after sound.expected changes)
     next.2.expected
     window
@@ -121,4 +130,17 @@ stands-next check r flow after events answers y given event answer fates s drain
       each = λ i fate is. settled-stays r.first r.window y i event answer s.fates fates fate sound changes (s.below.each i fate is);
     })
     (subst (λ u. Joins check [] s.settled given u) (sym joiner) s.joined)
-    (subst (λ u. AreCounts (answers ++ answer ∷ []) s.settled given u after.counts) (sym joiner) counts)
+    (subst (λ u. AreCounts (answers ++ answer ∷ []) s.settled given u after.counts) (sym joiner) counts)).0
+
+-- A flow to which nothing happened yet.
+pub new-stands : (check : List ℕ → Bool) (r : FlowRecord) (flow : Flow) → IsInRange r → flow.window ≡ empty_window r.first r.window → IsLawful flow.window
+    → flow.joiner ≡ [] → flow.counts ≡ no_counts → flow.declared_to ≡ None → StandsFor check r flow [] [] 0 []
+new-stands check r flow in_range window lawful joiner counts declared_to =
+    (stands check r flow [] [] 0 [] no_fates 0 [] (refl, refl)
+    (record { open_itself = map.get-empty nat_cmp 0; settled = λ i below. absurd (omega arith) })
+    (subst (IsWindowFrom r no_fates 0) (sym window) (window-new r in_range (subst IsLawful window lawful)))
+    (subst (IsRemembered r.first no_fates 0) (sym (ap (option_map (λ sequence. sequence.number)) declared_to))
+    (λ i from lost. some-none None (sym lost ∙ map.get-empty nat_cmp i)))
+    (record { size = refl; each = λ i fate is. absurd (let within = slice_get_within [] i fate is in omega arith) })
+    (refl, joiner)
+    (subst (AreCounts [] [] [] flow.joiner) (sym counts) (counts-new flow.joiner joiner))).0

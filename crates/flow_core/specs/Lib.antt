@@ -7,3 +7,5 @@ pub mod Stands
 pub mod Setup
 pub mod Flows
 pub mod Losses
+pub mod Closing
+pub mod Outcome

@@ -2,7 +2,7 @@
 //! and the delivery sequence only grows.
 //!
 //! Each function states a law in its contract and does nothing.
-ghost use Rattle.std.specs.Prelude.{◌≡◌, ◌↔◌, ◌<◌, ◌≤◌, ℕ, Bool, Option, List, [], ◌++◌, length};
+ghost use Rattle.std.specs.Prelude.{◌≡◌, ◌↔◌, ◌+◌, ◌<◌, ◌≤◌, ℕ, Bool, Option, List, IsTrue, [], ◌++◌, length, count_by, replicate};
 ghost use Rattle.std.specs.List.{AllByRecursion};
 ghost use Rattle.docsis_wire.specs.declared.segment.Segment.{Segment};
 ghost use Rattle.docsis_wire.specs.Frame.{IsFrame};
@@ -12,12 +12,17 @@ ghost use Rattle.ccf.specs.Filter.{FiltersTo};
 ghost use Rattle.ccf.specs.Join.{Joins};
 ghost use Rattle.flow_core.specs.declared.record.FlowRecord.{FlowRecord};
 ghost use Rattle.flow_core.specs.declared.flow.Flow.{Flow};
+ghost use Rattle.flow_core.specs.declared.counts.FlowCounts.{FlowCounts};
 ghost use Rattle.flow_core.specs.declared.event.Applied.{Applied};
-ghost use Rattle.flow_core.specs.Fates.{Fates, IsExpected, IsSettledBelow};
-ghost use Rattle.flow_core.specs.Events.{FlowEvent, IsAfter};
+ghost use Rattle.flow_core.specs.Fates.{Fates, number_of, IsKept, IsExpected, IsSettledBelow};
+ghost use Rattle.flow_core.specs.Events.{FlowEvent, gap, Declares, DeclaresTo, Leads, IsAfter};
 ghost use Rattle.flow_core.specs.Near.{AreNear, AreOfCut};
 ghost use Rattle.flow_core.specs.Delivery.{IsDelivered, IsDeliverySequence};
 ghost use Rattle.flow_core.specs.Stands.{StandsFor, IsDrained};
+ghost use Rattle.flow_core.specs.Outcome.{IsFlowOutcome};
+ghost use Rattle.flow_core.specs.Closing.{IsClosed, Closes, says_lost, IsAllKept, HaveNoArrival};
+ghost use Rattle.flow_core.specs.Flows.{IsLoss};
+ghost use Rattle.reorder.specs.declared.answer.Declared.{Declared};
 
 /// Every list of events has one outcome: one list of answers and one fate of each index, of which
 /// one is the expected index.
@@ -104,6 +109,113 @@ pub fn flow_gives_the_delivery_sequence()
         → IsAfter flow_record.first flow_record.window events answers fates
         → IsDeliverySequence frames chunks fates sequence
         → (rest : List (List ℕ)) × (sequence ≡ given ++ rest) }
+{
+    settled_segments_join_to_the_delivered_frames();
+}
+
+/// After every list of events a flow has one close, and it ends: gaps lose fewer segments than the
+/// window is wide. A gap loses nothing exactly if the flow is closed.
+pub fn flow_has_one_close()
+    ensures some { (first width : ℕ) (events : List FlowEvent) (answers : List Applied)
+        (fates : Fates)
+        → IsAfter first width events answers fates
+        → (after : Fates) × Closes first width fates after }
+    ensures only { (first width : ℕ) (fates after other : Fates)
+        → Closes first width fates after → Closes first width fates other → after ≡ other }
+    ensures ends { (first width n : ℕ) (events : List FlowEvent) (answers gaps : List Applied)
+        (fates after : Fates)
+        → 1 ≤ width → IsAfter first width events answers fates
+        → Leads first width fates (replicate n gap) gaps after
+        → count_by says_lost gaps < width }
+    ensures closed { (first x : ℕ) (fates after : Fates) (declared : Declared)
+        → IsExpected fates x → Declares first x declared fates after
+        → IsClosed fates ↔ (declared ≡ Declared.NothingHeld) }
+{}
+
+/// The index that a flow has come to is never ahead of the expected one, and at most the width of
+/// its window behind it: no more segments than that are next, one after another.
+pub fn draining_ends()
+    ensures { (check : List ℕ → Bool) (flow_record : FlowRecord) (flow : Flow)
+        (events : List FlowEvent) (answers : List Applied) (x y : ℕ) (given : List (List ℕ))
+        (fates : Fates)
+        → StandsFor check flow_record flow events answers y given
+        → IsAfter flow_record.first flow_record.window events answers fates
+        → IsExpected fates x
+        → (y ≤ x) × (x ≤ y + flow_record.window) }
+{}
+
+/// Two lists of events, one behind the other, lead as the first one does and then the other.
+pub fn events_lead_on_in_turn()
+    ensures { (first width : ℕ) (events more : List FlowEvent) (answers : List Applied)
+        (fates after : Fates)
+        → Leads first width fates (events ++ more) answers after
+        ↔ ((front : List Applied) × (back : List Applied) × (between : Fates)
+        × Leads first width fates events front between
+        × Leads first width between more back after
+        × (answers ≡ front ++ back)) }
+{}
+
+/// A closed flow has come past each segment that was kept. So what it delivers are the frames whose
+/// segments were all kept.
+pub fn closed_flow_has_come_past_all_kept()
+    ensures past { (fates : Fates) (x i : ℕ)
+        → IsClosed fates → IsExpected fates x → IsKept fates i → i < x }
+    ensures delivered { (frames chunks : List (List ℕ)) (fates : Fates) (x j : ℕ)
+        → IsClosed fates → IsExpected fates x
+        → IsDelivered frames chunks fates x j ↔ IsAllKept frames chunks fates j }
+    ensures sequence { (frames chunks given : List (List ℕ)) (fates : Fates)
+        → IsClosed fates
+        → IsDeliverySequence frames chunks fates given
+        ↔ FiltersTo (IsAllKept frames chunks fates) frames given }
+{}
+
+/// A gap is a gap up to the number after the expected one.
+pub fn gap_is_a_gap_to_the_next_number()
+    ensures { (first x : ℕ) (fates after : Fates) (declared : Declared)
+        → IsExpected fates x → Declares first x declared fates after
+        → (any : Bool) × DeclaresTo first x (number_of first (x + 1)) any fates after
+        × (IsTrue any ↔ IsLoss declared) }
+{}
+
+/// Near events stay near with gaps behind them, or with any others of which none is an arrival.
+pub fn gaps_behind_keep_events_near()
+    ensures gaps { (first width n : ℕ) (segments : List Segment) (events : List FlowEvent)
+        → AreNear first width segments events
+        → AreNear first width segments (events ++ replicate n gap) }
+    ensures others { (first width : ℕ) (segments : List Segment) (events more : List FlowEvent)
+        → AreNear first width segments events → HaveNoArrival more
+        → AreNear first width segments (events ++ more) }
+{}
+
+/// What a flow gives by the definitions is one list of frames, and one record of counts.
+pub fn flow_has_one_outcome()
+    ensures { (check : List ℕ → Bool) (flow_record : FlowRecord) (events : List FlowEvent)
+        (frames others : List (List ℕ)) (counts more : FlowCounts)
+        → IsFlowOutcome check flow_record events frames counts
+        → IsFlowOutcome check flow_record events others more
+        → (frames ≡ others) × (counts ≡ more) }
+{
+    ccf::laws::joining_has_one_answer();
+}
+
+/// A drained flow that stands for some events has given what the definitions say.
+pub fn drained_flow_has_its_outcome()
+    ensures { (check : List ℕ → Bool) (flow_record : FlowRecord) (flow : Flow)
+        (events : List FlowEvent) (answers : List Applied) (y : ℕ) (given : List (List ℕ))
+        → StandsFor check flow_record flow events answers y given → IsDrained flow
+        → IsFlowOutcome check flow_record events given flow.counts }
+{}
+
+/// What the definitions say that near events of a lawful cut give is the delivery sequence.
+pub fn outcome_of_near_events_is_the_delivery_sequence()
+    ensures { (check : List ℕ → Bool) (frames chunks : List (List ℕ)) (fill : ℕ)
+        (segments : List Segment) (flow_record : FlowRecord) (events : List FlowEvent)
+        (answers : List Applied) (given : List (List ℕ)) (counts : FlowCounts) (fates : Fates)
+        → IsLawfulCut check frames flow_record.first fill chunks segments
+        → AreNear flow_record.first flow_record.window segments events
+        → IsFlowOutcome check flow_record events given counts
+        → IsAfter flow_record.first flow_record.window events answers fates
+        → IsDeliverySequence frames chunks fates given }
 {
     settled_segments_join_to_the_delivered_frames();
 }

@@ -1,11 +1,11 @@
 //! The core of many bonded service flows: events in, frames out.
 //!
 //! [`Core`] holds for each flow a resequencing window, a joiner and counts. An event is a segment
-//! that arrives, or the decision that segments are lost. [`Core::apply`] takes it, [`Core::advance`]
-//! joins the next segment, and [`Core::close_gap`] is the decision at a flow's close. Contracts say
-//! which list of events a flow stands for, and [`laws`] says what follows: over a modem's lawful
-//! cut, what is given is exactly the modem's frames whose segments were all kept, in the modem's
-//! order ([`laws::flow_gives_the_delivery_sequence`]).
+//! that arrives, or the decision that segments are lost. [`Core::apply`] takes it,
+//! [`Core::advance`] joins the next segment, and [`Core::close_gap`] is the decision at a flow's
+//! close. Contracts say which list of events a flow stands for, and [`laws`] says what follows:
+//! over a modem's lawful cut, what is given is exactly the modem's frames whose segments were all
+//! kept, in the modem's order ([`laws::flow_gives_the_delivery_sequence`]).
 #![tactic(auto)]
 
 mod counts;

@@ -1,6 +1,7 @@
 //! What is known of each service flow before it runs.
-ghost use Rattle.std.specs.Prelude.{◌≡◌, ◌↔◌, IsTrue, Result, Ok, Err};
-ghost use Rattle.flow_core.specs.Setup.{IsInRange, IsSetupFault, CanBeSetUp};
+ghost use Rattle.std.specs.Prelude.{◌≡◌, ◌<◌, ◌↔◌, ℕ, IsTrue, MatchOption, Ok, Err, length};
+ghost use Rattle.flow_core.specs.Setup.{IsInRange, IsBad, IsRepeated, IsLeast, IsSetupFault};
+ghost use Rattle.flow_core.specs.Setup.{CanBeSetUp};
 ghost use Rattle.flow_core.specs.declared.record.SetupFault.{SetupFault};
 
 use std::alloc::AllocError;
@@ -72,18 +73,50 @@ pub fn check_records(records: &[FlowRecord]) -> Result<(), SetupFault>
     if records.len() > FLOWS_MAX {
         return Err(SetupFault::TooManyFlows);
     }
-    for (k, record) in records.iter().enumerate() {
-        if !record.is_in_range() {
-            return Err(SetupFault::BadFlow(k));
-        }
+    if let Some(k) = first_bad(records) {
+        return Err(SetupFault::BadFlow(k));
     }
-    for (k, record) in records.iter().enumerate() {
-        if records[..k]
-            .iter()
-            .any(|earlier| earlier.sfid == record.sfid)
-        {
-            return Err(SetupFault::SameSfid(k));
-        }
+    if let Some(k) = first_repeated(records) {
+        return Err(SetupFault::SameSfid(k));
     }
     Ok(())
+}
+
+/// The first record that is out of range.
+fn first_bad(records: &[FlowRecord]) -> Option<usize>
+    ensures { MatchOption result ((k : ℕ) → ¬ (IsBad records.now k))
+        (λ k. IsLeast (IsBad records.now) k) }
+{
+    for (k, record) in records.iter().enumerate() {
+        if !record.is_in_range() {
+            return Some(k);
+        }
+    }
+    None
+}
+
+/// The first record whose service flow identifier stands in an earlier one.
+fn first_repeated(records: &[FlowRecord]) -> Option<usize>
+    ensures { MatchOption result ((k : ℕ) → ¬ (IsRepeated records.now k))
+        (λ k. IsLeast (IsRepeated records.now) k) }
+{
+    for k in 0..records.len() {
+        if is_repeated(records, k) {
+            return Some(k);
+        }
+    }
+    None
+}
+
+/// Whether this record's service flow identifier stands in an earlier one.
+fn is_repeated(records: &[FlowRecord], k: usize) -> bool
+    requires { k < length records.now }
+    ensures { IsTrue result ↔ IsRepeated records.now k }
+{
+    for j in 0..k {
+        if records[j].sfid == records[k].sfid {
+            return true;
+        }
+    }
+    false
 }

@@ -76,8 +76,10 @@ impl<T: Drop> Port<T> {
     /// held as many entries as it has room for; nothing is posted then.
     #[tactic(auto, using(crate::proofs::Lists::pushes))]
     pub fn close<R: Wait>(self, rt: &R) -> Result<ClosedPort<T>, Port<T>>
-        ensures closed { IfOk result (λ closed. (closed_address closed ≡ address self) × (closed_posted closed ≡ posted self)) }
-        ensures full { IfErr result (λ port. (address port ≡ address self) × (posted port ≡ posted self)) }
+        ensures closed { IfOk result (λ closed.
+            (closed_address closed ≡ address self) × (closed_posted closed ≡ posted self)) }
+        ensures full { IfErr result (λ port.
+            (address port ≡ address self) × (posted port ≡ posted self)) }
     {
         let Port {
             queue,

@@ -1,4 +1,5 @@
-//! What no clause says: when a mailbox is full and when it is empty, and what becomes of items that nobody takes.
+//! What no clause says: when a mailbox is full and when it is empty, and what becomes of items that
+//! nobody takes.
 ghost use Rattle.std.specs.Prelude.{◌≡◌};
 ghost use Rattle.mailbox.specs.Ports.{address, closed_address};
 ghost use Rattle.mailbox.specs.Mouths.{places};

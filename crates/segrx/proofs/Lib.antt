@@ -1,3 +1,4 @@
 pub mod KnownBytes
 pub mod Statuses
+pub mod Obeying
 pub mod AskedWords

@@ -1,5 +1,5 @@
 -- What the program's exit status says of its input, by what came of its words.
-use Rattle.std.proofs.Common.{◌≡◌, ◌⊎◌, inl, inr, ℕ, ◌<◌, List, Option, Some, None, Result, Ok, Err, IfSome, refl, ap, subst, arith}
+use Rattle.std.proofs.Common.{◌≡◌, ◌≢◌, ◌⊎◌, inl, inr, ℕ, ◌<◌, List, Option, Some, None, Result, Ok, Err, IfSome, refl, ap, subst, arith}
 use Rattle.docsis_wire.specs.declared.pieces.CutFault.TheVariants as cut_fault
 use Rattle.segrx.specs.declared.device.Device.{Device}
 use Rattle.segrx.specs.declared.fault.EngineFault.{EngineFault}
@@ -8,11 +8,11 @@ use Rattle.texts.specs.declared.fault.TextFault.{TextFault}
 use Rattle.texts.specs.declared.fault.TextFault.TheVariants as text_fault
 use Rattle.texts.specs.Join.{IsJoined, IsJoinFault}
 use Rattle.texts.specs.Cut.{IsCutText, IsCutFault}
-use Rattle.segrx.specs.Device.{inner_of, IsFresh}
+use Rattle.segrx.specs.Device.{inner_of}
 use Rattle.segrx.specs.Fault.{status_of, exit_status_of}
 use Rattle.segrx.specs.Command.{AsksToJoin}
 use Rattle.segrx.specs.Engine.{engine_fault, WritesText, IsFaultOfKnown, HasCause, RunsEngine}
-use Rattle.segrx.specs.Program.{HasJoinedText, HasCutText, SaysOf, IsRefused, Obeys, ComesOf, AsksToCutOnly}
+use Rattle.segrx.specs.Program.{AsksToCutOnly, AsksForNothing, IsRefused, Obeys, RunsWords, IsStatus, HasJoinedText, HasCutText, SaysOf}
 
 -- a status other than 0 and 1 says nothing
 says_nothing : (HasText : List ℕ → Type 0) (IsFault : List ℕ → TextFault → Type 0) (status : ℕ) (input : List ℕ) → 1 < status → SaysOf HasText IsFault status input
@@ -72,38 +72,57 @@ SaysOf-above HasText IsFault None status above = tt
 SaysOf-above HasText IsFault (Some input) status above =
     elim above [ inl two ↦ says_nothing HasText IsFault status input (omega (arith, two)) | inr three ↦ says_nothing HasText IsFault status input (omega (arith, three)) ]
 
--- what came of words that were obeyed over two new devices
-pub ComesOf-new : {R W : Type 0} (remaining : R → Option (List ℕ)) (contents : W → Option (List ℕ)) (words : List (List ℕ)) (reader : R) (writer : W)
-    (input input' : Device R) (output output' : Device W) (result : Result (Unit {0}) EngineFault) → inner_of input ≡ reader → IsFresh input → inner_of output ≡ writer → IsFresh output
-    → Obeys remaining contents words input input' output output' result → ComesOf remaining contents words reader writer result
-ComesOf-new remaining contents words reader writer input input' output output' result reads unread writes unwritten obeyed = record {
-  input = input;
-  input' = input';
-  output = output;
-  output' = output';
-  reads = reads;
-  writes = writes;
-  fresh = (unread, unwritten);
-  obeyed = obeyed;
+-- words that ask to join are known: whatever comes of them, it is not usage
+known_status : {R W : Type 0} (remaining : R → Option (List ℕ)) (contents : W → Option (List ℕ)) (IsText : List ℕ → List ℕ → Type 0) (IsFault : List ℕ → TextFault → Type 0)
+    (reader reader' : Device R) (writer writer' : Device W) (result : Result (Unit {0}) EngineFault) → RunsEngine remaining contents IsText IsFault reader reader' writer writer' result
+    → exit_status_of result ≢ 2
+known_status remaining contents IsText IsFault reader reader' writer writer' (Ok done) ran e = omega (arith, e)
+known_status remaining contents IsText IsFault reader reader' writer writer' (Err (Trace fault)) ran e = omega (arith, e)
+known_status remaining contents IsText IsFault reader reader' writer writer' (Err (Cut (cut_fault.BadFrame k))) ran e = omega (arith, e)
+known_status remaining contents IsText IsFault reader reader' writer writer' (Err (Cut (cut_fault.FillInsideFrame k))) ran e = omega (arith, e)
+known_status remaining contents IsText IsFault reader reader' writer writer' (Err (Cut (cut_fault.PointerTooFar k))) ran e = omega (arith, e)
+known_status remaining contents IsText IsFault reader reader' writer writer' (Err (Cut cut_fault.OutOfMemory)) ran e = omega (arith, e)
+known_status remaining contents IsText IsFault reader reader' writer writer' (Err OutOfMemory) ran e = omega (arith, e)
+known_status remaining contents IsText IsFault reader reader' writer writer' (Err Read) ran e = omega (arith, e)
+known_status remaining contents IsText IsFault reader reader' writer writer' (Err Write) ran e = omega (arith, e)
+known_status remaining contents IsText IsFault reader reader' writer writer' (Err Usage) ran e = ran.cause
+
+-- the status of an outcome is one of the table
+IsStatus-outcome : (result : Result (Unit {0}) EngineFault) → IsStatus (exit_status_of result)
+IsStatus-outcome (Ok done) = inl refl
+IsStatus-outcome (Err fault) = inr (fault, refl)
+
+-- what the status of words says that were obeyed
+pub record SaysOfWords {R : Type 0} (remaining : R → Option (List ℕ)) (words : List (List ℕ)) (reader : R) (n : ℕ) : Type 0 where
+  pub status : IsStatus n
+  pub join : AsksToJoin words → IfSome (remaining reader) (SaysOf HasJoinedText IsJoinFault n)
+  pub join_is_known : AsksToJoin words → n ≢ 2
+  pub cut : AsksToCutOnly words → IfSome (remaining reader) (SaysOf HasCutText IsCutFault n)
+  pub usage : AsksForNothing words → (n ≡ 2) ⊎ (n ≡ 3)
+
+-- so does that of what came of them
+SaysOfWords-outcome : {R W : Type 0} (remaining : R → Option (List ℕ)) (contents : W → Option (List ℕ)) (words : List (List ℕ)) (reader reader' : Device R) (writer writer' : Device W)
+    (result : Result (Unit {0}) EngineFault) → Obeys remaining contents words reader reader' writer writer' result
+    → SaysOfWords remaining words (inner_of reader) (exit_status_of result)
+SaysOfWords-outcome remaining contents words reader reader' writer writer' result obeyed = record {
+  status = IsStatus-outcome result;
+  join = λ asks.
+      SaysOf-engine remaining contents HasJoinedText IsJoined IsJoinFault reader reader' writer writer' result (λ input text is. (text, is)) (obeyed.join asks);
+  join_is_known = λ asks. known_status remaining contents IsJoined IsJoinFault reader reader' writer writer' result (obeyed.join asks);
+  cut = λ asks.
+      elim (obeyed.cut asks) [
+        | inl ran ↦
+            SaysOf-engine remaining contents HasCutText (IsCutText ran.0 ran.1) IsCutFault reader reader' writer writer' result
+            (λ input text is. (ran.0, ran.1, text, ran.2, is)) ran.3
+        | inr refused ↦ SaysOf-above HasCutText IsCutFault (remaining (inner_of reader)) (exit_status_of result) (refused_status reader reader' writer writer' result refused)
+      ];
+  usage = λ asks. refused_status reader reader' writer writer' result (obeyed.nothing asks);
 }
 
--- the program's status where the words ask to join
-pub says_of_join : {R W : Type 0} (remaining : R → Option (List ℕ)) (contents : W → Option (List ℕ)) (words : List (List ℕ)) (reader : R) (writer : W) (result : Result (Unit {0}) EngineFault)
-    → ComesOf remaining contents words reader writer result → AsksToJoin words → IfSome (remaining reader) (SaysOf HasJoinedText IsJoinFault (exit_status_of result))
-says_of_join {R = R} remaining contents words reader writer result came asks =
-    let P : R → Type 0 = λ r. IfSome (remaining r) (SaysOf HasJoinedText IsJoinFault (exit_status_of result)) in
-    subst P came.reads
-    (SaysOf-engine remaining contents HasJoinedText IsJoined IsJoinFault came.input came.input' came.output came.output' result (λ input text is. (text, is)) (came.obeyed.join asks))
-
--- the program's status where the words ask to cut and not for help
-pub says_of_cut : {R W : Type 0} (remaining : R → Option (List ℕ)) (contents : W → Option (List ℕ)) (words : List (List ℕ)) (reader : R) (writer : W) (result : Result (Unit {0}) EngineFault)
-    → ComesOf remaining contents words reader writer result → AsksToCutOnly words → IfSome (remaining reader) (SaysOf HasCutText IsCutFault (exit_status_of result))
-says_of_cut {R = R} remaining contents words reader writer result came asks =
-    let P : R → Type 0 = λ r. IfSome (remaining r) (SaysOf HasCutText IsCutFault (exit_status_of result)) in
-    subst P came.reads
-    (elim (came.obeyed.cut asks) [
-      | inl ran ↦
-          SaysOf-engine remaining contents HasCutText (IsCutText ran.0 ran.1) IsCutFault came.input came.input' came.output came.output' result
-          (λ input text is. (ran.0, ran.1, text, ran.2, is)) ran.3
-      | inr refused ↦ SaysOf-above HasCutText IsCutFault (remaining (inner_of came.input)) (exit_status_of result) (refused_status came.input came.input' came.output came.output' result refused)
-    ])
+-- so does the status of a whole run
+pub SaysOfWords-run : {R W E : Type 0} {remaining : R → Option (List ℕ)} {contents : W → Option (List ℕ)} {reported : E → Option (List ℕ)} {words : List (List ℕ)}
+    {reader : R} {input input' : Device R} {output output' : Device W} {err err' : Device E} {n : ℕ} → inner_of input ≡ reader
+    → RunsWords remaining contents reported words input input' output output' err err' n → SaysOfWords remaining words reader n
+SaysOfWords-run {R = R} {remaining = remaining} {contents = contents} {words = words} {input = input} {input' = input'} {output = output} {output' = output'} reads ran =
+    let P : R → Type 0 = λ r. SaysOfWords remaining words r (exit_status_of ran.outcome) in
+    rw ran.ends (subst P reads (SaysOfWords-outcome remaining contents words input input' output output' ran.outcome ran.obeyed))

@@ -1,11 +1,12 @@
 -- Words that ask for what the program does, the program's name first.
 use Rattle.std.specs.Prelude.{◌≡◌, ◌<◌, ◌⊎◌, ℕ, List, [], ◌∷◌, ◌++◌, length, codes, slice_get, Option, Some, None, Result, Ok, Err}
+use Rattle.docsis_wire.specs.Limits.{sequence_modulus}
 use Rattle.docsis_wire.specs.declared.pieces.FillByte.{FillByte}
 use Rattle.docsis_wire.specs.declared.pieces.FillByte.TheVariants.{Zero, Ones}
 use Rattle.segrx.specs.declared.command.UsageFault.{UsageFault}
 use Rattle.segrx.specs.declared.command.UsageFault.TheVariants.{Usage, OutOfMemory}
 use Rattle.texts.specs.Number.{IsNumber}
-use Rattle.segrx.specs.Limits.{sequence_modulus, sequence_max}
+use Rattle.segrx.specs.Limits.{sequence_max}
 use Rattle.segrx.specs.declared.command.Command.{Command}
 use Rattle.segrx.specs.declared.command.Command.TheVariants.{Join, Cut, Help}
 
@@ -48,6 +49,12 @@ abbrev pub Asks : List (List ℕ) → Command → Type 0
 Asks words Join = AsksToJoin words
 Asks words (Cut first fill) = AsksToCut words × HasNoHelpWord words × (first < sequence_modulus)
 Asks words (Help text) = AsksForHelp words
+
+-- a cut begins with the number of a segment
+abbrev pub IsInRange : Command → Type 0
+IsInRange Join = Unit {0}
+IsInRange (Cut first fill) = first < sequence_modulus
+IsInRange (Help text) = Unit {0}
 
 -- the number that the option `first` asks for, 0 where it is left out
 abbrev pub IsFirst : Option (List ℕ) → ℕ → Type 0

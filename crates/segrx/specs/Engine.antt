@@ -7,7 +7,7 @@ use Rattle.texts.specs.declared.fault.TextFault.TheVariants as text_fault
 use Rattle.segrx.specs.declared.fault.EngineFault.{EngineFault}
 use Rattle.segrx.specs.declared.fault.EngineFault.TheVariants.{Trace, Cut, OutOfMemory, Read, Write, Usage}
 use Rattle.segrx.specs.Device.{inner_of, has_failed}
-use Rattle.segrx.specs.Transfer.{AppendsFront, IsReadFault, IsRead, IsReadToEnd}
+use Rattle.segrx.specs.Transfer.{AppendsFront, IsLeftFlushed, IsReadFault, IsRead, IsReadToEnd}
 
 -- what an engine reports where no text stands for its input
 abbrev pub engine_fault : TextFault → EngineFault
@@ -48,6 +48,8 @@ pub record RunsEngine {R W : Type 0} (remaining : R → Option (List ℕ)) (cont
   pub written : OnOk result (IfSome (remaining (inner_of reader)) (WritesText IsTextOf (contents (inner_of writer)) (contents (inner_of writer'))))
   pub write_fault : result ≡ Err Write → IfSome (remaining (inner_of reader)) (WritesFront IsTextOf (contents (inner_of writer)) (contents (inner_of writer')))
   pub nothing_written : IfErr result (λ fault. fault ≢ Write → Keeps (contents (inner_of writer)) (contents (inner_of writer')))
+  -- without a fault all that was written is flushed
+  pub flushed : OnOk result (IsLeftFlushed writer writer')
   -- each fault has its cause, and without a fault there is none
   pub cause : IfErr result (HasCause IsFaultOf (remaining (inner_of reader)) reader' writer')
   pub no_cause : OnOk result (IsReadToEnd reader' (remaining (inner_of reader')) × (has_failed writer' ≡ false))

@@ -5,10 +5,6 @@ use Rattle.std.specs.Prelude.{ℕ}
 abbrev pub input_limit : ℕ
 input_limit = 268435456
 
--- the number of a segment is below this
-abbrev pub sequence_modulus : ℕ
-sequence_modulus = 8192
-
 -- the greatest number of a segment
 abbrev pub sequence_max : ℕ
 sequence_max = 8191

@@ -1,16 +1,20 @@
 -- What the program does with its arguments, and what its exit status says of its input.
-use Rattle.std.specs.Prelude.{◌≡◌, ◌≢◌, ◌⊎◌, ◌<◌, ℕ, List, Option, Result, Err, true, false, IfErr, OnOk}
+use Rattle.std.specs.Prelude.{◌≡◌, ◌≢◌, ◌⊎◌, ◌<◌, ℕ, List, [], Option, Result, Ok, Err, true, false, IfErr, OnOk, OnErr, string_bytes}
+use Rattle.std.specs.Io.KnownBytes.{Appends}
 use Rattle.docsis_wire.specs.declared.pieces.FillByte.{FillByte}
+use Rattle.docsis_wire.specs.Limits.{sequence_modulus}
 use Rattle.segrx.specs.declared.device.Device.{Device}
+use Rattle.segrx.specs.declared.fault.WriteFault.{WriteFault}
 use Rattle.segrx.specs.declared.fault.EngineFault.{EngineFault}
 use Rattle.segrx.specs.declared.fault.EngineFault.TheVariants.{OutOfMemory, Read, Write, Usage}
 use Rattle.texts.specs.declared.fault.TextFault.{TextFault}
-use Rattle.segrx.specs.Limits.{sequence_modulus}
-use Rattle.segrx.specs.Device.{inner_of, has_failed, IsFresh}
-use Rattle.segrx.specs.Transfer.{IsReadFault, IsRead}
-use Rattle.segrx.specs.Fault.{status_of}
+use Rattle.segrx.specs.declared.command.Command.{Command}
+use Rattle.segrx.specs.declared.command.Command.TheVariants.{Join, Cut, Help}
+use Rattle.segrx.specs.Device.{inner_of, has_failed, is_flushed, IsFresh}
+use Rattle.segrx.specs.Transfer.{AppendsFront, IsLeftFlushed, IsReadFault, IsRead}
+use Rattle.segrx.specs.Fault.{status_of, exit_status_of, fault_line}
 use Rattle.segrx.specs.Engine.{engine_fault, RunsEngine}
-use Rattle.segrx.specs.Command.{AsksToJoin, AsksToCut, AsksForHelp}
+use Rattle.segrx.specs.Command.{AsksToJoin, AsksToCut, AsksForHelp, HasNoHelpWord}
 use Rattle.texts.specs.Join.{IsJoined, IsJoinFault}
 use Rattle.texts.specs.Cut.{IsCutText, IsCutFault}
 
@@ -28,6 +32,31 @@ pub record IsRefused {R W : Type 0} (reader reader' : Device R) (writer writer' 
   pub unread : reader' ≡ reader
   pub unwritten : writer' ≡ writer
 
+-- a text was written and flushed, or the writer failed and a front of it went out
+pub record Writes {W E : Type 0} (contents : W → Option (List ℕ)) (text : List ℕ) (writer writer' : Device W) (result : Result (Unit {0}) E) : Type 0 where
+  pub written : OnOk result (Appends (contents (inner_of writer)) (contents (inner_of writer')) text)
+  pub flushed : OnOk result (text ≢ [] → is_flushed writer' ≡ true)
+  pub sound : OnOk result (has_failed writer' ≡ has_failed writer)
+  pub front : OnErr result (AppendsFront (contents (inner_of writer)) (contents (inner_of writer')) text)
+  pub failed : OnErr result (has_failed writer' ≡ true)
+
+-- a text of help was written, or the writer failed and that is reported; the reader was not used
+pub record WritesHelp {R W : Type 0} (contents : W → Option (List ℕ)) (text : List ℕ) (reader reader' : Device R) (writer writer' : Device W) (result : Result (Unit {0}) EngineFault) : Type 0 where
+  pub unread : reader' ≡ reader
+  pub writes : Writes contents text writer writer' result
+  pub left_flushed : OnOk result (IsLeftFlushed writer writer')
+  pub only : IfErr result (λ fault. fault ≡ Write)
+
+-- what a command does: its engine runs, or the text of help is written
+abbrev pub Performs : {R W : Type 0} → (R → Option (List ℕ)) → (W → Option (List ℕ)) → Command → Device R → Device R → Device W → Device W → Result (Unit {0}) EngineFault → Type 0
+Performs remaining contents Join reader reader' writer writer' result = RunsEngine remaining contents IsJoined IsJoinFault reader reader' writer writer' result
+Performs remaining contents (Cut first fill) reader reader' writer writer' result = RunsEngine remaining contents (IsCutText first fill) IsCutFault reader reader' writer writer' result
+Performs remaining contents (Help text) reader reader' writer writer' result = WritesHelp contents (string_bytes text) reader reader' writer writer' result
+
+-- some text of help was written
+abbrev pub Helps : {R W : Type 0} → (W → Option (List ℕ)) → Device R → Device R → Device W → Device W → Result (Unit {0}) EngineFault → Type 0
+Helps contents reader reader' writer writer' result = (text : List ℕ) × WritesHelp contents text reader reader' writer writer' result
+
 -- the engine of `cut` ran, from the number of some segment and with some fill
 abbrev pub RunsCut : {R W : Type 0} → (R → Option (List ℕ)) → (W → Option (List ℕ)) → Device R → Device R → Device W → Device W → Result (Unit {0}) EngineFault → Type 0
 RunsCut remaining contents reader reader' writer writer' result =
@@ -36,27 +65,47 @@ RunsCut remaining contents reader reader' writer writer' result =
 -- what comes of words, the program's name first, over a fresh reader and a fresh writer: `remaining` are the bytes that a reader is known to have left, `contents` those that a writer is known to hold
 pub record Obeys {R W : Type 0} (remaining : R → Option (List ℕ)) (contents : W → Option (List ℕ)) (words : List (List ℕ))
     (reader reader' : Device R) (writer writer' : Device W) (result : Result (Unit {0}) EngineFault) : Type 0 where
-  -- an engine keeps all its promises, and words that ask for nothing do nothing
+  -- an engine keeps all its promises, words that ask for nothing do nothing, and where a word asks for help no engine runs
   pub join : AsksToJoin words → RunsEngine remaining contents IsJoined IsJoinFault reader reader' writer writer' result
   pub cut : AsksToCutOnly words → RunsCut remaining contents reader reader' writer writer' result ⊎ IsRefused reader reader' writer writer' result
   pub nothing : AsksForNothing words → IsRefused reader reader' writer writer' result
+  pub help : ¬ AsksToJoin words → ¬ HasNoHelpWord words → Helps contents reader reader' writer writer' result ⊎ IsRefused reader reader' writer writer' result
+  -- where the work was done all that was written is flushed
+  pub flushed : OnOk result (IsLeftFlushed writer writer')
   -- each failed device has its fault, also where help is written
   pub no_cause : OnOk result (has_failed writer' ≡ false)
   pub read_fault : result ≡ Err Read → IsReadFault reader'
   pub write_fault : result ≡ Err Write → has_failed writer' ≡ true
   pub read_first : IfErr result (λ fault. fault ≢ Read → IsRead reader')
 
--- the words were obeyed over a fresh device on this reader and one on this writer, and this came of it
-pub record ComesOf {R W : Type 0} (remaining : R → Option (List ℕ)) (contents : W → Option (List ℕ)) (words : List (List ℕ))
-    (reader : R) (writer : W) (result : Result (Unit {0}) EngineFault) : Type 0 where
+-- an outcome was reported: the line of its fault was written and flushed, or the writer failed and a front of it went out; without a fault the writer was not used
+abbrev pub IsReported : {W : Type 0} → (W → Option (List ℕ)) → Device W → Device W → Result (Unit {0}) EngineFault → Type 0
+IsReported contents writer writer' (Ok done) = writer' ≡ writer
+IsReported contents writer writer' (Err fault) = (written : Result (Unit {0}) WriteFault) × Writes contents (fault_line fault) writer writer' written
+
+-- words, the program's name first, were obeyed over a fresh reader and a fresh writer; what came of it was reported to a third device, and the status is that of what came of it
+pub record RunsWords {R W E : Type 0} (remaining : R → Option (List ℕ)) (contents : W → Option (List ℕ)) (reported : E → Option (List ℕ)) (words : List (List ℕ))
+    (reader reader' : Device R) (writer writer' : Device W) (err err' : Device E) (status : ℕ) : Type 0 where
+  pub outcome : Result (Unit {0}) EngineFault
+  pub obeyed : Obeys remaining contents words reader reader' writer writer' outcome
+  pub report : IsReported reported err err' outcome
+  pub ends : status ≡ exit_status_of outcome
+
+-- the words were obeyed over a fresh device on this reader and one on this writer, and this came of it, which was reported to a fresh device on a third
+pub record ComesOf {R W E : Type 0} (remaining : R → Option (List ℕ)) (contents : W → Option (List ℕ)) (reported : E → Option (List ℕ)) (words : List (List ℕ))
+    (reader : R) (writer : W) (err : E) (result : Result (Unit {0}) EngineFault) : Type 0 where
   pub input : Device R
   pub input' : Device R
   pub output : Device W
   pub output' : Device W
+  pub errors : Device E
+  pub errors' : Device E
   pub reads : inner_of input ≡ reader
   pub writes : inner_of output ≡ writer
-  pub fresh : IsFresh input × IsFresh output
+  pub reports : inner_of errors ≡ err
+  pub fresh : IsFresh input × IsFresh output × IsFresh errors
   pub obeyed : Obeys remaining contents words input input' output output' result
+  pub report : IsReported reported errors errors' result
 
 -- the program did its work, or reports a fault
 abbrev pub IsStatus : ℕ → Type 0

@@ -2,7 +2,7 @@
 use Rattle.std.specs.Prelude.{◌≡◌, ◌<◌, ◌≤◌, ◌⊎◌, ℕ, true, false, List, [], ◌++◌, length, Option}
 use Rattle.std.specs.Io.KnownBytes.{Appends, Consumes, IsAtEnd}
 use Rattle.segrx.specs.declared.device.Device.{Device}
-use Rattle.segrx.specs.Device.{has_failed, given_of}
+use Rattle.segrx.specs.Device.{has_failed, given_of, is_flushed}
 use Rattle.segrx.specs.Limits.{input_limit}
 
 -- known bytes grew by a front of the text, and this is the rest of it
@@ -12,6 +12,10 @@ AppendsBefore old new text rest = (went : List ℕ) × (text ≡ went ++ rest) �
 -- known bytes grew by a front of the text
 abbrev pub AppendsFront : Option (List ℕ) → Option (List ℕ) → List ℕ → Type 0
 AppendsFront old new text = (rest : List ℕ) × AppendsBefore old new text rest
+
+-- a writer was not used, or a flush of it ended well after the last write
+abbrev pub IsLeftFlushed : {T : Type 0} → Device T → Device T → Type 0
+IsLeftFlushed writer writer' = (writer' ≡ writer) ⊎ (is_flushed writer' ≡ true)
 
 -- a reader failed, or gave more bytes than an engine reads
 abbrev pub IsReadFault : {T : Type 0} → Device T → Type 0

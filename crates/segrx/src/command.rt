@@ -1,7 +1,7 @@
 //! What the program's arguments ask for.
 ghost use Rattle.std.specs.Prelude.{◌≡◌, ◌<◌, ◌↔◌, map, codes, IsTrue, IfOk, MatchOption};
 ghost use Rattle.segrx.specs.declared.command.UsageFault.TheVariants.{OutOfMemory};
-ghost use Rattle.segrx.specs.Limits.{sequence_modulus};
+ghost use Rattle.docsis_wire.specs.Limits.{sequence_modulus};
 ghost use Rattle.segrx.specs.Command.{AsksToJoin, AsksToCut, IsHelpWord, HasNoHelpWord, StandsBeforeHelp, Asks, ReadsOptions};
 ghost use Rattle.clap.specs.Matches.{found_of, first_value};
 

@@ -1,6 +1,6 @@
 //! The command `cut`: frames and pieces, one a line, become their segments, one a line.
 ghost use Rattle.std.specs.Prelude.{◌<◌};
-ghost use Rattle.segrx.specs.Limits.{sequence_modulus};
+ghost use Rattle.docsis_wire.specs.Limits.{sequence_modulus};
 ghost use Rattle.segrx.specs.Device.{IsFresh};
 ghost use Rattle.segrx.specs.Engine.{RunsEngine};
 ghost use Rattle.texts.specs.Cut.{IsCutText, IsCutFault};

@@ -2,12 +2,13 @@
 ghost use Rattle.std.specs.Prelude.{◌≡◌};
 ghost use Rattle.std.specs.Io.{ReadsAtMost, WritesAtMost};
 ghost use Rattle.std.specs.Io.KnownBytes.{Keeps, ReadConsumes, WriteAppends};
-ghost use Rattle.segrx.specs.Device.{inner_of, has_failed, given_of, IsFresh, RecordsRead, RecordsWrite, RecordsFlush};
+ghost use Rattle.segrx.specs.Device.{inner_of, has_failed, given_of, is_flushed, IsFresh, RecordsRead, RecordsWrite, RecordsFlush};
 
 use std::io;
 use std::io::{Error, ErrorKind, Read, Write};
 
-/// A reader or a writer that remembers whether a call of it failed, and how many bytes it gave.
+/// A reader or a writer that remembers whether a call of it failed, how many bytes it gave, and
+/// whether what was written to it was flushed.
 ///
 /// A call that was interrupted is made again, and is no failure. It is not dropped by chance:
 /// whoever made the device looks at it, or takes it apart.
@@ -15,6 +16,7 @@ pub struct Device<T> {
     inner: T,
     failed: bool,
     given: u64,
+    flushed: bool,
 }
 
 impl<T> Device<T> {
@@ -27,6 +29,7 @@ impl<T> Device<T> {
             inner,
             failed: false,
             given: 0,
+            flushed: false,
         }
     }
 
@@ -44,6 +47,13 @@ impl<T> Device<T> {
         self.given
     }
 
+    /// Whether a flush ended well after the last write.
+    pub fn flushed(&self) -> bool
+        ensures { result ≡ is_flushed self.now }
+    {
+        self.flushed
+    }
+
     /// The reader or the writer itself.
     pub fn into_inner(self) -> T
         ensures { result ≡ inner_of self }
@@ -52,6 +62,7 @@ impl<T> Device<T> {
             inner,
             failed: _,
             given: _,
+            flushed: _,
         } = self;
         inner
     }
@@ -109,6 +120,7 @@ impl<W: Write> Write for Device<W> {
             (W.contents (inner_of self.new)) result buf.now }
         ensures record { RecordsWrite self.old self.new buf.now result }
     {
+        self.flushed = false;
         answer!(self, self.inner.write(buf), |count| {
             self.failed = self.failed || (count == 0 && !buf.is_empty());
         })
@@ -118,6 +130,8 @@ impl<W: Write> Write for Device<W> {
         ensures bytes { Keeps (W.contents (inner_of self.old)) (W.contents (inner_of self.new)) }
         ensures record { RecordsFlush self.old self.new result }
     {
-        answer!(self, self.inner.flush(), |done| ())
+        answer!(self, self.inner.flush(), |done| {
+            self.flushed = true;
+        })
     }
 }

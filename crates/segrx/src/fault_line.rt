@@ -2,7 +2,7 @@
 ghost use Rattle.std.specs.Prelude.{◌≡◌, ◌+◌, ◌<◌, ◌≤◌, ◌++◌, length, true, OnOk, OnErr};
 ghost use Rattle.std.specs.Io.KnownBytes.{Appends};
 ghost use Rattle.std.specs.Fmt.{decimal};
-ghost use Rattle.segrx.specs.Device.{inner_of, has_failed};
+ghost use Rattle.segrx.specs.Device.{inner_of, has_failed, is_flushed};
 ghost use Rattle.segrx.specs.Transfer.{AppendsFront};
 ghost use Rattle.segrx.specs.Fault.{cut_fault_text, fault_text, fault_line};
 
@@ -83,6 +83,7 @@ fn line_of(fault: &EngineFault) -> Line
 pub fn write_fault<W: Write>(fault: &EngineFault, writer: &mut Device<W>) -> Result<(), WriteFault>
     ensures written { OnOk result (Appends (W.contents (inner_of writer.old))
         (W.contents (inner_of writer.new)) (fault_line fault.now)) }
+    ensures flushed { OnOk result (is_flushed writer.new ≡ true) }
     ensures sound { OnOk result (has_failed writer.new ≡ has_failed writer.old) }
     ensures front { OnErr result (AppendsFront (W.contents (inner_of writer.old))
         (W.contents (inner_of writer.new)) (fault_line fault.now)) }

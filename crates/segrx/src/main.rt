@@ -22,6 +22,7 @@ mod tests;
 pub mod transfer;
 
 use command::UsageFault;
+use device::Device;
 use program::{program, report};
 use std::env;
 use std::process::ExitCode;
@@ -35,7 +36,12 @@ fn words_of(rt: &HostRuntime) -> Result<Vec<String>, UsageFault> {
 fn main(rt: HostRuntime) -> ExitCode {
     let status = match words_of(&rt) {
         Ok(words) => program(rt.alloc(), &words, rt.stdin(), rt.stdout(), rt.stderr()),
-        Err(fault) => report(&fault.into(), rt.stderr()),
+        Err(fault) => {
+            let mut err = Device::new(rt.stderr());
+            let status = report(&Err(fault.into()), &mut err);
+            err.into_inner();
+            status
+        }
     };
     ExitCode::from(status)
 }

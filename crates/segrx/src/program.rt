@@ -2,22 +2,44 @@
 ghost use Rattle.std.specs.Prelude.{◌≡◌, ◌≢◌, ◌⊎◌, map, Result, IfSome};
 ghost use Rattle.segrx.specs.declared.fault.EngineFault.{EngineFault};
 ghost use Rattle.segrx.specs.Device.{IsFresh};
-ghost use Rattle.segrx.specs.Fault.{status_of, exit_status_of};
-ghost use Rattle.segrx.specs.Command.{AsksToJoin};
+ghost use Rattle.segrx.specs.Fault.{exit_status_of};
+ghost use Rattle.segrx.specs.Command.{AsksToJoin, IsInRange};
 ghost use Rattle.texts.specs.Join.{IsJoinFault};
 ghost use Rattle.texts.specs.Cut.{IsCutFault};
-ghost use Rattle.segrx.specs.Program.{IsStatus, AsksToCutOnly, AsksForNothing, HasJoinedText, HasCutText, SaysOf, Obeys, ComesOf};
+ghost use Rattle.segrx.specs.Program.{AsksToCutOnly, AsksForNothing, Performs, Obeys, IsReported, RunsWords, ComesOf};
+ghost use Rattle.segrx.specs.Program.{IsStatus, HasJoinedText, HasCutText, SaysOf};
 
 use crate::command::{Command, read_words};
 use crate::cut::cut_text;
 use crate::device::Device;
-use crate::fault::{EngineFault, exit_status, status};
+use crate::fault::{EngineFault, exit_status};
 use crate::fault_line::write_fault;
 use crate::join::join_text;
 use crate::transfer::write_text;
 use std::alloc::Global;
 use std::convert::AsStr;
 use std::io::{Read, Write};
+
+/// Does what a command asks for: runs the engine of `join` or of `cut` between the reader and the
+/// writer, or writes the text of help.
+fn perform<R: Read, W: Write>(
+    alloc: Global,
+    command: Command,
+    reader: &mut Device<R>,
+    out: &mut Device<W>,
+) -> Result<(), EngineFault>
+    requires first { IsInRange command }
+    requires reader { IsFresh reader.old }
+    requires out { IsFresh out.old }
+    ensures { Performs R.remaining W.contents command
+        reader.old reader.new out.old out.new result }
+{
+    match command {
+        Command::Join => join_text(alloc, reader, out),
+        Command::Cut { first, fill } => cut_text(alloc, first, fill, reader, out),
+        Command::Help(text) => Ok(write_text(out, text.as_bytes())?),
+    }
+}
 
 /// Does what the words ask for.
 fn obey<S: AsStr, R: Read, W: Write>(
@@ -31,22 +53,38 @@ fn obey<S: AsStr, R: Read, W: Write>(
     ensures { Obeys R.remaining W.contents (map S.text words.now)
         reader.old reader.new out.old out.new result }
 {
-    match read_words(alloc, words)? {
-        Command::Join => join_text(alloc, reader, out),
-        Command::Cut { first, fill } => cut_text(alloc, first, fill, reader, out),
-        Command::Help(text) => Ok(write_text(out, text.as_bytes())?),
-    }
+    let command = read_words(alloc, words)?;
+    perform(alloc, command, reader, out)
 }
 
-/// Reports a fault where it can be reported, and answers its exit status. That it cannot be
-/// reported changes nothing.
-pub fn report<E: Write + Drop>(fault: &EngineFault, err: E) -> u8
-    ensures { result ≡ status_of fault.now }
+/// Answers the exit status of an outcome, and writes the line of its fault, if it has one. That the
+/// line cannot be written changes nothing.
+pub fn report<E: Write>(outcome: &Result<(), EngineFault>, err: &mut Device<E>) -> u8
+    ensures report { IsReported E.contents err.old err.new outcome.now }
+    ensures status { result ≡ exit_status_of outcome.now }
 {
-    let mut err = Device::new(err);
-    let _ = write_fault(fault, &mut err);
-    err.into_inner();
-    status(fault)
+    if let Err(fault) = outcome {
+        let _ = write_fault(fault, err);
+    }
+    exit_status(outcome)
+}
+
+/// Does what the words ask for between a reader and a writer that were not used yet, reports a
+/// fault to `err`, and answers the exit status.
+pub fn run_words<S: AsStr, R: Read, O: Write, E: Write>(
+    alloc: Global,
+    words: &[S],
+    reader: &mut Device<R>,
+    out: &mut Device<O>,
+    err: &mut Device<E>,
+) -> u8
+    requires reader { IsFresh reader.old }
+    requires out { IsFresh out.old }
+    ensures { RunsWords R.remaining O.contents E.contents (map S.text words.now)
+        reader.old reader.new out.old out.new err.old err.new result }
+{
+    let outcome = obey(alloc, words, reader, out);
+    report(&outcome, err)
 }
 
 /// The whole program: it does what the words ask for, its name first, and answers the exit status:
@@ -61,7 +99,7 @@ pub fn program<S: AsStr, R: Read + Drop, O: Write + Drop, E: Write + Drop>(
 ) -> u8
     // The status is that of what came of the words.
     ensures outcome { (outcome : Result (Unit {0}) EngineFault) × (result ≡ exit_status_of outcome)
-        × ComesOf R.remaining O.contents (map S.text words.now) reader out outcome }
+        × ComesOf R.remaining O.contents E.contents (map S.text words.now) reader out err outcome }
     ensures status { IsStatus result }
 
     // What the status says of the reader's bytes, where they are known.
@@ -74,11 +112,10 @@ pub fn program<S: AsStr, R: Read + Drop, O: Write + Drop, E: Write + Drop>(
 {
     let mut reader = Device::new(reader);
     let mut out = Device::new(out);
-    let outcome = obey(alloc, words, &mut reader, &mut out);
+    let mut err = Device::new(err);
+    let status = run_words(alloc, words, &mut reader, &mut out, &mut err);
     reader.into_inner();
     out.into_inner();
-    if let Err(fault) = &outcome {
-        report(fault, err);
-    }
-    exit_status(&outcome)
+    err.into_inner();
+    status
 }

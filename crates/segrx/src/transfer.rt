@@ -1,8 +1,8 @@
 //! Reads a device to its end, and writes a whole text to one.
 ghost use Rattle.std.specs.Prelude.{◌≡◌, ◌≢◌, ◌<◌, [], length, IsOk, true, IfOk, IfErr, IfSome, OnOk, OnErr, vec_len};
 ghost use Rattle.std.specs.Io.KnownBytes.{Appends};
-ghost use Rattle.segrx.specs.Device.{inner_of, has_failed, IsFresh};
-ghost use Rattle.segrx.specs.Transfer.{AppendsFront, IsCounted, IsRead, IsReadToEnd, IsReadFault, ReadsMore};
+ghost use Rattle.segrx.specs.Device.{inner_of, has_failed, is_flushed, IsFresh};
+ghost use Rattle.segrx.specs.Transfer.{AppendsFront, IsLeftFlushed, IsCounted, IsRead, IsReadToEnd, IsReadFault, ReadsMore};
 
 use crate::device::Device;
 use crate::fault::{EngineFault, WriteFault};
@@ -72,6 +72,8 @@ pub fn read_input<R: Read>(alloc: Global, reader: &mut Device<R>) -> Result<Vec<
 pub fn write_text<W: Write>(writer: &mut Device<W>, text: &[u8]) -> Result<(), WriteFault>
     ensures written { OnOk result (Appends (W.contents (inner_of writer.old))
         (W.contents (inner_of writer.new)) text.now) }
+    ensures flushed { OnOk result (text.now ≢ [] → is_flushed writer.new ≡ true) }
+    ensures left_flushed { OnOk result (IsLeftFlushed writer.old writer.new) }
     ensures empty { text.now ≡ [] → IsOk result × (writer.new ≡ writer.old) }
     ensures sound { OnOk result (has_failed writer.new ≡ has_failed writer.old) }
     ensures front { OnErr result (AppendsFront (W.contents (inner_of writer.old))

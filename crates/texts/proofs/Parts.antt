@@ -1,5 +1,5 @@
 -- The first line of a text and the first word of a line, split off.
-use Rattle.std.proofs.Common.{◌≡◌, ℕ, zero, suc, ◌+◌, ◌-◌, ◌<◌, ◌≤◌, ◌==◌, Bool, true, false, not, cond, List, [], ◌∷◌, length, take, drop, get_or, Some, None, refl, sym, ap, ◌∙◌, arith, nat_lt, add-one, add-zero, length-take, length-drop, get_or-drop, inl, inr}
+use Rattle.std.proofs.Common.{◌≡◌, ℕ, zero, suc, ◌+◌, ◌<◌, ◌≤◌, ◌==◌, Bool, true, false, not, cond, List, [], ◌∷◌, length, take, drop, get_or, Some, None, refl, sym, ap, ◌∙◌, arith, nat_lt, add-one, add-zero, length-take, length-drop, get_or-drop, inl, inr}
 use Rattle.std.specs.Prelude.{filter, position, All}
 use Rattle.std.specs.List.{slice_split, onto_first, position_or_len, before_first, after_first}
 use Rattle.std.proofs.lemmas.Grind.{common_steps}
@@ -144,7 +144,3 @@ words_of-last line words begins h =
     begins.same
     ∙ ap (filter (λ part. nat_lt 0 (length part))) (slice_split_none is_separator words (position-none is_separator words h))
     ∙ words_of_parts-cons words [] begins.some
-
--- the rest of a list, cut to its own length
-pub take-rest : (n : ℕ) (xs : List ℕ) → take (length xs - n) (drop n xs) ≡ drop n xs
-take-rest n xs = grind (arith, common_steps)

@@ -2,7 +2,10 @@
 //! segment and of a cut convert by `?`.
 ghost use Rattle.std.specs.Prelude.{◌≡◌};
 ghost use Rattle.texts.specs.Kinds.{kind_text};
-ghost use Rattle.texts.specs.Fault.{fault_at};
+ghost use Rattle.texts.specs.declared.fault.LineFault.TheVariants as line_fault;
+ghost use Rattle.texts.specs.declared.fault.TextFault.TheVariants as text_fault;
+ghost use Rattle.texts.specs.Fault.{fault_at, line_fault_of_field, line_fault_of_segment};
+ghost use Rattle.texts.specs.Fault.{text_fault_of_cut};
 
 use crate::field::FieldFault;
 use docsis_wire::{CutFault, SegmentFault};
@@ -91,10 +94,7 @@ impl LineFault {
 }
 
 impl From<AllocError> for LineFault {
-    ghost use Rattle.std.specs.Prelude.{◌≡◌};
-    ghost use Rattle.texts.specs.declared.fault.LineFault.TheVariants.{OutOfMemory};
-
-    ghost from_gives = { λ _ fault. fault ≡ OutOfMemory };
+    ghost from_gives = { λ _ fault. fault ≡ line_fault.OutOfMemory };
 
     fn from(_: AllocError) -> LineFault {
         LineFault::OutOfMemory
@@ -102,10 +102,7 @@ impl From<AllocError> for LineFault {
 }
 
 impl<T: Drop> From<AllocFailed<T>> for LineFault {
-    ghost use Rattle.std.specs.Prelude.{◌≡◌};
-    ghost use Rattle.texts.specs.declared.fault.LineFault.TheVariants.{OutOfMemory};
-
-    ghost from_gives = { λ _ fault. fault ≡ OutOfMemory };
+    ghost from_gives = { λ _ fault. fault ≡ line_fault.OutOfMemory };
 
     fn from(_: AllocFailed<T>) -> LineFault {
         LineFault::OutOfMemory
@@ -113,9 +110,6 @@ impl<T: Drop> From<AllocFailed<T>> for LineFault {
 }
 
 impl From<FieldFault> for LineFault {
-    ghost use Rattle.std.specs.Prelude.{◌≡◌};
-    ghost use Rattle.texts.specs.Fault.{line_fault_of_field};
-
     ghost from_gives = { λ field line. line ≡ line_fault_of_field field };
 
     fn from(fault: FieldFault) -> LineFault {
@@ -127,9 +121,6 @@ impl From<FieldFault> for LineFault {
 }
 
 impl From<SegmentFault> for LineFault {
-    ghost use Rattle.std.specs.Prelude.{◌≡◌};
-    ghost use Rattle.texts.specs.Fault.{line_fault_of_segment};
-
     ghost from_gives = { λ segment line. line ≡ line_fault_of_segment segment };
 
     fn from(fault: SegmentFault) -> LineFault {
@@ -142,10 +133,7 @@ impl From<SegmentFault> for LineFault {
 }
 
 impl From<AllocError> for TextFault {
-    ghost use Rattle.std.specs.Prelude.{◌≡◌};
-    ghost use Rattle.texts.specs.declared.fault.TextFault.TheVariants.{OutOfMemory};
-
-    ghost from_gives = { λ _ fault. fault ≡ OutOfMemory };
+    ghost from_gives = { λ _ fault. fault ≡ text_fault.OutOfMemory };
 
     fn from(_: AllocError) -> TextFault {
         TextFault::OutOfMemory
@@ -153,9 +141,6 @@ impl From<AllocError> for TextFault {
 }
 
 impl From<CutFault> for TextFault {
-    ghost use Rattle.std.specs.Prelude.{◌≡◌};
-    ghost use Rattle.texts.specs.Fault.{text_fault_of_cut};
-
     ghost from_gives = { λ cut text. text ≡ text_fault_of_cut cut };
 
     fn from(fault: CutFault) -> TextFault {

@@ -1,5 +1,5 @@
-//! The definitions of `join` and of `cut` determine their answers: an input has at most one text, at
-//! most one first fault, and never both.
+//! The definitions of `join` and of `cut` determine their answers: an input has at most one text,
+//! at most one first fault, and never both.
 //!
 //! Each function states a law in its contract and does nothing.
 ghost use Rattle.std.specs.Prelude.{◌≡◌, ◌≢◌, ℕ, List, length, flat_map};

@@ -41,7 +41,8 @@ where
     T: Drop + Send + 'static,
     R: Threads + Wait + Copy + Send + 'static,
     ensures no_capacity { (result ≡ Err OpenFault.NoCapacity) ↔ (capacity ≡ 0) }
-    ensures merge { IfOk result (λ gathered. IsMergeOf (lists_of lists) gathered.order.items gathered.items.items) }
+    ensures merge { IfOk result (λ gathered.
+        IsMergeOf (lists_of lists) gathered.order.items gathered.items.items) }
 {
     let (ports, mouth) = open(alloc, capacity)?;
     let (team, mouth) = start_all(&rt, ports, lists, mouth)?;

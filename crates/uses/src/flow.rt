@@ -1,5 +1,5 @@
-//! One flow whose segments come out of order: the window puts them in order, and the joiner cuts the
-//! frames out.
+//! One flow whose segments come out of order: the window puts them in order, and the joiner cuts
+//! the frames out.
 ghost use Rattle.std.specs.Prelude.{◌<◌, ◌≤◌, Some, [], List, ℕ, All, IfOk, map};
 ghost use Rattle.ccf.specs.Join.{Joins};
 ghost use Rattle.uses.specs.Flow.{ComesOutAs};

@@ -1,5 +1,5 @@
-//! Small programs over the other crates, as a stranger or the layer above would write them, each proved
-//! from the public contracts of those crates alone.
+//! Small programs over the other crates, as a stranger or the layer above would write them, each
+//! proved from the public contracts of those crates alone.
 #![tactic(auto)]
 
 pub mod burst;

@@ -15,13 +15,8 @@ fn no_room(rt: HostRuntime) -> Result<(), Fail> {
 #[test]
 fn room_for_one(rt: HostRuntime) -> Result<(), Fail> {
     let (ports, mut mouth) = open::<u32>(rt.alloc(), 1)?;
-    let Ports {
-        mut p0,
-        p1,
-        p2,
-        p3,
-        p4,
-    } = ports;
+    let Ports { p0, p1, p2, p3, p4 } = ports;
+    let mut p0 = p0;
     assert_eq!(rt; p0.post(&rt, 7), Ok(()));
     assert_eq!(rt; p0.post(&rt, 8), Err(Full(8)));
     let p0 = close_in_vain(&rt, p0);
@@ -65,13 +60,8 @@ fn room_is_shared(rt: HostRuntime) -> Result<(), Fail> {
 #[test]
 fn port_dropped_without_a_close(rt: HostRuntime) -> Result<(), Fail> {
     let (ports, mut mouth) = open::<u32>(rt.alloc(), 1)?;
-    let Ports {
-        mut p0,
-        p1,
-        p2,
-        p3,
-        p4,
-    } = ports;
+    let Ports { p0, p1, p2, p3, p4 } = ports;
+    let mut p0 = p0;
     assert_eq!(rt; p0.post(&rt, 7), Ok(()));
     drop(p0);
     assert_eq!(rt; mouth.next(&rt), Taken::Item { from: 0, item: 7 });
@@ -102,13 +92,8 @@ fn end_mark_takes_the_room(rt: HostRuntime) -> Result<(), Fail> {
 #[test]
 fn end_marks_are_not_left(rt: HostRuntime) -> Result<(), Fail> {
     let (ports, mut mouth) = open::<u32>(rt.alloc(), 7)?;
-    let Ports {
-        mut p0,
-        p1,
-        p2,
-        p3,
-        p4,
-    } = ports;
+    let Ports { p0, p1, p2, p3, p4 } = ports;
+    let mut p0 = p0;
     assert_eq!(rt; p0.post(&rt, 1), Ok(()));
     assert_eq!(rt; p0.post(&rt, 2), Ok(()));
     let p0 = close(&rt, p0);

@@ -15,6 +15,7 @@ struct Joined {
     done: Result<(), EngineFault>,
     reader_failed: bool,
     writer_failed: bool,
+    writer_flushed: bool,
     given: u64,
 }
 
@@ -27,6 +28,7 @@ fn join_between<R: Read + Drop, W: Write + Drop>(alloc: Global, reader: R, write
         done,
         reader_failed: reader.failed(),
         writer_failed: writer.failed(),
+        writer_flushed: writer.flushed(),
         given: reader.given(),
     };
     reader.into_inner();
@@ -42,7 +44,7 @@ fn goes_on_after_interruptions(rt: HostRuntime) {
     let joined = join_between(rt.alloc(), reader, writer);
     assert_eq!(rt; joined.done, Ok(()));
     assert_eq!(rt; joined.given, SEGMENTS.len() as u64);
-    assert!(rt; !joined.reader_failed && !joined.writer_failed);
+    assert!(rt; !joined.reader_failed && !joined.writer_failed && joined.writer_flushed);
     assert_eq!(rt; written.as_slice(), FRAMES.as_bytes());
 }
 
@@ -94,7 +96,7 @@ fn reports_each_kind_of_failed_flush(rt: HostRuntime) {
         let mut written = Vec::new(rt.alloc());
         let writer = FitfulWriter::fails_to_flush(&mut written, kind);
         let joined = join_between(rt.alloc(), SEGMENTS.as_bytes(), writer);
-        assert!(rt; is_write_fault(&joined), "{kind}");
+        assert!(rt; is_write_fault(&joined) && !joined.writer_flushed, "{kind}");
         assert_eq!(rt; written.as_slice(), FRAMES.as_bytes(), "{kind}");
     }
 }

@@ -27,7 +27,8 @@ impl<T: Drop> Gathered<T> {
     pub fn add(&mut self, from: u8, item: T) -> Result<(), AllocError>
         ensures order { OnOk result (self.new.order.items ≡ self.old.order.items ++ from ∷ []) }
         ensures items { OnOk result (self.new.items.items ≡ self.old.items.items ++ item ∷ []) }
-        ensures err { OnErr result ((self.new.order.items ≡ self.old.order.items) × (self.new.items.items ≡ self.old.items.items)) }
+        ensures err { OnErr result ((self.new.order.items ≡ self.old.order.items)
+            × (self.new.items.items ≡ self.old.items.items)) }
     {
         let Gathered { order, items } = self;
         order.reserve(1)?;

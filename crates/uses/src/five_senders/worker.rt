@@ -25,7 +25,8 @@ pub fn start<T, R>(rt: &R, port: Port<T>, list: Vec<T>) -> Result<Worker<T>, All
 where
     T: Drop + Send + 'static,
     R: Threads + Wait + Copy + Send + 'static,
-    ensures { IfOk result (λ worker. (worker.promise.0.value ≡ port) × (worker.promise.1.value ≡ list)) }
+    ensures { IfOk result (λ worker.
+        (worker.promise.0.value ≡ port) × (worker.promise.1.value ≡ list)) }
 {
     let theirs = *rt;
     let posts = Posts(Snapshot::of(&port), Snapshot::of(&list));

@@ -107,17 +107,7 @@ fn byte(fill: FillByte) -> u8 {
 fn cuts_lawfully(rt: HostRuntime) -> Result<(), Fail> {
     for cutting in &CUTTINGS {
         let name = cutting.name;
-        let frames = owned(rt.alloc(), cutting.frames)?;
-        let pieces = named(rt.alloc(), cutting.pieces)?;
-        assert!(rt; cutting.first < 8192, "{name}");
-        let segments = cut(
-            rt.alloc(),
-            &frames,
-            &pieces,
-            cutting.first,
-            cutting.fill,
-            &NoCheck,
-        )?;
+        let (frames, segments) = cutting.cut(&rt, rt.alloc())?;
         let fill = byte(cutting.fill);
         let lawful = is_lawful_cut(rt.alloc(), &frames, cutting.first, fill, &segments)?;
         assert!(rt; lawful, "{name}");

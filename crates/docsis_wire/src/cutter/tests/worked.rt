@@ -1,8 +1,12 @@
 //! Worked examples, at once and a segment at a time.
 use super::{EXTENDED, PLAIN, are, is, named, owned};
+use crate::buffer::Bytes;
 use crate::cutter::{Cutter, cut};
 use crate::header_check::NoCheck;
 use crate::pieces::{CutFault, FillByte};
+use crate::segment::Segment;
+use std::alloc::Global;
+use std::process::Abort;
 use std::test::Fail;
 
 pub struct Cutting {
@@ -145,21 +149,22 @@ pub const CUTTINGS: [Cutting; 10] = [
     },
 ];
 
+impl Cutting {
+    /// The frames that are cut, and the segments that they are cut into.
+    pub fn cut(&self, rt: &impl Abort, alloc: Global) -> Result<(Vec<Bytes>, Vec<Segment>), Fail> {
+        let frames = owned(alloc, self.frames)?;
+        let pieces = named(alloc, self.pieces)?;
+        assert!(rt; self.first < 8192, "{}", self.name);
+        let segments = cut(alloc, &frames, &pieces, self.first, self.fill, &NoCheck)?;
+        Ok((frames, segments))
+    }
+}
+
 #[test]
 fn cuts(rt: HostRuntime) -> Result<(), Fail> {
     for cutting in &CUTTINGS {
         let name = cutting.name;
-        let frames = owned(rt.alloc(), cutting.frames)?;
-        let pieces = named(rt.alloc(), cutting.pieces)?;
-        assert!(rt; cutting.first < 8192, "{name}");
-        let segments = cut(
-            rt.alloc(),
-            &frames,
-            &pieces,
-            cutting.first,
-            cutting.fill,
-            &NoCheck,
-        )?;
+        let segments = cutting.cut(&rt, rt.alloc())?.1;
         assert!(rt; are(&segments, cutting.segments), "{name}: {segments:?}");
     }
     Ok(())

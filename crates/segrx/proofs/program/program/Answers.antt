@@ -1,23 +1,38 @@
-use Rattle.std.specs.Prelude.{map}
-use Rattle.segrx.proofs.Statuses.{ComesOf-new, says_of_join, says_of_cut}
+use Rattle.segrx.proofs.Statuses.{SaysOfWords-run}
 use Rattle.segrx.proofs.program.program.Goals as goal
 
 pub returns-clause-outcome : goal.returns-clause-outcome
-returns-clause-outcome g c = (
-  c.obey-outcome.result,
-  c.exit_status.ensures,
-  ComesOf-new g.R.Read.remaining g.O.Write.contents (map g.S.AsStr.text c.args.words.now) c.args.reader c.args.out c.new-reader.result c.obey-outcome.new.reader c.new-out.result c.obey-outcome.new.out c.obey-outcome.result
-      c.new-reader.ensures.inner c.new-reader.ensures.fresh c.new-out.ensures.inner c.new-out.ensures.fresh c.obey-outcome.ensures,
-)
+returns-clause-outcome g c =
+    let ran = c.run_words-status.ensures in (
+      ran.outcome,
+      ran.ends,
+      record {
+        input = c.new-reader.result;
+        input' = c.run_words-status.new.reader;
+        output = c.new-out.result;
+        output' = c.run_words-status.new.out;
+        errors = c.new-err.result;
+        errors' = c.run_words-status.new.err;
+        reads = c.new-reader.ensures.inner;
+        writes = c.new-out.ensures.inner;
+        reports = c.new-err.ensures.inner;
+        fresh = (c.new-reader.ensures.fresh, c.new-out.ensures.fresh, c.new-err.ensures.fresh);
+        obeyed = ran.obeyed;
+        report = ran.report;
+      },
+    )
+
+pub returns-clause-status : goal.returns-clause-status
+returns-clause-status g c = (SaysOfWords-run c.new-reader.ensures.inner c.run_words-status.ensures).status
 
 pub returns-clause-join : goal.returns-clause-join
-returns-clause-join g c asks =
-    let came = ComesOf-new g.R.Read.remaining g.O.Write.contents (map g.S.AsStr.text c.args.words.now) c.args.reader c.args.out c.new-reader.result c.obey-outcome.new.reader c.new-out.result c.obey-outcome.new.out c.obey-outcome.result
-    c.new-reader.ensures.inner c.new-reader.ensures.fresh c.new-out.ensures.inner c.new-out.ensures.fresh c.obey-outcome.ensures in
-    rw c.exit_status.ensures (says_of_join g.R.Read.remaining g.O.Write.contents (map g.S.AsStr.text c.args.words.now) c.args.reader c.args.out c.obey-outcome.result came asks)
+returns-clause-join g c = (SaysOfWords-run c.new-reader.ensures.inner c.run_words-status.ensures).join
+
+pub returns-clause-join_is_known : goal.returns-clause-join_is_known
+returns-clause-join_is_known g c = (SaysOfWords-run c.new-reader.ensures.inner c.run_words-status.ensures).join_is_known
 
 pub returns-clause-cut : goal.returns-clause-cut
-returns-clause-cut g c asks =
-    let came = ComesOf-new g.R.Read.remaining g.O.Write.contents (map g.S.AsStr.text c.args.words.now) c.args.reader c.args.out c.new-reader.result c.obey-outcome.new.reader c.new-out.result c.obey-outcome.new.out c.obey-outcome.result
-    c.new-reader.ensures.inner c.new-reader.ensures.fresh c.new-out.ensures.inner c.new-out.ensures.fresh c.obey-outcome.ensures in
-    rw c.exit_status.ensures (says_of_cut g.R.Read.remaining g.O.Write.contents (map g.S.AsStr.text c.args.words.now) c.args.reader c.args.out c.obey-outcome.result came asks)
+returns-clause-cut g c = (SaysOfWords-run c.new-reader.ensures.inner c.run_words-status.ensures).cut
+
+pub returns-clause-usage : goal.returns-clause-usage
+returns-clause-usage g c = (SaysOfWords-run c.new-reader.ensures.inner c.run_words-status.ensures).usage

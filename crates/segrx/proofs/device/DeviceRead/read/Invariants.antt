@@ -7,4 +7,5 @@ invariant-loop g l = record {
   kept : Keeps (g.R.Read.remaining l.fn.self.inner) (g.R.Read.remaining l.self.inner);
   failed : l.self.failed ≡ l.fn.self.failed;
   given : l.self.given ≡ l.fn.self.given;
+  flushed : l.self.flushed ≡ l.fn.self.flushed;
 }

@@ -1,4 +1,4 @@
-use Rattle.std.proofs.Common.{◌≡◌}
+use Rattle.std.proofs.Common.{◌≡◌, false}
 use Rattle.std.specs.Io.KnownBytes.{Keeps}
 use Rattle.segrx.proofs.device.DeviceWrite.write.Given as goal
 
@@ -7,4 +7,5 @@ invariant-loop g l = record {
   kept : Keeps (g.W.Write.contents l.fn.self.inner) (g.W.Write.contents l.self.inner);
   failed : l.self.failed ≡ l.fn.self.failed;
   given : l.self.given ≡ l.fn.self.given;
+  flushed : l.self.flushed ≡ false;
 }

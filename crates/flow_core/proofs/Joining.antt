@@ -1,0 +1,185 @@
+-- The next segment of a flow is joined.
+use Rattle.std.proofs.Common.{◌≡◌, ◌≢◌, ℕ, zero, suc, cond, not, is_some, ◌+◌, ◌<◌, ◌≤◌, ◌⊎◌, inl, inr, ⊎_elim, Bool, Option, None, Some, List, [], ◌∷◌, ◌++◌, length, min, slice_get, refl, sym, ap, subst, ◌∙◌, arith, sum_by}
+use Rattle.std.specs.List.{concat}
+use Rattle.std.specs.Option.{option_map}
+use Rattle.std.specs.FinMap as map
+use Rattle.std.proofs.lemmas.List.{append-nil, length-append}
+use Rattle.std.proofs.lemmas.List.Folds.{concat-append}
+use Rattle.std.proofs.lemmas.List.Sums.{sum_by_push}
+use Rattle.std.proofs.lemmas.Option.{slice_get_within}
+use Rattle.docsis_wire.specs.declared.segment.Segment.{Segment}
+use Rattle.ccf.specs.Feed.{Feeds}
+use Rattle.ccf.specs.Join.{Joins}
+use Rattle.ccf.proofs.OneReading.{Joins-append}
+use Rattle.reorder.specs.Number.{number_ahead, following}
+use Rattle.reorder.specs.Answers.{declared_count}
+use Rattle.reorder.specs.View.{WindowView, held_at, IsLawful, next_taken, moved_on_by}
+use Rattle.flow_core.specs.declared.record.FlowRecord.{FlowRecord}
+use Rattle.flow_core.specs.declared.counts.FlowCounts.{FlowCounts}
+use Rattle.flow_core.specs.declared.flow.Flow.{Flow}
+use Rattle.flow_core.specs.declared.ready.ReadySegment.{ReadySegment}
+use Rattle.flow_core.specs.declared.sequence.SequenceNumber.{SequenceNumber}
+use Rattle.flow_core.specs.declared.event.Applied.{Applied}
+use Rattle.flow_core.specs.Fates.{Fates, number_of, IsKeptAs, IsLost, IsSettledBelow}
+use Rattle.flow_core.specs.Events.{FlowEvent}
+use Rattle.flow_core.specs.Counts.{counted, payload_bytes, AreCounts}
+use Rattle.flow_core.specs.Losses.{after_losses, GoesOn, GoesOnTo}
+use Rattle.flow_core.specs.Stands.{IsRemembered, StandsFor, AreLost, Gives}
+use Rattle.flow_core.proofs.Windows.{kept-from-segment, window-taken}
+use Rattle.flow_core.proofs.Standing.{stands}
+use Rattle.flow_core.proofs.Losing.{HasComeTo, come-same, settled-more, losses-window, losses-memory}
+use Rattle.flow_core.proofs.Numbers.{following-index, ahead-index}
+use Rattle.flow_core.proofs.Declaring.{IsToGoOn, Stops, passed-lost, comes-further, forgotten, still-remembered}
+
+-- the counts after a segment was joined
+abbrev pub fed_counts : FlowCounts → List (List ℕ) → ℕ → FlowCounts
+fed_counts counts frames skipped =
+    record counts {
+      frames = min (counts.frames + length frames) 18446744073709551615;
+      skipped = min (counts.skipped + skipped) 18446744073709551615;
+    }
+
+counts-fed : (answers : List Applied) (settled : List (Option Segment)) (given frames : List (List ℕ)) (unfinished after : List ℕ) (counts : FlowCounts)
+    (segment : Segment) (skipped : ℕ)
+    → AreCounts answers settled given unfinished counts
+    → skipped + length (concat frames) + length after ≡ length unfinished + length segment.payload
+    → AreCounts answers (settled ++ Some segment ∷ []) (given ++ frames) after (fed_counts counts frames skipped)
+counts-fed answers settled given frames unfinished after counts segment skipped are balance =
+    let before = are.balance in
+    let bytes = sum_by_push payload_bytes settled (Some segment) in
+    let lost = sum_by_push (λ (fate : Option Segment). cond {A = ℕ} (not (is_some fate)) 1 0) settled (Some segment) in
+    let lengths = length-append given frames in
+    let contents : length (concat (given ++ frames)) ≡ length (concat given) + length (concat frames) = ap length (concat-append given frames) ∙ length-append (concat given) (concat frames) in
+    let was_lost = are.lost in
+    let was_given = are.frames in
+    let was_skipped = are.skipped in
+    record {
+      kept = are.kept;
+      late = are.late;
+      repeat = are.repeat;
+      beyond = are.beyond;
+      lost = omega arith;
+      frames = omega arith;
+      skipped_bytes = are.skipped_bytes + skipped;
+      balance = omega arith;
+      skipped = omega arith;
+    }
+
+-- a list of one fate
+one-fate : (fates : Fates) (y : ℕ) (segment : Segment) → IsKeptAs fates y segment → (i : ℕ) (fate : Option Segment)
+    → slice_get (Some segment ∷ []) i ≡ Some fate → map.get fates (y + i) ≡ Some fate
+one-fate fates y segment kept zero fate is = (let same : y + 0 ≡ y = omega arith in ap (map.get fates) same) ∙ kept ∙ is
+one-fate fates y segment kept (suc i) fate is = absurd (let within = slice_get_within (Some segment ∷ []) (suc i) fate is in omega arith)
+
+module _ (check : List ℕ → Bool) (r : FlowRecord) (flow : Flow) (events : List FlowEvent) (answers : List Applied) (y : ℕ) (given : List (List ℕ))
+    (s : StandsFor check r flow events answers y given) (ready : ReadySegment) (next : held_at flow.window flow.window.expected ≡ Some ready)
+    (frames : List (List ℕ)) (after : List ℕ) (skipped : ℕ)
+    (feeds : Feeds check flow.joiner ready.segment frames after)
+    (balance : skipped + length (concat frames) + length after ≡ length flow.joiner + length ready.segment.payload)
+    (lawful : IsLawful (next_taken flow.window)) where
+  -- the segment of y is next
+  kept-as : IsKeptAs s.fates y ready.segment
+  kept-as =
+      kept-from-segment s.fates y ready.segment
+      (sym (s.window.holds y (omega arith) (omega arith)) ∙ ap (λ n. option_map (λ (one : ReadySegment). one.segment) (held_at flow.window n)) (sym s.window.number) ∙ ap (option_map (λ (one : ReadySegment). one.segment)) next)
+
+  -- the flow with the segment joined
+  abbrev fed_flow : Flow
+  fed_flow = record flow { window = next_taken flow.window; joiner = after; counts = fed_counts flow.counts frames skipped }
+
+  fed-come : HasComeTo check r s.fates answers (y + 1) (given ++ frames) fed_flow
+  fed-come =
+      record {
+        window = window-taken r s.fates y flow.window s.window lawful;
+        settled = s.settled ++ Some ready.segment ∷ [];
+        below = settled-more s.fates y s.settled (Some ready.segment ∷ []) (one-fate s.fates y ready.segment kept-as) s.below;
+        joined = Joins-append check s.settled (Some ready.segment ∷ []) [] flow.joiner after given frames s.joined (frames, [], after, feeds, (refl, refl), sym (append-nil frames));
+        counts = counts-fed answers s.settled given frames flow.joiner after flow.counts ready.segment skipped s.counts balance;
+      }
+
+  to-go-on : (remembered : Option ℕ) → IsRemembered r.first s.fates y remembered → IsToGoOn r.first s.fates (y + 1) remembered
+  to-go-on None memory = λ i from. memory i (omega arith)
+  to-go-on (Some number) memory =
+      let end = memory.0 in
+      let ahead = memory.1 in
+      let to = ahead.to in
+      let before = memory.2 in
+      (end, omega arith, omega arith, ahead.numbered, λ i from. memory.4 i (omega arith))
+
+  whole : (z : ℕ) → y < z → (after_flow : Flow) → HasComeTo check r s.fates answers z (given ++ frames) after_flow
+      → IsRemembered r.first s.fates z (option_map (λ sequence. sequence.number) after_flow.declared_to) → AreLost s.fates (y + 1) z
+      → (z : ℕ) × (y < z) × (stands : StandsFor check r after_flow events answers z (given ++ frames)) × AreLost stands.fates (y + 1) z
+  whole z past after_flow come remembered lost =
+      let put = stands check r after_flow events answers z (given ++ frames) s.fates s.x come.settled s.after s.expected come.window remembered come.below come.joined come.counts in
+      (z, past, put.0, subst (λ f. AreLost f (y + 1) z) (sym put.1) lost)
+
+  -- The flow goes on to declare what it remembers.
+  module _ (law : (w : WindowView ReadySegment) (number : ℕ) → IsLawful w → Stops w number (declared_count w number)) (gone : Flow) (gone_lawful : IsLawful gone.window) where
+    goes-on-to : (number : ℕ) → GoesOnTo number fed_flow gone → IsToGoOn r.first s.fates (y + 1) (Some number)
+        → (option_map (λ sequence. sequence.number) flow.declared_to ≡ Some number)
+        → (z : ℕ) × (y < z) × (stands : StandsFor check r gone events answers z (given ++ frames)) × AreLost stands.fates (y + 1) z
+    goes-on-to number goes to_do is =
+        let count : ℕ = declared_count (next_taken flow.window) number in
+        let moved : Flow = record fed_flow { window = moved_on_by (next_taken flow.window) count } in
+        let lost_flow : Flow = after_losses count moved in
+        let end = to_do.0 in
+        let numbered = to_do.3 in
+        let stops : Stops (next_taken flow.window) (number_of r.first end) count = subst (λ n. Stops (next_taken flow.window) n count) (sym numbered) (law (next_taken flow.window) number lawful) in
+        let window_is : lost_flow.window ≡ moved_on_by (next_taken flow.window) count = losses-window count moved in
+        let at : number_ahead (next_taken flow.window).expected count ≡ number_of r.first (y + 1 + count) =
+        ap (λ e. number_ahead (following e) count) s.window.number ∙ ap (λ e. number_ahead e count) (following-index r.first y) ∙ ahead-index r.first (y + 1) count in
+        let gone_to : lost_flow.window.expected ≡ number_of r.first (y + 1 + count) = ap (λ (w : WindowView ReadySegment). w.expected) window_is ∙ at in
+        let passed = passed-lost check r s.fates answers (y + 1) (given ++ frames) fed_flow fed-come end count to_do.1 to_do.2 to_do.4 stops in
+        ⊎_elim
+        (λ done.
+        let gone_window : gone.window ≡ lost_flow.window = ap (λ (one : Flow). one.window) done.1 in
+        let come = comes-further check r s.fates answers (y + 1) (given ++ frames) fed_flow fed-come end count to_do.1 to_do.2 to_do.4 stops (subst IsLawful (gone_window ∙ window_is) gone_lawful) in
+        whole (y + 1 + count) (omega arith) gone
+        (subst (λ one. HasComeTo check r s.fates answers (y + 1 + count) (given ++ frames) one) (sym done.1)
+        (come-same check r s.fates answers (y + 1 + count) (given ++ frames) lost_flow (record lost_flow { declared_to = None }) come refl refl refl))
+        (subst (λ (one : Flow). IsRemembered r.first s.fates (y + 1 + count) (option_map (λ sequence. sequence.number) one.declared_to)) (sym done.1)
+        (forgotten check r s.fates answers (y + 1) (given ++ frames) fed_flow fed-come end count to_do.1 to_do.2 to_do.4 stops
+        (⊎_elim
+        (λ (empty : map.len (next_taken flow.window).held ≡ 0). inl empty)
+        (λ reached. inr (sym gone_to ∙ reached ∙ sym numbered))
+        done.0)))
+        passed)
+        (λ on.
+        let gone_window : gone.window ≡ lost_flow.window = ap (λ (one : Flow). one.window) on.2 in
+        let come = comes-further check r s.fates answers (y + 1) (given ++ frames) fed_flow fed-come end count to_do.1 to_do.2 to_do.4 stops (subst IsLawful (gone_window ∙ window_is) gone_lawful) in
+        whole (y + 1 + count) (omega arith) gone
+        (subst (λ one. HasComeTo check r s.fates answers (y + 1 + count) (given ++ frames) one) (sym on.2) come)
+        (subst (λ (one : Flow). IsRemembered r.first s.fates (y + 1 + count) (option_map (λ sequence. sequence.number) one.declared_to)) (sym on.2)
+        (subst (IsRemembered r.first s.fates (y + 1 + count)) (sym (ap (option_map (λ (sequence : SequenceNumber). sequence.number)) (losses-memory count moved) ∙ is))
+        (subst (λ n. IsRemembered r.first s.fates (y + 1 + count) (Some n)) numbered
+        (still-remembered check r s.fates answers (y + 1) (given ++ frames) fed_flow fed-come end count to_do.1 to_do.2 to_do.4 stops on.0
+        (λ same. on.1 (gone_to ∙ same ∙ numbered))))))
+        passed)
+        goes
+
+    goes-on : (declared_to : Option SequenceNumber) → flow.declared_to ≡ declared_to → GoesOn declared_to fed_flow gone
+        → (z : ℕ) × (y < z) × (stands : StandsFor check r gone events answers z (given ++ frames)) × AreLost stands.fates (y + 1) z
+    goes-on None is goes =
+        whole (y + 1) (omega arith) gone
+        (subst (λ one. HasComeTo check r s.fates answers (y + 1) (given ++ frames) one) (sym goes) fed-come)
+        (subst (λ (one : Flow). IsRemembered r.first s.fates (y + 1) (option_map (λ sequence. sequence.number) one.declared_to)) (sym goes)
+        (subst (IsRemembered r.first s.fates (y + 1)) (sym (ap (option_map (λ (sequence : SequenceNumber). sequence.number)) is))
+        (to-go-on None (subst (IsRemembered r.first s.fates y) (ap (option_map (λ (sequence : SequenceNumber). sequence.number)) is) s.remembered))))
+        (λ i from to. absurd (omega arith))
+    goes-on (Some sequence) is goes =
+        goes-on-to sequence.number goes
+        (to-go-on (Some sequence.number) (subst (IsRemembered r.first s.fates y) (ap (option_map (λ (one : SequenceNumber). one.number)) is) s.remembered))
+        (ap (option_map (λ (one : SequenceNumber). one.number)) is)
+
+-- A step of a flow that isn't drained gives the frames that the next segment completes.
+pub step-gives : (check : List ℕ → Bool) (flow gone : Flow) (ready : ReadySegment) (frames : List (List ℕ)) (after : List ℕ) (skipped : ℕ)
+    → held_at flow.window flow.window.expected ≡ Some ready
+    → Feeds check flow.joiner ready.segment frames after
+    → skipped + length (concat frames) + length after ≡ length flow.joiner + length ready.segment.payload
+    → IsLawful (next_taken flow.window)
+    → ((w : WindowView ReadySegment) (number : ℕ) → IsLawful w → Stops w number (declared_count w number))
+    → GoesOn flow.declared_to (record flow { window = next_taken flow.window; joiner = after; counts = fed_counts flow.counts frames skipped }) gone
+    → IsLawful gone.window
+    → Gives check flow frames gone
+step-gives check flow gone ready frames after skipped next feeds balance lawful law goes gone_lawful r events answers y given s =
+    goes-on check r flow events answers y given s ready next frames after skipped feeds balance lawful law gone gone_lawful flow.declared_to refl goes

@@ -1,0 +1,31 @@
+-- The first fault that is found is the one fault of the records.
+use Rattle.std.proofs.Common.{◌≡◌, ◌↔◌, Result, Ok, Err, List, refl, arith}
+use Rattle.flow_core.specs.declared.record.FlowRecord.{FlowRecord}
+use Rattle.flow_core.specs.declared.record.SetupFault.{SetupFault}
+use Rattle.flow_core.specs.declared.record.SetupFault.TheVariants.{BadFlow, SameSfid}
+use Rattle.flow_core.specs.Setup.{IsSetupFault, CanBeSetUp}
+use Rattle.flow_core.proofs.Setup.{fault-refused, fault-is, fault-not}
+use Rattle.flow_core.proofs.record.check_records.Goals as goal
+
+-- an answer with a fault
+fault-ok : (records : List FlowRecord) (fault : SetupFault) → IsSetupFault records fault
+    → (◌≡◌ {A = Result (Unit {0}) SetupFault} (Err fault) (Ok tt)) ↔ CanBeSetUp records
+fault-ok records fault is = (λ e. absurd (cc), λ can. absurd (fault-refused records fault is can))
+
+pub returns-in-Some-clause-ok : goal.returns-in-Some-clause-ok
+returns-in-Some-clause-ok c = fault-ok c.args.records.now (BadFlow c.in-Some.k) (omega arith, c.in-Some.ensures)
+
+pub returns-in-Some-clause-fault : goal.returns-in-Some-clause-fault
+returns-in-Some-clause-fault c = fault-is c.args.records.now _ (BadFlow c.in-Some.k) refl (omega arith, c.in-Some.ensures)
+
+pub returns-in-Some-first_repeated-clause-ok : goal.returns-in-Some-first_repeated-clause-ok
+returns-in-Some-first_repeated-clause-ok c =
+    fault-ok c.args.records.now (SameSfid c.in-Some-first_repeated.k) (omega arith, c.in_default.ensures, c.in-Some-first_repeated.ensures)
+
+pub returns-in-Some-first_repeated-clause-fault : goal.returns-in-Some-first_repeated-clause-fault
+returns-in-Some-first_repeated-clause-fault c =
+    fault-is c.args.records.now _ (SameSfid c.in-Some-first_repeated.k) refl (omega arith, c.in_default.ensures, c.in-Some-first_repeated.ensures)
+
+pub returns-clause-fault : goal.returns-clause-fault
+returns-clause-fault c fault =
+    fault-not c.args.records.now _ fault (record { few = omega arith; in_range = c.in_default.ensures; apart = c.in_default-first_repeated.ensures }) (λ e. cc)
