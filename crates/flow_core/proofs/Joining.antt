@@ -127,7 +127,7 @@ module _ (check : List ℕ → Bool) (r : FlowRecord) (flow : Flow) (events : Li
         let stops : Stops (next_taken flow.window) (number_of r.first end) count = subst (λ n. Stops (next_taken flow.window) n count) (sym numbered) (law (next_taken flow.window) number lawful) in
         let window_is : lost_flow.window ≡ moved_on_by (next_taken flow.window) count = losses-window count moved in
         let at : number_ahead (next_taken flow.window).expected count ≡ number_of r.first (y + 1 + count) =
-            ap (λ e. number_ahead (following e) count) s.window.number ∙ ap (λ e. number_ahead e count) (following-index r.first y) ∙ ahead-index r.first (y + 1) count in
+        ap (λ e. number_ahead (following e) count) s.window.number ∙ ap (λ e. number_ahead e count) (following-index r.first y) ∙ ahead-index r.first (y + 1) count in
         let gone_to : lost_flow.window.expected ≡ number_of r.first (y + 1 + count) = ap (λ (w : WindowView ReadySegment). w.expected) window_is ∙ at in
         let passed = passed-lost check r s.fates answers (y + 1) (given ++ frames) fed_flow fed-come end count to_do.1 to_do.2 to_do.4 stops in
         ⊎_elim

@@ -15,6 +15,8 @@ pub mod Losing
 pub mod Setup
 pub mod Declaring
 pub mod Joining
+pub mod OneFlow
+pub mod NewFlows
 pub mod Closing
 pub mod Turns
 pub mod Draining

@@ -1,10 +1,11 @@
 -- Records have at most one fault, and none if they can be set up.
-use Rattle.std.proofs.Common.{◌≡◌, ℕ, ◌<◌, ◌≤◌, ⊎_elim, List, length, sym, ap, refl, arith}
+use Rattle.std.proofs.Common.{◌≡◌, ℕ, ◌<◌, ◌≤◌, ◌↔◌, ⊎_elim, Result, Err, List, ap, subst, ◌∙◌, refl, arith}
 use Rattle.std.proofs.lemmas.Bool.{cases_lt}
+use Rattle.docsis_wire.specs.Limits.{sequence_modulus}
 use Rattle.flow_core.specs.declared.record.FlowRecord.{FlowRecord}
 use Rattle.flow_core.specs.declared.record.SetupFault.{SetupFault}
 use Rattle.flow_core.specs.declared.record.SetupFault.TheVariants.{TooManyFlows, BadFlow, SameSfid, OutOfMemory}
-use Rattle.flow_core.specs.Setup.{flows_max, IsLeast, IsBad, IsRepeated, IsSetupFault, CanBeSetUp}
+use Rattle.flow_core.specs.Setup.{IsInRange, IsLeast, IsBad, IsRepeated, IsSetupFault, CanBeSetUp}
 
 -- the least number with a property is one number
 least-one : (P : ℕ → Type 0) (k j : ℕ) → IsLeast P k → IsLeast P j → k ≡ j
@@ -37,3 +38,26 @@ fault-refused records TooManyFlows is can = let few = can.few in omega arith
 fault-refused records (BadFlow k) is can = can.in_range k is.1.0
 fault-refused records (SameSfid k) is can = can.apart k is.2.0
 fault-refused records OutOfMemory is can = is
+
+-- a record that is not out of range is in range
+pub in-range : (r : FlowRecord) → ¬ (¬ (IsInRange r)) → IsInRange r
+in-range r stays =
+    record {
+      first = ⊎_elim (λ is. is) (λ (far : sequence_modulus ≤ r.first). absurd (stays (λ fits. let in_range = fits.first in omega arith))) (cases_lt r.first sequence_modulus);
+      window_positive = ⊎_elim (λ is. omega arith) (λ (far : r.window ≤ 0). absurd (stays (λ fits. let in_range = fits.window_positive in omega arith))) (cases_lt 0 r.window);
+      window_in_range = ⊎_elim (λ (far : 4096 < r.window). absurd (stays (λ fits. let in_range = fits.window_in_range in omega arith))) (λ is. is) (cases_lt 4096 r.window);
+      clusters_positive = ⊎_elim (λ is. omega arith) (λ (far : r.clusters ≤ 0). absurd (stays (λ fits. let in_range = fits.clusters_positive in omega arith))) (cases_lt 0 r.clusters);
+      clusters_in_range = ⊎_elim (λ (far : 8 < r.clusters). absurd (stays (λ fits. let in_range = fits.clusters_in_range in omega arith))) (λ is. is) (cases_lt 8 r.clusters);
+      ring_positive = ⊎_elim (λ is. omega arith) (λ (far : r.ring ≤ 0). absurd (stays (λ fits. let in_range = fits.ring_positive in omega arith))) (cases_lt 0 r.ring);
+    }
+
+-- an answer with the fault of some records
+pub fault-is : {T : Type 0} (records : List FlowRecord) (answer : Result T SetupFault) (found : SetupFault) → answer ≡ Err found → IsSetupFault records found
+    → (fault : SetupFault) → (answer ≡ Err fault) ↔ IsSetupFault records fault
+fault-is records answer found err is fault =
+    (λ e. let same : found ≡ fault = cc in subst (IsSetupFault records) same is, λ are. err ∙ ap Err (one_fault records found fault is are))
+
+-- records that can be set up, and an answer with no fault of theirs
+pub fault-not : {T : Type 0} (records : List FlowRecord) (answer : Result T SetupFault) (fault : SetupFault) → CanBeSetUp records → ¬ (answer ≡ Err fault)
+    → (answer ≡ Err fault) ↔ IsSetupFault records fault
+fault-not records answer fault can other = (λ e. absurd (other e), λ is. absurd (fault-refused records fault is can))

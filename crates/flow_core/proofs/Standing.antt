@@ -72,23 +72,25 @@ pub stands : (check : List ℕ → Bool) (r : FlowRecord) (flow : Flow) (events 
     → IsSettledBelow fates y settled → Joins check [] settled given flow.joiner → AreCounts answers settled given flow.joiner flow.counts
     → (whole : StandsFor check r flow events answers y given) × (whole.fates ≡ fates)
 stands check r flow events answers y given fates x settled after expected window remembered below joined counts =
-    let upto = expected-after fates x y settled expected below in
-    (record {
-      fates = fates;
-      after = after;
-      x = x;
-      expected = expected;
-      come_to = ⊎_elim
-          (λ (before : y < x). inr (before, ⊎_elim (λ kept. kept) (λ lost. absurd (remembered-kept r.first y fates _ remembered lost)) (settled-cases fates y (expected.settled y before))))
-          (λ (past : x ≤ y). inl (omega arith))
-          (cases_lt y x);
-      window = window;
-      remembered = remembered;
-      settled = settled;
-      below = below;
-      joined = joined;
-      counts = counts;
-    }, refl)
+    let upto = expected-after fates x y settled expected below in (
+      record {
+        fates = fates;
+        after = after;
+        x = x;
+        expected = expected;
+        come_to = ⊎_elim
+            (λ (before : y < x). inr (before, ⊎_elim (λ kept. kept) (λ lost. absurd (remembered-kept r.first y fates _ remembered lost)) (settled-cases fates y (expected.settled y before))))
+            (λ (past : x ≤ y). inl (omega arith))
+            (cases_lt y x);
+        window = window;
+        remembered = remembered;
+        settled = settled;
+        below = below;
+        joined = joined;
+        counts = counts;
+      },
+      refl,
+    )
 
 -- A drained flow has come to the expected index, and nothing is lost from there on.
 pub drained-at : (check : List ℕ → Bool) (r : FlowRecord) (flow : Flow) (events : List FlowEvent) (answers : List Applied) (y : ℕ) (given : List (List ℕ))

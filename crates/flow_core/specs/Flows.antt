@@ -12,6 +12,7 @@ use Rattle.flow_core.specs.declared.event.Applied.TheVariants.{Decision}
 use Rattle.flow_core.specs.declared.event.Step.{Step}
 use Rattle.reorder.specs.declared.answer.Declared.{Declared}
 use Rattle.reorder.specs.declared.answer.Declared.TheVariants.{Lost}
+use Rattle.flow_core.specs.Fates.{HasLaterKept}
 use Rattle.flow_core.specs.Events.{FlowEvent, arrives, gap, gap_to}
 use Rattle.flow_core.specs.Stands.{StandsFor, IsDrained, TakesEvent, Advances}
 
@@ -36,6 +37,18 @@ IsTakable (GapTo flow number) = number < sequence_modulus
 abbrev pub IsLoss : Declared → Type 0
 IsLoss declared = (number : ℕ) × (declared ≡ Lost number)
 
+-- each record has a flow, at the same index, that stands for no events
+abbrev pub AreNewFlows : List FlowRecord → List Flow → Type 0
+AreNewFlows records flows =
+    (k : ℕ) (flow_record : FlowRecord) → slice_get records k ≡ Some flow_record
+    → (flow : Flow) × (slice_get flows k ≡ Some flow) × ((check : List ℕ → Bool) → StandsFor check flow_record flow [] [] 0 [])
+
+-- whatever events a flow stands for, no segment was kept after the index to which it has come
+abbrev pub HasNoneLater : Flow → Type 0
+HasNoneLater flow =
+    (check : List ℕ → Bool) (flow_record : FlowRecord) (events : List FlowEvent) (answers : List Applied) (y : ℕ) (given : List (List ℕ))
+    → (stands : StandsFor check flow_record flow events answers y given) → ¬ (HasLaterKept stands.fates y)
+
 module _ {C : Type 0} where
   -- the core has this flow at this index
   abbrev pub HasFlow : Core C → ℕ → Flow → Type 0
@@ -50,26 +63,27 @@ module _ {C : Type 0} where
   -- flow k takes an event
   abbrev pub TakesEventAt : Core C → ℕ → FlowEvent → Applied → Core C → Type 0
   TakesEventAt core k event answer after =
-      (flow flow' : Flow) → HasFlow core k flow → HasFlow after k flow' → TakesEvent flow event answer flow'
+      (flow : Flow) → HasFlow core k flow → (flow' : Flow) × HasFlow after k flow' × TakesEvent flow event answer flow'
 
   -- flow k advances
   abbrev pub AdvancesAt : (C → List ℕ → Bool) → Core C → ℕ → Step → Core C → Type 0
   AdvancesAt accepts core k step after =
-      (flow flow' : Flow) → HasFlow core k flow → HasFlow after k flow' → Advances (accepts core.check) flow step flow'
+      (flow : Flow) → HasFlow core k flow → (flow' : Flow) × HasFlow after k flow' × Advances (accepts core.check) flow step flow'
 
-  -- Flow k takes a gap, which declares the expected index lost exactly if the answer says so. Otherwise nothing changes.
+  -- Flow k takes a gap, which declares the expected index lost exactly if the answer says so. Otherwise nothing changes, and no later segment
+  -- was kept, so that no loss can be declared.
   pub record ClosesGapAt (core : Core C) (k : ℕ) (lost : Bool) (after : Core C) : Type 0 where
     pub declared : Declared
     pub answer : IsTrue lost ↔ IsLoss declared
     pub taken : TakesEventAt core k gap (Decision declared) after
     pub unchanged : ¬ (IsTrue lost) → after ≡ core
+    pub closed : ¬ (IsTrue lost) → (flow : Flow) → HasFlow core k flow → HasNoneLater flow
 
   -- every flow of a new core stands for no events
   pub record IsNewCore (check : C) (records : List FlowRecord) (core : Core C) : Type 0 where
     pub check_is : core.check ≡ check
     pub count : length core.flows.items ≡ length records
-    pub each : (k : ℕ) (flow_record : FlowRecord) (flow : Flow) → slice_get records k ≡ Some flow_record → HasFlow core k flow
-        → (accepted : List ℕ → Bool) → StandsFor accepted flow_record flow [] [] 0 []
+    pub each : AreNewFlows records core.flows.items
 
   -- no segment of flow k is next
   abbrev pub IsDrainedAt : Core C → ℕ → Type 0

@@ -6,6 +6,7 @@ ghost use Rattle.flow_core.specs.Setup.{IsInRange};
 ghost use Rattle.flow_core.specs.Events.{arrives, gap, gap_to};
 ghost use Rattle.reorder.specs.View.{IsLawful};
 ghost use Rattle.reorder.specs.Answers.{declared_count};
+ghost use Rattle.flow_core.specs.Flows.{IsLoss};
 ghost use Rattle.flow_core.specs.Losses.{after_losses, after_declaring, GoesOn};
 ghost use Rattle.flow_core.specs.Stands.{StandsFor, IsDrained, TakesEvent, Advances};
 ghost use Rattle.flow_core.specs.declared.event.Applied.{Applied};
@@ -77,7 +78,8 @@ impl Flow {
     /// Declares the expected segment lost.
     pub fn gap(&mut self) -> Declared
         requires { IsDrained self.old }
-        ensures { TakesEvent self.old gap (Applied.Decision result) self.new }
+        ensures taken { TakesEvent self.old gap (Applied.Decision result) self.new }
+        ensures unchanged { ¬ (IsLoss result) → self.new ≡ self.old }
     {
         let declared = self.window.declare();
         if let Declared::Lost(_) = declared {

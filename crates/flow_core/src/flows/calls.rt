@@ -1,7 +1,7 @@
 //! The calls of the core.
 ghost use Rattle.std.specs.Prelude.{◌≡◌, ◌<◌, ◌↔◌, ℕ, length, IsTrue, IfOk, IsOk, OnErr, Ok, Err};
 ghost use Rattle.flow_core.specs.Setup.{IsSetupFault, CanBeSetUp};
-ghost use Rattle.flow_core.specs.Flows.{flow_of, event_of, IsTakable, IsNewCore, HasFlow};
+ghost use Rattle.flow_core.specs.Flows.{flow_of, event_of, IsTakable, IsNewCore, HasFlow, AreNewFlows};
 ghost use Rattle.flow_core.specs.Flows.{IsDrainedAt, AdvancesAt, OthersStay, TakesEventAt, ClosesGapAt};
 ghost use Rattle.flow_core.specs.declared.event.Step.{Step};
 ghost use Rattle.flow_core.specs.declared.flow.Flow.{Flow};
@@ -15,6 +15,19 @@ use crate::record::{FlowRecord, SetupFault, check_records};
 use docsis_wire::HeaderCheck;
 use reorder::Declared;
 use std::alloc::{AllocError, Global};
+
+/// A flow for each record, in their order.
+fn new_flows(alloc: Global, records: &[FlowRecord]) -> Result<Vec<Flow>, AllocError>
+    requires { CanBeSetUp records.now }
+    ensures count { IfOk result (λ flows. length flows.items ≡ length records.now) }
+    ensures each { IfOk result (λ flows. AreNewFlows records.now flows.items) }
+{
+    let mut flows = Vec::with_capacity(alloc, records.len())?;
+    for record in records {
+        flows.push_reserved(Flow::new(alloc, record)?);
+    }
+    Ok(flows)
+}
 
 impl<C: HeaderCheck + Drop> Core<C> {
     /// Flows to which nothing happened yet, or the first fault of their records. All windows are
@@ -31,10 +44,7 @@ impl<C: HeaderCheck + Drop> Core<C> {
             ↔ IsSetupFault records.now (SetupFault.SameSfid k) }
     {
         check_records(records)?;
-        let mut flows = Vec::with_capacity(alloc, records.len())?;
-        for record in records {
-            flows.push_reserved(Flow::new(alloc, record)?);
-        }
+        let flows = new_flows(alloc, records)?;
         Ok(Core { flows, check })
     }
 

@@ -1,10 +1,10 @@
 -- The first fault that is found is the one fault of the records.
-use Rattle.std.proofs.Common.{◌≡◌, ◌↔◌, Result, Ok, Err, List, sym, ap, subst, arith}
+use Rattle.std.proofs.Common.{◌≡◌, ◌↔◌, Result, Ok, Err, List, refl, arith}
 use Rattle.flow_core.specs.declared.record.FlowRecord.{FlowRecord}
 use Rattle.flow_core.specs.declared.record.SetupFault.{SetupFault}
-use Rattle.flow_core.specs.declared.record.SetupFault.TheVariants.{TooManyFlows, BadFlow, SameSfid, OutOfMemory}
+use Rattle.flow_core.specs.declared.record.SetupFault.TheVariants.{BadFlow, SameSfid}
 use Rattle.flow_core.specs.Setup.{IsSetupFault, CanBeSetUp}
-use Rattle.flow_core.proofs.Setup.{one_fault, fault-refused}
+use Rattle.flow_core.proofs.Setup.{fault-refused, fault-is, fault-not}
 use Rattle.flow_core.proofs.record.check_records.Goals as goal
 
 -- an answer with a fault
@@ -12,16 +12,11 @@ fault-ok : (records : List FlowRecord) (fault : SetupFault) → IsSetupFault rec
     → (◌≡◌ {A = Result (Unit {0}) SetupFault} (Err fault) (Ok tt)) ↔ CanBeSetUp records
 fault-ok records fault is = (λ e. absurd (cc), λ can. absurd (fault-refused records fault is can))
 
-fault-is : (records : List FlowRecord) (fault : SetupFault) → IsSetupFault records fault
-    → (other : SetupFault) → (◌≡◌ {A = Result (Unit {0}) SetupFault} (Err fault) (Err other)) ↔ IsSetupFault records other
-fault-is records fault is other =
-    (λ e. let same : fault ≡ other = cc in subst (IsSetupFault records) same is, λ are. ap Err (one_fault records fault other is are))
-
 pub returns-in-Some-clause-ok : goal.returns-in-Some-clause-ok
 returns-in-Some-clause-ok c = fault-ok c.args.records.now (BadFlow c.in-Some.k) (omega arith, c.in-Some.ensures)
 
 pub returns-in-Some-clause-fault : goal.returns-in-Some-clause-fault
-returns-in-Some-clause-fault c = fault-is c.args.records.now (BadFlow c.in-Some.k) (omega arith, c.in-Some.ensures)
+returns-in-Some-clause-fault c = fault-is c.args.records.now _ (BadFlow c.in-Some.k) refl (omega arith, c.in-Some.ensures)
 
 pub returns-in-Some-first_repeated-clause-ok : goal.returns-in-Some-first_repeated-clause-ok
 returns-in-Some-first_repeated-clause-ok c =
@@ -29,8 +24,8 @@ returns-in-Some-first_repeated-clause-ok c =
 
 pub returns-in-Some-first_repeated-clause-fault : goal.returns-in-Some-first_repeated-clause-fault
 returns-in-Some-first_repeated-clause-fault c =
-    fault-is c.args.records.now (SameSfid c.in-Some-first_repeated.k) (omega arith, c.in_default.ensures, c.in-Some-first_repeated.ensures)
+    fault-is c.args.records.now _ (SameSfid c.in-Some-first_repeated.k) refl (omega arith, c.in_default.ensures, c.in-Some-first_repeated.ensures)
 
 pub returns-clause-fault : goal.returns-clause-fault
 returns-clause-fault c fault =
-    (λ e. absurd (cc), λ is. absurd (fault-refused c.args.records.now fault is (record { few = omega arith; in_range = c.in_default.ensures; apart = c.in_default-first_repeated.ensures })))
+    fault-not c.args.records.now _ fault (record { few = omega arith; in_range = c.in_default.ensures; apart = c.in_default-first_repeated.ensures }) (λ e. cc)
