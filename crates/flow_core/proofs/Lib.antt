@@ -12,9 +12,9 @@ pub mod Standing
 pub mod Arriving
 pub mod Held
 pub mod Losing
-pub mod Setup
 pub mod Declaring
 pub mod Joining
+pub mod Setup
 pub mod OneFlow
 pub mod NewFlows
 pub mod Closing
