@@ -1,10 +1,8 @@
 -- What the calls of a core make of its first flow.
 use Rattle.std.proofs.Common.{◌≡◌, ℕ, ◌+◌, ◌<◌, ◌≤◌, Bool, true, false, cond, Some, List, [], ◌∷◌, ◌++◌, length, slice_get, replicate, refl, ap, sym, subst, ◌∙◌, arith, count_by, inl, inr, append_assoc}
-use Rattle.std.proofs.lemmas.Option.{slice_get_within}
 use Rattle.std.proofs.lemmas.List.Sums.{sum_by_push}
 use Rattle.std.proofs.lemmas.List.{replicate_more}
 use Rattle.std.proofs.lemmas.Bool.{cases_lt}
-use Rattle.docsis_wire.proofs.Places.{element_at}
 use Rattle.reorder.specs.declared.answer.Declared.{Declared}
 use Rattle.reorder.specs.declared.answer.Declared.TheVariants.{NextIsHere, NothingHeld, Lost}
 use Rattle.flow_core.specs.declared.record.FlowRecord.{FlowRecord}
@@ -24,13 +22,6 @@ use Rattle.uses.specs.OneFlow.{HasGiven}
 
 module _ {C : Type 0} (accepts : C → List ℕ → Bool) (core after : Core C) (accepted : List ℕ → Bool) (r : FlowRecord) (events : List FlowEvent) (given : List (List ℕ))
     (others : OthersStay core after 0) (h : HasGiven accepts core accepted r events given) where
-  -- the first flow is still there
-  still_there : (flow : Flow) × HasFlow after 0 flow
-  still_there =
-      let within = slice_get_within core.flows.items 0 h.flow h.there in
-      let same = others.count in
-      element_at after.flows.items 0 (omega arith)
-
   same_accepted : accepts after.check ≡ accepted
   same_accepted = ap accepts others.check ∙ h.accepted_are
 
@@ -38,10 +29,10 @@ module _ {C : Type 0} (accepts : C → List ℕ → Bool) (core after : Core C) 
   pub after_advance : (frames : _) → AdvancesAt accepts core 0 (Frames frames) after
       → (a : HasGiven accepts after accepted r events (given ++ frames.items)) × (h.y < a.y)
   after_advance frames advances =
-      let there = still_there in
+      let there = advances h.flow h.there in
       let stands : StandsFor (accepts core.check) r h.flow events h.answers h.y given =
       subst (λ p. StandsFor p r h.flow events h.answers h.y given) (sym h.accepted_are) h.stands in
-      let gives = (advances h.flow there.0 h.there there.1).1 r events h.answers h.y given stands in (
+      let gives = there.2.1 r events h.answers h.y given stands in (
         record {
           accepted_are = same_accepted;
           flow = there.0;
@@ -56,8 +47,8 @@ module _ {C : Type 0} (accepts : C → List ℕ → Bool) (core after : Core C) 
   -- or nothing was next
   pub after_nothing : AdvancesAt accepts core 0 Nothing after → HasGiven accepts after accepted r events given × IsDrainedAt after 0
   after_nothing advances =
-      let there = still_there in
-      let stays = advances h.flow there.0 h.there there.1 in (
+      let there = advances h.flow h.there in
+      let stays = there.2 in (
         record {
           accepted_are = same_accepted;
           flow = there.0;
@@ -73,8 +64,8 @@ module _ {C : Type 0} (accepts : C → List ℕ → Bool) (core after : Core C) 
   pub after_event : (event : FlowEvent) (answer : Applied) → TakesEventAt core 0 event answer after
       → (a : HasGiven accepts after accepted r (events ++ event ∷ []) given) × (a.answers ≡ h.answers ++ answer ∷ [])
   after_event event answer takes =
-      let there = still_there in
-      let next = takes h.flow there.0 h.there there.1 accepted r events h.answers h.y given h.stands in (
+      let there = takes h.flow h.there in
+      let next = there.2 accepted r events h.answers h.y given h.stands in (
         record {
           accepted_are = same_accepted;
           flow = there.0;

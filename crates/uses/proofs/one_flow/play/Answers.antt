@@ -7,7 +7,6 @@ use Rattle.std.proofs.lemmas.Grind.{common_steps}
 use Rattle.std.proofs.lemmas.List.{append-nil, map-append}
 use Rattle.docsis_wire.specs.declared.segment.Segment.{Segment}
 use Rattle.docsis_wire.specs.Ready.{IsReady}
-use Rattle.docsis_wire.proofs.Places.{element_at}
 use Rattle.flow_core.specs.Fates.{Fates, no_fates, IsExpected}
 use Rattle.flow_core.specs.Events.{FlowEvent, arrives, gap, Leads}
 use Rattle.flow_core.specs.Setup.{IsInRange}
@@ -24,10 +23,9 @@ loop-segment-init g c =
     let accepts = g.C.HeaderCheck.accepts in
     let core = c.in_ok-core.core in
     let is_new = c.in_ok-core.ensures.new in
-    let count = is_new.count in
     let items : into_iter_items c.into_iter-segment-iterator.result ≡ c.args.segments.items = grind (arith, common_steps) in
-    let there = element_at core.flows.items 0 (omega arith) in
-    let stands = is_new.each 0 c.args.flow_record there.0 refl there.1 (accepts c.args.check) in
+    let there = is_new.each 0 c.args.flow_record refl in
+    let stands = there.2 (accepts c.args.check) in
     let expected : IsExpected no_fates 0 = record { open_itself = map_of.get-empty nat_cmp 0; settled = λ i below. absurd (omega arith) } in
     let drained = (c.drained_flow_has_come_to_its_expected_index.ensures (accepts c.args.check) c.args.flow_record there.0 [] [] 0 [] no_fates stands (refl, refl)).1 expected in (
       subst (λ (s : List Segment). All IsReady s) (sym items) c.requires,
