@@ -1,5 +1,5 @@
 -- What the calls of a core make of its first flow.
-use Rattle.std.proofs.Common.{◌≡◌, ℕ, ◌+◌, ◌<◌, ◌≤◌, Bool, true, false, cond, Some, List, [], ◌∷◌, ◌++◌, length, slice_get, replicate, refl, ap, sym, subst, ◌∙◌, arith, count_by, inl, inr, append_assoc}
+use Rattle.std.proofs.Common.{◌≡◌, ℕ, ◌+◌, ◌<◌, Bool, true, cond, List, [], ◌∷◌, ◌++◌, replicate, refl, ap, sym, subst, ◌∙◌, arith, count_by, inl, inr, append_assoc}
 use Rattle.std.proofs.lemmas.List.Sums.{sum_by_push}
 use Rattle.std.proofs.lemmas.List.{replicate_more}
 use Rattle.std.proofs.lemmas.Bool.{cases_lt}
@@ -8,15 +8,14 @@ use Rattle.reorder.specs.declared.answer.Declared.TheVariants.{NextIsHere, Nothi
 use Rattle.flow_core.specs.declared.record.FlowRecord.{FlowRecord}
 use Rattle.flow_core.specs.declared.flow.Flow.{Flow}
 use Rattle.flow_core.specs.declared.flows.Core.{Core}
-use Rattle.flow_core.specs.declared.event.Step.{Step}
 use Rattle.flow_core.specs.declared.event.Step.TheVariants.{Frames, Nothing}
 use Rattle.flow_core.specs.declared.event.Applied.{Applied}
 use Rattle.flow_core.specs.declared.event.Applied.TheVariants.{Decision}
 use Rattle.flow_core.specs.Fates.{Fates}
 use Rattle.flow_core.specs.Setup.{IsInRange}
 use Rattle.flow_core.specs.Events.{FlowEvent, gap, Declares}
-use Rattle.flow_core.specs.Stands.{StandsFor, IsDrained, Advances}
-use Rattle.flow_core.specs.Flows.{HasFlow, OthersStay, TakesEventAt, AdvancesAt, IsDrainedAt, IsLoss, ClosesGapAt}
+use Rattle.flow_core.specs.Stands.{StandsFor, IsDrained}
+use Rattle.flow_core.specs.Flows.{OthersStay, TakesEventAt, AdvancesAt, IsDrainedAt, IsLoss, ClosesGapAt}
 use Rattle.flow_core.specs.Closing.{says_lost}
 use Rattle.uses.specs.OneFlow.{HasGiven}
 

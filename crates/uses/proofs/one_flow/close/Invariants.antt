@@ -13,6 +13,6 @@ invariant-loop-closed g l =
     (0 < length l.core.flows.items)
     × IsDrainedAt l.core 0
     × ((accepted : List ℕ → Bool) (flow_record : FlowRecord) (events : List FlowEvent) → IsInRange flow_record
-      → (before : HasGiven g.C.HeaderCheck.accepts l.fn.core accepted flow_record events l.fn.frames.items)
-      → (now : HasGiven g.C.HeaderCheck.accepts l.core accepted flow_record (events ++ replicate l._closed gap) l.frames.items)
-      × (count_by says_lost now.answers ≡ count_by says_lost before.answers + l._closed))
+    → (before : HasGiven g.C.HeaderCheck.accepts l.fn.core accepted flow_record events l.fn.frames.items)
+    → (now : HasGiven g.C.HeaderCheck.accepts l.core accepted flow_record (events ++ replicate l._closed gap) l.frames.items)
+    × (count_by says_lost now.answers ≡ count_by says_lost before.answers + l._closed))

@@ -1,4 +1,4 @@
-use Rattle.std.proofs.Common.{◌+◌, subst, sym, arith}
+use Rattle.std.proofs.Common.{◌++◌, subst, sym, arith}
 use Rattle.flow_core.specs.declared.event.Step.{Step}
 use Rattle.flow_core.specs.Fates.{Fates, IsExpected}
 use Rattle.flow_core.specs.Flows.{AdvancesAt}
@@ -24,7 +24,7 @@ loop-joined-preserved g c = (
       let step = subst (λ (s : Step). AdvancesAt accepts c.loop-joined.core 0 s c.advance.new.self) c.in-Frames.is c.in_ok-given.ensures.step in
       let next = after_advance accepts c.loop-joined.core c.advance.new.self accepted r events c.loop-joined.frames.items c.advance.ensures.others inv.0 c.in-Frames.given step in
       let same = sym c.in_ok-append-in-Frames.ensures.items in
-      let last = given_as accepts c.advance.new.self accepted r events _ _ same next.0 in
+      let last = given_as accepts c.advance.new.self accepted r events (c.loop-joined.frames.items ++ c.in-Frames.given.items) c.append.new.self.items same next.0 in
       (last.0, omega (arith, inv.1, next.1, last.1)),
 )
 

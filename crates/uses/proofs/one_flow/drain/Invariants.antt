@@ -9,5 +9,5 @@ abbrev pub invariant-loop-joined : goal.invariant-loop-joined
 invariant-loop-joined g l =
     (0 < length l.core.flows.items)
     × ((accepted : List ℕ → Bool) (flow_record : FlowRecord) (events : List FlowEvent)
-      → (before : HasGiven g.C.HeaderCheck.accepts l.fn.core accepted flow_record events l.fn.frames.items)
-      → (now : HasGiven g.C.HeaderCheck.accepts l.core accepted flow_record events l.frames.items) × (before.y + l._joined ≤ now.y))
+    → (before : HasGiven g.C.HeaderCheck.accepts l.fn.core accepted flow_record events l.fn.frames.items)
+    → (now : HasGiven g.C.HeaderCheck.accepts l.core accepted flow_record events l.frames.items) × (before.y + l._joined ≤ now.y))

@@ -1,4 +1,4 @@
-use Rattle.std.proofs.Common.{◌≡◌, ℕ, suc, ◌+◌, ◌<◌, ◌++◌, ◌∷◌, [], List, length, map, replicate, refl, ap, subst, sym, ◌∙◌, append_assoc, arith}
+use Rattle.std.proofs.Common.{◌≡◌, suc, ◌++◌, ◌∷◌, [], List, replicate, refl, ap, subst, sym, ◌∙◌, append_assoc, arith}
 use Rattle.std.specs.Prelude.{All}
 use Rattle.std.specs.Ordering.{nat_cmp}
 use Rattle.std.specs.FinMap as map_of
@@ -8,13 +8,12 @@ use Rattle.std.proofs.lemmas.List.{append-nil, map-append}
 use Rattle.docsis_wire.specs.declared.segment.Segment.{Segment}
 use Rattle.docsis_wire.specs.Ready.{IsReady}
 use Rattle.flow_core.specs.Fates.{Fates, no_fates, IsExpected}
-use Rattle.flow_core.specs.Events.{FlowEvent, arrives, gap, Leads}
-use Rattle.flow_core.specs.Setup.{IsInRange}
+use Rattle.flow_core.specs.Events.{arrives, gap, Leads}
 use Rattle.flow_core.specs.Near.{AreNear}
 use Rattle.flow_core.specs.Stands.{StandsFor}
 use Rattle.flow_core.specs.Delivery.{IsDeliverySequence}
 use Rattle.flow_core.specs.Closing.{Closes}
-use Rattle.uses.specs.OneFlow.{arrivals, HasGiven}
+use Rattle.uses.specs.OneFlow.{arrivals}
 use Rattle.uses.proofs.OneFlowSteps.{after_event, events_as, in_range}
 use Rattle.uses.proofs.one_flow.play.Goals as goal
 
@@ -31,14 +30,18 @@ loop-segment-init g c =
       subst (λ (s : List Segment). All IsReady s) (sym items) c.requires,
       in_range c.args.flow_record (λ bad. (c.in_ok-core.ensures.can_be_set_up refl).in_range 0 (c.args.flow_record, refl, bad)),
       (there.0, there.1, drained),
-      ([], items, record {
-        accepted_are = ap accepts is_new.check_is;
-        flow = there.0;
-        there = there.1;
-        answers = [];
-        y = 0;
-        stands = subst (λ f. StandsFor (accepts c.args.check) c.args.flow_record there.0 [] [] 0 f) (sym c.new-frames.ensures.items) stands;
-      }),
+      (
+        [],
+        items,
+        record {
+          accepted_are = ap accepts is_new.check_is;
+          flow = there.0;
+          there = there.1;
+          answers = [];
+          y = 0;
+          stands = subst (λ f. StandsFor (accepts c.args.check) c.args.flow_record there.0 [] [] 0 f) (sym c.new-frames.ensures.items) stands;
+        },
+      ),
     )
 
 pub loop-segment-preserved : goal.loop-segment-preserved

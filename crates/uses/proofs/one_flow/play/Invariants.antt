@@ -15,5 +15,5 @@ invariant-loop-segment g l =
     × IsInRange l.fn.flow_record
     × IsDrainedAt l.core 0
     × ((done : List Segment)
-      × (done ++ into_iter_items l.segment-iterator ≡ l.fn.segments.items)
-      × HasGiven g.C.HeaderCheck.accepts l.core (g.C.HeaderCheck.accepts l.fn.check) l.fn.flow_record (arrivals done) l.frames.items)
+    × (done ++ into_iter_items l.segment-iterator ≡ l.fn.segments.items)
+    × HasGiven g.C.HeaderCheck.accepts l.core (g.C.HeaderCheck.accepts l.fn.check) l.fn.flow_record (arrivals done) l.frames.items)
