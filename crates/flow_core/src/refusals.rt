@@ -3,6 +3,7 @@
 ghost use Rattle.std.specs.Prelude.{◌≡◌, IfOk, length};
 ghost use Rattle.docsis_wire.specs.Ready.{IsReady};
 
+use crate::tests::expect_drained;
 use crate::{Applied, Core, Event, FlowCounts, FlowRecord, SetupFault, Step, check_records};
 use docsis_wire::{NoCheck, Segment};
 use reorder::{Declared, Verdict};
@@ -99,8 +100,7 @@ fn holding(
     let mut core = core_again(rt, alloc, &[record(0, 16), record(1, 16)])?;
     for bytes in segments {
         let segment = segment_again(rt, alloc, bytes)?;
-        assert!(rt; core.flow_count() == 2);
-        assert!(rt; core.is_drained(1));
+        expect_drained(rt, &core, 1);
         let applied = core.apply(Event::Arrive { flow: 1, segment });
         assert!(rt; matches!(applied, Applied::Arrival(Verdict::Kept)));
     }
@@ -149,14 +149,12 @@ fn gives(
 fn advance_refused(rt: HostRuntime) -> Result<(), Fail> {
     let [first, second, third] = CUT;
     let mut core = holding(&rt, rt.alloc(), &[third, second, first])?;
-    assert!(rt; core.flow_count() == 2);
-    assert!(rt; core.is_drained(1));
+    expect_drained(&rt, &core, 1);
     assert!(rt; core.close_gap(1));
     for wanted in FRAMES {
         gives(&rt, rt.alloc(), &mut core, wanted)?;
     }
-    assert!(rt; core.flow_count() == 2);
-    assert!(rt; core.is_drained(1));
+    expect_drained(&rt, &core, 1);
     let counts = FlowCounts {
         kept: 3,
         lost: 1,
@@ -172,14 +170,12 @@ fn advance_refused(rt: HostRuntime) -> Result<(), Fail> {
 #[test]
 fn advance_before_losses_refused(rt: HostRuntime) -> Result<(), Fail> {
     let mut core = holding(&rt, rt.alloc(), &[CUT[0], LAST])?;
-    assert!(rt; core.flow_count() == 2);
-    assert!(rt; core.is_drained(1));
+    expect_drained(&rt, &core, 1);
     let applied = core.apply(Event::GapTo { flow: 1, number: 5 });
     assert!(rt; matches!(applied, Applied::DecisionTo(true)));
     gives(&rt, rt.alloc(), &mut core, &[])?;
     gives(&rt, rt.alloc(), &mut core, FRAMES[1])?;
-    assert!(rt; core.flow_count() == 2);
-    assert!(rt; core.is_drained(1));
+    expect_drained(&rt, &core, 1);
     let counts = FlowCounts {
         kept: 2,
         lost: 4,
@@ -207,8 +203,7 @@ fn verdict(
     number: u16,
 ) -> Result<&'static str, Fail> {
     let segment = empty_segment(alloc, number)?;
-    assert!(rt; core.flow_count() == 1);
-    assert!(rt; core.is_drained(0));
+    expect_drained(rt, core, 0);
     Ok(match core.apply(Event::Arrive { flow: 0, segment }) {
         Applied::Arrival(Verdict::Kept) => "kept",
         Applied::Arrival(Verdict::Late(_)) => "late",
@@ -226,13 +221,11 @@ fn fill_and_lose(rt: &impl Abort, alloc: Global, core: &mut Core<NoCheck>) -> Re
     }
     assert_eq!(rt; verdict(rt, alloc, core, 2)?, "repeat");
     assert_eq!(rt; verdict(rt, alloc, core, 4096)?, "late");
-    assert!(rt; core.flow_count() == 1);
-    assert!(rt; core.is_drained(0));
+    expect_drained(rt, core, 0);
     let gap = core.apply(Event::Gap { flow: 0 });
     assert!(rt; matches!(gap, Applied::Decision(Declared::Lost(0))));
     assert_eq!(rt; verdict(rt, alloc, core, 0)?, "late");
-    assert!(rt; core.flow_count() == 1);
-    assert!(rt; core.is_drained(0));
+    expect_drained(rt, core, 0);
     assert!(rt; core.close_gap(0));
     assert!(rt; core.flow_count() == 1);
     assert!(rt; !core.is_drained(0));
@@ -251,8 +244,7 @@ fn fill_and_lose(rt: &impl Abort, alloc: Global, core: &mut Core<NoCheck>) -> Re
 fn lose_up_to(rt: &impl Abort, alloc: Global, core: &mut Core<NoCheck>) -> Result<(), Fail> {
     assert_eq!(rt; verdict(rt, alloc, core, 4)?, "beyond");
     assert_eq!(rt; verdict(rt, alloc, core, 3)?, "kept");
-    assert!(rt; core.flow_count() == 1);
-    assert!(rt; core.is_drained(0));
+    expect_drained(rt, core, 0);
     let gap = core.apply(Event::GapTo { flow: 0, number: 3 });
     assert!(rt; matches!(gap, Applied::DecisionTo(true)));
     assert!(rt; core.flow_count() == 1);

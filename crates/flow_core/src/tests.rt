@@ -1,6 +1,7 @@
 //! What no clause says: that the definitions give the answers that were worked out by hand.
-ghost use Rattle.std.specs.Prelude.{IfOk};
+ghost use Rattle.std.specs.Prelude.{◌<◌, length, IfOk};
 ghost use Rattle.docsis_wire.specs.Ready.{IsReady};
+ghost use Rattle.flow_core.specs.Flows.{IsDrainedAt};
 
 mod gaps;
 mod gaps_to;
@@ -132,6 +133,15 @@ fn same_bytes(frames: &[Bytes], wanted: &[&[u8]]) -> bool {
             .all(|(frame, want)| frame.as_slice() == *want)
 }
 
+/// Ends the test if the core has no such flow, or one that isn't drained.
+pub(crate) fn expect_drained(rt: &impl Abort, core: &Core<NoCheck>, flow: usize)
+    ensures exists { flow < length core.now.flows.items }
+    ensures drained { IsDrainedAt core.now flow }
+{
+    assert!(rt; flow < core.flow_count());
+    assert!(rt; core.is_drained(flow), "flow {flow} is not drained");
+}
+
 /// Calls a drained flow: an event or the close.
 fn takes(
     rt: &impl Abort,
@@ -140,8 +150,7 @@ fn takes(
     flow: usize,
     call: Call,
 ) -> Result<bool, Fail> {
-    assert!(rt; flow < core.flow_count());
-    assert!(rt; core.is_drained(flow), "the flow is drained");
+    expect_drained(rt, core, flow);
     Ok(match call {
         Call::Arrive(part, wanted) => {
             let segment = segment(alloc, part)?;

@@ -1,4 +1,5 @@
 pub mod DeliveryRounds
 pub mod FiveSenders
+pub mod OneFlowSteps
 pub mod Shifts
 pub mod WindowLemmas

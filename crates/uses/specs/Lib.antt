@@ -5,3 +5,4 @@ pub mod FiveSenders
 pub mod Flow
 pub mod HeaderSequence
 pub mod Window
+pub mod OneFlow

@@ -9,4 +9,5 @@ pub mod delivery_run;
 pub mod five_senders;
 pub mod flow;
 pub mod header_check;
+pub mod one_flow;
 pub mod window;

@@ -68,7 +68,7 @@ fn numbers_that_declare_nothing(rt: HostRuntime) -> Result<(), Fail> {
     Ok(())
 }
 
-/// Up to the next number it is what a gap is, and what lies behind the number is kept when it comes.
+/// Up to the next number it is what a gap is, and later segments are kept when they come.
 #[test]
 fn up_to_the_next_number(rt: HostRuntime) -> Result<(), Fail> {
     let mut core = one_flow(rt.alloc(), 8191, 16)?;

@@ -1,4 +1,4 @@
-use Rattle.std.proofs.Common.{ℕ, ◌≤◌, ap, inl, inr, arith, refl}
+use Rattle.std.proofs.Common.{◌≤◌, ap, inl, inr, arith, refl}
 use Rattle.crossbeam_queue.specs.Passes.{view}
 use Rattle.mailbox.specs.Delivers.{own}
 use Rattle.mailbox.specs.Mouths.{ends_taken}

@@ -1,0 +1,139 @@
+//! One flow that is played to its end: its segments arrive, and then it is closed.
+ghost use Rattle.std.specs.Prelude.{◌<◌, ℕ, Bool, All, List, IfOk, length};
+ghost use Rattle.docsis_wire.specs.Ready.{IsReady};
+ghost use Rattle.flow_core.specs.declared.record.FlowRecord.{FlowRecord};
+ghost use Rattle.flow_core.specs.Setup.{IsInRange};
+ghost use Rattle.flow_core.specs.Events.{FlowEvent};
+ghost use Rattle.flow_core.specs.Flows.{IsDrainedAt};
+ghost use Rattle.uses.specs.OneFlow.{GivesWhatIsDelivered, HasGiven, HasClosed, IsRunning};
+
+use docsis_wire::{Bytes, HeaderCheck, Segment};
+use flow_core::{Core, Event, FlowRecord, SetupFault, Step, laws};
+use std::alloc::{AllocError, Global};
+
+/// The greatest width of a window.
+const WINDOW_MAX: u16 = 4096;
+
+/// Joins all segments of the first flow that are next, and appends the frames.
+fn drain<C: HeaderCheck + Drop>(
+    alloc: Global,
+    core: &mut Core<C>,
+    frames: &mut Vec<Bytes>,
+) -> Result<(), AllocError>
+    requires { 0 < length core.old.flows.items }
+    ensures exists { 0 < length core.new.flows.items }
+    ensures given { IfOk result
+        (λ _. (accepted : List ℕ → Bool) (flow_record : FlowRecord) (events : List FlowEvent)
+        → IsInRange flow_record
+        → HasGiven C.accepts core.old accepted flow_record events frames.old.items
+        → HasGiven C.accepts core.new accepted flow_record events frames.new.items
+        × IsDrainedAt core.new 0) }
+{
+    laws::draining_ends();
+    laws::events_have_one_outcome();
+    for _joined in 0..=WINDOW_MAX {
+        match core.advance(alloc, 0)? {
+            Step::Frames(given) => {
+                let mut given = given;
+                frames.append(&mut given)?;
+            }
+            Step::Nothing => return Ok(()),
+        }
+    }
+    Ok(())
+}
+
+/// Closes the first flow: declares losses until one changes nothing, and joins what is next after
+/// each.
+fn close<C: HeaderCheck + Drop>(
+    alloc: Global,
+    core: &mut Core<C>,
+    frames: &mut Vec<Bytes>,
+) -> Result<(), AllocError>
+    requires drained { IsDrainedAt core.old 0 }
+    requires running { IsRunning C.accepts core.old frames.old.items }
+    ensures { IfOk result
+        (λ _. (accepted : List ℕ → Bool) (flow_record : FlowRecord) (events : List FlowEvent)
+        → IsInRange flow_record
+        → HasGiven C.accepts core.old accepted flow_record events frames.old.items
+        → HasClosed C.accepts core.new accepted flow_record events frames.new.items) }
+{
+    laws::flow_has_one_close();
+    laws::events_have_one_outcome();
+    laws::events_lead_on_in_turn();
+    for _closed in 0..WINDOW_MAX {
+        if !core.close_gap(0) {
+            return Ok(());
+        }
+        drain(alloc, core, frames)?;
+    }
+    Ok(())
+}
+
+/// Plays one flow to its end: these segments arrive, and then the flow is closed. Answers the
+/// frames, or the fault of the record.
+pub fn play<C: HeaderCheck + Drop>(
+    alloc: Global,
+    flow_record: FlowRecord,
+    check: C,
+    segments: Vec<Segment>,
+) -> Result<Vec<Bytes>, SetupFault>
+    requires { All IsReady segments.items }
+    ensures { IfOk result (λ frames.
+        GivesWhatIsDelivered (C.accepts check) flow_record segments.items frames.items) }
+{
+    laws::events_have_one_outcome();
+    laws::events_lead_on_in_turn();
+    laws::flow_has_one_close();
+    laws::gaps_behind_keep_events_near();
+    laws::drained_flow_has_come_to_its_expected_index();
+    laws::drained_flow_has_its_outcome();
+    laws::outcome_of_near_events_is_the_delivery_sequence();
+    let mut core = Core::new(alloc, &[flow_record], check)?;
+    let mut frames = Vec::new(alloc);
+    for segment in segments {
+        core.apply(Event::Arrive { flow: 0, segment });
+        drain(alloc, &mut core, &mut frames)?;
+    }
+    close(alloc, &mut core, &mut frames)?;
+    Ok(frames)
+}
+
+#[cfg(test)]
+mod tests {
+    use super::*;
+    use docsis_wire::NoCheck;
+    use std::test::Fail;
+
+    /// Plays segments with these bytes, and answers how many frames come.
+    fn played(alloc: Global, first: u16, all: &[&[u8]]) -> Result<Result<usize, SetupFault>, Fail> {
+        let mut segments = Vec::new(alloc);
+        for bytes in all {
+            segments.push(Segment::read(alloc, bytes)?)?;
+        }
+        let flow_record = FlowRecord {
+            sfid: 1,
+            first,
+            window: 16,
+            clusters: 1,
+            ring: 1,
+        };
+        let frames = play(alloc, flow_record, NoCheck, segments);
+        Ok(frames.map(|frames| frames.len()))
+    }
+
+    #[test]
+    fn gives_the_frames_whose_segments_came(rt: HostRuntime) -> Result<(), Fail> {
+        let alloc = rt.alloc();
+        let front: &[u8] = &[0x80, 0, 0, 0, 0, 0, 0, 0, 0, 0, 0, 2, 0x11];
+        let last: &[u8] = &[0, 0, 0, 8, 0, 0, 0, 0, 0x11, 0xaa, 0xbb];
+        let whole: &[u8] = &[
+            0x80, 0, 0, 24, 0, 0, 0, 0, 0, 0, 0, 2, 0x22, 0x22, 0xaa, 0xbb,
+        ];
+        assert_eq!(rt; played(alloc, 0, &[last, front])?, Ok(1));
+        assert_eq!(rt; played(alloc, 0, &[front, front, whole, last])?, Ok(2));
+        assert_eq!(rt; played(alloc, 0, &[whole, front])?, Ok(1));
+        assert_eq!(rt; played(alloc, 8192, &[front])?, Err(SetupFault::BadFlow(0)));
+        Ok(())
+    }
+}
