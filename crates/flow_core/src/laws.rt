@@ -51,6 +51,17 @@ pub fn settled_segments_join_to_the_delivered_frames()
     ccf::laws::settled_list_joins_to_the_frames_wholly_kept();
 }
 
+/// For a modem's frames, any chunks and any fates with an expected index there is a delivery
+/// sequence, and only one.
+pub fn delivery_sequence_is_one()
+    ensures some { (check : List ℕ → Bool) (frames chunks : List (List ℕ)) (fates : Fates) (x : ℕ)
+        → AllByRecursion (IsFrame check) frames → IsExpected fates x
+        → (given : List (List ℕ)) × IsDeliverySequence frames chunks fates given }
+    ensures only { (frames chunks given others : List (List ℕ)) (fates : Fates)
+        → IsDeliverySequence frames chunks fates given
+        → IsDeliverySequence frames chunks fates others → given ≡ others }
+{}
+
 /// The delivery sequence after some events is the front of what it is after more of them.
 pub fn delivery_sequence_only_grows()
     ensures { (check : List ℕ → Bool) (frames chunks : List (List ℕ)) (first width : ℕ)
@@ -102,13 +113,13 @@ pub fn flow_gives_the_delivery_sequence()
     ensures ahead { (check : List ℕ → Bool) (frames chunks : List (List ℕ)) (fill : ℕ)
         (segments : List Segment) (flow_record : FlowRecord) (flow : Flow)
         (events : List FlowEvent) (answers : List Applied) (y : ℕ) (given : List (List ℕ))
-        (fates : Fates) (sequence : List (List ℕ))
+        (fates : Fates)
         → IsLawfulCut check frames flow_record.first fill chunks segments
         → AreNear flow_record.first flow_record.window segments events
         → StandsFor check flow_record flow events answers y given
         → IsAfter flow_record.first flow_record.window events answers fates
-        → IsDeliverySequence frames chunks fates sequence
-        → (rest : List (List ℕ)) × (sequence ≡ given ++ rest) }
+        → (sequence : List (List ℕ)) × IsDeliverySequence frames chunks fates sequence
+        × ((rest : List (List ℕ)) × (sequence ≡ given ++ rest)) }
 {
     settled_segments_join_to_the_delivered_frames();
 }
