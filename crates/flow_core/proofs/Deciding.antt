@@ -12,16 +12,21 @@ abbrev pub Decided : Type 0 → Type 0
 Decided P = P ⊎ (P → ⊥)
 
 -- two facts
-both : (P Q : Type 0) → Decided P → Decided Q → Decided (P × Q)
+pub both : (P Q : Type 0) → Decided P → Decided Q → Decided (P × Q)
 both P Q (inl p) (inl q) = inl (p, q)
 both P Q (inl p) (inr q) = inr (λ h. q h.1)
 both P Q (inr p) q = inr (λ h. p h.0)
 
+-- that a fact does not hold
+pub opposite : (P : Type 0) → Decided P → Decided (P → ⊥)
+opposite P (inl p) = inr (λ not_so. not_so p)
+opposite P (inr not_so) = inl not_so
+
 -- an order of numbers
-below-decided : (m n : ℕ) → Decided (m < n)
+pub below-decided : (m n : ℕ) → Decided (m < n)
 below-decided m n = elim (cases_lt m n) [ inl h ↦ inl h | inr h ↦ inr (λ below. omega arith) ]
 
-le-decided : (m n : ℕ) → Decided (m ≤ n)
+pub le-decided : (m n : ℕ) → Decided (m ≤ n)
 le-decided m n = elim (cases_lt n m) [ inl h ↦ inr (λ le. omega arith) | inr h ↦ inl h ]
 
 -- some number below a bound has a fact, or none has

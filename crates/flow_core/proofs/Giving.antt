@@ -21,6 +21,7 @@ use Rattle.flow_core.proofs.Outcome.{expected-unique, sound-after}
 use Rattle.flow_core.proofs.OneOutcome.{after-once}
 use Rattle.flow_core.proofs.Nearness.{AreOfIndex, numbered_of_cut, of_index-after, expected-within}
 use Rattle.flow_core.proofs.Deliveries.{delivered_is_front}
+use Rattle.flow_core.proofs.Sequences.{sequence-some}
 
 -- where nothing is mapped, nothing is there
 nothing_there : {T U : Type 0} (f : T → U) (o : Option T) → option_map f o ≡ None → o ≡ None
@@ -83,9 +84,16 @@ module _ (check : List ℕ → Bool) (flow_record : FlowRecord) (flow : Flow) (e
         subst (λ (f : Fates). IsDeliverySequence frames chunks f given) (same_fates fates is) (y, expected_of_drained drained, filters)
 
     -- and what any flow gave is a front of it
-    pub front_of_sequence : AllByRecursion (IsFrame check) frames → (sequence : List (List ℕ)) → IsDeliverySequence frames chunks fates sequence
+    front_of_sequence : AllByRecursion (IsFrame check) frames → (sequence : List (List ℕ)) → IsDeliverySequence frames chunks fates sequence
         → (rest : List (List ℕ)) × (sequence ≡ given ++ rest)
     front_of_sequence each sequence delivered =
         let all = subst (λ (f : Fates). IsDeliverySequence frames chunks f sequence) (sym (same_fates fates is)) delivered in
         let further = onward all.0 all.1 in
         delivered_is_front check frames chunks s.fates s.fates y all.0 given sequence each further (λ i below. all.1.settled i (omega arith)) (λ i fate at. at) filters all.2
+
+    -- which there is
+    pub sequence_ahead : AllByRecursion (IsFrame check) frames
+        → (sequence : List (List ℕ)) × IsDeliverySequence frames chunks fates sequence × ((rest : List (List ℕ)) × (sequence ≡ given ++ rest))
+    sequence_ahead each =
+        let all = sequence-some check frames chunks fates s.x each (subst (λ (f : Fates). IsExpected f s.x) (same_fates fates is) s.expected) in
+        (all.0, all.1, front_of_sequence each all.0 all.1)

@@ -3,6 +3,7 @@ pub mod Outcome
 pub mod OneOutcome
 pub mod Nearness
 pub mod Deliveries
+pub mod Sequences
 pub mod Growth
 pub mod Giving
 pub mod Numbers

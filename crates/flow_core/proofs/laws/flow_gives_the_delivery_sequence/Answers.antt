@@ -1,4 +1,4 @@
-use Rattle.flow_core.proofs.Giving.{settled_of_cut, drained_sequence, front_of_sequence}
+use Rattle.flow_core.proofs.Giving.{settled_of_cut, drained_sequence, sequence_ahead}
 use Rattle.flow_core.proofs.laws.flow_gives_the_delivery_sequence.Goals as goal
 
 pub returns-clause-drained : goal.returns-clause-drained
@@ -8,7 +8,7 @@ returns-clause-drained c = λ check frames chunks fill segments flow_record flow
     (settled_of_cut check flow_record flow events answers y given s frames chunks fill segments cut near) s.below s.joined)
 
 pub returns-clause-ahead : goal.returns-clause-ahead
-returns-clause-ahead c = λ check frames chunks fill segments flow_record flow events answers y given fates sequence cut near s is.
-    front_of_sequence check flow_record flow events answers y given s frames chunks fates is
+returns-clause-ahead c = λ check frames chunks fill segments flow_record flow events answers y given fates cut near s is.
+    sequence_ahead check flow_record flow events answers y given s frames chunks fates is
     (c.settled_segments_join_to_the_delivered_frames.ensures check frames chunks flow_record.first fill y segments s.fates s.settled given flow.joiner cut
-    (settled_of_cut check flow_record flow events answers y given s frames chunks fill segments cut near) s.below s.joined) cut.each sequence
+    (settled_of_cut check flow_record flow events answers y given s frames chunks fill segments cut near) s.below s.joined) cut.each
