@@ -88,5 +88,5 @@ module _ {C : Type 0} where
   -- no segment of flow k is next
   pub record IsDrainedAt (core : Core C) (k : ℕ) : Type 0 where
     pub flow : Flow
-    pub is : HasFlow core k flow
+    pub there : HasFlow core k flow
     pub drained : IsDrained flow

@@ -56,7 +56,7 @@ module _ {C : Type 0} (accepts : C → List ℕ → Bool) (core after : Core C) 
           y = h.y;
           stands = subst (λ (f : Flow). StandsFor accepted r f events h.answers h.y given) (sym stays.1) h.stands;
         },
-        (there.0, there.1, subst IsDrained (sym stays.1) stays.0),
+        record { flow = there.0; there = there.1; drained = subst IsDrained (sym stays.1) stays.0 },
       )
 
   -- it took an event

@@ -29,7 +29,7 @@ loop-segment-init g c =
     let drained = (c.drained_flow_has_come_to_its_expected_index.ensures (accepts c.args.check) c.args.flow_record there.0 [] [] 0 [] no_fates stands (refl, refl)).1 expected in (
       subst (λ (s : List Segment). All IsReady s) (sym items) c.requires,
       in_range c.args.flow_record (λ bad. (c.in_ok-core.ensures.can_be_set_up refl).in_range 0 (c.args.flow_record, refl, bad)),
-      (there.0, there.1, drained),
+      record { flow = there.0; there = there.1; drained = drained },
       (
         [],
         items,

@@ -16,8 +16,8 @@ returns-clause-step g c =
 pub returns-clause-nothing : goal.returns-clause-nothing
 returns-clause-nothing g c =
     let here = slice_get_read c.args.self.now.flows.items _ c.args.flow c.index_mut.result.now refl c.requires.exists c.index_mut.ensures.value in (
-      λ is. record { flow = c.index_mut.result.now; is = here; drained = c.advance.ensures.nothing.0 is },
-      λ at. c.advance.ensures.nothing.1 (subst IsDrained (same_Some _ _ (sym at.is ∙ here)) at.drained),
+      λ is. record { flow = c.index_mut.result.now; there = here; drained = c.advance.ensures.nothing.0 is },
+      λ at. c.advance.ensures.nothing.1 (subst IsDrained (same_Some _ _ (sym at.there ∙ here)) at.drained),
     )
 
 pub returns-clause-others : goal.returns-clause-others

@@ -28,7 +28,7 @@ returns-in_default g c =
     let core = c.args.self.now in
     let one = c.index_mut.result.now in
     let here = slice_get_read core.flows.items _ c.args.flow one refl c.requires.exists c.index_mut.ensures.value in
-    let drained = subst IsDrained (same_Some _ _ (sym c.requires.drained.is ∙ here)) c.requires.drained.drained in
+    let drained = subst IsDrained (same_Some _ _ (sym c.requires.drained.there ∙ here)) c.requires.drained.drained in
     let no_loss : IsLoss c.gap.result → ⊥ = λ loss. c.in_default.not-Lost loss.0 loss.1 in
     let same = c.gap.ensures.unchanged no_loss in
     record {

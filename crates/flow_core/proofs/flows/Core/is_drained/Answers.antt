@@ -7,6 +7,6 @@ use Rattle.flow_core.proofs.flows.Core.is_drained.Goals as goal
 pub returns : goal.returns
 returns g c =
     let here = slice_get_read c.args.self.now.flows.items _ c.args.flow c.index.result.now refl c.requires.exists c.index.ensures in (
-      λ yes. record { flow = c.index.result.now; is = here; drained = c.is_drained.ensures.0 yes },
-      λ at. c.is_drained.ensures.1 (subst IsDrained (same_Some _ _ (sym at.is ∙ here)) at.drained),
+      λ yes. record { flow = c.index.result.now; there = here; drained = c.is_drained.ensures.0 yes },
+      λ at. c.is_drained.ensures.1 (subst IsDrained (same_Some _ _ (sym at.there ∙ here)) at.drained),
     )
