@@ -1,4 +1,5 @@
--- The delivery sequence of a flow: the modem's frames whose segments were all kept. Nothing is said here of how bytes are joined.
+-- The delivery sequence of a flow: the modem's frames whose segments were all kept and lie before the expected one; after the flow's close
+-- that is all whose segments were kept. Nothing is said here of how bytes are joined.
 use Rattle.std.specs.Prelude.{ℕ, ◌+◌, ◌<◌, ◌≤◌, List, length}
 use Rattle.docsis_wire.specs.Stream.{place_of}
 use Rattle.docsis_wire.specs.Span.{IsInSpan}

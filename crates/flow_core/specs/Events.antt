@@ -43,7 +43,7 @@ Keeps first x segment (Repeat _) fates after = after ≡ fates
 Keeps first x segment Kept fates after =
     (i : ℕ) → IsAhead first x segment.head.sequence i → after ≡ map.insert fates i (Some segment)
 
--- A declared loss: the expected index x is lost if a segment after it was kept, and otherwise nothing changes. (The segment of x itself is
+-- A gap decision: the expected index x is lost if a segment after it was kept, and otherwise nothing changes. (The segment of x itself is
 -- never there, since x is open.)
 abbrev pub Declares : ℕ → ℕ → Declared → Fates → Fates → Type 0
 Declares first x (Lost number) fates after =
@@ -51,7 +51,7 @@ Declares first x (Lost number) fates after =
 Declares first x NothingHeld fates after = ¬ (HasLaterKept fates x) × (after ≡ fates)
 Declares first x NextIsHere fates after = ⊥
 
--- the indexes that a loss up to a number declares: open ones from the expected one on, before the one with that number, with a kept
+-- the indexes that a gap decision up to a number declares lost: open ones from the expected one on, before the one with that number, with a kept
 -- segment after them
 pub record IsDeclaredTo (first x number : ℕ) (fates : Fates) (i : ℕ) : Type 0 where
   pub end : ℕ
@@ -61,7 +61,7 @@ pub record IsDeclaredTo (first x number : ℕ) (fates : Fates) (i : ℕ) : Type 
   pub open_itself : IsOpen fates i
   pub later_kept : HasLaterKept fates i
 
--- A declared loss up to a number: these indexes are lost, and what became of all others stays. The answer says whether there is one.
+-- A gap decision up to a number: these indexes are lost, and what became of all others stays. The answer says whether there is one.
 pub record DeclaresTo (first x number : ℕ) (declared : Bool) (fates after : Fates) : Type 0 where
   pub lost : (i : ℕ) → IsDeclaredTo first x number fates i → map.get after i ≡ Some None
   pub others : (i : ℕ) → ¬ (IsDeclaredTo first x number fates i) → map.get after i ≡ map.get fates i

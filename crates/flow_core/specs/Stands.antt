@@ -24,9 +24,9 @@ pub record IsWindowFrom (flow_record : FlowRecord) (fates : Fates) (y : ℕ) (wi
       → option_map (λ ready. ready.segment) (held_at window (number_of flow_record.first i)) ≡ kept_at fates i
   pub within : (i : ℕ) → IsKept fates i → i < y + flow_record.window
 
--- What a flow remembers of losses that were declared up to a number. Nothing, if no index from y on was declared lost. Otherwise a number whose
--- index lies after y: from y on, exactly those indexes before it are lost that were not kept and have a later kept one. Then the segment of y
--- was kept.
+-- What a flow remembers of losses that were declared up to a number. Nothing, which it may only if no index from y on was declared lost. Or a
+-- number whose index lies after y: from y on, exactly those indexes before it are lost that were not kept and have a later kept one. Then
+-- the segment of y was kept.
 abbrev pub IsRemembered : ℕ → Fates → ℕ → Option ℕ → Type 0
 IsRemembered first fates y None = (i : ℕ) → y ≤ i → ¬ (IsLost fates i)
 IsRemembered first fates y (Some number) =

@@ -1,8 +1,11 @@
 //! What is counted of a flow.
+//!
+//! Contracts say what each count is by the answers, the settled segments and the frames.
 ghost use Rattle.std.specs.Prelude.{◌≡◌};
 ghost use Rattle.flow_core.specs.Counts.{no_counts};
 
-/// What became of a flow's segments, frames and bytes. Each count stays at its greatest value.
+/// What became of a flow's segments, frames and bytes. Each count stays at its greatest value,
+/// 2^64 - 1.
 #[derive(Clone, Copy, Debug, PartialEq, Eq)]
 pub struct FlowCounts {
     /// Segments that were kept.
@@ -17,8 +20,8 @@ pub struct FlowCounts {
     pub lost: u64,
     /// Frames that were given.
     pub frames: u64,
-    /// Bytes of payload that were neither given nor are unfinished: fill, malformed bytes, and the
-    /// parts of frames with a lost segment.
+    /// Bytes of payload that were neither given nor are unfinished: fill, malformed bytes and what
+    /// follows them up to the next pointer, and the parts of frames with a lost segment.
     pub skipped: u64,
 }
 

@@ -1,4 +1,7 @@
 //! What happens to a flow, and what it answers.
+//!
+//! An event is a segment that arrives or a decision that segments are lost; a step joins the next
+//! segment.
 use docsis_wire::{Bytes, Segment};
 use reorder::{Declared, Verdict};
 
@@ -11,7 +14,8 @@ pub enum Event {
     /// kept.
     Gap { flow: usize },
     /// The decision that the segments before the one with this number, 0 to 8191, are lost if they
-    /// haven't come. It reaches only those with a later segment that was kept.
+    /// haven't come. It reaches only those with a later segment that was kept, and has no effect if
+    /// the number is the expected one or lies behind it, 4,096 ahead or more, going up and round.
     GapTo { flow: usize, number: u16 },
 }
 
@@ -20,9 +24,9 @@ pub enum Event {
 pub enum Applied {
     /// Of a segment that arrived. Every verdict but `Kept` hands it back.
     Arrival(Verdict<Segment>),
-    /// Of a declared loss.
+    /// Of the decision that the expected segment is lost.
     Decision(Declared),
-    /// Of a declared loss up to a number: whether at least one segment is declared lost.
+    /// Of the decision that segments up to a number are lost: whether at least one is declared lost.
     DecisionTo(bool),
 }
 

@@ -75,7 +75,7 @@ impl Flow {
         }
     }
 
-    /// Declares the expected segment lost.
+    /// Declares the expected segment lost, if a later one was kept.
     pub fn gap(&mut self) -> Declared
         requires { IsDrained self.old }
         ensures taken { TakesEvent self.old gap (Applied.Decision result) self.new }
@@ -89,7 +89,8 @@ impl Flow {
     }
 
     /// Declares lost what hasn't come before this number, 0 to 8191, and answers whether at least
-    /// one segment is declared lost. Where held segments lie before the number they are joined
+    /// one segment is declared lost; none is if the number is the expected one or lies behind. Where
+    /// held segments lie before the number they are joined
     /// first; until then the flow remembers the number.
     pub fn gap_to(&mut self, number: u16) -> bool
         requires drained { IsDrained self.old }

@@ -1,4 +1,6 @@
 //! All service flows.
+//!
+//! [`Core`] holds them with the check of their frames' headers; its calls stand in `calls`.
 ghost use Rattle.std.specs.Prelude.{◌≤◌, length};
 ghost use Rattle.flow_core.specs.Setup.{flows_max};
 

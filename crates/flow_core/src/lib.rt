@@ -4,8 +4,13 @@
 //! that arrives, or the decision that segments are lost. [`Core::apply`] takes it,
 //! [`Core::advance`] joins the next segment, and [`Core::close_gap`] is the decision at a flow's
 //! close. Contracts say which list of events a flow stands for, and [`laws`] says what follows:
-//! over a modem's lawful cut, what is given is exactly the modem's frames whose segments were all
-//! kept, in the modem's order ([`laws::flow_gives_the_delivery_sequence`]).
+//! over a modem's lawful cut, what a drained flow gave is exactly the modem's frames whose segments
+//! were all kept and lie before the expected one, in the modem's order
+//! ([`laws::flow_gives_the_delivery_sequence`]).
+//!
+//! To drain a flow is to advance it until `Nothing`. To close it is to drain it, to call
+//! [`Core::close_gap`], and to do both again until that answers false. Then its frames are all
+//! those whose segments were kept ([`laws::closed_flow_gives_the_frames_that_were_all_kept`]).
 #![tactic(auto)]
 
 mod counts;

@@ -1,4 +1,6 @@
 //! A segment that a joiner takes.
+//!
+//! The window holds segments of which it is known that they are ready.
 ghost use Rattle.docsis_wire.specs.Ready.{IsReady};
 
 use docsis_wire::Segment;

@@ -1,4 +1,6 @@
 //! The calls of the core.
+//!
+//! Each names a flow by the place of its record, and leaves all others as they are.
 ghost use Rattle.std.specs.Prelude.{◌≡◌, ◌<◌, ◌↔◌, ℕ, length, IsTrue, IfOk, IsOk, OnErr, Ok, Err};
 ghost use Rattle.flow_core.specs.Setup.{IsSetupFault, CanBeSetUp};
 ghost use Rattle.flow_core.specs.Flows.{flow_of, event_of, IsTakable, IsNewCore, HasFlow, AreNewFlows};
@@ -30,8 +32,8 @@ fn new_flows(alloc: Global, records: &[FlowRecord]) -> Result<Vec<Flow>, AllocEr
 }
 
 impl<C: HeaderCheck + Drop> Core<C> {
-    /// Flows to which nothing happened yet, or the first fault of their records. All windows are
-    /// made here.
+    /// Flows to which nothing happened yet, or the first fault of their records; `OutOfMemory` is
+    /// reported only of records that have no fault. All windows are made here.
     pub fn new(alloc: Global, records: &[FlowRecord], check: C) -> Result<Core<C>, SetupFault>
         ensures new { IfOk result (λ core. IsNewCore check records.now core) }
         ensures can_be_set_up { IsOk result → CanBeSetUp records.now }
@@ -48,7 +50,8 @@ impl<C: HeaderCheck + Drop> Core<C> {
         Ok(Core { flows, check })
     }
 
-    /// Takes an event of a flow that exists and is drained. It takes no memory.
+    /// Takes an event of a flow that exists and is drained. An arriving segment is ready, and a
+    /// number is below 8192. It takes no memory.
     pub fn apply(&mut self, event: Event) -> Applied
         requires exists { flow_of event < length self.old.flows.items }
         requires drained { IsDrainedAt self.old (flow_of event) }
@@ -84,15 +87,15 @@ impl<C: HeaderCheck + Drop> Core<C> {
         self.flows[flow].is_drained()
     }
 
-    /// How many flows there are.
+    /// How many flows there are, 0 to 64.
     pub fn flow_count(&self) -> usize
         ensures { result ≡ length self.now.flows.items }
     {
         self.flows.len()
     }
 
-    /// Declares the expected segment of a drained flow lost, as a flow's close does, and says
-    /// whether it was.
+    /// Declares the expected segment of a drained flow lost if a later one was kept, as a flow's
+    /// close does, and says whether it was. It takes no memory.
     pub fn close_gap(&mut self, flow: usize) -> bool
         requires exists { flow < length self.old.flows.items }
         requires drained { IsDrainedAt self.old flow }
