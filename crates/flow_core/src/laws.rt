@@ -62,7 +62,7 @@ pub fn delivery_sequence_is_one()
         → IsDeliverySequence frames chunks fates others → given ≡ others }
 {}
 
-/// The delivery sequence after some events is the front of what it is after more of them.
+/// The delivery sequence after some events is a prefix of what it is after more of them.
 pub fn delivery_sequence_only_grows()
     ensures { (check : List ℕ → Bool) (frames chunks : List (List ℕ)) (first width : ℕ)
         (events more : List FlowEvent) (answers later : List Applied) (fates after : Fates)
@@ -75,7 +75,8 @@ pub fn delivery_sequence_only_grows()
         → (rest : List (List ℕ)) × (grown ≡ given ++ rest) }
 {}
 
-/// Over a lawful cut of at most 4,096 segments every list of events is near.
+/// Over a lawful cut of at most 4,096 segments every list of events in which each segment that
+/// arrives is one of the cut's is near.
 pub fn events_of_a_short_cut_are_near()
     ensures { (check : List ℕ → Bool) (frames chunks : List (List ℕ)) (first fill width : ℕ)
         (segments : List Segment) (events : List FlowEvent)
@@ -95,10 +96,10 @@ pub fn drained_flow_has_come_to_its_expected_index()
 {}
 
 /// **What a flow gave is the delivery sequence.** For every modem's frames, every lawful cut of
-/// them and every near list of events, whatever arrives, is repeated, delayed or lost and whenever
-/// losses are declared: a drained flow that stands for the events has given exactly the modem's
-/// frames whose segments were all kept, in the modem's order. A flow that isn't drained has given
-/// a front of them.
+/// them and every near list of events, whatever of the cut arrives, is repeated, delayed or lost and
+/// whenever losses are declared: a drained flow that stands for the events has given exactly the
+/// modem's frames whose segments were all kept and lie before the expected one, in the modem's
+/// order. A flow that isn't drained has given a prefix of them.
 pub fn flow_gives_the_delivery_sequence()
     ensures drained { (check : List ℕ → Bool) (frames chunks : List (List ℕ)) (fill : ℕ)
         (segments : List Segment) (flow_record : FlowRecord) (flow : Flow)
@@ -144,7 +145,7 @@ pub fn flow_has_one_close()
 {}
 
 /// The index that a flow has come to is never ahead of the expected one, and at most the width of
-/// its window behind it: no more segments than that are next, one after another.
+/// its window ahead of it: no more segments than that are next, one after another.
 pub fn draining_ends()
     ensures { (check : List ℕ → Bool) (flow_record : FlowRecord) (flow : Flow)
         (events : List FlowEvent) (answers : List Applied) (x y : ℕ) (given : List (List ℕ))
@@ -155,7 +156,7 @@ pub fn draining_ends()
         → (y ≤ x) × (x ≤ y + flow_record.window) }
 {}
 
-/// Two lists of events, one behind the other, lead as the first one does and then the other.
+/// Two lists of events, one after the other, lead as the first one does and then the other.
 pub fn events_lead_on_in_turn()
     ensures { (first width : ℕ) (events more : List FlowEvent) (answers : List Applied)
         (fates after : Fates)
@@ -188,8 +189,8 @@ pub fn gap_is_a_gap_to_the_next_number()
         × (IsTrue any ↔ IsLoss declared) }
 {}
 
-/// Near events stay near with gaps behind them, or with any others of which none is an arrival.
-pub fn gaps_behind_keep_events_near()
+/// Near events stay near with gaps after them, or with any others of which none is an arrival.
+pub fn gaps_after_keep_events_near()
     ensures gaps { (first width n : ℕ) (segments : List Segment) (events : List FlowEvent)
         → AreNear first width segments events
         → AreNear first width segments (events ++ replicate n gap) }
@@ -199,7 +200,7 @@ pub fn gaps_behind_keep_events_near()
 {}
 
 /// What a flow gives by the definitions is one list of frames, and one record of counts.
-pub fn flow_has_one_outcome()
+pub fn flow_has_at_most_one_outcome()
     ensures { (check : List ℕ → Bool) (flow_record : FlowRecord) (events : List FlowEvent)
         (frames others : List (List ℕ)) (counts more : FlowCounts)
         → IsFlowOutcome check flow_record events frames counts
@@ -253,7 +254,7 @@ pub fn closed_flow_has_one_outcome()
 }
 
 /// **What a closed flow gave.** For every modem's frames, every lawful cut of them and every near
-/// list of events: with gaps behind them until the flow is closed, what it gives by the
+/// list of events: with gaps after them until the flow is closed, what it gives by the
 /// definitions is exactly the modem's frames whose segments were all kept, in the modem's order.
 pub fn closed_flow_gives_the_frames_that_were_all_kept()
     ensures { (check : List ℕ → Bool) (frames chunks : List (List ℕ)) (fill n : ℕ)
@@ -265,7 +266,7 @@ pub fn closed_flow_gives_the_frames_that_were_all_kept()
         → IsClosed outcome.fates
         → FiltersTo (IsAllKept frames chunks outcome.fates) frames given }
 {
-    gaps_behind_keep_events_near();
+    gaps_after_keep_events_near();
     outcome_of_near_events_is_the_delivery_sequence();
     closed_flow_has_come_past_all_kept();
 }

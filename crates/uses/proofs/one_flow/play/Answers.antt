@@ -76,7 +76,7 @@ returns g c = λ frames chunks fill cut closed lawful near played.
     let given = c.close.new.frames.items in
     let end = c.in_ok-close.ensures accepted r events inv.1 inv.3.2 in
     let h = end.has_given in
-    let near_events = c.gaps_behind_keep_events_near.ensures.gaps r.first r.window end.n cut events (subst (λ (s : List Segment). AreNear r.first r.window cut (arrivals s)) (sym all) near) in
+    let near_events = c.gaps_after_keep_events_near.ensures.gaps r.first r.window end.n cut events (subst (λ (s : List Segment). AreNear r.first r.window cut (arrivals s)) (sym all) near) in
     let outcome = c.drained_flow_has_its_outcome.ensures accepted r h.flow (events ++ replicate end.n gap) h.answers h.y given h.stands end.drained in
     let delivered = c.outcome_of_near_events_is_the_delivery_sequence.ensures accepted frames chunks fill cut r (events ++ replicate end.n gap) h.answers given h.flow.counts h.stands.fates
     lawful near_events outcome h.stands.after in
