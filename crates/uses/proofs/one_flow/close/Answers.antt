@@ -18,7 +18,7 @@ use Rattle.uses.proofs.one_flow.close.Goals as goal
 
 pub loop-closed-init : goal.loop-closed-init
 loop-closed-init g c = (
-  slice_get_within c.args.core.now.flows.items 0 c.requires.drained.0 c.requires.drained.1,
+  slice_get_within c.args.core.now.flows.items 0 c.requires.drained.flow c.requires.drained.is,
   c.requires.drained,
   λ accepted r events range before.
       let a = events_as g.C.HeaderCheck.accepts c.args.core.now accepted r events (events ++ []) c.args.frames.now.items (sym (append-nil events)) before in
@@ -64,11 +64,11 @@ returns-then-not-close_gap g c = λ accepted r events range before.
     let expected = subst (λ (f : Fates). IsExpected f q.0) same.1 q.4 in
     let closed = (c.flow_has_one_close.ensures.closed r.first q.0 now.stands.fates q.3 closes.declared expected changes).1 (nothing_lost r.first q.0 closes.declared now.stands.fates q.3 changes none) in
     let at = c.loop-closed.invariant.1 in
-    let at_there = at.1 in
+    let at_there = at.is in
     let now_there = now.there in
-    let flow_is : at.0 ≡ now.flow = cc in
+    let flow_is : at.flow ≡ now.flow = cc in
     subst (λ (k : Core _). HasClosed accepts k accepted r events given) (sym (closes.unchanged (λ yes. false≢true (sym no ∙ yes))))
-    (record { n = n; has_given = now; drained = subst (λ (f : Flow). IsDrained f) flow_is at.2; closed = closed })
+    (record { n = n; has_given = now; drained = subst (λ (f : Flow). IsDrained f) flow_is at.drained; closed = closed })
 
 pub returns : goal.returns
 returns g c = λ accepted r events range before.
