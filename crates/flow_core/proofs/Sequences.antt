@@ -90,7 +90,8 @@ IsDelivered-decided check frames chunks fates x j each within =
 pub sequence-some : (check : List ℕ → Bool) (frames chunks : List (List ℕ)) (fates : Fates) (x : ℕ)
     → AllByRecursion (IsFrame check) frames → IsExpected fates x → (given : List (List ℕ)) × IsDeliverySequence frames chunks fates given
 sequence-some check frames chunks fates x each expected =
-    let chosen = FiltersFrom-some (IsDelivered frames chunks fates x) 0 frames (λ j within. IsDelivered-decided check frames chunks fates x j each (omega arith)) in
+    let decide = λ (j : ℕ) (within : j < 0 + length frames). IsDelivered-decided check frames chunks fates x j each (omega arith) in
+    let chosen = FiltersFrom-some (IsDelivered frames chunks fates x) 0 frames decide in
     (chosen.0, (x, expected, chosen.1))
 
 -- and only one

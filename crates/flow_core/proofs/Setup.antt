@@ -1,11 +1,11 @@
 -- Records have at most one fault, and none if they can be set up.
-use Rattle.std.proofs.Common.{◌≡◌, ℕ, ◌<◌, ◌≤◌, ◌↔◌, ⊎_elim, Result, Err, List, ap, subst, ◌∙◌, refl, arith}
+use Rattle.std.proofs.Common.{◌≡◌, ℕ, ◌<◌, ◌≤◌, ◌↔◌, ⊎_elim, Result, Err, List, length, ap, subst, ◌∙◌, refl, arith}
 use Rattle.std.proofs.lemmas.Bool.{cases_lt}
 use Rattle.docsis_wire.specs.Limits.{sequence_modulus}
 use Rattle.flow_core.specs.declared.record.FlowRecord.{FlowRecord}
 use Rattle.flow_core.specs.declared.record.SetupFault.{SetupFault}
 use Rattle.flow_core.specs.declared.record.SetupFault.TheVariants.{TooManyFlows, BadFlow, SameSfid, OutOfMemory}
-use Rattle.flow_core.specs.Setup.{IsInRange, IsLeast, IsBad, IsRepeated, IsSetupFault, CanBeSetUp}
+use Rattle.flow_core.specs.Setup.{flows_max, IsInRange, IsLeast, IsBad, IsRepeated, IsSetupFault, CanBeSetUp}
 
 -- the least number with a property is one number
 least-one : (P : ℕ → Type 0) (k j : ℕ) → IsLeast P k → IsLeast P j → k ≡ j
@@ -40,7 +40,7 @@ fault-refused records (SameSfid k) is can = can.apart k is.2.0
 fault-refused records OutOfMemory is can = is
 
 -- a record that is not out of range is in range
-pub in-range : (r : FlowRecord) → ¬ (¬ (IsInRange r)) → IsInRange r
+in-range : (r : FlowRecord) → ¬ (¬ (IsInRange r)) → IsInRange r
 in-range r stays =
     record {
       first = ⊎_elim (λ is. is) (λ (far : sequence_modulus ≤ r.first). absurd (stays (λ fits. let in_range = fits.first in omega arith))) (cases_lt r.first sequence_modulus);
@@ -50,6 +50,12 @@ in-range r stays =
       clusters_in_range = ⊎_elim (λ (far : 8 < r.clusters). absurd (stays (λ fits. let in_range = fits.clusters_in_range in omega arith))) (λ is. is) (cases_lt 8 r.clusters);
       ring_positive = ⊎_elim (λ is. omega arith) (λ (far : r.ring ≤ 0). absurd (stays (λ fits. let in_range = fits.ring_positive in omega arith))) (cases_lt 0 r.ring);
     }
+
+-- records without any fault can be set up
+pub no_fault : (records : List FlowRecord) → length records ≤ flows_max → ((k : ℕ) → ¬ (IsBad records k))
+    → ((k : ℕ) → ¬ (IsRepeated records k)) → CanBeSetUp records
+no_fault records few in_range apart =
+    record { few = few; in_range = in_range; each = λ k flow_record has. in-range flow_record (λ bad. in_range k (flow_record, has, bad)); apart = apart }
 
 -- an answer with the fault of some records
 pub fault-is : {T : Type 0} (records : List FlowRecord) (answer : Result T SetupFault) (found : SetupFault) → answer ≡ Err found → IsSetupFault records found

@@ -79,14 +79,15 @@ module _ {C : Type 0} where
     pub unchanged : ¬ (IsTrue lost) → after ≡ core
     pub closed : ¬ (IsTrue lost) → (flow : Flow) → HasFlow core k flow → HasNoneLater flow
 
-  -- every flow of a new core stands for no events
-  pub record IsNewCore (check : C) (records : List FlowRecord) (core : Core C) : Type 0 where
-    pub check_is : core.check ≡ check
-    pub count : length core.flows.items ≡ length records
-    pub each : AreNewFlows records core.flows.items
-
   -- no segment of flow k is next
   pub record IsDrainedAt (core : Core C) (k : ℕ) : Type 0 where
     pub flow : Flow
     pub there : HasFlow core k flow
     pub drained : IsDrained flow
+
+  -- every flow of a new core stands for no events, and no segment of it is next
+  pub record IsNewCore (check : C) (records : List FlowRecord) (core : Core C) : Type 0 where
+    pub check_is : core.check ≡ check
+    pub count : length core.flows.items ≡ length records
+    pub each : AreNewFlows records core.flows.items
+    pub drained : (k : ℕ) → k < length records → IsDrainedAt core k

@@ -40,8 +40,9 @@ IsSetupFault records (SameSfid k) =
     (length records ≤ flows_max) × ((j : ℕ) → ¬ (IsBad records j)) × IsLeast (IsRepeated records) k
 IsSetupFault records OutOfMemory = ⊥
 
--- the records have no fault
+-- the records have no fault: none is out of range, so each is in range
 pub record CanBeSetUp (records : List FlowRecord) : Type 0 where
   pub few : length records ≤ flows_max
   pub in_range : (k : ℕ) → ¬ (IsBad records k)
+  pub each : (k : ℕ) (flow_record : FlowRecord) → slice_get records k ≡ Some flow_record → IsInRange flow_record
   pub apart : (k : ℕ) → ¬ (IsRepeated records k)

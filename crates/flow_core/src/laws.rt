@@ -144,8 +144,8 @@ pub fn flow_has_one_close()
         → IsClosed fates ↔ (declared ≡ Declared.NothingHeld) }
 {}
 
-/// The index that a flow has come to is never ahead of the expected one, and at most the width of
-/// its window ahead of it: no more segments than that are next, one after another.
+/// The index that a flow has come to is never after the expected one, and at most the width of its
+/// window before it: no more segments than that are next, one after another.
 pub fn draining_ends()
     ensures { (check : List ℕ → Bool) (flow_record : FlowRecord) (flow : Flow)
         (events : List FlowEvent) (answers : List Applied) (x y : ℕ) (given : List (List ℕ))

@@ -1,8 +1,7 @@
 -- What the calls of a core make of its first flow.
-use Rattle.std.proofs.Common.{◌≡◌, ℕ, ◌+◌, ◌<◌, Bool, true, cond, List, [], ◌∷◌, ◌++◌, replicate, refl, ap, sym, subst, ◌∙◌, arith, count_by, inl, inr, append_assoc}
+use Rattle.std.proofs.Common.{◌≡◌, ℕ, ◌+◌, ◌<◌, Bool, true, cond, List, [], ◌∷◌, ◌++◌, replicate, refl, ap, sym, subst, ◌∙◌, arith, count_by, append_assoc}
 use Rattle.std.proofs.lemmas.List.Sums.{sum_by_push}
 use Rattle.std.proofs.lemmas.List.{replicate_more}
-use Rattle.std.proofs.lemmas.Bool.{cases_lt}
 use Rattle.reorder.specs.declared.answer.Declared.{Declared}
 use Rattle.reorder.specs.declared.answer.Declared.TheVariants.{NextIsHere, NothingHeld, Lost}
 use Rattle.flow_core.specs.declared.record.FlowRecord.{FlowRecord}
@@ -12,7 +11,6 @@ use Rattle.flow_core.specs.declared.event.Step.TheVariants.{Frames, Nothing}
 use Rattle.flow_core.specs.declared.event.Applied.{Applied}
 use Rattle.flow_core.specs.declared.event.Applied.TheVariants.{Decision}
 use Rattle.flow_core.specs.Fates.{Fates}
-use Rattle.flow_core.specs.Setup.{IsInRange}
 use Rattle.flow_core.specs.Events.{FlowEvent, gap, Declares}
 use Rattle.flow_core.specs.Stands.{StandsFor, IsDrained}
 use Rattle.flow_core.specs.Flows.{OthersStay, TakesEventAt, AdvancesAt, IsDrainedAt, IsLoss, ClosesGapAt}
@@ -134,15 +132,3 @@ after_loss accepts core after accepted r events given k n lost others closes is 
     let a = events_as accepts after accepted r ((events ++ replicate n gap) ++ gap ∷ []) (events ++ replicate (n + 1) gap) given same e.0 in
     let more = ap (count_by says_lost) a.1 ∙ ap (count_by says_lost) e.1 ∙ lost_once_more h.answers closes.declared (closes.answer.0 is) in
     (a.0, omega arith)
-
--- a record that is not out of range lies in it
-pub in_range : (r : FlowRecord) → ¬ (¬ (IsInRange r)) → IsInRange r
-in_range r not_bad =
-    record {
-      first = elim (cases_lt r.first 8192) [ inl h ↦ h | inr h ↦ absurd (not_bad (λ range. (let wrong = range.first in omega arith))) ];
-      window_positive = elim (cases_lt r.window 1) [ inl h ↦ absurd (not_bad (λ range. (let wrong = range.window_positive in omega arith))) | inr h ↦ h ];
-      window_in_range = elim (cases_lt 4096 r.window) [ inl h ↦ absurd (not_bad (λ range. (let wrong = range.window_in_range in omega arith))) | inr h ↦ h ];
-      clusters_positive = elim (cases_lt r.clusters 1) [ inl h ↦ absurd (not_bad (λ range. (let wrong = range.clusters_positive in omega arith))) | inr h ↦ h ];
-      clusters_in_range = elim (cases_lt 8 r.clusters) [ inl h ↦ absurd (not_bad (λ range. (let wrong = range.clusters_in_range in omega arith))) | inr h ↦ h ];
-      ring_positive = elim (cases_lt r.ring 1) [ inl h ↦ absurd (not_bad (λ range. (let wrong = range.ring_positive in omega arith))) | inr h ↦ h ];
-    }

@@ -86,7 +86,6 @@ pub fn play<C: HeaderCheck + Drop>(
     laws::events_lead_on_in_turn();
     laws::flow_has_one_close();
     laws::gaps_after_keep_events_near();
-    laws::drained_flow_has_come_to_its_expected_index();
     laws::drained_flow_has_its_outcome();
     laws::outcome_of_near_events_is_the_delivery_sequence();
     let mut core = Core::new(alloc, &[flow_record], check)?;

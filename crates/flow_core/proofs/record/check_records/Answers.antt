@@ -4,7 +4,7 @@ use Rattle.flow_core.specs.declared.record.FlowRecord.{FlowRecord}
 use Rattle.flow_core.specs.declared.record.SetupFault.{SetupFault}
 use Rattle.flow_core.specs.declared.record.SetupFault.TheVariants.{BadFlow, SameSfid}
 use Rattle.flow_core.specs.Setup.{IsSetupFault, CanBeSetUp}
-use Rattle.flow_core.proofs.Setup.{fault-refused, fault-is, fault-not}
+use Rattle.flow_core.proofs.Setup.{no_fault, fault-refused, fault-is, fault-not}
 use Rattle.flow_core.proofs.record.check_records.Goals as goal
 
 -- an answer with a fault
@@ -26,6 +26,9 @@ pub returns-in-Some-first_repeated-clause-fault : goal.returns-in-Some-first_rep
 returns-in-Some-first_repeated-clause-fault c =
     fault-is c.args.records.now _ (SameSfid c.in-Some-first_repeated.k) refl (omega arith, c.in_default.ensures, c.in-Some-first_repeated.ensures)
 
+pub returns-clause-ok : goal.returns-clause-ok
+returns-clause-ok c = (λ _. no_fault c.args.records.now (omega arith) c.in_default.ensures c.in_default-first_repeated.ensures, λ _. refl)
+
 pub returns-clause-fault : goal.returns-clause-fault
 returns-clause-fault c fault =
-    fault-not c.args.records.now _ fault (record { few = omega arith; in_range = c.in_default.ensures; apart = c.in_default-first_repeated.ensures }) (λ e. cc)
+    fault-not c.args.records.now _ fault (no_fault c.args.records.now (omega arith) c.in_default.ensures c.in_default-first_repeated.ensures) (λ e. cc)

@@ -1,20 +1,18 @@
 use Rattle.std.proofs.Common.{◌≡◌, suc, ◌++◌, ◌∷◌, [], List, replicate, refl, ap, subst, sym, ◌∙◌, append_assoc, arith}
 use Rattle.std.specs.Prelude.{All}
-use Rattle.std.specs.Ordering.{nat_cmp}
-use Rattle.std.specs.FinMap as map_of
 use Rattle.std.specs.Vec.Iter.{into_iter_items}
 use Rattle.std.proofs.lemmas.Grind.{common_steps}
 use Rattle.std.proofs.lemmas.List.{append-nil, map-append}
 use Rattle.docsis_wire.specs.declared.segment.Segment.{Segment}
 use Rattle.docsis_wire.specs.Ready.{IsReady}
-use Rattle.flow_core.specs.Fates.{Fates, no_fates, IsExpected}
+use Rattle.flow_core.specs.Fates.{Fates, no_fates}
 use Rattle.flow_core.specs.Events.{arrives, gap, Leads}
 use Rattle.flow_core.specs.Near.{AreNear}
 use Rattle.flow_core.specs.Stands.{StandsFor}
 use Rattle.flow_core.specs.Delivery.{IsDeliverySequence}
 use Rattle.flow_core.specs.Closing.{Closes}
 use Rattle.uses.specs.OneFlow.{arrivals}
-use Rattle.uses.proofs.OneFlowSteps.{after_event, events_as, in_range}
+use Rattle.uses.proofs.OneFlowSteps.{after_event, events_as}
 use Rattle.uses.proofs.one_flow.play.Goals as goal
 
 pub loop-segment-init : goal.loop-segment-init
@@ -24,12 +22,10 @@ loop-segment-init g c =
     let is_new = c.in_ok-core.ensures.new in
     let items : into_iter_items c.into_iter-segment-iterator.result ≡ c.args.segments.items = grind (arith, common_steps) in
     let there = is_new.each 0 c.args.flow_record refl in
-    let stands = there.2 (accepts c.args.check) in
-    let expected : IsExpected no_fates 0 = record { open_itself = map_of.get-empty nat_cmp 0; settled = λ i below. absurd (omega arith) } in
-    let drained = (c.drained_flow_has_come_to_its_expected_index.ensures (accepts c.args.check) c.args.flow_record there.0 [] [] 0 [] no_fates stands (refl, refl)).1 expected in (
+    let stands = there.2 (accepts c.args.check) in (
       subst (λ (s : List Segment). All IsReady s) (sym items) c.requires,
-      in_range c.args.flow_record (λ bad. (c.in_ok-core.ensures.can_be_set_up refl).in_range 0 (c.args.flow_record, refl, bad)),
-      record { flow = there.0; there = there.1; drained = drained },
+      (c.in_ok-core.ensures.can_be_set_up refl).each 0 c.args.flow_record refl,
+      is_new.drained 0 (omega arith),
       (
         [],
         items,

@@ -3,6 +3,7 @@ use Rattle.std.proofs.Common.{Err, refl, ap, ◌∙◌}
 use Rattle.std.proofs.lemmas.Result.{err_from_is_err_and}
 use Rattle.flow_core.specs.declared.record.SetupFault.TheVariants.{TooManyFlows, BadFlow, SameSfid, OutOfMemory}
 use Rattle.flow_core.proofs.Setup.{fault-is, fault-not}
+use Rattle.flow_core.proofs.NewFlows.{new-drained}
 use Rattle.flow_core.proofs.flows.Core.new.Goals as goal
 
 pub returns-in_err-check_records-clause-too_many : goal.returns-in_err-check_records-clause-too_many
@@ -46,3 +47,11 @@ returns-clause-bad g c k = fault-not c.args.records.now _ (BadFlow k) (c.in_ok-c
 
 pub returns-clause-repeated : goal.returns-clause-repeated
 returns-clause-repeated g c k = fault-not c.args.records.now _ (SameSfid k) (c.in_ok-check_records.ensures.ok.0 refl) (λ e. cc)
+
+pub returns-clause-new : goal.returns-clause-new
+returns-clause-new g c = record {
+  check_is = refl;
+  count = c.in_ok-flows.ensures.count;
+  each = c.in_ok-flows.ensures.each;
+  drained = new-drained c.args.records.now _ c.in_ok-flows.ensures.each;
+}
