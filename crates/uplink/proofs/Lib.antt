@@ -1,0 +1,4 @@
+pub mod Rows
+pub mod SeenRows
+pub mod Taking
+pub mod SidFlows
