@@ -2,3 +2,4 @@ pub mod Rows
 pub mod SeenRows
 pub mod Taking
 pub mod SidFlows
+pub mod OneAnswer

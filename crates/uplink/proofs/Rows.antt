@@ -1,5 +1,5 @@
 -- Rows have at most one fault, and none if a lane can be opened with them.
-use Rattle.std.proofs.Common.{◌≡◌, ◌↔◌, ℕ, ◌<◌, ◌≤◌, ⊎_elim, Result, Err, List, sym, ap, subst, ◌∙◌, refl, arith}
+use Rattle.std.proofs.Common.{◌≡◌, ◌↔◌, ℕ, ◌<◌, ◌≤◌, ⊎_elim, Result, Err, List, ap, subst, ◌∙◌, arith}
 use Rattle.std.proofs.lemmas.Bool.{cases_lt}
 use Rattle.flow_core.specs.Setup.{IsLeast}
 use Rattle.uplink.specs.declared.row.SidRow.{SidRow}

@@ -1,5 +1,5 @@
 -- What one more input makes of what is outstanding, and of what a lane stands for.
-use Rattle.std.proofs.Common.{◌≡◌, ◌≢◌, ℕ, ◌+◌, ◌-◌, ◌<◌, ◌≤◌, ◌⊎◌, inl, inr, ⊎_elim, Bool, true, false, cond, IsTrue, Option, Some, None, MatchOption, is_some, Ok, Err, List, [], ◌∷◌, ◌++◌, length, take, slice_get, count_by, sym, ap, subst, ◌∙◌, refl, arith, zero, suc}
+use Rattle.std.proofs.Common.{◌≡◌, ◌≢◌, ℕ, ◌+◌, ◌⊎◌, inl, inr, ⊎_elim, Bool, true, false, cond, IsTrue, Option, Some, None, MatchOption, is_some, Ok, Err, List, [], ◌∷◌, ◌++◌, length, take, slice_get, count_by, sym, ap, subst, ◌∙◌, refl, arith, zero, suc}
 use Rattle.std.specs.Ordering.{nat_cmp}
 use Rattle.std.specs.Cmp.{unsigned_tied}
 use Rattle.std.specs.BTreeMap.{BTreeMap, get, is_at, btree_map_len}
@@ -10,8 +10,7 @@ use Rattle.std.proofs.lemmas.List.{take-append-le, length-append}
 use Rattle.std.proofs.lemmas.List.Sums.{sum_by_push}
 use Rattle.std.proofs.Math.Seq.{take-append_seam}
 use Rattle.docsis_wire.proofs.Places.{slice_get-at}
-use Rattle.uplink.specs.declared.input.Input.{Input}
-use Rattle.uplink.specs.declared.input.Input.TheVariants.{Grant, Burst}
+use Rattle.uplink.specs.declared.input.Input.TheVariants.{Grant}
 use Rattle.uplink.specs.declared.grant.SidFlow.{SidFlow}
 use Rattle.uplink.specs.declared.grant.OutstandingGrant.{OutstandingGrant}
 use Rattle.uplink.specs.declared.lane.Lane.{Lane}

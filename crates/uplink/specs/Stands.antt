@@ -3,7 +3,6 @@ use Rattle.std.specs.Prelude.{◌≡◌, ℕ, ◌+◌, ◌⊎◌, MatchOption, E
 use Rattle.std.specs.Ordering.{nat_cmp}
 use Rattle.std.specs.BTreeMap.{BTreeMap, get, btree_map_len}
 use Rattle.uplink.specs.declared.input.Input.{Input}
-use Rattle.uplink.specs.declared.refusal.Refusal.{Refusal}
 use Rattle.uplink.specs.declared.refusal.Refusal.TheVariants.{GrantOutOfMemory, BurstOutOfMemory}
 use Rattle.uplink.specs.declared.grant.SidFlow.{SidFlow}
 use Rattle.uplink.specs.declared.lane.Lane.{Lane}

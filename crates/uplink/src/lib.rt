@@ -10,6 +10,7 @@ mod admitted;
 mod grant;
 mod input;
 mod lane;
+pub mod laws;
 mod refusal;
 mod row;
 mod seen;

@@ -1,8 +1,8 @@
 -- The first fault that is found is the one fault of the rows.
-use Rattle.std.proofs.Common.{◌≡◌, ◌↔◌, ℕ, Result, Ok, Err, List, sym, ap, subst, arith}
+use Rattle.std.proofs.Common.{◌≡◌, ◌↔◌, ℕ, Result, Ok, Err, List, ap, subst}
 use Rattle.uplink.specs.declared.row.SidRow.{SidRow}
 use Rattle.uplink.specs.declared.row.LaneFault.{LaneFault}
-use Rattle.uplink.specs.declared.row.LaneFault.TheVariants.{SidRange, SameSid, UnknownFlow, OutOfMemory}
+use Rattle.uplink.specs.declared.row.LaneFault.TheVariants.{SidRange, SameSid, UnknownFlow}
 use Rattle.uplink.specs.Rows.{IsLaneFault, CanBeOpened}
 use Rattle.uplink.proofs.Rows.{one_fault, fault-refused}
 use Rattle.uplink.proofs.row.check_rows.Goals as goal

@@ -1,5 +1,5 @@
 -- A row that is out of range has an index, so it was looked at.
-use Rattle.std.proofs.Common.{◌≡◌, ◌≤◌, below_more, ap, arith, ⊎_elim}
+use Rattle.std.proofs.Common.{◌≤◌, below_more, ap, arith, ⊎_elim}
 use Rattle.std.proofs.lemmas.Option.{slice_get_within, get_or_from_slice_get}
 use Rattle.uplink.specs.declared.row.SidRow.{SidRow}
 use Rattle.uplink.proofs.row.first_out_of_range.Goals as goal

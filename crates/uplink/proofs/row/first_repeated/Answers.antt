@@ -1,4 +1,4 @@
-use Rattle.std.proofs.Common.{◌≡◌, ◌<◌, ⊎_elim, inl, inr, true, below_more, length, refl, arith}
+use Rattle.std.proofs.Common.{◌≡◌, ⊎_elim, inl, inr, true, below_more, arith}
 use Rattle.std.proofs.lemmas.Option.{slice_get_within, slice_get-get_or}
 use Rattle.uplink.proofs.SeenRows.{in-range, repeated, unrepeated, among-more}
 use Rattle.uplink.proofs.row.first_repeated.Goals as goal

@@ -1,5 +1,5 @@
 -- A fault of the rows is reported, and otherwise only an allocation can fail.
-use Rattle.std.proofs.Common.{◌≡◌, Err, refl, ap, ◌∙◌}
+use Rattle.std.proofs.Common.{Err, refl, ap, ◌∙◌}
 use Rattle.std.proofs.lemmas.Result.{err_from_is_err_and}
 use Rattle.uplink.specs.declared.row.LaneFault.TheVariants.{SidRange, SameSid, UnknownFlow, OutOfMemory}
 use Rattle.uplink.proofs.Rows.{fault-is, fault-not}

@@ -1,5 +1,5 @@
 -- The map says what is outstanding, and what is made of the burst is the answer.
-use Rattle.std.proofs.Common.{◌≡◌, ◌+◌, ◌<◌, ◌≤◌, true, cond, is_some, Some, None, Ok, Err, refl, sym, ap, subst, ◌∙◌, arith}
+use Rattle.std.proofs.Common.{◌≡◌, ◌+◌, cond, is_some, Some, None, Ok, Err, refl, subst, ◌∙◌}
 use Rattle.std.specs.Ordering.{nat_cmp}
 use Rattle.std.specs.BTreeMap.{get, btree_map_len}
 use Rattle.uplink.specs.declared.input.Input.TheVariants.{Burst}

@@ -1,5 +1,5 @@
 -- The maps say what is outstanding, and which identifiers have rows.
-use Rattle.std.proofs.Common.{◌≡◌, ◌+◌, ◌<◌, ◌≤◌, true, cond, subst, is_some, Some, None, Ok, Err, refl, sym, ap, ◌∙◌, arith}
+use Rattle.std.proofs.Common.{◌≡◌, ◌+◌, true, cond, subst, is_some, Some, None, Err, refl, ◌∙◌, arith}
 use Rattle.std.specs.Ordering.{nat_cmp}
 use Rattle.std.specs.BTreeMap.{get, btree_map_len}
 use Rattle.uplink.specs.declared.input.Input.TheVariants.{Grant}

@@ -1,5 +1,5 @@
 -- One more place is set.
-use Rattle.std.proofs.Common.{◌≡◌, ◌<◌, ℕ, inl, inr, ⊎_elim, ◌∙◌, sym, arith}
+use Rattle.std.proofs.Common.{inl, inr, ⊎_elim, ◌∙◌, sym, arith}
 use Rattle.uplink.proofs.SeenRows.{put-in}
 use Rattle.uplink.proofs.seen.SeenSids.insert.Goals as goal
 
