@@ -1,0 +1,5 @@
+pub mod Rows
+pub mod SeenRows
+pub mod Taking
+pub mod SidFlows
+pub mod OneAnswer

@@ -1,0 +1,46 @@
+-- What a lane admits, asks for and reports, of the whole list of its inputs with their answers.
+use Rattle.std.specs.Prelude.{ℕ, Option, Some, None, Ok, Err, List, length, filter_map}
+use Rattle.flow_core.specs.Counts.{counted}
+use Rattle.uplink.specs.declared.admitted.Admitted.{Admitted}
+use Rattle.uplink.specs.declared.admitted.Request.{Request}
+use Rattle.uplink.specs.Inputs.{Answer, Taken}
+use Rattle.uplink.specs.declared.refusal.Refusal.{Refusal}
+use Rattle.uplink.specs.declared.refusal.Refusal.TheVariants.{GrantRange, GrantKnown, UnknownSid, TooManyGrants, GrantOutOfMemory, NoGrant, TooLong, BadCheck, TooShort, PointerPast, BurstOutOfMemory}
+
+-- the number of a refusal: its place in the order in which they are looked for
+abbrev pub refusal_number : Refusal → ℕ
+refusal_number GrantRange = 1
+refusal_number GrantKnown = 2
+refusal_number UnknownSid = 3
+refusal_number TooManyGrants = 4
+refusal_number GrantOutOfMemory = 5
+refusal_number NoGrant = 6
+refusal_number TooLong = 7
+refusal_number BadCheck = 8
+refusal_number TooShort = 9
+refusal_number PointerPast = 10
+refusal_number BurstOutOfMemory = 11
+
+-- what an answer admits, and the number of its refusal
+abbrev pub admitted_by : Answer → Option Admitted
+admitted_by (Ok admitted) = admitted
+admitted_by (Err refusal) = None
+
+abbrev pub refused_by : Answer → Option ℕ
+refused_by (Ok admitted) = None
+refused_by (Err refusal) = Some (refusal_number refusal)
+
+-- what was admitted, in order
+abbrev pub admitted_of : List Taken → List Admitted
+admitted_of taken = filter_map (λ one. admitted_by one.answer) taken
+
+-- the requests of what was admitted, in order
+abbrev pub requests_of : List Taken → List Request
+requests_of taken = filter_map (λ one. one.request) (admitted_of taken)
+
+-- the lane's report: how many bursts were admitted, and the numbers of the refusals, in order
+abbrev pub admitted_count : List Taken → ℕ
+admitted_count taken = counted (length (admitted_of taken))
+
+abbrev pub refusal_numbers : List Taken → List ℕ
+refusal_numbers taken = filter_map (λ one. refused_by one.answer) taken

@@ -1,0 +1,35 @@
+-- What a lane of the code stands for: a list of inputs with their answers.
+use Rattle.std.specs.Prelude.{◌≡◌, ℕ, ◌+◌, ◌⊎◌, MatchOption, Err, List, [], ◌∷◌, ◌++◌, count_by}
+use Rattle.std.specs.Ordering.{nat_cmp}
+use Rattle.std.specs.BTreeMap.{BTreeMap, get, btree_map_len}
+use Rattle.uplink.specs.declared.input.Input.{Input}
+use Rattle.uplink.specs.declared.refusal.Refusal.TheVariants.{GrantOutOfMemory, BurstOutOfMemory}
+use Rattle.uplink.specs.declared.grant.SidFlow.{SidFlow}
+use Rattle.uplink.specs.declared.lane.Lane.{Lane}
+use Rattle.uplink.specs.Inputs.{LaneSetup, Answer, Taken, IsUnknown, IsFlowOf, IsKnown, IsGrant, AreAnswered, is_accepted_grant, is_spending_burst}
+
+-- the map has the service identifiers of the lane's channel, each with its flow
+abbrev pub HasFlows : LaneSetup → BTreeMap ℕ SidFlow → Type 0
+HasFlows setup flows = (sid : ℕ) → MatchOption (get nat_cmp flows sid) (IsUnknown setup sid) (IsFlowOf setup sid)
+
+-- After these inputs, with these answers, the lane keeps exactly the grants that are outstanding.
+pub record StandsFor (setup : LaneSetup) (lane : Lane) (taken : List Taken) : Type 0 where
+  pub channel : lane.channel ≡ setup.channel
+  pub answered : AreAnswered setup taken
+  pub flows : HasFlows setup lane.flows
+  pub grants : (number : ℕ) → MatchOption (get nat_cmp lane.grants number) (¬ (IsKnown taken number)) (IsGrant setup taken number)
+  pub count : btree_map_len lane.grants + count_by is_spending_burst taken ≡ count_by is_accepted_grant taken
+
+-- the answer is that an allocation failed
+abbrev pub IsOutOfMemory : Answer → Type 0
+IsOutOfMemory answer = (answer ≡ Err GrantOutOfMemory) ⊎ (answer ≡ Err BurstOutOfMemory)
+
+-- whatever inputs a lane stood for, it stands for them with this one at the end, answered so
+abbrev pub TakesInput : Lane → Input → Answer → Lane → Type 0
+TakesInput lane input answer after =
+    (setup : LaneSetup) (taken : List Taken)
+    → StandsFor setup lane taken → StandsFor setup after (taken ++ record { input = input; answer = answer } ∷ [])
+
+-- whatever inputs a lane stood for, it stands for them
+abbrev pub StandsForTheSame : Lane → Lane → Type 0
+StandsForTheSame lane after = (setup : LaneSetup) (taken : List Taken) → StandsFor setup lane taken → StandsFor setup after taken

@@ -1,0 +1,167 @@
+//! A lane: the grants and bursts of one channel.
+ghost use Rattle.std.specs.Prelude.{◌≡◌, ◌↔◌, ℕ, [], IsTrue, IsOk, IfOk, Ok, Err, length};
+ghost use Rattle.uplink.specs.declared.row.LaneFault.{LaneFault};
+ghost use Rattle.uplink.specs.Rows.{IsLaneFault, CanBeOpened};
+ghost use Rattle.uplink.specs.Inputs.{LaneSetup, IsGrantSize};
+ghost use Rattle.uplink.specs.Stands.{HasFlows, StandsFor, TakesInput, StandsForTheSame, IsOutOfMemory};
+
+use crate::admitted::Admitted;
+use crate::grant::{OutstandingGrant, SidFlow};
+use crate::input::Input;
+use crate::refusal::Refusal;
+use crate::row::{LaneFault, SidRow, check_rows};
+use docsis_wire::Bytes;
+use flow_core::FlowRecord;
+use std::alloc::{AllocError, Global};
+use std::collections::BTreeMap;
+
+/// The fewest bytes of a grant: those of a segment header.
+const GRANT_MIN: u32 = 8;
+/// The most bytes of a grant.
+const GRANT_MAX: u32 = 65_535;
+/// How many grants of a channel may be outstanding.
+const OUTSTANDING_MAX: usize = 65_536;
+
+/// One channel's receiver: it knows which grants are outstanding, and admits the bursts that meet
+/// them.
+#[derive(Drop)]
+pub struct Lane {
+    channel: u8,
+    flows: BTreeMap<u16, SidFlow>,
+    grants: BTreeMap<u32, OutstandingGrant>,
+}
+
+impl Lane {
+    /// A lane of this channel, 0 to 3, with nothing outstanding, or the first fault of the rows.
+    /// It looks at the rows of all channels and uses those of its own.
+    pub fn new(
+        alloc: Global,
+        channel: u8,
+        rows: &[SidRow],
+        records: &[FlowRecord],
+    ) -> Result<Lane, LaneFault>
+        ensures new { IfOk result (λ lane. let setup : LaneSetup = record {
+          channel = channel;
+          rows = rows.now;
+          records = records.now;
+        } in
+            StandsFor setup lane []) }
+        ensures can_be_opened { IsOk result → CanBeOpened rows.now (length records.now) }
+        ensures memory { result ≡ Err LaneFault.OutOfMemory
+            → CanBeOpened rows.now (length records.now) }
+        ensures range { (k : ℕ) → result ≡ Err (LaneFault.SidRange k)
+            ↔ IsLaneFault rows.now (length records.now) (LaneFault.SidRange k) }
+        ensures same { (k : ℕ) → result ≡ Err (LaneFault.SameSid k)
+            ↔ IsLaneFault rows.now (length records.now) (LaneFault.SameSid k) }
+        ensures unknown { (k : ℕ) → result ≡ Err (LaneFault.UnknownFlow k)
+            ↔ IsLaneFault rows.now (length records.now) (LaneFault.UnknownFlow k) }
+    {
+        check_rows(rows, records.len())?;
+        let flows = flows_of(alloc, channel, rows, records)?;
+        Ok(Lane {
+            channel,
+            flows,
+            grants: BTreeMap::new(alloc),
+        })
+    }
+
+    /// Takes a grant or a burst. `None`: a grant was accepted and is outstanding. Otherwise the
+    /// answer is what is admitted of a burst, whose grant is then spent, or the first refusal that
+    /// applies. Where an allocation failed nothing changed.
+    pub fn take(&mut self, alloc: Global, input: &Input) -> Result<Option<Admitted>, Refusal>
+        ensures taken { ¬ (IsOutOfMemory result)
+            → TakesInput self.old input.now result self.new }
+        ensures refused { IsOutOfMemory result → StandsForTheSame self.old self.new }
+    {
+        match input {
+            Input::Grant { number, sid, bytes } => self.take_grant(*number, *sid, *bytes),
+            Input::Burst {
+                grant,
+                hcs_ok,
+                bytes,
+            } => { self.take_burst(alloc, *grant, *hcs_ok, bytes) }
+        }
+    }
+
+    /// Keeps a grant as outstanding.
+    fn take_grant(&mut self, number: u32, sid: u16, bytes: u32) -> Result<Option<Admitted>, Refusal>
+        ensures taken { ¬ (IsOutOfMemory result)
+            → TakesInput self.old (Input.Grant number sid bytes) result self.new }
+        ensures refused { IsOutOfMemory result → StandsForTheSame self.old self.new }
+    {
+        if !is_grant_size(bytes) {
+            return Err(Refusal::GrantRange);
+        }
+        if self.grants.contains_key(&number) {
+            return Err(Refusal::GrantKnown);
+        }
+        let Some(flow) = self.flows.get(&sid).copied() else {
+            return Err(Refusal::UnknownSid);
+        };
+        if self.grants.len() >= OUTSTANDING_MAX {
+            return Err(Refusal::TooManyGrants);
+        }
+        match self.grants.insert(number, OutstandingGrant { flow, bytes }) {
+            Ok(_) => Ok(None),
+            Err(_) => Err(Refusal::GrantOutOfMemory),
+        }
+    }
+
+    /// Admits or refuses a burst.
+    fn take_burst(
+        &mut self,
+        alloc: Global,
+        number: u32,
+        hcs_ok: bool,
+        bytes: &Bytes,
+    ) -> Result<Option<Admitted>, Refusal>
+        ensures taken { ¬ (IsOutOfMemory result)
+            → TakesInput self.old (Input.Burst number hcs_ok bytes.now) result self.new }
+        ensures refused { IsOutOfMemory result → StandsForTheSame self.old self.new }
+    {
+        let Some(grant) = self.grants.get(&number).copied() else {
+            return Err(Refusal::NoGrant);
+        };
+        let Ok(made) = grant.admit(alloc, self.channel, hcs_ok, bytes) else {
+            return Err(Refusal::BurstOutOfMemory);
+        };
+        self.grants.remove(&number);
+        match made {
+            Ok(admitted) => Ok(Some(admitted)),
+            Err(refusal) => Err(refusal),
+        }
+    }
+}
+
+/// Whether a grant may have so many bytes.
+fn is_grant_size(bytes: u32) -> bool
+    ensures { IsTrue result ↔ IsGrantSize bytes }
+{
+    (GRANT_MIN..=GRANT_MAX).contains(&bytes)
+}
+
+/// The flow of each service identifier of this channel.
+fn flows_of(
+    alloc: Global,
+    channel: u8,
+    rows: &[SidRow],
+    records: &[FlowRecord],
+) -> Result<BTreeMap<u16, SidFlow>, AllocError>
+    requires can_be_opened { CanBeOpened rows.now (length records.now) }
+    ensures { IfOk result (λ flows. let setup : LaneSetup = record {
+      channel = channel;
+      rows = rows.now;
+      records = records.now;
+    } in HasFlows setup flows) }
+{
+    let mut flows = BTreeMap::new(alloc);
+    for row in rows {
+        if row.channel == channel {
+            flows.insert(row.sid, SidFlow::of(records, row.flow))?;
+        }
+    }
+    Ok(flows)
+}
+
+#[cfg(test)]
+mod tests;

@@ -1,0 +1,22 @@
+//! The upstream receiver: one lane for each channel.
+//!
+//! [`Lane`] takes the grants and bursts of one channel, one after another, and admits the segments
+//! of those bursts that meet their grants, each with the request in its header. The contract of
+//! [`Lane::take`] says which whole list of inputs and answers a lane stands for. [`laws`] says that
+//! each input has one answer.
+#![tactic(auto)]
+
+mod admitted;
+mod grant;
+mod input;
+mod lane;
+pub mod laws;
+mod refusal;
+mod row;
+mod seen;
+
+pub use admitted::{Admitted, Request};
+pub use input::Input;
+pub use lane::Lane;
+pub use refusal::Refusal;
+pub use row::{LaneFault, SidRow};
