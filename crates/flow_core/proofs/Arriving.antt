@@ -1,11 +1,11 @@
 -- A segment that arrives at a drained flow.
-use Rattle.std.proofs.Common.{◌≡◌, ◌≢◌, ℕ, ◌+◌, ◌<◌, ◌≤◌, ⊎_elim, Bool, Option, None, Some, is_some, List, [], ◌∷◌, ◌++◌, refl, sym, ap, subst, ◌∙◌, arith}
+use Rattle.std.proofs.Common.{◌≡◌, ◌≢◌, ℕ, ◌+◌, ◌<◌, ⊎_elim, Option, None, Some, [], ◌∷◌, ◌++◌, refl, sym, ap, subst, ◌∙◌, arith}
 use Rattle.std.specs.Option.{option_map}
 use Rattle.std.specs.FinMap as map
 use Rattle.std.proofs.lemmas.Bool.{cases_eq}
 use Rattle.docsis_wire.specs.declared.segment.Segment.{Segment}
 use Rattle.reorder.specs.Number.{offset}
-use Rattle.reorder.specs.View.{WindowView, held_at, offset_in, IsHeld, IsLawful, with_item}
+use Rattle.reorder.specs.View.{WindowView, offset_in, IsHeld, IsLawful, with_item}
 use Rattle.reorder.specs.Answers.{IsVerdict, after_offer}
 use Rattle.reorder.proofs.Items.{get-insert_same, get-insert_other}
 use Rattle.reorder.specs.declared.answer.Verdict.{Verdict}
@@ -13,14 +13,13 @@ use Rattle.reorder.specs.declared.answer.Verdict.TheVariants.{Late, Beyond, Repe
 use Rattle.flow_core.specs.declared.record.FlowRecord.{FlowRecord}
 use Rattle.flow_core.specs.declared.flow.Flow.{Flow}
 use Rattle.flow_core.specs.declared.ready.ReadySegment.{ReadySegment}
-use Rattle.flow_core.specs.declared.event.Applied.{Applied}
 use Rattle.flow_core.specs.declared.event.Applied.TheVariants.{Arrival}
 use Rattle.flow_core.specs.Fates.{Fates, number_of, IsKept, IsLost}
-use Rattle.flow_core.specs.Events.{FlowEvent, arrives, IsAhead, IsVerdictOn, Keeps, Changes}
-use Rattle.flow_core.specs.Counts.{says_kept, says_late, says_repeat, says_beyond, AreCounts}
-use Rattle.flow_core.specs.Stands.{IsWindowFrom, IsRemembered, StandsFor, IsDrained, TakesEvent}
-use Rattle.flow_core.proofs.Numbers.{index-offset, ahead-at, ahead-offset, ahead-one}
-use Rattle.flow_core.proofs.Windows.{held-kept, kept-held, narrow, window-keeps, none-kept}
+use Rattle.flow_core.specs.Events.{arrives, IsAhead, IsVerdictOn, Keeps}
+use Rattle.flow_core.specs.Counts.{AreCounts}
+use Rattle.flow_core.specs.Stands.{IsWindowFrom, IsRemembered, IsDrained, TakesEvent}
+use Rattle.flow_core.proofs.Numbers.{index-offset, ahead-at, ahead-offset}
+use Rattle.flow_core.proofs.Windows.{held-kept, kept-held, window-keeps}
 use Rattle.flow_core.proofs.Counting.{answered, counts-answered}
 use Rattle.flow_core.proofs.Standing.{stands-next, drained-sound, open-kept, kept-not-lost}
 

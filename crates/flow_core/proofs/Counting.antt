@@ -1,11 +1,10 @@
 -- The counts of a flow as events are answered and segments are joined.
-use Rattle.std.proofs.Common.{◌≡◌, ℕ, ◌+◌, ◌≤◌, Bool, true, false, cond, not, min, Option, None, Some, is_some, List, [], ◌∷◌, ◌++◌, length, refl, ap, sym, ◌∙◌, arith, count_by, sum_by}
-use Rattle.std.specs.List.{concat}
+use Rattle.std.proofs.Common.{◌≡◌, ℕ, ◌+◌, Bool, true, false, cond, min, Option, List, [], ◌∷◌, ◌++◌, length, refl, ap, sym, ◌∙◌, arith, count_by}
 use Rattle.std.proofs.lemmas.List.Sums.{sum_by_push}
 use Rattle.docsis_wire.specs.declared.segment.Segment.{Segment}
 use Rattle.flow_core.specs.declared.counts.FlowCounts.{FlowCounts}
 use Rattle.flow_core.specs.declared.event.Applied.{Applied}
-use Rattle.flow_core.specs.Counts.{counted, says_kept, says_late, says_repeat, says_beyond, payload_bytes, AreCounts, no_counts}
+use Rattle.flow_core.specs.Counts.{counted, says_kept, says_late, says_repeat, says_beyond, AreCounts, no_counts}
 
 -- a count goes on from what was counted
 pub counted-more : (n m k : ℕ) → k ≡ counted n → min (k + m) 18446744073709551615 ≡ counted (n + m)

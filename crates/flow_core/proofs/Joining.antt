@@ -1,5 +1,5 @@
 -- The next segment of a flow is joined.
-use Rattle.std.proofs.Common.{◌≡◌, ◌≢◌, ℕ, zero, suc, cond, not, is_some, ◌+◌, ◌<◌, ◌≤◌, ◌⊎◌, inl, inr, ⊎_elim, Bool, Option, None, Some, List, [], ◌∷◌, ◌++◌, length, min, slice_get, refl, sym, ap, subst, ◌∙◌, arith, sum_by}
+use Rattle.std.proofs.Common.{◌≡◌, ℕ, zero, suc, cond, not, is_some, ◌+◌, ◌<◌, inl, inr, ⊎_elim, Bool, Option, None, Some, List, [], ◌∷◌, ◌++◌, length, min, slice_get, refl, sym, ap, subst, ◌∙◌, arith}
 use Rattle.std.specs.List.{concat}
 use Rattle.std.specs.Option.{option_map}
 use Rattle.std.specs.FinMap as map
@@ -9,7 +9,6 @@ use Rattle.std.proofs.lemmas.List.Sums.{sum_by_push}
 use Rattle.std.proofs.lemmas.Option.{slice_get_within}
 use Rattle.docsis_wire.specs.declared.segment.Segment.{Segment}
 use Rattle.ccf.specs.Feed.{Feeds}
-use Rattle.ccf.specs.Join.{Joins}
 use Rattle.ccf.proofs.OneReading.{Joins-append}
 use Rattle.reorder.specs.Number.{number_ahead, following}
 use Rattle.reorder.specs.Answers.{declared_count}
@@ -20,9 +19,9 @@ use Rattle.flow_core.specs.declared.flow.Flow.{Flow}
 use Rattle.flow_core.specs.declared.ready.ReadySegment.{ReadySegment}
 use Rattle.flow_core.specs.declared.sequence.SequenceNumber.{SequenceNumber}
 use Rattle.flow_core.specs.declared.event.Applied.{Applied}
-use Rattle.flow_core.specs.Fates.{Fates, number_of, IsKeptAs, IsLost, IsSettledBelow}
+use Rattle.flow_core.specs.Fates.{Fates, number_of, IsKeptAs}
 use Rattle.flow_core.specs.Events.{FlowEvent}
-use Rattle.flow_core.specs.Counts.{counted, payload_bytes, AreCounts}
+use Rattle.flow_core.specs.Counts.{payload_bytes, AreCounts}
 use Rattle.flow_core.specs.Losses.{after_losses, GoesOn, GoesOnTo}
 use Rattle.flow_core.specs.Stands.{IsRemembered, StandsFor, AreLost, Gives}
 use Rattle.flow_core.proofs.Windows.{kept-from-segment, window-taken}

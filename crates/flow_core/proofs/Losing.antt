@@ -1,10 +1,7 @@
 -- Losses that are declared of a flow.
-use Rattle.std.proofs.Common.{◌≡◌, ◌≢◌, ℕ, zero, suc, ◌+◌, ◌-◌, ◌<◌, ◌≤◌, ◌⊎◌, inl, inr, ⊎_elim, Bool, true, cond, not, min, Option, None, Some, IsSome, is_some, List, [], ◌∷◌, ◌++◌, length, replicate, slice_get, get_or, refl, sym, ap, subst, ◌∙◌, arith, count_by, sum_by}
-use Rattle.std.specs.List.{concat}
-use Rattle.std.specs.Option.{option_map}
-use Rattle.std.specs.Ordering.{nat_cmp}
+use Rattle.std.proofs.Common.{◌≡◌, ℕ, zero, suc, ◌+◌, ◌-◌, ◌<◌, ◌≤◌, ⊎_elim, Bool, cond, not, Option, None, Some, is_some, List, [], ◌++◌, length, replicate, slice_get, get_or, refl, sym, ap, subst, ◌∙◌, arith}
 use Rattle.std.specs.FinMap as map
-use Rattle.std.proofs.lemmas.Bool.{cases_eq, cases_lt}
+use Rattle.std.proofs.lemmas.Bool.{cases_lt}
 use Rattle.std.proofs.lemmas.List.{append-nil, length-append, length-replicate, get_or_append_left, get_or-replicate}
 use Rattle.std.proofs.lemmas.List.Folds.{sum_by-replicate}
 use Rattle.std.proofs.lemmas.List.Sums.{sum_by-append}
@@ -13,12 +10,12 @@ use Rattle.std.proofs.Math.Seq.{get_or-append_right}
 use Rattle.ccf.proofs.OneReading.{Joins-append}
 use Rattle.docsis_wire.specs.declared.segment.Segment.{Segment}
 use Rattle.ccf.specs.Join.{Joins}
-use Rattle.reorder.specs.View.{WindowView, held_at, IsHeld, IsLawful, moved_on_by}
+use Rattle.reorder.specs.View.{IsLawful, moved_on_by}
 use Rattle.flow_core.specs.declared.record.FlowRecord.{FlowRecord}
 use Rattle.flow_core.specs.declared.flow.Flow.{Flow}
 use Rattle.flow_core.specs.declared.counts.FlowCounts.{FlowCounts}
 use Rattle.flow_core.specs.declared.event.Applied.{Applied}
-use Rattle.flow_core.specs.Fates.{Fates, number_of, IsKept, IsLost, IsSettledBelow}
+use Rattle.flow_core.specs.Fates.{Fates, IsSettledBelow}
 use Rattle.flow_core.specs.Counts.{counted, payload_bytes, AreCounts}
 use Rattle.flow_core.specs.Losses.{after_losses}
 use Rattle.flow_core.specs.Stands.{IsWindowFrom, AreLost}

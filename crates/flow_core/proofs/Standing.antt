@@ -1,5 +1,5 @@
 -- What a flow stands for, put together and taken apart.
-use Rattle.std.proofs.Common.{◌≡◌, ℕ, ◌+◌, ◌<◌, ◌≤◌, ◌⊎◌, inl, inr, ⊎_elim, Bool, true, Option, None, Some, IsSome, is_some, List, [], ◌∷◌, ◌++◌, length, slice_get, get_or, refl, sym, ap, subst, ◌∙◌, arith}
+use Rattle.std.proofs.Common.{◌≡◌, ℕ, ◌<◌, ◌≤◌, ◌⊎◌, inl, inr, ⊎_elim, Bool, true, Option, None, Some, IsSome, is_some, List, [], ◌∷◌, ◌++◌, length, get_or, refl, sym, ap, subst, ◌∙◌, arith}
 use Rattle.std.specs.Option.{option_map, option_flatten}
 use Rattle.std.specs.FinMap as map
 use Rattle.std.proofs.lemmas.Bool.{cases_lt}
@@ -13,16 +13,15 @@ use Rattle.flow_core.proofs.Counting.{counts-new}
 use Rattle.flow_core.proofs.Windows.{window-new}
 use Rattle.docsis_wire.specs.declared.segment.Segment.{Segment}
 use Rattle.ccf.specs.Join.{Joins}
-use Rattle.reorder.specs.View.{WindowView, held_at}
+use Rattle.reorder.specs.View.{held_at}
 use Rattle.flow_core.specs.declared.record.FlowRecord.{FlowRecord}
 use Rattle.flow_core.specs.declared.flow.Flow.{Flow}
-use Rattle.flow_core.specs.declared.ready.ReadySegment.{ReadySegment}
 use Rattle.flow_core.specs.declared.event.Applied.{Applied}
 use Rattle.flow_core.specs.Fates.{Fates, number_of, IsKept, IsLost, IsOpen, IsExpected, IsSettledBelow}
 use Rattle.flow_core.specs.Events.{FlowEvent, Changes, IsAfter}
 use Rattle.flow_core.specs.Counts.{AreCounts}
 use Rattle.flow_core.specs.Stands.{IsWindowFrom, IsRemembered, StandsFor, IsDrained}
-use Rattle.flow_core.proofs.Outcome.{IsSound, expected-unique, sound-after, sound-changes, after-append, settled-stays}
+use Rattle.flow_core.proofs.Outcome.{IsSound, sound-after, sound-changes, after-append, settled-stays}
 use Rattle.flow_core.proofs.Windows.{some-none, free-kept}
 
 -- an index of which it is known what became of it

@@ -5,8 +5,8 @@ use Rattle.std.specs.Ordering.{nat_cmp}
 use Rattle.std.specs.FinMap as map
 use Rattle.std.proofs.lemmas.Bool.{cases_eq, cases_lt}
 use Rattle.docsis_wire.specs.declared.segment.Segment.{Segment}
-use Rattle.reorder.specs.Number.{offset, following, number_ahead}
-use Rattle.reorder.specs.View.{WindowView, held_at, offset_in, IsHeld, IsLawful, empty_window, with_item, next_taken, moved_on_by}
+use Rattle.reorder.specs.Number.{following, number_ahead}
+use Rattle.reorder.specs.View.{WindowView, held_at, IsHeld, IsLawful, empty_window, with_item, next_taken, moved_on_by}
 use Rattle.reorder.proofs.Items.{get-insert_same, get-insert_other, get-remove_same, get-remove_other}
 use Rattle.flow_core.specs.declared.record.FlowRecord.{FlowRecord}
 use Rattle.flow_core.specs.declared.ready.ReadySegment.{ReadySegment}

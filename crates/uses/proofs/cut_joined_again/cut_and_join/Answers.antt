@@ -1,5 +1,5 @@
 -- The law on whole cuts, at the cut that was made and the frames that it was joined to.
-use Rattle.std.proofs.Common.{Some, [], List, ℕ, map, subst}
+use Rattle.std.proofs.Common.{Some, [], List, map, subst}
 use Rattle.docsis_wire.specs.declared.segment.Segment.{Segment}
 use Rattle.docsis_wire.specs.Pieces.{fill_byte, chunks_of}
 use Rattle.ccf.specs.Join.{Joins}

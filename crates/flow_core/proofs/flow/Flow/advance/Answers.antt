@@ -1,5 +1,5 @@
 -- A step gives the frames that the next segment completes.
-use Rattle.std.proofs.Common.{◌≡◌, ◌+◌, min, refl, sym, ap, subst, ◌∙◌, is_some, Some}
+use Rattle.std.proofs.Common.{◌≡◌, ◌+◌, min, sym, ap, subst, ◌∙◌, is_some}
 use Rattle.reorder.specs.View.{IsLawful, next_taken}
 use Rattle.reorder.specs.Answers.{after_take_next}
 use Rattle.flow_core.specs.Losses.{GoesOn}

@@ -1,7 +1,6 @@
 -- The flow takes the gap as the window answers it.
 use Rattle.std.proofs.Common.{refl, sym, ap, subst, ◌∙◌}
 use Rattle.reorder.specs.View.{IsLawful}
-use Rattle.reorder.specs.declared.answer.Declared.TheVariants.{Lost}
 use Rattle.flow_core.specs.declared.event.Applied.TheVariants.{Decision}
 use Rattle.flow_core.specs.Events.{gap}
 use Rattle.flow_core.specs.Losses.{after_losses}

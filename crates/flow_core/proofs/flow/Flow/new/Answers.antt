@@ -1,5 +1,5 @@
 -- A new flow stands for no events.
-use Rattle.std.proofs.Common.{refl, sym, ap, subst, ◌∙◌}
+use Rattle.std.proofs.Common.{refl}
 use Rattle.flow_core.proofs.Standing.{new-stands}
 use Rattle.flow_core.proofs.flow.Flow.new.Goals as goal
 
