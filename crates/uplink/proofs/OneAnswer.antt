@@ -96,7 +96,8 @@ one-request channel flow segment (Some request) None is are =
 one-request channel flow segment (Some request) (Some other) is are = ap Some (is.2 ∙ sym are.2)
 
 -- of a burst one thing is admitted
-one-admission : (channel : ℕ) (flow : SidFlow) (bytes : List ℕ) (admitted other : Admitted) → IsAdmitted channel flow bytes admitted → IsAdmitted channel flow bytes other → admitted ≡ other
+one-admission : (channel : ℕ) (flow : SidFlow) (bytes : List ℕ) (admitted other : Admitted) → IsAdmitted channel flow bytes admitted
+    → IsAdmitted channel flow bytes other → admitted ≡ other
 one-admission channel flow bytes admitted other is are =
     let segment = one-segment admitted.segment other.segment (is.spelled ∙ sym are.spelled) in
     one-admitted admitted other (is.flow_is ∙ sym are.flow_is) segment
@@ -204,7 +205,7 @@ module _ (setup : LaneSetup) (can : CanBeOpened setup.rows (length setup.records
         (cases_lt are.at is.at))
         (cases_lt is.at are.at)
 
-    one-grant : (number : ℕ) (grant other : OutstandingGrant) → IsGrant setup taken number grant → IsGrant setup taken number other → grant ≡ other
+    pub one-grant : (number : ℕ) (grant other : OutstandingGrant) → IsGrant setup taken number grant → IsGrant setup taken number other → grant ≡ other
     one-grant number grant other is are =
         let same = one-outstanding number is.sid grant.bytes are.sid other.bytes is.outstanding are.outstanding in
         let flow = one-flow are.sid grant.flow other.flow (subst (λ s. IsFlowOf setup s grant.flow) same.0 is.flow) are.flow in
@@ -217,7 +218,8 @@ module _ (setup : LaneSetup) (can : CanBeOpened setup.rows (length setup.records
         (¬ (IsKnown taken number) × (answer ≡ Err NoGrant))
         ⊎ ((grant : OutstandingGrant) × IsGrant setup taken number grant × IsMadeOf setup.channel grant hcs_ok bytes answer)
 
-    by-cases : (number : ℕ) (hcs_ok : Bool) (bytes : List ℕ) (answer : Result Admitted Refusal) → IsAnswerToBurst setup taken number hcs_ok bytes answer → ByCases number hcs_ok bytes answer
+    by-cases : (number : ℕ) (hcs_ok : Bool) (bytes : List ℕ) (answer : Result Admitted Refusal)
+        → IsAnswerToBurst setup taken number hcs_ok bytes answer → ByCases number hcs_ok bytes answer
     by-cases number hcs_ok bytes (Err NoGrant) is = inl (is, refl)
     by-cases number hcs_ok bytes (Ok admitted) is = inr is
     by-cases number hcs_ok bytes (Err _) is = inr is
@@ -238,7 +240,8 @@ module _ (setup : LaneSetup) (can : CanBeOpened setup.rows (length setup.records
         (by-cases number hcs_ok bytes other are))
         (by-cases number hcs_ok bytes answer is)
 
-    one-answer-to-grant : (number sid bytes : ℕ) (answer other : Answer) → IsAnswerToGrant setup taken number sid bytes answer → IsAnswerToGrant setup taken number sid bytes other → answer ≡ other
+    one-answer-to-grant : (number sid bytes : ℕ) (answer other : Answer) → IsAnswerToGrant setup taken number sid bytes answer
+        → IsAnswerToGrant setup taken number sid bytes other → answer ≡ other
     one-answer-to-grant number sid bytes (Err GrantRange) (Err GrantRange) is are = refl
     one-answer-to-grant number sid bytes (Err GrantRange) (Err GrantKnown) is are = absurd (is are.0)
     one-answer-to-grant number sid bytes (Err GrantRange) (Err UnknownSid) is are = absurd (is are.0)
@@ -293,7 +296,8 @@ module _ (setup : LaneSetup) (can : CanBeOpened setup.rows (length setup.records
       subst (λ t. IsAnswer setup t one.input one.answer) (sym (take-take j k taken (omega arith))) (answered j one (from-take k taken j one stands))
 
   -- the answers before a place are all the same
-  same-before : (taken others : List Taken) → AreAnswered setup taken → AreAnswered setup others → inputs_of taken ≡ inputs_of others → (k : ℕ) → take k taken ≡ take k others
+  same-before : (taken others : List Taken) → AreAnswered setup taken → AreAnswered setup others → inputs_of taken ≡ inputs_of others → (k : ℕ)
+      → take k taken ≡ take k others
   same-before taken others answered also inputs zero = refl
   same-before taken others answered also inputs (suc k) =
       let before = same-before taken others answered also inputs k in
@@ -317,7 +321,8 @@ module _ (setup : LaneSetup) (can : CanBeOpened setup.rows (length setup.records
       (λ (past : length taken ≤ k). take-none taken k past ∙ before ∙ sym (take-none others k (omega arith)))
       (cases_lt k (length taken))
 
-  pub one-list-of-answers : (taken others : List Taken) → AreAnswered setup taken → AreAnswered setup others → inputs_of taken ≡ inputs_of others → taken ≡ others
+  pub one-list-of-answers : (taken others : List Taken) → AreAnswered setup taken → AreAnswered setup others → inputs_of taken ≡ inputs_of others
+      → taken ≡ others
   one-list-of-answers taken others answered also inputs =
       let long : length taken ≡ length others = sym (length-map taken (λ (t : Taken). t.input)) ∙ ap length inputs ∙ length-map others (λ (t : Taken). t.input) in
       sym (take_all (length taken) taken (omega arith)) ∙ same-before taken others answered also inputs (length taken) ∙ take_all (length taken) others (omega arith)

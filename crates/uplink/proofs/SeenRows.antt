@@ -62,7 +62,8 @@ unset (suc n) zero = refl
 unset (suc n) (suc j) = unset n j
 
 -- nothing is set in four such rows
-pub none-set : (n i j : ℕ) → slice_index_or (slice_index_or (replicate n false ∷ replicate n false ∷ replicate n false ∷ replicate n false ∷ []) i []) j false ≡ false
+pub none-set : (n i j : ℕ)
+    → slice_index_or (slice_index_or (replicate n false ∷ replicate n false ∷ replicate n false ∷ replicate n false ∷ []) i []) j false ≡ false
 none-set n zero j = unset n j
 none-set n (suc zero) j = unset n j
 none-set n (suc (suc zero)) j = unset n j

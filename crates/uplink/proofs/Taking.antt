@@ -225,7 +225,8 @@ module _ (setup : LaneSetup) (taken : List Taken) (lane : Lane) (grants : BTreeM
       }
 
 -- a lane of which nothing is outstanding stands for no inputs
-pub new-stands : (setup : LaneSetup) (lane : Lane) → lane.channel ≡ setup.channel → HasFlows setup lane.flows → lane.grants.entries ≡ [] → StandsFor setup lane []
+pub new-stands : (setup : LaneSetup) (lane : Lane) → lane.channel ≡ setup.channel → HasFlows setup lane.flows → lane.grants.entries ≡ []
+    → StandsFor setup lane []
 new-stands setup lane channel flows empty = record {
   channel = channel;
   answered = λ k one stands. absurd (cc);
