@@ -26,7 +26,7 @@ pub enum Applied {
     Arrival(Verdict<Segment>),
     /// Of the decision that the expected segment is lost.
     Decision(Declared),
-    /// Of the decision that segments up to a number are lost: whether at least one is declared lost.
+    /// Of the decision that segments up to a number are lost: whether at least one is declared so.
     DecisionTo(bool),
 }
 

@@ -89,9 +89,9 @@ impl Flow {
     }
 
     /// Declares lost what hasn't come before this number, 0 to 8191, and answers whether at least
-    /// one segment is declared lost; none is if the number is the expected one or lies behind. Where
-    /// held segments lie before the number they are joined
-    /// first; until then the flow remembers the number.
+    /// one segment is declared lost; none is if the number is the expected one or lies behind.
+    /// Where held segments lie before the number they are joined first; until then the flow
+    /// remembers the number.
     pub fn gap_to(&mut self, number: u16) -> bool
         requires drained { IsDrained self.old }
         requires number { number < sequence_modulus }

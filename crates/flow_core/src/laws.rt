@@ -96,9 +96,9 @@ pub fn drained_flow_has_come_to_its_expected_index()
 {}
 
 /// **What a flow gave is the delivery sequence.** For every modem's frames, every lawful cut of
-/// them and every near list of events, whatever of the cut arrives, is repeated, delayed or lost and
-/// whenever losses are declared: a drained flow that stands for the events has given exactly the
-/// modem's frames whose segments were all kept and lie before the expected one, in the modem's
+/// them and every near list of events, whatever of the cut arrives, is repeated, delayed or lost
+/// and whenever losses are declared: a drained flow that stands for the events has given exactly
+/// the modem's frames whose segments were all kept and lie before the expected one, in the modem's
 /// order. A flow that isn't drained has given a prefix of them.
 pub fn flow_gives_the_delivery_sequence()
     ensures drained { (check : List ℕ → Bool) (frames chunks : List (List ℕ)) (fill : ℕ)

@@ -36,11 +36,13 @@ HasCause IsFaultOf known reader writer Read = IsReadFault reader
 HasCause IsFaultOf known reader writer Write = has_failed writer ≡ true
 HasCause IsFaultOf known reader writer Usage = ⊥
 
--- how far a reader was read where a fault is reported: unless it is `Read`, the reader did not fail and gave no more than an engine reads, and unless an allocation failed it was read to its end
+-- how far a reader was read where a fault is reported: unless it is `Read`, the reader did not fail and gave no more than an engine reads,
+-- and unless an allocation failed it was read to its end
 abbrev pub IsReadBefore : {R : Type 0} → Device R → Option (List ℕ) → EngineFault → Type 0
 IsReadBefore reader left fault = fault ≢ Read → IsRead reader × (fault ≢ OutOfMemory → IsAtEnd left)
 
--- what an engine promises, by the texts and the faults that an input has: `remaining` are the bytes that a reader is known to have left, `contents` those that a writer is known to hold
+-- what an engine promises, by the texts and the faults that an input has: `remaining` are the bytes that a reader is known to have left,
+-- `contents` those that a writer is known to hold
 pub record RunsEngine {R W : Type 0} (remaining : R → Option (List ℕ)) (contents : W → Option (List ℕ))
     (IsTextOf : List ℕ → List ℕ → Type 0) (IsFaultOf : List ℕ → TextFault → Type 0)
     (reader reader' : Device R) (writer writer' : Device W) (result : Result (Unit {0}) EngineFault) : Type 0 where

@@ -62,7 +62,8 @@ abbrev pub RunsCut : {R W : Type 0} → (R → Option (List ℕ)) → (W → Opt
 RunsCut remaining contents reader reader' writer writer' result =
     (first : ℕ) × (fill : FillByte) × (first < sequence_modulus) × RunsEngine remaining contents (IsCutText first fill) IsCutFault reader reader' writer writer' result
 
--- what comes of words, the program's name first, over a fresh reader and a fresh writer: `remaining` are the bytes that a reader is known to have left, `contents` those that a writer is known to hold
+-- what comes of words, the program's name first, over a fresh reader and a fresh writer: `remaining` are the bytes that a reader is known
+-- to have left, `contents` those that a writer is known to hold
 pub record Obeys {R W : Type 0} (remaining : R → Option (List ℕ)) (contents : W → Option (List ℕ)) (words : List (List ℕ))
     (reader reader' : Device R) (writer writer' : Device W) (result : Result (Unit {0}) EngineFault) : Type 0 where
   -- an engine keeps all its promises, words that ask for nothing do nothing, and where a word asks for help no engine runs
@@ -78,12 +79,14 @@ pub record Obeys {R W : Type 0} (remaining : R → Option (List ℕ)) (contents 
   pub write_fault : result ≡ Err Write → has_failed writer' ≡ true
   pub read_first : IfErr result (λ fault. fault ≢ Read → IsRead reader')
 
--- an outcome was reported: the line of its fault was written and flushed, or the writer failed and a front of it went out; without a fault the writer was not used
+-- an outcome was reported: the line of its fault was written and flushed, or the writer failed and a front of it went out; without a fault
+-- the writer was not used
 abbrev pub IsReported : {W : Type 0} → (W → Option (List ℕ)) → Device W → Device W → Result (Unit {0}) EngineFault → Type 0
 IsReported contents writer writer' (Ok done) = writer' ≡ writer
 IsReported contents writer writer' (Err fault) = (written : Result (Unit {0}) WriteFault) × Writes contents (fault_line fault) writer writer' written
 
--- words, the program's name first, were obeyed over a fresh reader and a fresh writer; what came of it was reported to a third device, and the status is that of what came of it
+-- words, the program's name first, were obeyed over a fresh reader and a fresh writer; what came of it was reported to a third device, and
+-- the status is that of what came of it
 pub record RunsWords {R W E : Type 0} (remaining : R → Option (List ℕ)) (contents : W → Option (List ℕ)) (reported : E → Option (List ℕ)) (words : List (List ℕ))
     (reader reader' : Device R) (writer writer' : Device W) (err err' : Device E) (status : ℕ) : Type 0 where
   pub outcome : Result (Unit {0}) EngineFault
