@@ -249,3 +249,32 @@ fn reports_faults_of_rows(rt: HostRuntime) -> Result<(), Fail> {
     }
     Ok(())
 }
+
+/// Opens a lane and takes a grant and a burst, each once more where an allocation failed.
+#[test]
+fn takes_again(rt: HostRuntime) -> Result<(), Fail> {
+    let heard = burst(rt.alloc(), 1, true, &[0x80, 0, 0, 0, 0, 0, 0, 0, 0x11])?;
+    let mut opened = Lane::new(rt.alloc(), 0, &[ROW], &[RECORD]);
+    if let Err(fault) = opened {
+        assert_eq!(rt; fault, LaneFault::OutOfMemory);
+        opened = Lane::new(rt.alloc(), 0, &[ROW], &[RECORD]);
+    }
+    let mut lane = opened?;
+    let mut accepted = answer_of(lane.take(rt.alloc(), &grant(1, 1, 9)));
+    if accepted != Answer::Accepted {
+        assert_eq!(rt; accepted, Answer::Refused(5));
+        accepted = answer_of(lane.take(rt.alloc(), &grant(1, 1, 9)));
+    }
+    assert_eq!(rt; accepted, Answer::Accepted);
+    let mut admitted = answer_of(lane.take(rt.alloc(), &heard));
+    if admitted != Answer::Admitted(None) {
+        assert_eq!(rt; admitted, Answer::Refused(11));
+        admitted = answer_of(lane.take(rt.alloc(), &heard));
+    }
+    assert_eq!(rt; admitted, Answer::Admitted(None));
+    assert_eq!(rt;
+        answer_of(lane.take(rt.alloc(), &heard)),
+        Answer::Refused(6)
+    );
+    Ok(())
+}
