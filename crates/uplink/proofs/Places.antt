@@ -56,11 +56,10 @@ module _ (lengths order : List ℕ) where
   pub refused : (k : ℕ) → IsOrderFault lengths order k → (IsLawfulOrder lengths order → ⊥)
       → (◌≡◌ {A = Result (Unit {0}) ℕ} (Err k) (Ok tt) ↔ IsLawfulOrder lengths order)
       × ((j : ℕ) → ◌≡◌ {A = Result (Unit {0}) ℕ} (Err k) (Err j) ↔ IsOrderFault lengths order j)
-  refused k fault unlawful =
-      (
-        (λ same. absurd (err-ok k same), λ lawful. absurd (unlawful lawful)),
-        λ j. (λ same. subst (IsOrderFault lengths order) (err-err k j same) fault, λ other. ap Err (one-fault k j fault other)),
-      )
+  refused k fault unlawful = (
+    (λ same. absurd (err-ok k same), λ lawful. absurd (unlawful lawful)),
+    λ j. (λ same. subst (IsOrderFault lengths order) (err-err k j same) fault, λ other. ap Err (one-fault k j fault other)),
+  )
 
   -- and of a lawful one
   pub taken : IsLawfulOrder lengths order → ((k : ℕ) → IsOrderFault lengths order k → ⊥)
@@ -89,14 +88,18 @@ module _ (lengths order : List ℕ) where
       → ((senders ≤ tag) ⊎ (slice_index_or left tag 0 ≡ 0)) → IsOrderFault lengths order k
   bad-here k tag left over at out =
       inl (
-        (tag, at, ⊎_elim
-            (λ unnamed. inl unnamed)
-            (λ (none : slice_index_or left tag 0 ≡ 0).
-            ⊎_elim
-            (λ (named : tag < senders). inr (let counted = over.counted tag named in omega arith))
-            (λ (unnamed : senders ≤ tag). inl unnamed)
-            (cases_lt tag senders))
-            out),
+        (
+          tag,
+          at,
+          ⊎_elim
+              (λ unnamed. inl unnamed)
+              (λ (none : slice_index_or left tag 0 ≡ 0).
+              ⊎_elim
+              (λ (named : tag < senders). inr (let counted = over.counted tag named in omega arith))
+              (λ (unnamed : senders ≤ tag). inl unnamed)
+              (cases_lt tag senders))
+              out,
+        ),
         over.good,
       )
 

@@ -4,6 +4,9 @@
 //! of those bursts that meet their grants, each with the request in its header. The contract of
 //! [`Lane::take`] says which whole list of inputs and answers a lane stands for. [`laws`] says that
 //! each input has one answer.
+//!
+//! [`check_order`] checks an order in which the items of the four channels and of the decisions are
+//! to be taken.
 #![tactic(auto)]
 
 mod admitted;

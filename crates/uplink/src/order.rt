@@ -22,3 +22,6 @@ pub fn check_order(lengths: [usize; 5], order: &[u8]) -> Result<(), usize>
     }
     Ok(())
 }
+
+#[cfg(test)]
+mod tests;

@@ -15,8 +15,8 @@ stopped c =
     let at : slice_get order c.loop-k.k ≡ Some tag = slice_get-get_or order c.loop-k.k 0 c.loop-k-test.true ∙ ap Some (sym c.from-sender.ensures) in
     let fault = bad-here c.args.lengths order c.loop-k.k tag c.loop-k.left c.loop-k.invariant at in
     elim c.then-sender-ge5.branch [
-      then-sender-ge5-via-then-sender-ge5 w ↦ fault (inl w.if-sender-ge5.true)
-    | then-sender-ge5-via-else-sender-ge5+then-left-sender-eq0 w ↦ fault (inr w.if-left-sender-eq0.true)
+      | then-sender-ge5-via-then-sender-ge5 w ↦ fault (inl w.if-sender-ge5.true)
+      | then-sender-ge5-via-else-sender-ge5+then-left-sender-eq0 w ↦ fault (inr w.if-left-sender-eq0.true)
     ]
 
 -- src/order.rt:16:13
@@ -48,7 +48,7 @@ left-behind c =
     let left = c.loop-k.left in
     let by_call = cases_from_any _ _ _ (λ x. 0 < x) (λ x. x ≡ 0) c.any.ensures.ran (YieldsList-from_slice left cc) (λ x q k. search (rules, tests)) (λ x q k. search (rules, tests)) in
     let found : (k : ℕ) × (k < length left) × HoldsAt (λ x. 0 < x) left k =
-        subst (λ r. MatchBool r ((k : ℕ) × (k < length left) × HoldsAt (λ x. 0 < x) left k) (AllWithin (λ x. x ≡ 0) left 0 (length left))) c.if-any.true by_call in
+    subst (λ r. MatchBool r ((k : ℕ) × (k < length left) × HoldsAt (λ x. 0 < x) left k) (AllWithin (λ x. x ≡ 0) left 0 (length left))) c.if-any.true by_call in
     let five = c.loop-k.invariant.five in
     left-over c.args.lengths c.args.order.now left c.loop-k.k c.loop-k.invariant c.loop-k-test.false found.0 (omega (arith, found.1)) (found.2 0)
 
@@ -72,7 +72,7 @@ all-used c =
     let left = c.loop-k.left in
     let by_call = cases_from_any _ _ _ (λ x. 0 < x) (λ x. x ≡ 0) c.any.ensures.ran (YieldsList-from_slice left cc) (λ x q k. search (rules, tests)) (λ x q k. search (rules, tests)) in
     let none : AllWithin (λ x. x ≡ 0) left 0 (length left) =
-        subst (λ r. MatchBool r ((k : ℕ) × (k < length left) × HoldsAt (λ x. 0 < x) left k) (AllWithin (λ x. x ≡ 0) left 0 (length left))) c.if-any.false by_call in
+    subst (λ r. MatchBool r ((k : ℕ) × (k < length left) × HoldsAt (λ x. 0 < x) left k) (AllWithin (λ x. x ≡ 0) left 0 (length left))) c.if-any.false by_call in
     let five = c.loop-k.invariant.five in
     none-left c.args.lengths c.args.order.now left c.loop-k.k c.loop-k.invariant c.loop-k-test.false (λ sender named. none sender 0 (omega arith) (omega (arith, named)))
 
