@@ -3,3 +3,4 @@ pub mod SeenRows
 pub mod Taking
 pub mod SidFlows
 pub mod OneAnswer
+pub mod Places

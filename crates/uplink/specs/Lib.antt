@@ -5,3 +5,4 @@ pub mod Admission
 pub mod Inputs
 pub mod Report
 pub mod Stands
+pub mod Order

@@ -4,6 +4,9 @@
 //! of those bursts that meet their grants, each with the request in its header. The contract of
 //! [`Lane::take`] says which whole list of inputs and answers a lane stands for. [`laws`] says that
 //! each input has one answer.
+//!
+//! [`check_order`] checks an order in which the items of the four channels and of the decisions are
+//! to be taken.
 #![tactic(auto)]
 
 mod admitted;
@@ -11,6 +14,7 @@ mod grant;
 mod input;
 mod lane;
 pub mod laws;
+mod order;
 mod refusal;
 mod row;
 mod seen;
@@ -18,5 +22,6 @@ mod seen;
 pub use admitted::{Admitted, Request};
 pub use input::Input;
 pub use lane::Lane;
+pub use order::check_order;
 pub use refusal::Refusal;
 pub use row::{LaneFault, SidRow};
