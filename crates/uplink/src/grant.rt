@@ -1,7 +1,7 @@
 //! An outstanding grant, and what is made of the burst that is heard in it.
-ghost use Rattle.std.specs.Prelude.{◌≡◌, ◌<◌, IfOk, length, slice_get};
+ghost use Rattle.std.specs.Prelude.{◌≡◌, ◌<◌, IfOk, OnErr, length, slice_get};
 ghost use Rattle.flow_core.specs.declared.record.FlowRecord.{FlowRecord};
-ghost use Rattle.uplink.specs.Admission.{IsMadeOf, IsRequestIn};
+ghost use Rattle.uplink.specs.Admission.{IsMadeOf, IsRequestIn, Fits};
 
 use crate::admitted::{Admitted, Request};
 use crate::refusal::Refusal;
@@ -64,7 +64,8 @@ impl OutstandingGrant {
         hcs_ok: bool,
         bytes: &Bytes,
     ) -> Result<Result<Admitted, Refusal>, AllocError>
-        ensures { IfOk result (λ made. IsMadeOf channel self hcs_ok bytes.now made) }
+        ensures made { IfOk result (λ made. IsMadeOf channel self hcs_ok bytes.now made) }
+        ensures memory { OnErr result (Fits self hcs_ok bytes.now) }
     {
         if bytes.len() > self.bytes as usize {
             return Ok(Err(Refusal::TooLong));

@@ -3,7 +3,7 @@ ghost use Rattle.std.specs.Prelude.{◌≡◌, ◌↔◌, ℕ, [], IsTrue, IsOk,
 ghost use Rattle.uplink.specs.declared.row.LaneFault.{LaneFault};
 ghost use Rattle.uplink.specs.Rows.{IsLaneFault, CanBeOpened};
 ghost use Rattle.uplink.specs.Inputs.{LaneSetup, IsGrantSize};
-ghost use Rattle.uplink.specs.Stands.{HasFlows, StandsFor, TakesInput, StandsForTheSame, IsOutOfMemory};
+ghost use Rattle.uplink.specs.Stands.{HasFlows, StandsFor, TakesInput, StandsForTheSame, IsOutOfMemory, CouldTake};
 
 use crate::admitted::Admitted;
 use crate::grant::{OutstandingGrant, SidFlow};
@@ -69,9 +69,12 @@ impl Lane {
     /// answer is what is admitted of a burst, whose grant is then spent, or the first refusal that
     /// applies. Where an allocation failed nothing changed.
     pub fn take(&mut self, alloc: Global, input: &Input) -> Result<Option<Admitted>, Refusal>
-        ensures taken { ¬ (IsOutOfMemory result)
+        ensures taken { ¬ (IsOutOfMemory input.now result)
             → TakesInput self.old input.now result self.new }
-        ensures refused { IsOutOfMemory result → StandsForTheSame self.old self.new }
+        ensures refused { IsOutOfMemory input.now result
+            → StandsForTheSame self.old self.new }
+        ensures memory { IsOutOfMemory input.now result
+            → CouldTake self.old input.now }
     {
         match input {
             Input::Grant { number, sid, bytes } => self.take_grant(*number, *sid, *bytes),
@@ -85,9 +88,12 @@ impl Lane {
 
     /// Keeps a grant as outstanding.
     fn take_grant(&mut self, number: u32, sid: u16, bytes: u32) -> Result<Option<Admitted>, Refusal>
-        ensures taken { ¬ (IsOutOfMemory result)
+        ensures taken { ¬ (IsOutOfMemory (Input.Grant number sid bytes) result)
             → TakesInput self.old (Input.Grant number sid bytes) result self.new }
-        ensures refused { IsOutOfMemory result → StandsForTheSame self.old self.new }
+        ensures refused { IsOutOfMemory (Input.Grant number sid bytes) result
+            → StandsForTheSame self.old self.new }
+        ensures memory { IsOutOfMemory (Input.Grant number sid bytes) result
+            → CouldTake self.old (Input.Grant number sid bytes) }
     {
         if !is_grant_size(bytes) {
             return Err(Refusal::GrantRange);
@@ -115,9 +121,12 @@ impl Lane {
         hcs_ok: bool,
         bytes: &Bytes,
     ) -> Result<Option<Admitted>, Refusal>
-        ensures taken { ¬ (IsOutOfMemory result)
+        ensures taken { ¬ (IsOutOfMemory (Input.Burst number hcs_ok bytes.now) result)
             → TakesInput self.old (Input.Burst number hcs_ok bytes.now) result self.new }
-        ensures refused { IsOutOfMemory result → StandsForTheSame self.old self.new }
+        ensures refused { IsOutOfMemory (Input.Burst number hcs_ok bytes.now) result
+            → StandsForTheSame self.old self.new }
+        ensures memory { IsOutOfMemory (Input.Burst number hcs_ok bytes.now) result
+            → CouldTake self.old (Input.Burst number hcs_ok bytes.now) }
     {
         let Some(grant) = self.grants.get(&number).copied() else {
             return Err(Refusal::NoGrant);
