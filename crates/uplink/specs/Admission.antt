@@ -1,4 +1,4 @@
--- What is made of a burst that was heard in a grant.
+-- What is made of a burst that was received in a grant.
 use Rattle.std.specs.Prelude.{◌≡◌, ℕ, ◌<◌, ◌≤◌, ◌⊎◌, Bool, IsTrue, Option, Some, None, Result, Ok, Err, List, length}
 use Rattle.docsis_wire.specs.declared.header.SegmentHeader.{SegmentHeader}
 use Rattle.docsis_wire.specs.SegmentBytes.{segment_bytes, PointsPast}

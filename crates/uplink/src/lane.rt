@@ -22,7 +22,7 @@ const GRANT_MAX: u32 = 65_535;
 /// How many grants of a channel may be outstanding.
 const OUTSTANDING_MAX: usize = 65_536;
 
-/// One channel's receiver: it knows which grants are outstanding, and admits the bursts that meet
+/// One channel's receiver: it knows which grants are outstanding, and admits the bursts that fit
 /// them.
 #[derive(Drop)]
 pub struct Lane {
@@ -33,7 +33,8 @@ pub struct Lane {
 
 impl Lane {
     /// A lane of this channel, 0 to 3, with nothing outstanding, or the first fault of the rows.
-    /// It looks at the rows of all channels and uses those of its own.
+    /// It looks at the rows of all channels and uses those of its own. On a channel above 3 no row
+    /// is used, so that every grant is refused.
     pub fn new(
         alloc: Global,
         channel: u8,
@@ -67,7 +68,8 @@ impl Lane {
 
     /// Takes a grant or a burst. `None`: a grant was accepted and is outstanding. Otherwise the
     /// answer is what is admitted of a burst, whose grant is then spent, or the first refusal that
-    /// applies. Where an allocation failed nothing changed.
+    /// applies. That an allocation failed is reported only if no other refusal applies, and then
+    /// nothing changes.
     pub fn take(&mut self, alloc: Global, input: &Input) -> Result<Option<Admitted>, Refusal>
         ensures taken { ¬ (IsOutOfMemory input.now result)
             → TakesInput self.old input.now result self.new }
