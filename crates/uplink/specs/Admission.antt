@@ -1,4 +1,4 @@
--- What is made of a burst that was heard in a grant.
+-- What is made of a burst that was received in a grant.
 use Rattle.std.specs.Prelude.{◌≡◌, ℕ, ◌<◌, ◌≤◌, ◌⊎◌, Bool, IsTrue, Option, Some, None, Result, Ok, Err, List, length}
 use Rattle.docsis_wire.specs.declared.header.SegmentHeader.{SegmentHeader}
 use Rattle.docsis_wire.specs.SegmentBytes.{segment_bytes, PointsPast}
@@ -22,6 +22,10 @@ pub record IsAdmitted (channel : ℕ) (flow : SidFlow) (bytes : List ℕ) (admit
   pub flow_is : admitted.flow ≡ flow.index
   pub spelled : segment_bytes admitted.segment ≡ bytes
   pub request : IsRequestIn channel flow admitted.segment.head admitted.request
+
+-- The burst fits the grant: no refusal that spends the grant applies.
+abbrev pub Fits : OutstandingGrant → Bool → List ℕ → Type 0
+Fits grant hcs_ok bytes = (length bytes ≤ grant.bytes) × IsTrue hcs_ok × (header_length ≤ length bytes) × ¬ (PointsPast bytes)
 
 -- What is made of a burst in a grant, the first that fits.
 abbrev pub IsMadeOf : ℕ → OutstandingGrant → Bool → List ℕ → Result Admitted Refusal → Type 0

@@ -86,7 +86,7 @@ number_of (Grant number sid bytes) = number
 number_of (Burst number hcs_ok bytes) = number
 
 -- A grant is outstanding after these inputs: one of them is a grant of this number, to this service identifier and of so many bytes, that was
--- accepted, and behind it stands no burst on that number that spent it.
+-- accepted, and after it stands no burst on that number that spent it.
 pub record IsOutstanding (taken : List Taken) (number sid bytes : ℕ) : Type 0 where
   pub at : ℕ
   pub stands : slice_get taken at ≡ Some (record { input = Grant number sid bytes; answer = Ok None })

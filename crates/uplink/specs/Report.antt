@@ -7,7 +7,7 @@ use Rattle.uplink.specs.Inputs.{Answer, Taken}
 use Rattle.uplink.specs.declared.refusal.Refusal.{Refusal}
 use Rattle.uplink.specs.declared.refusal.Refusal.TheVariants.{GrantRange, GrantKnown, UnknownSid, TooManyGrants, GrantOutOfMemory, NoGrant, TooLong, BadCheck, TooShort, PointerPast, BurstOutOfMemory}
 
--- the number of a refusal: its place in the order in which they are looked for
+-- the number of a refusal: grants' refusals are 1 to 5 and bursts' 6 to 11, each in the order in which they are looked for
 abbrev pub refusal_number : Refusal → ℕ
 refusal_number GrantRange = 1
 refusal_number GrantKnown = 2

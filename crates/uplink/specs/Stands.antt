@@ -1,12 +1,15 @@
 -- What a lane of the code stands for: a list of inputs with their answers.
-use Rattle.std.specs.Prelude.{◌≡◌, ℕ, ◌+◌, ◌⊎◌, MatchOption, Err, List, [], ◌∷◌, ◌++◌, count_by}
+use Rattle.std.specs.Prelude.{◌≡◌, ℕ, ◌+◌, MatchOption, None, Ok, Err, List, [], ◌∷◌, ◌++◌, count_by}
 use Rattle.std.specs.Ordering.{nat_cmp}
 use Rattle.std.specs.BTreeMap.{BTreeMap, get, btree_map_len}
 use Rattle.uplink.specs.declared.input.Input.{Input}
+use Rattle.uplink.specs.declared.input.Input.TheVariants.{Grant, Burst}
 use Rattle.uplink.specs.declared.refusal.Refusal.TheVariants.{GrantOutOfMemory, BurstOutOfMemory}
 use Rattle.uplink.specs.declared.grant.SidFlow.{SidFlow}
+use Rattle.uplink.specs.declared.grant.OutstandingGrant.{OutstandingGrant}
 use Rattle.uplink.specs.declared.lane.Lane.{Lane}
-use Rattle.uplink.specs.Inputs.{LaneSetup, Answer, Taken, IsUnknown, IsFlowOf, IsKnown, IsGrant, AreAnswered, is_accepted_grant, is_spending_burst}
+use Rattle.uplink.specs.Admission.{Fits}
+use Rattle.uplink.specs.Inputs.{LaneSetup, Answer, Taken, IsUnknown, IsFlowOf, IsKnown, IsGrant, IsAnswerToGrant, AreAnswered, is_accepted_grant, is_spending_burst}
 
 -- the map has the service identifiers of the lane's channel, each with its flow
 abbrev pub HasFlows : LaneSetup → BTreeMap ℕ SidFlow → Type 0
@@ -20,9 +23,18 @@ pub record StandsFor (setup : LaneSetup) (lane : Lane) (taken : List Taken) : Ty
   pub grants : (number : ℕ) → MatchOption (get nat_cmp lane.grants number) (¬ (IsKnown taken number)) (IsGrant setup taken number)
   pub count : btree_map_len lane.grants + count_by is_spending_burst taken ≡ count_by is_accepted_grant taken
 
--- the answer is that an allocation failed
-abbrev pub IsOutOfMemory : Answer → Type 0
-IsOutOfMemory answer = (answer ≡ Err GrantOutOfMemory) ⊎ (answer ≡ Err BurstOutOfMemory)
+-- the answer to this input is that an allocation failed
+abbrev pub IsOutOfMemory : Input → Answer → Type 0
+IsOutOfMemory (Grant number sid bytes) answer = answer ≡ Err GrantOutOfMemory
+IsOutOfMemory (Burst number hcs_ok bytes) answer = answer ≡ Err BurstOutOfMemory
+
+-- Whatever inputs a lane stands for, no other refusal of this input applies: the grant would be accepted, or the burst fits its grant.
+abbrev pub CouldTake : Lane → Input → Type 0
+CouldTake lane (Grant number sid bytes) =
+    (setup : LaneSetup) (taken : List Taken) → StandsFor setup lane taken → IsAnswerToGrant setup taken number sid bytes (Ok None)
+CouldTake lane (Burst number hcs_ok bytes) =
+    (setup : LaneSetup) (taken : List Taken)
+    → StandsFor setup lane taken → (grant : OutstandingGrant) × IsGrant setup taken number grant × Fits grant hcs_ok bytes
 
 -- whatever inputs a lane stood for, it stands for them with this one at the end, answered so
 abbrev pub TakesInput : Lane → Input → Answer → Lane → Type 0

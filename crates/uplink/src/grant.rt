@@ -1,7 +1,7 @@
-//! An outstanding grant, and what is made of the burst that is heard in it.
-ghost use Rattle.std.specs.Prelude.{◌≡◌, ◌<◌, IfOk, length, slice_get};
+//! An outstanding grant, and what is made of the burst that is received in it.
+ghost use Rattle.std.specs.Prelude.{◌≡◌, ◌<◌, IfOk, OnErr, length, slice_get};
 ghost use Rattle.flow_core.specs.declared.record.FlowRecord.{FlowRecord};
-ghost use Rattle.uplink.specs.Admission.{IsMadeOf, IsRequestIn};
+ghost use Rattle.uplink.specs.Admission.{IsMadeOf, IsRequestIn, Fits};
 
 use crate::admitted::{Admitted, Request};
 use crate::refusal::Refusal;
@@ -12,7 +12,9 @@ use std::alloc::{AllocError, Global};
 /// The flow of a service identifier, and how many SID clusters the flow has.
 #[derive(Clone, Copy, Debug)]
 pub struct SidFlow {
+    /// The index of the flow's record.
     pub index: usize,
+    /// How many SID clusters the flow has.
     pub clusters: u8,
 }
 
@@ -55,8 +57,8 @@ pub struct OutstandingGrant {
 }
 
 impl OutstandingGrant {
-    /// What is made of a burst on this channel that was heard in the grant: what it admits, or why
-    /// it is refused.
+    /// What is made of a burst on this channel that was received in the grant: what it admits, or
+    /// why it is refused. Memory is taken only for a burst that fits the grant.
     pub fn admit(
         self,
         alloc: Global,
@@ -64,7 +66,8 @@ impl OutstandingGrant {
         hcs_ok: bool,
         bytes: &Bytes,
     ) -> Result<Result<Admitted, Refusal>, AllocError>
-        ensures { IfOk result (λ made. IsMadeOf channel self hcs_ok bytes.now made) }
+        ensures made { IfOk result (λ made. IsMadeOf channel self hcs_ok bytes.now made) }
+        ensures memory { OnErr result (Fits self hcs_ok bytes.now) }
     {
         if bytes.len() > self.bytes as usize {
             return Ok(Err(Refusal::TooLong));

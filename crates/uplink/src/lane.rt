@@ -3,7 +3,7 @@ ghost use Rattle.std.specs.Prelude.{◌≡◌, ◌↔◌, ℕ, [], IsTrue, IsOk,
 ghost use Rattle.uplink.specs.declared.row.LaneFault.{LaneFault};
 ghost use Rattle.uplink.specs.Rows.{IsLaneFault, CanBeOpened};
 ghost use Rattle.uplink.specs.Inputs.{LaneSetup, IsGrantSize};
-ghost use Rattle.uplink.specs.Stands.{HasFlows, StandsFor, TakesInput, StandsForTheSame, IsOutOfMemory};
+ghost use Rattle.uplink.specs.Stands.{HasFlows, StandsFor, TakesInput, StandsForTheSame, IsOutOfMemory, CouldTake};
 
 use crate::admitted::Admitted;
 use crate::grant::{OutstandingGrant, SidFlow};
@@ -22,7 +22,7 @@ const GRANT_MAX: u32 = 65_535;
 /// How many grants of a channel may be outstanding.
 const OUTSTANDING_MAX: usize = 65_536;
 
-/// One channel's receiver: it knows which grants are outstanding, and admits the bursts that meet
+/// One channel's receiver: it knows which grants are outstanding, and admits the bursts that fit
 /// them.
 #[derive(Drop)]
 pub struct Lane {
@@ -33,7 +33,8 @@ pub struct Lane {
 
 impl Lane {
     /// A lane of this channel, 0 to 3, with nothing outstanding, or the first fault of the rows.
-    /// It looks at the rows of all channels and uses those of its own.
+    /// It looks at the rows of all channels and uses those of its own. On a channel above 3 no row
+    /// is used, so that every grant is refused.
     pub fn new(
         alloc: Global,
         channel: u8,
@@ -67,11 +68,15 @@ impl Lane {
 
     /// Takes a grant or a burst. `None`: a grant was accepted and is outstanding. Otherwise the
     /// answer is what is admitted of a burst, whose grant is then spent, or the first refusal that
-    /// applies. Where an allocation failed nothing changed.
+    /// applies. That an allocation failed is reported only if no other refusal applies, and then
+    /// nothing changes.
     pub fn take(&mut self, alloc: Global, input: &Input) -> Result<Option<Admitted>, Refusal>
-        ensures taken { ¬ (IsOutOfMemory result)
+        ensures taken { ¬ (IsOutOfMemory input.now result)
             → TakesInput self.old input.now result self.new }
-        ensures refused { IsOutOfMemory result → StandsForTheSame self.old self.new }
+        ensures refused { IsOutOfMemory input.now result
+            → StandsForTheSame self.old self.new }
+        ensures memory { IsOutOfMemory input.now result
+            → CouldTake self.old input.now }
     {
         match input {
             Input::Grant { number, sid, bytes } => self.take_grant(*number, *sid, *bytes),
@@ -85,9 +90,12 @@ impl Lane {
 
     /// Keeps a grant as outstanding.
     fn take_grant(&mut self, number: u32, sid: u16, bytes: u32) -> Result<Option<Admitted>, Refusal>
-        ensures taken { ¬ (IsOutOfMemory result)
+        ensures taken { ¬ (IsOutOfMemory (Input.Grant number sid bytes) result)
             → TakesInput self.old (Input.Grant number sid bytes) result self.new }
-        ensures refused { IsOutOfMemory result → StandsForTheSame self.old self.new }
+        ensures refused { IsOutOfMemory (Input.Grant number sid bytes) result
+            → StandsForTheSame self.old self.new }
+        ensures memory { IsOutOfMemory (Input.Grant number sid bytes) result
+            → CouldTake self.old (Input.Grant number sid bytes) }
     {
         if !is_grant_size(bytes) {
             return Err(Refusal::GrantRange);
@@ -115,9 +123,12 @@ impl Lane {
         hcs_ok: bool,
         bytes: &Bytes,
     ) -> Result<Option<Admitted>, Refusal>
-        ensures taken { ¬ (IsOutOfMemory result)
+        ensures taken { ¬ (IsOutOfMemory (Input.Burst number hcs_ok bytes.now) result)
             → TakesInput self.old (Input.Burst number hcs_ok bytes.now) result self.new }
-        ensures refused { IsOutOfMemory result → StandsForTheSame self.old self.new }
+        ensures refused { IsOutOfMemory (Input.Burst number hcs_ok bytes.now) result
+            → StandsForTheSame self.old self.new }
+        ensures memory { IsOutOfMemory (Input.Burst number hcs_ok bytes.now) result
+            → CouldTake self.old (Input.Burst number hcs_ok bytes.now) }
     {
         let Some(grant) = self.grants.get(&number).copied() else {
             return Err(Refusal::NoGrant);

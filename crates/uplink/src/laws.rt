@@ -1,4 +1,5 @@
-//! Laws about the definitions: each input of a lane has one answer, and rows have one first fault.
+//! Laws about the definitions: each input of a lane has at most one answer, and rows have at most
+//! one first fault.
 //!
 //! Each function states a law in its contract and does nothing.
 ghost use Rattle.std.specs.Prelude.{◌≡◌, ℕ, List, length};
@@ -8,8 +9,8 @@ ghost use Rattle.uplink.specs.declared.row.SidRow.{SidRow};
 ghost use Rattle.uplink.specs.Rows.{CanBeOpened, IsLaneFault};
 ghost use Rattle.uplink.specs.Inputs.{LaneSetup, Taken, IsGrant, AreAnswered, inputs_of};
 
-/// The same inputs have one list of answers only: the definitions leave no answer open.
-pub fn lane_has_one_answer_to_each_input()
+/// The same inputs have at most one list of answers.
+pub fn lane_has_at_most_one_answer_to_each_input()
     ensures { (setup : LaneSetup) (taken others : List Taken)
         → CanBeOpened setup.rows (length setup.records)
         → AreAnswered setup taken → AreAnswered setup others

@@ -1,9 +1,9 @@
 //! The upstream receiver: one lane for each channel.
 //!
 //! [`Lane`] takes the grants and bursts of one channel, one after another, and admits the segments
-//! of those bursts that meet their grants, each with the request in its header. The contract of
+//! of those bursts that fit their grants, each with the request in its header. The contract of
 //! [`Lane::take`] says which whole list of inputs and answers a lane stands for. [`laws`] says that
-//! each input has one answer.
+//! each input has at most one answer.
 //!
 //! [`check_order`] checks an order in which the items of the four channels and of the decisions are
 //! to be taken.

@@ -5,7 +5,8 @@ ghost use Rattle.uplink.specs.Report.{refusal_number};
 use thiserror::Error;
 
 /// Why a lane refuses a grant or a burst. The first that applies is reported, in this order. All
-/// refusals of a grant, `NoGrant` and `OutOfMemory` change nothing; the others spend the grant.
+/// refusals of a grant, `NoGrant` and `BurstOutOfMemory` change nothing; the others spend the
+/// grant.
 #[derive(Clone, Copy, Debug, PartialEq, Eq, Error)]
 pub enum Refusal {
     /// A grant has fewer than 8 bytes or more than 65,535.
@@ -35,7 +36,7 @@ pub enum Refusal {
     /// A burst has fewer than 8 bytes, and so no segment header.
     #[error("too short")]
     TooShort,
-    /// The pointer of a burst's segment leads past its payload.
+    /// In a burst's segment header PFI is 1 and the pointer is not below the payload's length.
     #[error("pointer past the end")]
     PointerPast,
     /// A burst can't be kept, since an allocation failed.
@@ -44,7 +45,8 @@ pub enum Refusal {
 }
 
 impl Refusal {
-    /// The refusal's number, 1 to 11: its place in the order in which they are looked for.
+    /// The refusal's number, 1 to 11: grants' refusals are 1 to 5 and bursts' 6 to 11, each in the
+    /// order in which they are looked for.
     pub fn number(self) -> u8
         ensures { result ≡ refusal_number self }
     {

@@ -104,7 +104,7 @@ const BURSTS: [BurstCase; 8] = [
         answer: Answer::Refused(7),
     },
     BurstCase {
-        name: "nothing heard",
+        name: "nothing received",
         granted: 8,
         hcs_ok: false,
         bytes: &[],
@@ -159,19 +159,19 @@ fn answers_bursts(rt: HostRuntime) -> Result<(), Fail> {
     for case in &BURSTS {
         let name = case.name;
         let granted = grant(9, 1, case.granted);
-        let heard = burst(rt.alloc(), 9, case.hcs_ok, case.bytes)?;
+        let received = burst(rt.alloc(), 9, case.hcs_ok, case.bytes)?;
         assert_eq!(rt;
             answer_of(lane.take(rt.alloc(), &granted)),
             Answer::Accepted,
             "{name}"
         );
         assert_eq!(rt;
-            answer_of(lane.take(rt.alloc(), &heard)),
+            answer_of(lane.take(rt.alloc(), &received)),
             case.answer,
             "{name}"
         );
         assert_eq!(rt;
-            answer_of(lane.take(rt.alloc(), &heard)),
+            answer_of(lane.take(rt.alloc(), &received)),
             Answer::Refused(6),
             "{name}"
         );
@@ -184,8 +184,8 @@ fn admits_the_segment(rt: HostRuntime) -> Result<(), Fail> {
     let bytes = [0x80, 2, 0, 8, 0, 0, 0, 0, 0x11, 0x22, 0x33];
     let mut lane = Lane::new(rt.alloc(), 0, &[ROW], &[RECORD])?;
     lane.take(rt.alloc(), &grant(1, 1, 100))?;
-    let heard = burst(rt.alloc(), 1, true, &bytes)?;
-    let admitted = lane.take(rt.alloc(), &heard)?.ok_or("nothing admitted")?;
+    let received = burst(rt.alloc(), 1, true, &bytes)?;
+    let admitted = lane.take(rt.alloc(), &received)?.ok_or("nothing admitted")?;
     let segment = Segment::read(rt.alloc(), &bytes)?;
     assert_eq!(rt; admitted.flow, 0);
     assert_eq!(rt; admitted.segment.head, segment.head);
@@ -253,7 +253,7 @@ fn reports_faults_of_rows(rt: HostRuntime) -> Result<(), Fail> {
 /// Opens a lane and takes a grant and a burst, each once more where an allocation failed.
 #[test]
 fn takes_again(rt: HostRuntime) -> Result<(), Fail> {
-    let heard = burst(rt.alloc(), 1, true, &[0x80, 0, 0, 0, 0, 0, 0, 0, 0x11])?;
+    let received = burst(rt.alloc(), 1, true, &[0x80, 0, 0, 0, 0, 0, 0, 0, 0x11])?;
     let mut opened = Lane::new(rt.alloc(), 0, &[ROW], &[RECORD]);
     if let Err(fault) = opened {
         assert_eq!(rt; fault, LaneFault::OutOfMemory);
@@ -266,14 +266,14 @@ fn takes_again(rt: HostRuntime) -> Result<(), Fail> {
         accepted = answer_of(lane.take(rt.alloc(), &grant(1, 1, 9)));
     }
     assert_eq!(rt; accepted, Answer::Accepted);
-    let mut admitted = answer_of(lane.take(rt.alloc(), &heard));
+    let mut admitted = answer_of(lane.take(rt.alloc(), &received));
     if admitted != Answer::Admitted(None) {
         assert_eq!(rt; admitted, Answer::Refused(11));
-        admitted = answer_of(lane.take(rt.alloc(), &heard));
+        admitted = answer_of(lane.take(rt.alloc(), &received));
     }
     assert_eq!(rt; admitted, Answer::Admitted(None));
     assert_eq!(rt;
-        answer_of(lane.take(rt.alloc(), &heard)),
+        answer_of(lane.take(rt.alloc(), &received)),
         Answer::Refused(6)
     );
     Ok(())

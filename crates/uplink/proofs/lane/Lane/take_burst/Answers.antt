@@ -19,7 +19,7 @@ pub returns-in-Ok-made-clause-taken : goal.returns-in-Ok-made-clause-taken
 returns-in-Ok-made-clause-taken c not_memory setup taken stands =
     let some : get nat_cmp c.args.self.now.grants c.args.number ≡ Some c.in-Some.grant = cc in
     let made : IsMadeOf c.args.self.now.channel c.in-Some.grant c.args.hcs_ok c.args.bytes.now (Ok c.in-Ok-made.admitted) =
-    subst (IsMadeOf c.args.self.now.channel c.in-Some.grant c.args.hcs_ok c.args.bytes.now) c.in-Ok-made.is c.in-Ok.ensures in
+    subst (IsMadeOf c.args.self.now.channel c.in-Some.grant c.args.hcs_ok c.args.bytes.now) c.in-Ok-made.is c.in-Ok.ensures.made in
     stands-without setup taken c.args.self.now c.remove.new.self
     (record { input = Burst c.args.number c.args.hcs_ok c.args.bytes.now; answer = Ok (Some c.in-Ok-made.admitted) }) c.args.number refl refl refl
     c.remove.ensures.updates.1 c.remove.ensures.updates.2
@@ -34,7 +34,7 @@ pub returns-in-Err-clause-taken : goal.returns-in-Err-clause-taken
 returns-in-Err-clause-taken c not_memory setup taken stands =
     let some : get nat_cmp c.args.self.now.grants c.args.number ≡ Some c.in-Some.grant = cc in
     let made : IsMadeOf c.args.self.now.channel c.in-Some.grant c.args.hcs_ok c.args.bytes.now (Err c.in-Err.refusal) =
-    subst (IsMadeOf c.args.self.now.channel c.in-Some.grant c.args.hcs_ok c.args.bytes.now) c.in-Err.is c.in-Ok.ensures in
+    subst (IsMadeOf c.args.self.now.channel c.in-Some.grant c.args.hcs_ok c.args.bytes.now) c.in-Err.is c.in-Ok.ensures.made in
     stands-without setup taken c.args.self.now c.remove.new.self
     (record { input = Burst c.args.number c.args.hcs_ok c.args.bytes.now; answer = Err c.in-Err.refusal }) c.args.number refl refl
     (spends c.args.self.now.channel c.in-Some.grant c.args.hcs_ok c.args.bytes.now c.in-Err.refusal made)
