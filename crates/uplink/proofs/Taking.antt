@@ -110,7 +110,7 @@ module _ (setup : LaneSetup) (taken : List Taken) (one : Taken) where
   abbrev then : List Taken
   then = taken ++ one ∷ []
 
-  answered-more : AreAnswered setup taken → IsAnswer setup taken one.input one.answer → AreAnswered setup then
+  pub answered-more : AreAnswered setup taken → IsAnswer setup taken one.input one.answer → AreAnswered setup then
   answered-more answered is k other stands =
       ⊎_elim
       (λ (was : slice_get taken k ≡ Some other).
@@ -121,6 +121,18 @@ module _ (setup : LaneSetup) (taken : List Taken) (one : Taken) where
       subst (λ (t : Taken). IsAnswer setup (take k then) t.input t.answer) (sym last.1)
       (subst (λ t. IsAnswer setup t one.input one.answer) (sym before) is))
       (from-pushed taken one k other stands)
+
+  -- the other way round: the inputs before it were answered, and it after them
+  pub answered-before : AreAnswered setup then → AreAnswered setup taken
+  answered-before answered k other was =
+      let within = slice_get_within taken k other was in
+      subst (λ t. IsAnswer setup t other.input other.answer) (take-append-le k taken (one ∷ []) (omega arith))
+      (answered k other (stays-behind taken (one ∷ []) k other was))
+
+  pub answered-last : AreAnswered setup then → IsAnswer setup taken one.input one.answer
+  answered-last answered =
+      subst (λ t. IsAnswer setup t one.input one.answer) (take-append_seam taken (one ∷ []))
+      (answered (length taken) one (slice_get-at taken one []))
 
   -- a grant that isn't spent stays
   still-granted : (number : ℕ) (grant : OutstandingGrant) → Leaves number one → IsGrant setup taken number grant → IsGrant setup then number grant

@@ -2,12 +2,12 @@
 //! one first fault.
 //!
 //! Each function states a law in its contract and does nothing.
-ghost use Rattle.std.specs.Prelude.{◌≡◌, ℕ, List, length};
+ghost use Rattle.std.specs.Prelude.{◌≡◌, ◌↔◌, ◌++◌, ◌∷◌, [], ℕ, List, length};
 ghost use Rattle.uplink.specs.declared.grant.OutstandingGrant.{OutstandingGrant};
 ghost use Rattle.uplink.specs.declared.row.LaneFault.{LaneFault};
 ghost use Rattle.uplink.specs.declared.row.SidRow.{SidRow};
 ghost use Rattle.uplink.specs.Rows.{CanBeOpened, IsLaneFault};
-ghost use Rattle.uplink.specs.Inputs.{LaneSetup, Taken, IsGrant, AreAnswered, inputs_of};
+ghost use Rattle.uplink.specs.Inputs.{LaneSetup, Taken, IsGrant, IsAnswer, AreAnswered, inputs_of};
 
 /// The same inputs have at most one list of answers.
 pub fn lane_has_at_most_one_answer_to_each_input()
@@ -15,6 +15,14 @@ pub fn lane_has_at_most_one_answer_to_each_input()
         → CanBeOpened setup.rows (length setup.records)
         → AreAnswered setup taken → AreAnswered setup others
         → inputs_of taken ≡ inputs_of others → taken ≡ others }
+{}
+
+/// With one more input at the end a list of inputs is answered rightly exactly if it was so
+/// without it and the input has the right answer after the others.
+pub fn next_input_is_answered()
+    ensures { (setup : LaneSetup) (taken : List Taken) (one : Taken)
+        → AreAnswered setup (taken ++ one ∷ [])
+        ↔ (AreAnswered setup taken × IsAnswer setup taken one.input one.answer) }
 {}
 
 /// Of each number one grant at most is outstanding, with one flow and so many bytes.
