@@ -8,7 +8,7 @@ use Rattle.flow_core.specs.declared.record.SetupFault.TheVariants.{TooManyFlows,
 use Rattle.flow_core.specs.Setup.{flows_max, IsInRange, IsLeast, IsBad, IsRepeated, IsSetupFault, CanBeSetUp}
 
 -- the least number with a property is one number
-least-one : (P : ℕ → Type 0) (k j : ℕ) → IsLeast P k → IsLeast P j → k ≡ j
+pub least-one : (P : ℕ → Type 0) (k j : ℕ) → IsLeast P k → IsLeast P j → k ≡ j
 least-one P k j k_least j_least =
     ⊎_elim
     (λ (before : k < j). absurd (j_least.1 k before k_least.0))

@@ -5,7 +5,7 @@ use Rattle.std.proofs.lemmas.List.Sums.{count_by_more_yes, count_by_more_no, sum
 use Rattle.std.proofs.lemmas.List.{length-set, get_or-set_same, get_or-set_other, take_all}
 use Rattle.std.proofs.lemmas.List.Elements.{All-get_or, All-from_get_or}
 use Rattle.std.proofs.lemmas.Option.{slice_get_within, get_or_from_slice_get, slice_get-get_or}
-use Rattle.flow_core.specs.Setup.{IsLeast}
+use Rattle.flow_core.proofs.Setup.{least-one}
 use Rattle.uplink.specs.Order.{times_of, IsBadPlace, IsOrderFault, IsLawfulOrder, senders}
 
 -- no place before k is bad, and of each list so many items are left
@@ -13,18 +13,6 @@ pub record IsLeftOver (lengths order : List ℕ) (k : ℕ) (left : List ℕ) : T
   pub five : length left ≡ senders
   pub counted : (sender : ℕ) → sender < senders → slice_index_or left sender 0 + times_of sender (take k order) ≡ slice_index_or lengths sender 0
   pub good : (j : ℕ) → j < k → ¬ (IsBadPlace lengths order j)
-
--- the least number with a property is one
-least-once : (P : ℕ → Type 0) (j k : ℕ) → IsLeast P j → IsLeast P k → j ≡ k
-least-once P j k p q =
-    ⊎_elim
-    (λ (before : j < k). absurd (q.1 j before p.0))
-    (λ (not_before : k ≤ j).
-    ⊎_elim
-    (λ (after : k < j). absurd (p.1 k after q.0))
-    (λ (not_after : j ≤ k). omega arith)
-    (cases_lt k j))
-    (cases_lt j k)
 
 -- a sender stands once more in an order after a place that names it, and no more often after any other
 times-same : (order : List ℕ) (k tag : ℕ) → k < length order → get_or order k tag ≡ tag → times_of tag (take (k + 1) order) ≡ times_of tag (take k order) + 1
@@ -47,7 +35,7 @@ err-err k j same = ap (λ r. fault_or r 0) same
 module _ (lengths order : List ℕ) where
   -- an order has one fault
   pub one-fault : (j k : ℕ) → IsOrderFault lengths order j → IsOrderFault lengths order k → j ≡ k
-  one-fault j k (inl p) (inl q) = least-once (IsBadPlace lengths order) j k p q
+  one-fault j k (inl p) (inl q) = least-one (IsBadPlace lengths order) j k p q
   one-fault j k (inl p) (inr q) = absurd (q.0 j p.0)
   one-fault j k (inr p) (inl q) = absurd (p.0 k q.0)
   one-fault j k (inr p) (inr q) = p.1 ∙ sym q.1

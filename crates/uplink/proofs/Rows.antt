@@ -1,34 +1,23 @@
 -- Rows have at most one fault, and none if a lane can be opened with them.
 use Rattle.std.proofs.Common.{◌≡◌, ◌↔◌, ℕ, ◌<◌, ◌≤◌, ⊎_elim, Result, Err, List, ap, subst, ◌∙◌, arith}
 use Rattle.std.proofs.lemmas.Bool.{cases_lt}
-use Rattle.flow_core.specs.Setup.{IsLeast}
+use Rattle.flow_core.proofs.Setup.{least-one}
 use Rattle.uplink.specs.declared.row.SidRow.{SidRow}
 use Rattle.uplink.specs.declared.row.LaneFault.{LaneFault}
 use Rattle.uplink.specs.declared.row.LaneFault.TheVariants.{SidRange, SameSid, UnknownFlow, OutOfMemory}
 use Rattle.uplink.specs.Rows.{IsOutOfRange, IsSidRepeated, NamesNoFlow, IsLaneFault, CanBeOpened}
 
--- the least number with a property is one number
-least-once : (P : ℕ → Type 0) (k j : ℕ) → IsLeast P k → IsLeast P j → k ≡ j
-least-once P k j k_least j_least =
-    ⊎_elim
-    (λ (before : k < j). absurd (j_least.1 k before k_least.0))
-    (λ (rest : j ≤ k). ⊎_elim
-    (λ (after : j < k). absurd (k_least.1 j after j_least.0))
-    (λ (same : k ≤ j). omega arith)
-    (cases_lt j k))
-    (cases_lt k j)
-
 -- some rows have one fault
 pub one_fault : (rows : List SidRow) (n : ℕ) (fault other : LaneFault) → IsLaneFault rows n fault → IsLaneFault rows n other → fault ≡ other
-one_fault rows n (SidRange k) (SidRange j) is are = ap SidRange (least-once (IsOutOfRange rows) k j is are)
+one_fault rows n (SidRange k) (SidRange j) is are = ap SidRange (least-one (IsOutOfRange rows) k j is are)
 one_fault rows n (SidRange k) (SameSid j) is are = absurd (are.0 k is.0)
 one_fault rows n (SidRange k) (UnknownFlow j) is are = absurd (are.0 k is.0)
 one_fault rows n (SameSid k) (SidRange j) is are = absurd (is.0 j are.0)
-one_fault rows n (SameSid k) (SameSid j) is are = ap SameSid (least-once (IsSidRepeated rows) k j is.1 are.1)
+one_fault rows n (SameSid k) (SameSid j) is are = ap SameSid (least-one (IsSidRepeated rows) k j is.1 are.1)
 one_fault rows n (SameSid k) (UnknownFlow j) is are = absurd (are.1 k is.1.0)
 one_fault rows n (UnknownFlow k) (SidRange j) is are = absurd (is.0 j are.0)
 one_fault rows n (UnknownFlow k) (SameSid j) is are = absurd (is.1 j are.1.0)
-one_fault rows n (UnknownFlow k) (UnknownFlow j) is are = ap UnknownFlow (least-once (NamesNoFlow rows n) k j is.2 are.2)
+one_fault rows n (UnknownFlow k) (UnknownFlow j) is are = ap UnknownFlow (least-one (NamesNoFlow rows n) k j is.2 are.2)
 one_fault rows n OutOfMemory other is are = absurd is
 one_fault rows n fault OutOfMemory is are = absurd are
 
