@@ -212,3 +212,8 @@ fn play(
     }
     Ok(())
 }
+
+/// Makes the calls on a new flow that begins with the number 0 and has a window of 16.
+fn play_new(rt: &impl Abort, alloc: Global, calls: &[Call]) -> Result<(), Fail> {
+    play(rt, alloc, &mut one_flow(alloc, 0, 16)?, 0, calls)
+}

@@ -53,7 +53,7 @@ fn segment_without_payload(rt: HostRuntime) -> Result<(), Fail> {
         Call::Frames(&[PLAIN]),
         Call::Counts([3, 0, 0, 0, 0, 1, 0]),
     ];
-    play(&rt, rt.alloc(), &mut one_flow(rt.alloc(), 0, 16)?, 0, &kept)?;
+    play_new(&rt, rt.alloc(), &kept)?;
     let lost = [
         Call::Arrive(FIRST, Answer::Kept),
         Call::Frames(&[]),
@@ -63,7 +63,7 @@ fn segment_without_payload(rt: HostRuntime) -> Result<(), Fail> {
         Call::Nothing,
         Call::Counts([2, 0, 0, 0, 1, 0, 8]),
     ];
-    play(&rt, rt.alloc(), &mut one_flow(rt.alloc(), 0, 16)?, 0, &lost)
+    play_new(&rt, rt.alloc(), &lost)
 }
 
 /// A gap of one flow leaves alone what is unfinished in another.

@@ -26,13 +26,7 @@ fn held_segments_before_the_number(rt: HostRuntime) -> Result<(), Fail> {
             Call::CloseGap(false),
             Call::Counts([2, 1, 0, 0, 3, 2, 0]),
         ];
-        play(
-            &rt,
-            rt.alloc(),
-            &mut one_flow(rt.alloc(), 0, 16)?,
-            0,
-            &calls,
-        )?;
+        play_new(&rt, rt.alloc(), &calls)?;
     }
     Ok(())
 }
@@ -57,13 +51,7 @@ fn numbers_that_declare_nothing(rt: HostRuntime) -> Result<(), Fail> {
             Call::CloseGap(false),
             Call::Counts([3, 0, 0, 0, 2, 3, 0]),
         ];
-        play(
-            &rt,
-            rt.alloc(),
-            &mut one_flow(rt.alloc(), 0, 16)?,
-            0,
-            &calls,
-        )?;
+        play_new(&rt, rt.alloc(), &calls)?;
     }
     Ok(())
 }
