@@ -91,35 +91,31 @@ same_behind [] xs ys e = e
 same_behind {X} (x ∷ front) xs ys e = same_behind front xs ys cc
 
 module _ {C : Type 0} (accepts : C → List ℕ → Bool) (core : Core C) (accepted : List ℕ → Bool) (r : FlowRecord) where
-  -- the same frames, said in another way
-  pub given_as : (events : List FlowEvent) (given again : List (List ℕ)) → given ≡ again → (h : HasGiven accepts core accepted r events given)
-      → (a : HasGiven accepts core accepted r events again) × (a.y ≡ h.y)
-  given_as events given again same h = (
+  -- the same events and the same frames, said in another way
+  said_as : (events others : List FlowEvent) (given again : List (List ℕ)) → events ≡ others → given ≡ again → (h : HasGiven accepts core accepted r events given)
+      → (a : HasGiven accepts core accepted r others again) × (a.y ≡ h.y) × (a.answers ≡ h.answers)
+  said_as events others given again same_events same_given h = (
     record {
       accepted_are = h.accepted_are;
       flow = h.flow;
       there = h.there;
       answers = h.answers;
       y = h.y;
-      stands = subst (λ g. StandsFor accepted r h.flow events h.answers h.y g) same h.stands;
+      stands = subst (λ e. StandsFor accepted r h.flow e h.answers h.y again) same_events (subst (λ g. StandsFor accepted r h.flow events h.answers h.y g) same_given h.stands);
     },
+    refl,
     refl,
   )
 
-  -- the same events, said in another way
+  -- the same frames
+  pub given_as : (events : List FlowEvent) (given again : List (List ℕ)) → given ≡ again → (h : HasGiven accepts core accepted r events given)
+      → (a : HasGiven accepts core accepted r events again) × (a.y ≡ h.y)
+  given_as events given again same h = let a = said_as events events given again refl same h in (a.0, a.1)
+
+  -- the same events
   pub events_as : (events others : List FlowEvent) (given : List (List ℕ)) → events ≡ others → (h : HasGiven accepts core accepted r events given)
       → (a : HasGiven accepts core accepted r others given) × (a.answers ≡ h.answers)
-  events_as events others given same h = (
-    record {
-      accepted_are = h.accepted_are;
-      flow = h.flow;
-      there = h.there;
-      answers = h.answers;
-      y = h.y;
-      stands = subst (λ e. StandsFor accepted r h.flow e h.answers h.y given) same h.stands;
-    },
-    refl,
-  )
+  events_as events others given same h = let a = said_as events others given given same refl h in (a.0, a.2)
 
 -- a gap that declares a loss
 pub after_loss : {C : Type 0} (accepts : C → List ℕ → Bool) (core after : Core C) (accepted : List ℕ → Bool) (r : FlowRecord) (events : List FlowEvent) (given : List (List ℕ)) (k n : ℕ)
