@@ -22,7 +22,7 @@ use Rattle.uplink.specs.declared.grant.SidFlow.{SidFlow}
 use Rattle.uplink.specs.declared.grant.OutstandingGrant.{OutstandingGrant}
 use Rattle.uplink.specs.Rows.{CanBeOpened}
 use Rattle.uplink.specs.Admission.{IsRequestIn, IsAdmitted, IsMadeOf}
-use Rattle.uplink.specs.Inputs.{LaneSetup, Answer, Taken, IsRowOf, IsFlowOf, IsOutstanding, IsKnown, IsGrant, IsAnswerToGrant, IsAnswerToBurst, IsAnswer, AreAnswered, inputs_of}
+use Rattle.uplink.specs.Inputs.{LaneSetup, Answer, AnsweredInput, IsRowOf, IsFlowOf, IsOutstanding, IsKnown, IsGrant, IsAnswerToGrant, IsAnswerToBurst, IsAnswer, AreAnswered, inputs_of}
 
 -- the identifier and the bytes of a grant
 abbrev sid_of : Input → ℕ
@@ -174,8 +174,8 @@ module _ (setup : LaneSetup) (can : CanBeOpened setup.rows (length setup.records
       ap (λ i. let f : SidFlow = record { index = i; clusters = flow.clusters } in f) index
       ∙ ap (λ n. let f : SidFlow = record { index = other.index; clusters = n } in f) clusters
 
-  module _ (taken : List Taken) (answered : AreAnswered setup taken) where
-    abbrev granted : ℕ → ℕ → ℕ → Taken
+  module _ (taken : List AnsweredInput) (answered : AreAnswered setup taken) where
+    abbrev granted : ℕ → ℕ → ℕ → AnsweredInput
     granted number sid bytes = record { input = Grant number sid bytes; answer = Ok None }
 
     -- where a grant is outstanding none of its number was accepted later
@@ -201,7 +201,7 @@ module _ (setup : LaneSetup) (can : CanBeOpened setup.rows (length setup.records
         (λ (same : is.at ≤ are.at).
         let place : is.at ≡ are.at = omega arith in
         let one = same_Some (granted number sid bytes) (granted number other_sid other_bytes) (sym is.stands ∙ ap (slice_get taken) place ∙ are.stands) in
-        (ap (λ (t : Taken). sid_of t.input) one, ap (λ (t : Taken). bytes_of t.input) one))
+        (ap (λ (t : AnsweredInput). sid_of t.input) one, ap (λ (t : AnsweredInput). bytes_of t.input) one))
         (cases_lt are.at is.at))
         (cases_lt is.at are.at)
 
@@ -289,40 +289,40 @@ module _ (setup : LaneSetup) (can : CanBeOpened setup.rows (length setup.records
         let same = one-burst number hcs_ok bytes (Err refusal) (Err other) is are in cc
 
   -- the inputs before a place were answered rightly
-  answered-before : (taken : List Taken) → AreAnswered setup taken → (k : ℕ) → AreAnswered setup (take k taken)
+  answered-before : (taken : List AnsweredInput) → AreAnswered setup taken → (k : ℕ) → AreAnswered setup (take k taken)
   answered-before taken answered k j one stands =
       let within = slice_get_within (take k taken) j one stands in
       let long = length-take k taken in
       subst (λ t. IsAnswer setup t one.input one.answer) (sym (take-take j k taken (omega arith))) (answered j one (from-take k taken j one stands))
 
   -- the answers before a place are all the same
-  same-before : (taken others : List Taken) → AreAnswered setup taken → AreAnswered setup others → inputs_of taken ≡ inputs_of others → (k : ℕ)
+  same-before : (taken others : List AnsweredInput) → AreAnswered setup taken → AreAnswered setup others → inputs_of taken ≡ inputs_of others → (k : ℕ)
       → take k taken ≡ take k others
   same-before taken others answered also inputs zero = refl
   same-before taken others answered also inputs (suc k) =
       let before = same-before taken others answered also inputs k in
-      let long : length taken ≡ length others = sym (length-map taken (λ (t : Taken). t.input)) ∙ ap length inputs ∙ length-map others (λ (t : Taken). t.input) in
+      let long : length taken ≡ length others = sym (length-map taken (λ (t : AnsweredInput). t.input)) ∙ ap length inputs ∙ length-map others (λ (t : AnsweredInput). t.input) in
       ⊎_elim
       (λ (below : k < length taken).
       let one = element_at taken k below in
       let other = element_at others k (omega arith) in
       let input : one.0.input ≡ other.0.input =
       same_Some one.0.input other.0.input
-      (sym (slice_get-map (λ (t : Taken). t.input) taken k ∙ ap (option_map (λ (t : Taken). t.input)) one.1)
+      (sym (slice_get-map (λ (t : AnsweredInput). t.input) taken k ∙ ap (option_map (λ (t : AnsweredInput). t.input)) one.1)
       ∙ ap (λ xs. slice_get xs k) inputs
-      ∙ slice_get-map (λ (t : Taken). t.input) others k ∙ ap (option_map (λ (t : Taken). t.input)) other.1) in
+      ∙ slice_get-map (λ (t : AnsweredInput). t.input) others k ∙ ap (option_map (λ (t : AnsweredInput). t.input)) other.1) in
       let answer = one-answer (take k taken) (answered-before taken answered k) other.0.input one.0.answer other.0.answer
       (subst (λ i. IsAnswer setup (take k taken) i one.0.answer) input (answered k one.0 one.1))
       (subst (λ t. IsAnswer setup t other.0.input other.0.answer) (sym before) (also k other.0 other.1)) in
       let same : one.0 ≡ other.0 =
-      ap (λ i. let t : Taken = record { input = i; answer = one.0.answer } in t) input
-      ∙ ap (λ a. let t : Taken = record { input = other.0.input; answer = a } in t) answer in
+      ap (λ i. let t : AnsweredInput = record { input = i; answer = one.0.answer } in t) input
+      ∙ ap (λ a. let t : AnsweredInput = record { input = other.0.input; answer = a } in t) answer in
       take-one taken k one.0 one.1 ∙ ap (λ t. t ++ one.0 ∷ []) before ∙ ap (λ t. take k others ++ t ∷ []) same ∙ sym (take-one others k other.0 other.1))
       (λ (past : length taken ≤ k). take-none taken k past ∙ before ∙ sym (take-none others k (omega arith)))
       (cases_lt k (length taken))
 
-  pub one-list-of-answers : (taken others : List Taken) → AreAnswered setup taken → AreAnswered setup others → inputs_of taken ≡ inputs_of others
+  pub one-list-of-answers : (taken others : List AnsweredInput) → AreAnswered setup taken → AreAnswered setup others → inputs_of taken ≡ inputs_of others
       → taken ≡ others
   one-list-of-answers taken others answered also inputs =
-      let long : length taken ≡ length others = sym (length-map taken (λ (t : Taken). t.input)) ∙ ap length inputs ∙ length-map others (λ (t : Taken). t.input) in
+      let long : length taken ≡ length others = sym (length-map taken (λ (t : AnsweredInput). t.input)) ∙ ap length inputs ∙ length-map others (λ (t : AnsweredInput). t.input) in
       sym (take_all (length taken) taken (omega arith)) ∙ same-before taken others answered also inputs (length taken) ∙ take_all (length taken) others (omega arith)

@@ -14,7 +14,7 @@ use Rattle.uplink.specs.declared.input.Input.TheVariants.{Grant}
 use Rattle.uplink.specs.declared.grant.SidFlow.{SidFlow}
 use Rattle.uplink.specs.declared.grant.OutstandingGrant.{OutstandingGrant}
 use Rattle.uplink.specs.declared.lane.Lane.{Lane}
-use Rattle.uplink.specs.Inputs.{LaneSetup, Taken, IsUnknown, IsFlowOf, IsOutstanding, IsKnown, IsGrant, IsAnswer, AreAnswered, IsAnswerToBurst, number_of, outstanding_count, is_spending, is_accepted_grant, is_spending_burst}
+use Rattle.uplink.specs.Inputs.{LaneSetup, AnsweredInput, IsUnknown, IsFlowOf, IsOutstanding, IsKnown, IsGrant, IsAnswer, AreAnswered, IsAnswerToBurst, number_of, outstanding_count, refusal_spends, is_accepted, spends_its_grant}
 use Rattle.uplink.specs.declared.refusal.Refusal.{Refusal}
 use Rattle.uplink.specs.declared.refusal.Refusal.TheVariants.{GrantRange, GrantKnown, UnknownSid, TooManyGrants, GrantOutOfMemory, NoGrant, TooLong, BadCheck, TooShort, PointerPast, BurstOutOfMemory}
 use Rattle.uplink.specs.Admission.{IsMadeOf}
@@ -59,15 +59,15 @@ module _ {X : Type 0} where
   some-from P Q (Some x) found is = (x, is)
 
 -- a grant that was accepted, with its answer
-abbrev pub granted : ℕ → ℕ → ℕ → Taken
+abbrev pub granted : ℕ → ℕ → ℕ → AnsweredInput
 granted number sid bytes = record { input = Grant number sid bytes; answer = Ok None }
 
 -- the input doesn't spend the grant of this number
-abbrev pub Leaves : ℕ → Taken → Type 0
-Leaves number one = number_of one.input ≡ number → ¬ (IsTrue (is_spending_burst one))
+abbrev pub Leaves : ℕ → AnsweredInput → Type 0
+Leaves number one = number_of one.input ≡ number → ¬ (IsTrue (spends_its_grant one))
 
-module _ (taken : List Taken) (one : Taken) where
-  abbrev pub more : List Taken
+module _ (taken : List AnsweredInput) (one : AnsweredInput) where
+  abbrev pub more : List AnsweredInput
   more = taken ++ one ∷ []
 
   -- a grant that isn't spent stays outstanding
@@ -78,7 +78,7 @@ module _ (taken : List Taken) (one : Taken) where
     unspent = λ j other after stands of_number spent.
         ⊎_elim
         (λ was. is.unspent j other after was of_number spent)
-        (λ last. leaves (ap (λ (t : Taken). number_of t.input) (sym last.1) ∙ of_number) (subst (λ (t : Taken). IsTrue (is_spending_burst t)) last.1 spent))
+        (λ last. leaves (ap (λ (t : AnsweredInput). number_of t.input) (sym last.1) ∙ of_number) (subst (λ (t : AnsweredInput). IsTrue (spends_its_grant t)) last.1 spent))
         (from-pushed taken one j other stands);
   }
 
@@ -96,7 +96,7 @@ module _ (taken : List Taken) (one : Taken) where
       (from-pushed taken one is.at (granted number sid bytes) is.stands)
 
 -- an accepted grant is outstanding
-now-outstanding : (taken : List Taken) (number sid bytes : ℕ) → IsOutstanding (taken ++ granted number sid bytes ∷ []) number sid bytes
+now-outstanding : (taken : List AnsweredInput) (number sid bytes : ℕ) → IsOutstanding (taken ++ granted number sid bytes ∷ []) number sid bytes
 now-outstanding taken number sid bytes = record {
   at = length taken;
   stands = slice_get-at taken (granted number sid bytes) [];
@@ -106,8 +106,8 @@ now-outstanding taken number sid bytes = record {
       absurd (omega arith);
 }
 
-module _ (setup : LaneSetup) (taken : List Taken) (one : Taken) where
-  abbrev then : List Taken
+module _ (setup : LaneSetup) (taken : List AnsweredInput) (one : AnsweredInput) where
+  abbrev then : List AnsweredInput
   then = taken ++ one ∷ []
 
   pub answered-more : AreAnswered setup taken → IsAnswer setup taken one.input one.answer → AreAnswered setup then
@@ -118,7 +118,7 @@ module _ (setup : LaneSetup) (taken : List Taken) (one : Taken) where
       subst (λ t. IsAnswer setup t other.input other.answer) (sym (take-append-le k taken (one ∷ []) (omega arith))) (answered k other was))
       (λ last.
       let before : take k then ≡ taken = ap (λ n. take n then) last.0 ∙ take-append_seam taken (one ∷ []) in
-      subst (λ (t : Taken). IsAnswer setup (take k then) t.input t.answer) (sym last.1)
+      subst (λ (t : AnsweredInput). IsAnswer setup (take k then) t.input t.answer) (sym last.1)
       (subst (λ t. IsAnswer setup t one.input one.answer) (sym before) is))
       (from-pushed taken one k other stands)
 
@@ -148,7 +148,7 @@ module _ (setup : LaneSetup) (taken : List Taken) (one : Taken) where
       (was-outstanding taken one number known.0 known.1 known.2)
 
   -- a lane stays as it is where nothing was accepted and nothing was spent
-  pub stands-as-before : (lane : Lane) → is_accepted_grant one ≡ false → is_spending_burst one ≡ false
+  pub stands-as-before : (lane : Lane) → is_accepted one ≡ false → spends_its_grant one ≡ false
       → IsAnswer setup taken one.input one.answer → StandsFor setup lane taken → StandsFor setup lane then
   stands-as-before lane unaccepted unspent is stands = record {
     channel = stands.channel;
@@ -156,12 +156,12 @@ module _ (setup : LaneSetup) (taken : List Taken) (one : Taken) where
     flows = stands.flows;
     grants = λ number.
         either-way (¬ (IsKnown taken number)) (¬ (IsKnown then number)) (IsGrant setup taken number) (IsGrant setup then number) (get nat_cmp lane.grants number)
-        (still-unknown number (λ sid bytes same. false≢true (sym unaccepted ∙ ap is_accepted_grant same)))
+        (still-unknown number (λ sid bytes same. false≢true (sym unaccepted ∙ ap is_accepted same)))
         (λ grant. still-granted number grant (λ of_number spent. false≢true (sym unspent ∙ spent)))
         (stands.grants number);
     count = let count = stands.count in
-        let spent = count-no is_spending_burst taken one unspent in
-        let accepted = count-no is_accepted_grant taken one unaccepted in
+        let spent = count-no spends_its_grant taken one unspent in
+        let accepted = count-no is_accepted taken one unaccepted in
         omega arith;
   }
 
@@ -169,7 +169,7 @@ module _ (setup : LaneSetup) (taken : List Taken) (one : Taken) where
 pub not-at : (k q : ℕ) → q ≢ k → is_at (nat_cmp k) q ≡ false
 not-at k q apart = unsigned_tied k q ∙ ne_eqb k q (λ same. apart (sym same))
 
-module _ (setup : LaneSetup) (taken : List Taken) (lane : Lane) (grants : BTreeMap ℕ OutstandingGrant) where
+module _ (setup : LaneSetup) (taken : List AnsweredInput) (lane : Lane) (grants : BTreeMap ℕ OutstandingGrant) where
   -- a lane that keeps an accepted grant
   pub stands-with : (number sid : ℕ) (grant : OutstandingGrant)
       → get nat_cmp grants number ≡ Some grant → ((q : ℕ) → is_at (nat_cmp number) q ≡ false → get nat_cmp grants q ≡ get nat_cmp lane.grants q)
@@ -192,18 +192,18 @@ module _ (setup : LaneSetup) (taken : List Taken) (lane : Lane) (grants : BTreeM
             (λ (apart : q ≢ number).
             subst Goal (sym (others q (not-at number q apart)))
             (either-way (¬ (IsKnown taken q)) (¬ (IsKnown (taken ++ one ∷ []) q)) (IsGrant setup taken q) (IsGrant setup (taken ++ one ∷ []) q) (get nat_cmp lane.grants q)
-            (still-unknown setup taken one q (λ s b same. apart (sym (ap (λ (t : Taken). number_of t.input) same))))
+            (still-unknown setup taken one q (λ s b same. apart (sym (ap (λ (t : AnsweredInput). number_of t.input) same))))
             (λ grant'. still-granted setup taken one q grant' (λ of_number spent. false≢true spent))
             (stands.grants q)))
             (cases_eq q number);
         count = let count = stands.count in
-            let spent = count-no is_spending_burst taken one refl in
-            let accepted = count-yes is_accepted_grant taken one refl in
+            let spent = count-no spends_its_grant taken one refl in
+            let accepted = count-yes is_accepted taken one refl in
             omega arith;
       }
 
   -- a lane that forgets a spent grant
-  pub stands-without : (one : Taken) (number : ℕ) → number_of one.input ≡ number → is_accepted_grant one ≡ false → is_spending_burst one ≡ true
+  pub stands-without : (one : AnsweredInput) (number : ℕ) → number_of one.input ≡ number → is_accepted one ≡ false → spends_its_grant one ≡ true
       → get nat_cmp grants number ≡ None → ((q : ℕ) → is_at (nat_cmp number) q ≡ false → get nat_cmp grants q ≡ get nat_cmp lane.grants q)
       → btree_map_len grants + 1 ≡ btree_map_len lane.grants
       → IsAnswer setup taken one.input one.answer → StandsFor setup lane taken
@@ -221,18 +221,18 @@ module _ (setup : LaneSetup) (taken : List Taken) (lane : Lane) (grants : BTreeM
             (λ known.
             ⊎_elim
             (λ was. was.1 (of_number ∙ sym same) spent)
-            (λ now. false≢true (sym unaccepted ∙ ap is_accepted_grant now))
+            (λ now. false≢true (sym unaccepted ∙ ap is_accepted now))
             (was-outstanding taken one q known.0 known.1 known.2)))
             (λ (apart : q ≢ number).
             subst Goal (sym (others q (not-at number q apart)))
             (either-way (¬ (IsKnown taken q)) (¬ (IsKnown (taken ++ one ∷ []) q)) (IsGrant setup taken q) (IsGrant setup (taken ++ one ∷ []) q) (get nat_cmp lane.grants q)
-            (still-unknown setup taken one q (λ s b same. false≢true (sym unaccepted ∙ ap is_accepted_grant same)))
+            (still-unknown setup taken one q (λ s b same. false≢true (sym unaccepted ∙ ap is_accepted same)))
             (λ grant. still-granted setup taken one q grant (λ of_q _. apart (sym of_q ∙ of_number)))
             (stands.grants q)))
             (cases_eq q number);
         count = let count = stands.count in
-            let spending = count-yes is_spending_burst taken one spent in
-            let accepted = count-no is_accepted_grant taken one unaccepted in
+            let spending = count-yes spends_its_grant taken one spent in
+            let accepted = count-no is_accepted taken one unaccepted in
             omega arith;
       }
 
@@ -249,7 +249,7 @@ new-stands setup lane channel flows empty = record {
   count = let none = ap length empty in omega arith;
 }
 
-module _ (setup : LaneSetup) (taken : List Taken) (lane : Lane) (stands : StandsFor setup lane taken) where
+module _ (setup : LaneSetup) (taken : List AnsweredInput) (lane : Lane) (stands : StandsFor setup lane taken) where
   -- what the maps say is so
   pub known-from : (number : ℕ) → is_some (get nat_cmp lane.grants number) ≡ true → IsKnown taken number
   known-from number found =
@@ -284,7 +284,7 @@ module _ (setup : LaneSetup) (taken : List Taken) (lane : Lane) (stands : Stands
 
 -- a refusal that is made of a burst spends its grant
 pub spends : (channel : ℕ) (grant : OutstandingGrant) (hcs_ok : Bool) (bytes : List ℕ) (refusal : Refusal)
-    → IsMadeOf channel grant hcs_ok bytes (Err refusal) → is_spending refusal ≡ true
+    → IsMadeOf channel grant hcs_ok bytes (Err refusal) → refusal_spends refusal ≡ true
 spends channel grant hcs_ok bytes TooLong made = refl
 spends channel grant hcs_ok bytes BadCheck made = refl
 spends channel grant hcs_ok bytes TooShort made = refl
@@ -298,7 +298,7 @@ spends channel grant hcs_ok bytes NoGrant made = absurd made
 spends channel grant hcs_ok bytes BurstOutOfMemory made = absurd made
 
 -- and it is the answer to the burst
-pub answers-burst : (setup : LaneSetup) (taken : List Taken) (number : ℕ) (hcs_ok : Bool) (bytes : List ℕ) (grant : OutstandingGrant) (refusal : Refusal)
+pub answers-burst : (setup : LaneSetup) (taken : List AnsweredInput) (number : ℕ) (hcs_ok : Bool) (bytes : List ℕ) (grant : OutstandingGrant) (refusal : Refusal)
     → IsGrant setup taken number grant → IsMadeOf setup.channel grant hcs_ok bytes (Err refusal) → IsAnswerToBurst setup taken number hcs_ok bytes (Err refusal)
 answers-burst setup taken number hcs_ok bytes grant TooLong is made = (grant, is, made)
 answers-burst setup taken number hcs_ok bytes grant BadCheck is made = (grant, is, made)

@@ -23,7 +23,7 @@ abbrev pub Answer : Type 0
 Answer = Result (Option Admitted) Refusal
 
 -- an input that was taken, and what was answered to it
-pub record Taken : Type 0 where
+pub record AnsweredInput : Type 0 where
   pub input : Input
   pub answer : Answer
 
@@ -56,29 +56,29 @@ abbrev pub outstanding_max : ℕ
 outstanding_max = 65536
 
 -- this is a grant that was accepted
-abbrev pub is_accepted : Input → Answer → Bool
-is_accepted (Grant number sid bytes) (Ok None) = true
-is_accepted _ _ = false
+abbrev pub answer_accepts : Input → Answer → Bool
+answer_accepts (Grant number sid bytes) (Ok None) = true
+answer_accepts _ _ = false
 
-abbrev pub is_accepted_grant : Taken → Bool
-is_accepted_grant one = is_accepted one.input one.answer
+abbrev pub is_accepted : AnsweredInput → Bool
+is_accepted one = answer_accepts one.input one.answer
 
 -- these refusals of a burst spend its grant
-abbrev pub is_spending : Refusal → Bool
-is_spending TooLong = true
-is_spending BadCheck = true
-is_spending TooShort = true
-is_spending PointerPast = true
-is_spending _ = false
+abbrev pub refusal_spends : Refusal → Bool
+refusal_spends TooLong = true
+refusal_spends BadCheck = true
+refusal_spends TooShort = true
+refusal_spends PointerPast = true
+refusal_spends _ = false
 
 -- this is a burst that was admitted, or refused so that its grant is spent
-abbrev pub is_spent : Input → Answer → Bool
-is_spent (Burst number hcs_ok bytes) (Ok (Some admitted)) = true
-is_spent (Burst number hcs_ok bytes) (Err refusal) = is_spending refusal
-is_spent _ _ = false
+abbrev pub answer_spends : Input → Answer → Bool
+answer_spends (Burst number hcs_ok bytes) (Ok (Some admitted)) = true
+answer_spends (Burst number hcs_ok bytes) (Err refusal) = refusal_spends refusal
+answer_spends _ _ = false
 
-abbrev pub is_spending_burst : Taken → Bool
-is_spending_burst one = is_spent one.input one.answer
+abbrev pub spends_its_grant : AnsweredInput → Bool
+spends_its_grant one = answer_spends one.input one.answer
 
 -- the number of the grant that an input is or belongs to
 abbrev pub number_of : Input → ℕ
@@ -87,21 +87,21 @@ number_of (Burst number hcs_ok bytes) = number
 
 -- A grant is outstanding after these inputs: one of them is a grant of this number, to this service identifier and of so many bytes, that was
 -- accepted, and after it stands no burst on that number that spent it.
-pub record IsOutstanding (taken : List Taken) (number sid bytes : ℕ) : Type 0 where
+pub record IsOutstanding (taken : List AnsweredInput) (number sid bytes : ℕ) : Type 0 where
   pub at : ℕ
   pub stands : slice_get taken at ≡ Some (record { input = Grant number sid bytes; answer = Ok None })
-  pub unspent : (j : ℕ) (one : Taken) → at < j → slice_get taken j ≡ Some one → number_of one.input ≡ number → ¬ (IsTrue (is_spending_burst one))
+  pub unspent : (j : ℕ) (one : AnsweredInput) → at < j → slice_get taken j ≡ Some one → number_of one.input ≡ number → ¬ (IsTrue (spends_its_grant one))
 
 -- a grant of this number is outstanding
-abbrev pub IsKnown : List Taken → ℕ → Type 0
+abbrev pub IsKnown : List AnsweredInput → ℕ → Type 0
 IsKnown taken number = (sid : ℕ) × (bytes : ℕ) × IsOutstanding taken number sid bytes
 
 -- how many grants are outstanding: as many as were accepted, less those that were spent
-abbrev pub outstanding_count : List Taken → ℕ
-outstanding_count taken = count_by is_accepted_grant taken - count_by is_spending_burst taken
+abbrev pub outstanding_count : List AnsweredInput → ℕ
+outstanding_count taken = count_by is_accepted taken - count_by spends_its_grant taken
 
 -- The answer to a grant after these inputs, the first that fits.
-abbrev pub IsAnswerToGrant : LaneSetup → List Taken → ℕ → ℕ → ℕ → Answer → Type 0
+abbrev pub IsAnswerToGrant : LaneSetup → List AnsweredInput → ℕ → ℕ → ℕ → Answer → Type 0
 IsAnswerToGrant setup taken number sid bytes (Err GrantRange) = ¬ (IsGrantSize bytes)
 IsAnswerToGrant setup taken number sid bytes (Err GrantKnown) = IsGrantSize bytes × IsKnown taken number
 IsAnswerToGrant setup taken number sid bytes (Err UnknownSid) = IsGrantSize bytes × ¬ (IsKnown taken number) × IsUnknown setup sid
@@ -112,28 +112,28 @@ IsAnswerToGrant setup taken number sid bytes (Ok None) =
 IsAnswerToGrant setup taken number sid bytes _ = ⊥
 
 -- an outstanding grant, with the flow of its service identifier's row
-pub record IsGrant (setup : LaneSetup) (taken : List Taken) (number : ℕ) (grant : OutstandingGrant) : Type 0 where
+pub record IsGrant (setup : LaneSetup) (taken : List AnsweredInput) (number : ℕ) (grant : OutstandingGrant) : Type 0 where
   pub sid : ℕ
   pub outstanding : IsOutstanding taken number sid grant.bytes
   pub flow : IsFlowOf setup sid grant.flow
 
 -- The answer to a burst after these inputs: it is refused if it names no outstanding grant, and otherwise it is what is made of it in its grant.
-abbrev pub IsAnswerToBurst : LaneSetup → List Taken → ℕ → Bool → List ℕ → Result Admitted Refusal → Type 0
+abbrev pub IsAnswerToBurst : LaneSetup → List AnsweredInput → ℕ → Bool → List ℕ → Result Admitted Refusal → Type 0
 IsAnswerToBurst setup taken number hcs_ok bytes (Err NoGrant) = ¬ (IsKnown taken number)
 IsAnswerToBurst setup taken number hcs_ok bytes answer =
     (grant : OutstandingGrant) × IsGrant setup taken number grant × IsMadeOf setup.channel grant hcs_ok bytes answer
 
 -- the answer to an input after these inputs
-abbrev pub IsAnswer : LaneSetup → List Taken → Input → Answer → Type 0
+abbrev pub IsAnswer : LaneSetup → List AnsweredInput → Input → Answer → Type 0
 IsAnswer setup taken (Grant number sid bytes) answer = IsAnswerToGrant setup taken number sid bytes answer
 IsAnswer setup taken (Burst number hcs_ok bytes) (Ok None) = ⊥
 IsAnswer setup taken (Burst number hcs_ok bytes) (Ok (Some admitted)) = IsAnswerToBurst setup taken number hcs_ok bytes (Ok admitted)
 IsAnswer setup taken (Burst number hcs_ok bytes) (Err refusal) = IsAnswerToBurst setup taken number hcs_ok bytes (Err refusal)
 
 -- each input was answered rightly after those before it
-abbrev pub AreAnswered : LaneSetup → List Taken → Type 0
-AreAnswered setup taken = (k : ℕ) (one : Taken) → slice_get taken k ≡ Some one → IsAnswer setup (take k taken) one.input one.answer
+abbrev pub AreAnswered : LaneSetup → List AnsweredInput → Type 0
+AreAnswered setup taken = (k : ℕ) (one : AnsweredInput) → slice_get taken k ≡ Some one → IsAnswer setup (take k taken) one.input one.answer
 
 -- the inputs without their answers
-abbrev pub inputs_of : List Taken → List Input
+abbrev pub inputs_of : List AnsweredInput → List Input
 inputs_of taken = map (λ one. one.input) taken

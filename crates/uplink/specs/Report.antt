@@ -3,7 +3,7 @@ use Rattle.std.specs.Prelude.{ℕ, Option, Some, None, Ok, Err, List, length, fi
 use Rattle.flow_core.specs.Counts.{counted}
 use Rattle.uplink.specs.declared.admitted.Admitted.{Admitted}
 use Rattle.uplink.specs.declared.admitted.Request.{Request}
-use Rattle.uplink.specs.Inputs.{Answer, Taken}
+use Rattle.uplink.specs.Inputs.{Answer, AnsweredInput}
 use Rattle.uplink.specs.declared.refusal.Refusal.{Refusal}
 use Rattle.uplink.specs.declared.refusal.Refusal.TheVariants.{GrantRange, GrantKnown, UnknownSid, TooManyGrants, GrantOutOfMemory, NoGrant, TooLong, BadCheck, TooShort, PointerPast, BurstOutOfMemory}
 
@@ -31,16 +31,16 @@ refused_by (Ok admitted) = None
 refused_by (Err refusal) = Some (refusal_number refusal)
 
 -- what was admitted, in order
-abbrev pub admitted_of : List Taken → List Admitted
+abbrev pub admitted_of : List AnsweredInput → List Admitted
 admitted_of taken = filter_map (λ one. admitted_by one.answer) taken
 
 -- the requests of what was admitted, in order
-abbrev pub requests_of : List Taken → List Request
+abbrev pub requests_of : List AnsweredInput → List Request
 requests_of taken = filter_map (λ one. one.request) (admitted_of taken)
 
 -- the lane's report: how many bursts were admitted, and the numbers of the refusals, in order
-abbrev pub admitted_count : List Taken → ℕ
+abbrev pub admitted_count : List AnsweredInput → ℕ
 admitted_count taken = counted (length (admitted_of taken))
 
-abbrev pub refusal_numbers : List Taken → List ℕ
+abbrev pub refusal_numbers : List AnsweredInput → List ℕ
 refusal_numbers taken = filter_map (λ one. refused_by one.answer) taken

@@ -7,11 +7,11 @@ ghost use Rattle.uplink.specs.declared.grant.OutstandingGrant.{OutstandingGrant}
 ghost use Rattle.uplink.specs.declared.row.LaneFault.{LaneFault};
 ghost use Rattle.uplink.specs.declared.row.SidRow.{SidRow};
 ghost use Rattle.uplink.specs.Rows.{CanBeOpened, IsLaneFault};
-ghost use Rattle.uplink.specs.Inputs.{LaneSetup, Taken, IsGrant, IsAnswer, AreAnswered, inputs_of};
+ghost use Rattle.uplink.specs.Inputs.{LaneSetup, AnsweredInput, IsGrant, IsAnswer, AreAnswered, inputs_of};
 
 /// The same inputs have at most one list of answers.
 pub fn lane_has_at_most_one_answer_to_each_input()
-    ensures { (setup : LaneSetup) (taken others : List Taken)
+    ensures { (setup : LaneSetup) (taken others : List AnsweredInput)
         → CanBeOpened setup.rows (length setup.records)
         → AreAnswered setup taken → AreAnswered setup others
         → inputs_of taken ≡ inputs_of others → taken ≡ others }
@@ -20,14 +20,14 @@ pub fn lane_has_at_most_one_answer_to_each_input()
 /// With one more input at the end a list of inputs is answered rightly exactly if it was so
 /// without it and the input has the right answer after the others.
 pub fn next_input_is_answered()
-    ensures { (setup : LaneSetup) (taken : List Taken) (one : Taken)
+    ensures { (setup : LaneSetup) (taken : List AnsweredInput) (one : AnsweredInput)
         → AreAnswered setup (taken ++ one ∷ [])
         ↔ (AreAnswered setup taken × IsAnswer setup taken one.input one.answer) }
 {}
 
 /// Of each number one grant at most is outstanding, with one flow and so many bytes.
 pub fn number_has_one_outstanding_grant()
-    ensures { (setup : LaneSetup) (taken : List Taken) (number : ℕ)
+    ensures { (setup : LaneSetup) (taken : List AnsweredInput) (number : ℕ)
         (grant other : OutstandingGrant)
         → CanBeOpened setup.rows (length setup.records) → AreAnswered setup taken
         → IsGrant setup taken number grant → IsGrant setup taken number other
