@@ -9,3 +9,4 @@ pub mod Flows
 pub mod Losses
 pub mod Closing
 pub mod Outcome
+pub mod Giving

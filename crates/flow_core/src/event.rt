@@ -2,6 +2,9 @@
 //!
 //! An event is a segment that arrives or a decision that segments are lost; a step joins the next
 //! segment.
+ghost use Rattle.std.specs.Prelude.{◌≡◌};
+ghost use Rattle.flow_core.specs.Flows.{flow_of};
+
 use docsis_wire::{Bytes, Segment};
 use reorder::{Declared, Verdict};
 
@@ -17,6 +20,17 @@ pub enum Event {
     /// haven't come. It reaches only those with a later segment that was kept, and has no effect if
     /// the number is the expected one or lies behind it, 4,096 ahead or more, going up and round.
     GapTo { flow: usize, number: u16 },
+}
+
+impl Event {
+    /// The index of the flow.
+    pub fn flow(&self) -> usize
+        ensures { result ≡ flow_of self.now }
+    {
+        match self {
+            Event::Arrive { flow, .. } | Event::Gap { flow } | Event::GapTo { flow, .. } => *flow,
+        }
+    }
 }
 
 /// What became of an event.

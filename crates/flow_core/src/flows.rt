@@ -1,10 +1,12 @@
 //! All service flows.
 //!
-//! [`Core`] holds them with the check of their frames' headers; its calls stand in `calls`.
+//! [`Core`] holds them with the check of their frames' headers; its calls stand in `calls` and
+//! `draining`.
 ghost use Rattle.std.specs.Prelude.{◌≤◌, length};
 ghost use Rattle.flow_core.specs.Setup.{flows_max};
 
 mod calls;
+mod draining;
 
 use crate::flow::Flow;
 

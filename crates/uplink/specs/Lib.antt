@@ -6,3 +6,6 @@ pub mod Inputs
 pub mod Report
 pub mod Stands
 pub mod Order
+pub mod Items
+pub mod Answer
+pub mod Assembly

@@ -10,18 +10,23 @@
 #![tactic(auto)]
 
 mod admitted;
+mod assembler;
 mod grant;
 mod input;
 mod lane;
 pub mod laws;
 mod order;
+mod outcome;
 mod refusal;
 mod row;
 mod seen;
+mod setup;
 
 pub use admitted::{Admitted, Request};
 pub use input::Input;
 pub use lane::Lane;
 pub use order::check_order;
+pub use outcome::{FlowOutcome, LaneReport, Outcome};
 pub use refusal::Refusal;
 pub use row::{LaneFault, SidRow};
+pub use setup::{Decision, Lists, Setup};

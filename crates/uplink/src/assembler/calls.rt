@@ -1,0 +1,94 @@
+//! What the assembler takes and gives.
+ghost use Rattle.std.specs.Prelude.{◌≡◌, ◌++◌, ◌∷◌, [], ℕ, Bool, List, length, IfOk};
+ghost use Rattle.flow_core.specs.declared.record.FlowRecord.{FlowRecord};
+ghost use Rattle.flow_core.specs.declared.event.Event.{Event};
+ghost use Rattle.flow_core.specs.Setup.{CanBeSetUp};
+ghost use Rattle.uplink.specs.Items.{IsItem};
+ghost use Rattle.uplink.specs.Answer.{AreOutcomesOfFlows};
+ghost use Rattle.uplink.specs.Assembly.{IsTaking, TakesItem, HasAssembled, IsAssembling};
+
+use super::Assembler;
+use crate::outcome::FlowOutcome;
+use docsis_wire::{Bytes, HeaderCheck};
+use flow_core::{Core, Event, FlowRecord};
+use std::alloc::{AllocError, Global};
+
+/// Takes an item, and appends the frames that its flow then gives.
+pub fn take_item<C: HeaderCheck + Drop>(
+    alloc: Global,
+    core: &mut Core<C>,
+    event: Event,
+    frames: &mut Vec<Bytes>,
+) -> Result<(), AllocError>
+    requires item { IsItem (length core.old.flows.items) event }
+    requires taking { IsTaking C.accepts core.old }
+    ensures { IfOk result (λ _.
+        TakesItem C.accepts core.old event frames.old.items core.new frames.new.items) }
+{
+    let flow = event.flow();
+    core.apply(event);
+    core.drain(alloc, flow, frames)
+}
+
+impl<C: HeaderCheck + Drop> Assembler<C> {
+    /// Flows that have taken nothing yet, for records that have no fault.
+    pub fn new(alloc: Global, records: &[FlowRecord], check: C) -> Result<Assembler<C>, AllocError>
+        requires set_up { CanBeSetUp records.now }
+        ensures { IfOk result (λ assembler.
+            HasAssembled C.accepts assembler (C.accepts check) records.now []) }
+    {
+        let mut frames = Vec::with_capacity(alloc, records.len())?;
+        for _ in records {
+            frames.push_reserved(Vec::new(alloc));
+        }
+        let core = Core::new(alloc, records, check).map_err(|_| AllocError)?;
+        Ok(Assembler { core, frames })
+    }
+
+    /// How many flows there are.
+    pub fn flow_count(&self) -> usize
+        ensures { result ≡ length self.now.core.flows.items }
+    {
+        self.core.flow_count()
+    }
+
+    /// Takes an item, and drains its flow.
+    pub fn take(&mut self, alloc: Global, event: Event) -> Result<(), AllocError>
+        requires item { IsItem (length self.old.core.flows.items) event }
+        requires assembling { IsAssembling C.accepts self.old }
+        ensures { IfOk result (λ _.
+            (accepted : List ℕ → Bool) (records : List FlowRecord) (items : List Event)
+            → HasAssembled C.accepts self.old accepted records items
+            → HasAssembled C.accepts self.new accepted records (items ++ event ∷ [])) }
+    {
+        let flow = event.flow();
+        take_item(alloc, &mut self.core, event, &mut self.frames[flow])
+    }
+
+    /// Closes all flows, and answers what each gave.
+    pub fn finish(
+        self,
+        alloc: Global,
+        records: &[FlowRecord],
+    ) -> Result<Vec<FlowOutcome>, AllocError>
+        requires assembling { (accepted : List ℕ → Bool) × (items : List Event)
+            × HasAssembled C.accepts self accepted records.now items }
+        ensures { IfOk result (λ flows.
+            (accepted : List ℕ → Bool) (items : List Event)
+            → HasAssembled C.accepts self accepted records.now items
+            → AreOutcomesOfFlows accepted records.now items flows.items) }
+    {
+        let Assembler { mut core, frames } = self;
+        let mut flows = Vec::with_capacity(alloc, records.len())?;
+        for (k, (record, given)) in records.iter().zip(frames).enumerate() {
+            let mut frames = given;
+            core.close(alloc, k, &mut frames)?;
+            flows.push_reserved(FlowOutcome {
+                sfid: record.sfid,
+                frames,
+                counts: core.counts(k),
+            });
+        }
+        Ok(flows)
+    }
+}

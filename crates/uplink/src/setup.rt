@@ -1,0 +1,36 @@
+//! What a receiver is set up with, and what comes in on its channels.
+use crate::input::Input;
+use crate::row::SidRow;
+use flow_core::FlowRecord;
+
+/// What a receiver is set up with.
+#[derive(Debug, Drop)]
+pub struct Setup {
+    /// The flows, at most 64. A flow's index is the place of its record.
+    pub flows: Vec<FlowRecord>,
+    /// The service identifiers of all channels.
+    pub sids: Vec<SidRow>,
+    /// How many entries a mailbox between threads has room for, at least 1. A replay doesn't look
+    /// at it.
+    pub mailbox: u16,
+}
+
+/// The decision that segments of a flow are lost. One that names no flow, or a number above 8191,
+/// is passed over.
+#[derive(Clone, Copy, Debug, PartialEq, Eq)]
+pub struct Decision {
+    /// The index of the flow's record.
+    pub flow: usize,
+    /// Where it is none, the expected segment is lost; otherwise the segments before the one with
+    /// this number, 0 to 8191, are.
+    pub upto: Option<u16>,
+}
+
+/// All that comes in: the inputs of each channel, in their order, and the decisions, in theirs.
+#[derive(Debug, Drop)]
+pub struct Lists {
+    /// The inputs of the channels 0 to 3.
+    pub inputs: [Vec<Input>; 4],
+    /// The decisions.
+    pub decisions: Vec<Decision>,
+}
