@@ -12,6 +12,10 @@ use Rattle.uplink.specs.declared.outcome.LaneReport.{LaneReport}
 use Rattle.uplink.specs.declared.outcome.Outcome.{Outcome}
 use Rattle.uplink.specs.declared.setup.Setup.{Setup}
 use Rattle.uplink.specs.declared.setup.Lists.{Lists}
+use Rattle.uplink.specs.declared.replaying.ReplayFault.{ReplayFault}
+use Rattle.uplink.specs.declared.replaying.ReplayFault.TheVariants as replay_fault
+use Rattle.flow_core.specs.Setup.{CanBeSetUp, IsSetupFault}
+use Rattle.uplink.specs.Rows.{CanBeOpened, IsLaneFault}
 use Rattle.uplink.specs.Limits.{channel_limit}
 use Rattle.uplink.specs.Inputs.{AnsweredInput}
 use Rattle.uplink.specs.Report.{requests_of, admitted_count, refusal_numbers}
@@ -74,3 +78,23 @@ pub record IsAdmittedOrder (setup : Setup) (lists : Lists) (tags order : List �
 -- how many inputs each channel has, and how many decisions there are
 abbrev pub input_counts : Lists → List ℕ
 input_counts lists = map (λ inputs. length inputs.items) lists.inputs ++ length lists.decisions.items ∷ []
+
+-- neither the flows nor the lanes have a fault
+pub record CanReceive (setup : Setup) : Type 0 where
+  pub flows : CanBeSetUp setup.flows.items
+  pub lanes : CanBeOpened setup.sids.items (length setup.flows.items)
+
+-- The fault of a setup, or, where it has none, of an order. Each comes only where those before it don't apply.
+abbrev pub IsFirstFault : Setup → (ℕ → Type 0) → ReplayFault → Type 0
+IsFirstFault setup IsBadOrder (replay_fault.Setup fault) = IsSetupFault setup.flows.items fault
+IsFirstFault setup IsBadOrder (replay_fault.Lane fault) = CanBeSetUp setup.flows.items × IsLaneFault setup.sids.items (length setup.flows.items) fault
+IsFirstFault setup IsBadOrder (replay_fault.BadOrder k) = CanReceive setup × IsBadOrder k
+IsFirstFault setup IsBadOrder replay_fault.OutOfMemory = CanReceive setup
+
+-- why these lists aren't replayed in this order
+abbrev pub IsReplayFault : Setup → Lists → List ℕ → ReplayFault → Type 0
+IsReplayFault setup lists order = IsFirstFault setup (HasBadOrder setup lists order)
+
+-- why the tags of all inputs and decisions have no admitted order
+abbrev pub IsTagsFault : Setup → Lists → List ℕ → ReplayFault → Type 0
+IsTagsFault setup lists tags = IsFirstFault setup (IsOrderFault (input_counts lists) tags)

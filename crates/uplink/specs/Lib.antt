@@ -9,3 +9,4 @@ pub mod Order
 pub mod Items
 pub mod Answer
 pub mod Assembly
+pub mod Received

@@ -58,6 +58,24 @@ impl Lane {
             ↔ IsLaneFault rows.now (length records.now) (LaneFault.UnknownFlow k) }
     {
         check_rows(rows, records.len())?;
+        Ok(Lane::open(alloc, channel, rows, records)?)
+    }
+
+    /// A lane of this channel with nothing outstanding, for rows that have no fault.
+    pub(crate) fn open(
+        alloc: Global,
+        channel: u8,
+        rows: &[SidRow],
+        records: &[FlowRecord],
+    ) -> Result<Lane, AllocError>
+        requires can_be_opened { CanBeOpened rows.now (length records.now) }
+        ensures { IfOk result (λ lane. let setup : LaneSetup = record {
+          channel = channel;
+          rows = rows.now;
+          records = records.now;
+        } in
+            StandsFor setup lane []) }
+    {
         let flows = flows_of(alloc, channel, rows, records)?;
         Ok(Lane {
             channel,

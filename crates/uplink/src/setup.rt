@@ -1,7 +1,7 @@
 //! What a receiver is set up with, and what comes in on its channels.
 use crate::input::Input;
 use crate::row::SidRow;
-use flow_core::FlowRecord;
+use flow_core::{Event, FlowRecord};
 
 /// What a receiver is set up with.
 #[derive(Debug, Drop)]
@@ -24,6 +24,29 @@ pub struct Decision {
     /// Where it is none, the expected segment is lost; otherwise the segments before the one with
     /// this number, 0 to 8191, are.
     pub upto: Option<u16>,
+}
+
+impl Decision {
+    ghost use Rattle.std.specs.Prelude.{◌≡◌};
+    ghost use Rattle.uplink.specs.Items.{names_a_flow, event_of_decision};
+
+    /// Whether it names one of so many flows, and no number above 8191.
+    pub(crate) fn names_a_flow(&self, flow_count: usize) -> bool
+        ensures { result ≡ names_a_flow flow_count self.now }
+    {
+        self.flow < flow_count && self.upto.is_none_or(|number| number < 8192)
+    }
+
+    /// What it is to the flows.
+    pub(crate) fn event(&self) -> Event
+        ensures { result ≡ event_of_decision self.now }
+    {
+        let flow = self.flow;
+        match self.upto {
+            None => Event::Gap { flow },
+            Some(number) => Event::GapTo { flow, number },
+        }
+    }
 }
 
 /// All that comes in: the inputs of each channel, in their order, and the decisions, in theirs.

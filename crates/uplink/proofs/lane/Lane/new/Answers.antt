@@ -29,20 +29,20 @@ returns-in_err-check_rows-clause-memory c e =
     let found = c.in_err-check_rows.field-0.0 in
     absurd ((fault-is c.args.rows.now _ c.from_residual.result found (p.1 ∙ ap Err p.2) ((c.in_err-check_rows.ensures.fault found).0 refl) OutOfMemory).0 e)
 
-pub returns-in_err-flows-clause-range : goal.returns-in_err-flows-clause-range
-returns-in_err-flows-clause-range c k =
-    let p = err_from_is_err_and c.from_residual-in_err-flows.result c.from_residual-in_err-flows.ensures.1 in
-    fault-not c.args.rows.now _ c.from_residual-in_err-flows.result (SidRange k) (c.in_ok-check_rows.ensures.ok.0 refl) (λ e. cc)
+pub returns-in_err-open-clause-range : goal.returns-in_err-open-clause-range
+returns-in_err-open-clause-range c k =
+    let p = err_from_is_err_and c.from_residual-in_err-open.result c.from_residual-in_err-open.ensures.1 in
+    fault-not c.args.rows.now _ c.from_residual-in_err-open.result (SidRange k) (c.in_ok-check_rows.ensures.ok.0 refl) (λ e. cc)
 
-pub returns-in_err-flows-clause-same : goal.returns-in_err-flows-clause-same
-returns-in_err-flows-clause-same c k =
-    let p = err_from_is_err_and c.from_residual-in_err-flows.result c.from_residual-in_err-flows.ensures.1 in
-    fault-not c.args.rows.now _ c.from_residual-in_err-flows.result (SameSid k) (c.in_ok-check_rows.ensures.ok.0 refl) (λ e. cc)
+pub returns-in_err-open-clause-same : goal.returns-in_err-open-clause-same
+returns-in_err-open-clause-same c k =
+    let p = err_from_is_err_and c.from_residual-in_err-open.result c.from_residual-in_err-open.ensures.1 in
+    fault-not c.args.rows.now _ c.from_residual-in_err-open.result (SameSid k) (c.in_ok-check_rows.ensures.ok.0 refl) (λ e. cc)
 
-pub returns-in_err-flows-clause-unknown : goal.returns-in_err-flows-clause-unknown
-returns-in_err-flows-clause-unknown c k =
-    let p = err_from_is_err_and c.from_residual-in_err-flows.result c.from_residual-in_err-flows.ensures.1 in
-    fault-not c.args.rows.now _ c.from_residual-in_err-flows.result (UnknownFlow k) (c.in_ok-check_rows.ensures.ok.0 refl) (λ e. cc)
+pub returns-in_err-open-clause-unknown : goal.returns-in_err-open-clause-unknown
+returns-in_err-open-clause-unknown c k =
+    let p = err_from_is_err_and c.from_residual-in_err-open.result c.from_residual-in_err-open.ensures.1 in
+    fault-not c.args.rows.now _ c.from_residual-in_err-open.result (UnknownFlow k) (c.in_ok-check_rows.ensures.ok.0 refl) (λ e. cc)
 
 pub returns-clause-range : goal.returns-clause-range
 returns-clause-range c k = fault-not c.args.rows.now _ _ (SidRange k) (c.in_ok-check_rows.ensures.ok.0 refl) (λ e. cc)

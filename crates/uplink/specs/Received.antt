@@ -1,0 +1,25 @@
+-- What a channel's whole list of inputs gave, and the items of five senders that are still to be taken.
+use Rattle.std.specs.Prelude.{◌≡◌, ℕ, zero, suc, All, List, map, length, is_some}
+use Rattle.std.specs.Vec.Iter.{into_iter_items}
+use Rattle.uplink.specs.declared.received.Received.{Received}
+use Rattle.uplink.specs.declared.merging.Merging.{Merging}
+use Rattle.uplink.specs.Inputs.{AnsweredInput}
+use Rattle.uplink.specs.Report.{admitted_by, admitted_of, requests_of}
+use Rattle.uplink.specs.Items.{IsItem, event_of_admitted}
+use Rattle.uplink.specs.Answer.{IsReportOf}
+
+-- this is what the inputs with these answers gave, where there are so many flows
+pub record HasReceived (flow_count : ℕ) (answered : List AnsweredInput) (received : Received) : Type 0 where
+  pub items : received.items.items ≡ map event_of_admitted (admitted_of answered)
+  pub are_items : received.are_items.items ≡ map (λ one. is_some (admitted_by one.answer)) answered
+  pub requests : received.requests.items ≡ requests_of answered
+  pub report : IsReportOf answered received.report
+  pub each : All (IsItem flow_count) received.items.items
+
+-- what is still to be taken of a sender
+abbrev pub left_of : {T : Type 0} → Merging T → ℕ → List T
+left_of merging zero = into_iter_items merging.l0
+left_of merging (suc zero) = into_iter_items merging.l1
+left_of merging (suc (suc zero)) = into_iter_items merging.l2
+left_of merging (suc (suc (suc zero))) = into_iter_items merging.l3
+left_of merging _ = into_iter_items merging.l4

@@ -1,0 +1,81 @@
+//! All inputs of a channel, one after another.
+ghost use Rattle.std.specs.Prelude.{◌≡◌, ◌<◌, List, IfOk, length};
+ghost use Rattle.uplink.specs.Rows.{CanBeOpened};
+ghost use Rattle.uplink.specs.Inputs.{AnsweredInput, AreAnswered, inputs_of};
+ghost use Rattle.uplink.specs.Items.{lane_setup};
+ghost use Rattle.uplink.specs.Received.{HasReceived};
+
+use crate::admitted::Admitted;
+use crate::input::Input;
+use crate::lane::Lane;
+use crate::outcome::LaneReport;
+use crate::received::Received;
+use crate::refusal::Refusal;
+use crate::setup::Setup;
+use flow_core::Event;
+use std::alloc::{AllocError, Global};
+
+impl Received {
+    /// Nothing was received yet.
+    fn none(alloc: Global) -> Received {
+        Received {
+            items: Vec::new(alloc),
+            are_items: Vec::new(alloc),
+            requests: Vec::new(alloc),
+            report: LaneReport {
+                admitted: 0,
+                refused: Vec::new(alloc),
+            },
+        }
+    }
+
+    /// Notes what became of one input.
+    fn note(&mut self, answer: Result<Option<Admitted>, Refusal>) -> Result<(), AllocError> {
+        match answer {
+            Ok(Some(admitted)) => {
+                self.are_items.push(true)?;
+                self.report.admitted = self.report.admitted.saturating_add(1);
+                if let Some(request) = admitted.request {
+                    self.requests.push(request)?;
+                }
+                let flow = admitted.flow;
+                let segment = admitted.segment;
+                self.items.push(Event::Arrive { flow, segment })?;
+            }
+            Ok(None) => self.are_items.push(false)?,
+            Err(refusal) => {
+                self.are_items.push(false)?;
+                self.report.refused.push(refusal.number())?;
+            }
+        }
+        Ok(())
+    }
+}
+
+/// What these inputs of a channel, 0 to 3, give.
+pub fn receive(
+    alloc: Global,
+    setup: &Setup,
+    channel: u8,
+    inputs: &[Input],
+) -> Result<Received, AllocError>
+    requires can_be_opened { CanBeOpened setup.now.sids.items (length setup.now.flows.items) }
+    ensures { IfOk result (λ received. (answered : List AnsweredInput)
+        × AreAnswered (lane_setup setup.now channel) answered
+        × (inputs_of answered ≡ inputs.now)
+        × HasReceived (length setup.now.flows.items) answered received) }
+{
+    let mut lane = Lane::open(alloc, channel, &setup.sids, &setup.flows)?;
+    let mut received = Received::none(alloc);
+    for input in inputs {
+        let answer = lane.take(alloc, input);
+        if matches!(
+            answer,
+            Err(Refusal::GrantOutOfMemory | Refusal::BurstOutOfMemory)
+        ) {
+            return Err(AllocError);
+        }
+        received.note(answer)?;
+    }
+    Ok(received)
+}

@@ -1,0 +1,177 @@
+//! A receiver on one thread, for inputs that were recorded.
+ghost use Rattle.std.specs.Prelude.{◌≡◌, ◌↔◌, ℕ, IfOk, IfErr, Ok, Err, length};
+ghost use Rattle.uplink.specs.declared.replaying.ReplayFault.{ReplayFault};
+ghost use Rattle.uplink.specs.Answer.{IsOutcome, IsAdmittedOrder, CanReceive, input_counts, IsFirstFault, IsReplayFault, IsTagsFault};
+
+use super::ReplayFault;
+use crate::assembler::Assembler;
+use crate::merging::Merging;
+use crate::order::check_order;
+use crate::outcome::{FlowOutcome, Outcome};
+use crate::received::Received;
+use crate::receiving::receive;
+use crate::row::check_rows;
+use crate::setup::{Decision, Lists, Setup};
+use docsis_wire::HeaderCheck;
+use flow_core::{Event, FlowRecord, check_records};
+use std::alloc::{AllocError, Global};
+
+/// Looks for the first fault of a setup. It takes no memory.
+fn check_setup(setup: &Setup) -> Result<(), ReplayFault>
+    ensures ok { (result ≡ Ok tt) ↔ CanReceive setup.now }
+    ensures fault { IfErr result (IsFirstFault setup.now (λ k. ⊥)) }
+{
+    check_records(&setup.flows).map_err(ReplayFault::Setup)?;
+    check_rows(&setup.sids, setup.flows.len()).map_err(ReplayFault::Lane)
+}
+
+/// What the inputs of the four channels give.
+#[derive(Drop)]
+struct FourReceived {
+    r0: Received,
+    r1: Received,
+    r2: Received,
+    r3: Received,
+}
+
+fn receive_all(alloc: Global, setup: &Setup, lists: &Lists) -> Result<FourReceived, AllocError> {
+    let [i0, i1, i2, i3] = &lists.inputs;
+    Ok(FourReceived {
+        r0: receive(alloc, setup, 0, i0)?,
+        r1: receive(alloc, setup, 1, i1)?,
+        r2: receive(alloc, setup, 2, i2)?,
+        r3: receive(alloc, setup, 3, i3)?,
+    })
+}
+
+/// The admitted order: of tags that name the sender of each input and decision, 0 to 3 for the
+/// channels and 4 for decisions, those of admitted bursts and of decisions that name a flow.
+pub fn admitted_order(
+    alloc: Global,
+    setup: &Setup,
+    lists: &Lists,
+    tags: &[u8],
+) -> Result<Vec<u8>, ReplayFault>
+    ensures order { IfOk result (λ order.
+        IsAdmittedOrder setup.now lists.now tags.now order.items) }
+    ensures can_receive { IfOk result (λ _. CanReceive setup.now) }
+    ensures fault { IfErr result (IsTagsFault setup.now lists.now tags.now) }
+{
+    check_setup(setup)?;
+    check_order(input_counts(lists), tags).map_err(ReplayFault::BadOrder)?;
+    let mut flags = flags_of(alloc, setup, lists)?;
+    let mut order = Vec::with_capacity(alloc, tags.len())?;
+    for tag in tags {
+        if flags.next(*tag) == Some(true) {
+            order.push_reserved(*tag);
+        }
+    }
+    Ok(order)
+}
+
+/// How many inputs each channel has, and how many decisions there are.
+fn input_counts(lists: &Lists) -> [usize; 5]
+    ensures { result ≡ input_counts lists.now }
+{
+    let [i0, i1, i2, i3] = &lists.inputs;
+    [
+        i0.len(),
+        i1.len(),
+        i2.len(),
+        i3.len(),
+        lists.decisions.len(),
+    ]
+}
+
+/// Of each input and decision, whether it gives an item.
+fn flags_of(alloc: Global, setup: &Setup, lists: &Lists) -> Result<Merging<bool>, AllocError> {
+    let FourReceived { r0, r1, r2, r3 } = receive_all(alloc, setup, lists)?;
+    let flow_count = setup.flows.len();
+    let mut decided = Vec::with_capacity(alloc, lists.decisions.len())?;
+    for decision in &lists.decisions {
+        decided.push_reserved(decision.names_a_flow(flow_count));
+    }
+    Ok(Merging {
+        l0: r0.are_items.into_iter(),
+        l1: r1.are_items.into_iter(),
+        l2: r2.are_items.into_iter(),
+        l3: r3.are_items.into_iter(),
+        l4: decided.into_iter(),
+    })
+}
+
+/// The decisions that name a flow, as what they are to the flows.
+fn decisions_of(
+    alloc: Global,
+    setup: &Setup,
+    decisions: &[Decision],
+) -> Result<Vec<Event>, AllocError> {
+    let flow_count = setup.flows.len();
+    let mut items = Vec::new(alloc);
+    for decision in decisions {
+        if decision.names_a_flow(flow_count) {
+            items.push(decision.event())?;
+        }
+    }
+    Ok(items)
+}
+
+/// Replays the inputs of all channels and the decisions on the caller's thread: it takes the
+/// segments that each channel admits and the decisions that name a flow in this order, 0 to 3 for
+/// the channels and 4 for decisions, drains a flow after each, and then closes each flow.
+pub fn replay<C: HeaderCheck + Drop>(
+    alloc: Global,
+    setup: &Setup,
+    lists: &Lists,
+    order: &[u8],
+    check: C,
+) -> Result<Outcome, ReplayFault>
+    ensures outcome { IfOk result (IsOutcome (C.accepts check) setup.now lists.now order.now) }
+    ensures can_receive { IfOk result (λ _. CanReceive setup.now) }
+    ensures fault { IfErr result (IsReplayFault setup.now lists.now order.now) }
+{
+    check_setup(setup)?;
+    let received = receive_all(alloc, setup, lists)?;
+    let decided = decisions_of(alloc, setup, &lists.decisions)?;
+    let FourReceived { r0, r1, r2, r3 } = received;
+    let lengths = [
+        r0.items.len(),
+        r1.items.len(),
+        r2.items.len(),
+        r3.items.len(),
+        decided.len(),
+    ];
+    check_order(lengths, order).map_err(ReplayFault::BadOrder)?;
+    let merging = Merging {
+        l0: r0.items.into_iter(),
+        l1: r1.items.into_iter(),
+        l2: r2.items.into_iter(),
+        l3: r3.items.into_iter(),
+        l4: decided.into_iter(),
+    };
+    let flows = assemble(alloc, &setup.flows, merging, order, check)?;
+    Ok(Outcome {
+        flows,
+        requests: [r0.requests, r1.requests, r2.requests, r3.requests],
+        lanes: [r0.report, r1.report, r2.report, r3.report],
+        order: Vec::from_slice(alloc, order)?,
+    })
+}
+
+/// What all flows give once they have taken the items of five senders in this order.
+fn assemble<C: HeaderCheck + Drop>(
+    alloc: Global,
+    records: &[FlowRecord],
+    merging: Merging<Event>,
+    order: &[u8],
+    check: C,
+) -> Result<Vec<FlowOutcome>, AllocError> {
+    let mut merging = merging;
+    let mut assembler = Assembler::new(alloc, records, check)?;
+    for sender in order {
+        if let Some(item) = merging.next(*sender) {
+            assembler.take(alloc, item)?;
+        }
+    }
+    assembler.finish(alloc, records)
+}
