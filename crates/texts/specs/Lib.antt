@@ -7,3 +7,4 @@ pub mod Fault
 pub mod Format
 pub mod Join
 pub mod Cut
+pub mod Trace

@@ -15,9 +15,11 @@ mod lines;
 mod number;
 #[cfg(test)]
 mod refusals;
+mod trace;
 mod words;
 
 pub use cut::cut_lines;
-pub use fault::{TextFault, TraceFault, TraceKind};
+pub use fault::{ParseFault, TextFault, TraceFault, TraceKind};
 pub use join::join_lines;
 pub use number::read_number;
+pub use trace::{Trace, parse_trace};
