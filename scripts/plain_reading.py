@@ -1,5 +1,5 @@
-"""A plain, slow reading of frames, of how segments are joined and of what becomes of a flow's segments, and a modem's cut,
-for the scripts that compare them with the code.
+"""A plain, slow reading of frames, of how segments are joined and of what becomes of a flow's segments, and a modem's
+cut, for the scripts that compare them with the code.
 
 A frame is known only by its grammar: every length is tried for a whole frame in front of some bytes. A segment is its
 bytes, of which the first eight are its header.
@@ -91,8 +91,8 @@ class Flow:
         return "kept"
 
     def gap(self, number=None):
-        """Declares lost what is missing before the index with this number or, without one, the expected index, where it
-        lies before a kept one. Answers whether anything was."""
+        """Declares the expected index lost or, with a number, all that is missing before the index that has it, but only
+        what lies before a kept index. Answers whether anything was declared."""
         end = self.expected + 1 if number is None else self.index(number)
         last = max(self.kept, default=-1)
         lost = [index for index in range(self.expected, min(end, last)) if index not in self.kept]
