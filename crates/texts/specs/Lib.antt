@@ -8,3 +8,5 @@ pub mod Format
 pub mod Join
 pub mod Cut
 pub mod Trace
+pub mod Report
+pub mod Replay
