@@ -1,0 +1,126 @@
+-- What one more item makes of what the flows have taken and given.
+use Rattle.std.proofs.Common.{◌≡◌, ◌≢◌, ℕ, ◌<◌, ◌==◌, ⊎_elim, Bool, Some, List, [], ◌∷◌, ◌++◌, map, filter, cond, true, false, length, slice_get, refl, ap, sym, subst, ◌∙◌, arith}
+use Rattle.std.proofs.lemmas.Bool.{cases_eq, eq-eqb, ne_eqb}
+use Rattle.std.proofs.lemmas.List.{append-nil, map-append}
+use Rattle.std.proofs.lemmas.List.Elements.{filter-append}
+use Rattle.std.proofs.lemmas.Option.{slice_get_within}
+use Rattle.docsis_wire.proofs.Places.{element_at}
+use Rattle.flow_core.specs.declared.record.FlowRecord.{FlowRecord}
+use Rattle.flow_core.specs.declared.flows.Core.{Core}
+use Rattle.flow_core.specs.declared.event.Event.{Event}
+use Rattle.flow_core.specs.declared.event.Applied.{Applied}
+use Rattle.flow_core.specs.Setup.{IsInRange}
+use Rattle.flow_core.specs.Events.{FlowEvent}
+use Rattle.flow_core.specs.Flows.{flow_of, event_of, HasFlow, OthersStay, TakesEventAt, IsDrainedAt}
+use Rattle.flow_core.specs.Giving.{HasGiven, HasDrained, IsRunning, Drains}
+use Rattle.uplink.specs.Items.{events_at}
+use Rattle.uplink.specs.Assembly.{HasTaken, IsTaking, TakesItem}
+
+-- the events of one item: it is one of its flow, and none of any other
+module _ (items : List Event) (event : Event) where
+  more_events : (k : ℕ) (named : Bool) → (flow_of event == k) ≡ named
+      → events_at k (items ++ event ∷ []) ≡ events_at k items ++ map event_of (cond named (event ∷ []) [])
+  more_events k named is =
+      let of_flow : Event → Bool = λ one. flow_of one == k in
+      ap (map event_of) (filter-append of_flow items (event ∷ []) ∙ ap (λ b. filter of_flow items ++ cond b (event ∷ []) []) is)
+      ∙ map-append event_of (filter of_flow items) (cond named (event ∷ []) [])
+
+  event_taken : events_at (flow_of event) (items ++ event ∷ []) ≡ events_at (flow_of event) items ++ event_of event ∷ []
+  event_taken = more_events (flow_of event) true (eq-eqb (flow_of event) (flow_of event) refl)
+
+  event_of_another : (k : ℕ) → k ≢ flow_of event → events_at k (items ++ event ∷ []) ≡ events_at k items
+  event_of_another k apart = more_events k false (ne_eqb (flow_of event) k (λ same. apart (sym same))) ∙ append-nil (events_at k items)
+
+module _ {C : Type 0} (accepts : C → List ℕ → Bool) (core after : Core C) (k : ℕ) (others : OthersStay core after k) where
+  -- a flow takes an event
+  pub event_given : (accepted : List ℕ → Bool) (r : FlowRecord) (events : List FlowEvent) (given : List (List ℕ)) (event : FlowEvent) (answer : Applied)
+      → TakesEventAt core k event answer after → HasGiven accepts core k accepted r events given
+      → HasGiven accepts after k accepted r (events ++ event ∷ []) given
+  event_given accepted r events given event answer takes has =
+      let there = takes has.flow has.there in
+      let next = there.2 accepted r events has.answers has.y given has.stands in
+      record {
+        accepted_are = ap accepts others.check ∙ has.accepted_are;
+        flow = there.0;
+        there = there.1;
+        answers = has.answers ++ answer ∷ [];
+        y = next.0;
+        stands = next.1;
+      }
+
+  -- and all others stay
+  pub another_drained : (j : ℕ) (accepted : List ℕ → Bool) (r : FlowRecord) (events : List FlowEvent) (given : List (List ℕ))
+      → j ≢ k → HasDrained accepts core j accepted r events given → HasDrained accepts after j accepted r events given
+  another_drained j accepted r events given apart has =
+      record {
+        has_given = record {
+          accepted_are = ap accepts others.check ∙ has.has_given.accepted_are;
+          flow = has.has_given.flow;
+          there = others.others j apart ∙ has.has_given.there;
+          answers = has.has_given.answers;
+          y = has.has_given.y;
+          stands = has.has_given.stands;
+        };
+        drained = has.drained;
+      }
+
+module _ {C : Type 0} (accepts : C → List ℕ → Bool) (core : Core C) (event : Event) where
+  module _ (exists : flow_of event < length core.flows.items) (taking : IsTaking accepts core) where
+    -- the record of the item's flow
+    its_record : (flow_record : FlowRecord) × (slice_get taking.records (flow_of event) ≡ Some flow_record)
+    its_record = element_at taking.records (flow_of event) (subst (λ n. flow_of event < n) taking.has_taken.count exists)
+
+    -- its flow is drained
+    pub drained_before : IsDrainedAt core (flow_of event)
+    drained_before =
+        let its = its_record in
+        let has = taking.has_taken.each (flow_of event) its.0 its.1 in
+        record { flow = has.has_given.flow; there = has.has_given.there; drained = has.drained }
+
+    -- and runs once it has taken the item
+    pub running_with : (between : Core C) (answer : Applied) → OthersStay core between (flow_of event) → TakesEventAt core (flow_of event) (event_of event) answer between
+        → IsRunning accepts between (flow_of event)
+    running_with between answer others takes =
+        let its = its_record in
+        let has = taking.has_taken in
+        let events = events_at (flow_of event) taking.items in
+        record {
+          accepted = taking.accepted;
+          flow_record = its.0;
+          events = events ++ event_of event ∷ [];
+          given = taking.given (flow_of event);
+          in_range = has.set_up.each (flow_of event) its.0 its.1;
+          has_given = event_given accepts core between (flow_of event) others taking.accepted its.0 events (taking.given (flow_of event)) (event_of event) answer takes
+              (has.each (flow_of event) its.0 its.1).has_given;
+        }
+
+  -- the flow takes the event and is drained: all flows have taken the item
+  pub item_taken : (between after : Core C) (answer : Applied) (frames frames' : List (List ℕ))
+      → OthersStay core between (flow_of event) → TakesEventAt core (flow_of event) (event_of event) answer between
+      → OthersStay between after (flow_of event) → Drains accepts between (flow_of event) frames after frames'
+      → TakesItem accepts core event frames after frames'
+  item_taken between after answer frames frames' others takes others' drains = record {
+    more = drains.more;
+    appended = drains.appended;
+    takes = λ accepted records items given given' has its rest. record {
+      set_up = has.set_up;
+      count = others'.count ∙ others.count ∙ has.count;
+      each = λ k r of_flow.
+          let Drained : ℕ → List FlowEvent → List (List ℕ) → Type 0 = λ j events gave. HasDrained accepts after j accepted r events gave in
+          let n = flow_of event in
+          ⊎_elim
+          (λ (same : k ≡ n).
+          let has_given = event_given accepts core between n others accepted r (events_at n items) (given n) (event_of event) answer takes
+          (has.each n r (subst (λ j. slice_get records j ≡ Some r) same of_flow)).has_given in
+          let drained = drains.gives accepted r (events_at n items ++ event_of event ∷ []) (given n) (has.set_up.each k r of_flow) has_given in
+          subst (λ j. Drained j (events_at j (items ++ event ∷ [])) (given' j)) (sym same)
+          (subst (λ events. Drained n events (given' n)) (sym (event_taken items event))
+          (subst (λ gave. Drained n (events_at n items ++ event_of event ∷ []) gave) (sym its) drained)))
+          (λ (apart : k ≢ n).
+          let stays = another_drained accepts between after n others' k accepted r (events_at k items) (given k) apart
+          (another_drained accepts core between n others k accepted r (events_at k items) (given k) apart (has.each k r of_flow)) in
+          subst (λ events. Drained k events (given' k)) (sym (event_of_another items event k apart))
+          (subst (λ gave. Drained k (events_at k items) gave) (sym (rest k apart)) stays))
+          (cases_eq k n);
+    };
+  }
