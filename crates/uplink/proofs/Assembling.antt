@@ -1,9 +1,11 @@
 -- What one more item makes of what the flows have taken and given.
-use Rattle.std.proofs.Common.{◌≡◌, ◌≢◌, ℕ, ◌<◌, ◌==◌, ⊎_elim, Bool, Some, List, [], ◌∷◌, ◌++◌, map, filter, cond, true, false, length, slice_get, refl, ap, sym, subst, ◌∙◌, arith}
+use Rattle.std.proofs.Common.{◌≡◌, ◌≢◌, ℕ, ◌<◌, ◌==◌, ⊎_elim, Bool, Some, List, [], ◌∷◌, ◌++◌, map, filter, cond, true, false, length, slice_get, slice_index_or, slice_set, Vec, refl, ap, sym, subst, ◌∙◌, arith}
 use Rattle.std.proofs.lemmas.Bool.{cases_eq, eq-eqb, ne_eqb}
-use Rattle.std.proofs.lemmas.List.{append-nil, map-append}
+use Rattle.std.proofs.lemmas.List.{append-nil, map-append, map-set, length-map, get_or-map, get_or-set_same, get_or-set_other, length-set}
 use Rattle.std.proofs.lemmas.List.Elements.{filter-append}
 use Rattle.std.proofs.lemmas.Option.{slice_get_within}
+use Rattle.std.specs.Global.{Global}
+use Rattle.docsis_wire.specs.declared.buffer.Bytes.{Bytes}
 use Rattle.docsis_wire.proofs.Places.{element_at}
 use Rattle.flow_core.specs.declared.record.FlowRecord.{FlowRecord}
 use Rattle.flow_core.specs.declared.flows.Core.{Core}
@@ -14,7 +16,8 @@ use Rattle.flow_core.specs.Events.{FlowEvent}
 use Rattle.flow_core.specs.Flows.{flow_of, event_of, HasFlow, OthersStay, TakesEventAt, IsDrainedAt}
 use Rattle.flow_core.specs.Giving.{HasGiven, HasDrained, IsRunning, Drains}
 use Rattle.uplink.specs.Items.{events_at}
-use Rattle.uplink.specs.Assembly.{HasTaken, IsTaking, TakesItem}
+use Rattle.uplink.specs.declared.assembler.Assembler.{Assembler}
+use Rattle.uplink.specs.Assembly.{HasTaken, IsTaking, TakesItem, HasAssembled, collected}
 
 -- the events of one item: it is one of its flow, and none of any other
 module _ (items : List Event) (event : Event) where
@@ -124,3 +127,36 @@ module _ {C : Type 0} (accepts : C → List ℕ → Bool) (core : Core C) (event
           (cases_eq k n);
     };
   }
+
+-- one of some lists has grown
+module _ {V : Type 0} (contents : V → List (List ℕ)) (lists : List V) (i : ℕ) (grown : V) where
+  it_has_grown : (before : V) (more : List (List ℕ)) → i < length lists → before ≡ slice_index_or lists i before → contents grown ≡ contents before ++ more
+      → slice_index_or (map contents (slice_set lists i grown)) i [] ≡ slice_index_or (map contents lists) i [] ++ more
+  it_has_grown before more within there appended =
+      ap (λ l. slice_index_or l i []) (map-set contents lists i grown)
+      ∙ get_or-set_same (map contents lists) i (contents grown) [] (subst (λ n. i < n) (sym (length-map lists contents)) within)
+      ∙ appended
+      ∙ ap (λ gave. gave ++ more) (ap contents there ∙ sym (get_or-map contents lists i before [] within))
+
+  no_other_has : (k : ℕ) → k ≢ i → slice_index_or (map contents (slice_set lists i grown)) k [] ≡ slice_index_or (map contents lists) k []
+  no_other_has k apart = ap (λ l. slice_index_or l k []) (map-set contents lists i grown) ∙ get_or-set_other (map contents lists) i k (contents grown) [] apart
+
+-- the frames of the item's flow are collected with what it gave before
+module _ {C : Type 0} (accepts : C → List ℕ → Bool) (assembler after : Assembler C) (event : Event) (frames grown : Vec Bytes Global) where
+  pub item_collected : TakesItem accepts assembler.core event frames.items after.core grown.items
+      → flow_of event < length assembler.core.flows.items
+      → frames ≡ slice_index_or assembler.frames.items (flow_of event) frames
+      → after.frames.items ≡ slice_set assembler.frames.items (flow_of event) grown
+      → (accepted : List ℕ → Bool) (records : List FlowRecord) (items : List Event)
+      → HasAssembled accepts assembler accepted records items → HasAssembled accepts after accepted records (items ++ event ∷ [])
+  item_collected takes exists there written accepted records items has =
+      let lists = assembler.frames.items in
+      let n = flow_of event in
+      let contents : Vec Bytes Global → List (List ℕ) = λ one. one.items in
+      let within : n < length lists = omega (arith, has.count, has.has_taken.count) in
+      let gave = ap (λ l. slice_index_or (map contents l) n []) written ∙ it_has_grown contents lists n grown frames takes.more within there takes.appended in
+      record {
+        has_taken = takes.takes accepted records items (collected assembler) (collected after) has.has_taken gave
+            (λ k apart. ap (λ l. slice_index_or (map contents l) k []) written ∙ no_other_has contents lists n grown k apart);
+        count = ap length written ∙ length-set lists n grown ∙ has.count;
+      }
