@@ -1,19 +1,21 @@
 -- What one more item makes of what the flows have taken and given.
-use Rattle.std.proofs.Common.{◌≡◌, ◌≢◌, ℕ, ◌<◌, ◌==◌, ⊎_elim, Bool, Some, List, [], ◌∷◌, ◌++◌, map, filter, cond, true, false, length, slice_get, slice_index_or, slice_set, Vec, refl, ap, sym, subst, ◌∙◌, arith}
+use Rattle.std.proofs.Common.{◌≡◌, ◌≢◌, ℕ, zero, suc, ◌<◌, ◌==◌, ⊎_elim, Bool, Some, List, [], ◌∷◌, ◌++◌, map, filter, replicate, cond, true, false, length, slice_get, slice_index_or, slice_set, Vec, refl, ap, sym, subst, ◌∙◌, arith}
 use Rattle.std.proofs.lemmas.Bool.{cases_eq, eq-eqb, ne_eqb}
-use Rattle.std.proofs.lemmas.List.{append-nil, map-append, map-set, length-map, get_or-map, get_or-set_same, get_or-set_other, length-set}
+use Rattle.std.proofs.lemmas.List.{append-nil, map-append, map-set, length-map, get_or-map, get_or-set_same, get_or-set_other, length-set, length-replicate}
 use Rattle.std.proofs.lemmas.List.Elements.{filter-append}
-use Rattle.std.proofs.lemmas.Option.{slice_get_within}
+use Rattle.std.proofs.lemmas.Option.{slice_get_within, same_Some}
 use Rattle.std.specs.Global.{Global}
 use Rattle.docsis_wire.specs.declared.buffer.Bytes.{Bytes}
 use Rattle.docsis_wire.proofs.Places.{element_at}
 use Rattle.flow_core.specs.declared.record.FlowRecord.{FlowRecord}
+use Rattle.flow_core.specs.declared.flow.Flow.{Flow}
 use Rattle.flow_core.specs.declared.flows.Core.{Core}
 use Rattle.flow_core.specs.declared.event.Event.{Event}
 use Rattle.flow_core.specs.declared.event.Applied.{Applied}
-use Rattle.flow_core.specs.Setup.{IsInRange}
+use Rattle.flow_core.specs.Setup.{CanBeSetUp}
 use Rattle.flow_core.specs.Events.{FlowEvent}
-use Rattle.flow_core.specs.Flows.{flow_of, event_of, HasFlow, OthersStay, TakesEventAt, IsDrainedAt}
+use Rattle.flow_core.specs.Stands.{StandsFor, IsDrained}
+use Rattle.flow_core.specs.Flows.{flow_of, event_of, OthersStay, TakesEventAt, IsDrainedAt, IsNewCore}
 use Rattle.flow_core.specs.Giving.{HasGiven, HasDrained, IsRunning, Drains}
 use Rattle.uplink.specs.Items.{events_at}
 use Rattle.uplink.specs.declared.assembler.Assembler.{Assembler}
@@ -160,3 +162,37 @@ module _ {C : Type 0} (accepts : C → List ℕ → Bool) (assembler after : Ass
             (λ k apart. ap (λ l. slice_index_or (map contents l) k []) written ∙ no_other_has contents lists n grown k apart);
         count = ap length written ∙ length-set lists n grown ∙ has.count;
       }
+
+-- an assembler of new flows has collected nothing
+module _ {C : Type 0} (accepts : C → List ℕ → Bool) (check : C) (records : List FlowRecord) (assembler : Assembler C) where
+  nothing_at : (n k : ℕ) → slice_index_or {A = List (List ℕ)} (replicate n []) k [] ≡ []
+  nothing_at zero k = refl
+  nothing_at (suc n) zero = refl
+  nothing_at (suc n) (suc k) = nothing_at n k
+
+  pub nothing_assembled : CanBeSetUp records → IsNewCore check records assembler.core
+      → map (λ (one : Vec Bytes Global). one.items) assembler.frames.items ≡ replicate (length records) []
+      → HasAssembled accepts assembler (accepts check) records []
+  nothing_assembled set_up is_new empty = record {
+    has_taken = record {
+      set_up = set_up;
+      count = is_new.count;
+      each = λ k r of_flow.
+          let its = is_new.each k r of_flow in
+          let drained = is_new.drained k (slice_get_within records k r of_flow) in
+          let same = same_Some drained.flow its.0 (sym drained.there ∙ its.1) in
+          let none : collected assembler k ≡ [] = ap (λ l. slice_index_or l k []) empty ∙ nothing_at (length records) k in
+          record {
+            has_given = record {
+              accepted_are = ap accepts is_new.check_is;
+              flow = its.0;
+              there = its.1;
+              answers = [];
+              y = 0;
+              stands = subst (λ gave. StandsFor (accepts check) r its.0 [] [] 0 gave) (sym none) (its.2 (accepts check));
+            };
+            drained = subst (λ (f : Flow). IsDrained f) same drained.drained;
+          };
+    };
+    count = sym (length-map assembler.frames.items _) ∙ ap length empty ∙ length-replicate (length records) [];
+  }

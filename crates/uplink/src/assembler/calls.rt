@@ -41,7 +41,10 @@ impl<C: HeaderCheck + Drop> Assembler<C> {
         for _ in records {
             frames.push_reserved(Vec::new(alloc));
         }
-        let core = Core::new(alloc, records, check).map_err(|_| AllocError)?;
+        // The records have no fault: only an allocation can fail.
+        let Ok(core) = Core::new(alloc, records, check) else {
+            return Err(AllocError);
+        };
         Ok(Assembler { core, frames })
     }
 
