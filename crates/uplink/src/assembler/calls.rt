@@ -3,14 +3,17 @@ ghost use Rattle.std.specs.Prelude.{◌≡◌, ◌++◌, ◌∷◌, [], ℕ, Boo
 ghost use Rattle.flow_core.specs.declared.record.FlowRecord.{FlowRecord};
 ghost use Rattle.flow_core.specs.declared.event.Event.{Event};
 ghost use Rattle.flow_core.specs.Setup.{CanBeSetUp};
+ghost use Rattle.flow_core.specs.Flows.{IsDrainedAt, OthersStay};
+ghost use Rattle.flow_core.specs.Giving.{IsRunning};
 ghost use Rattle.uplink.specs.Items.{IsItem};
 ghost use Rattle.uplink.specs.Answer.{AreOutcomesOfFlows};
-ghost use Rattle.uplink.specs.Assembly.{IsTaking, TakesItem, HasAssembled, IsAssembling};
+ghost use Rattle.uplink.specs.Assembly.{IsTaking, TakesItem, GivesTheRest};
+ghost use Rattle.uplink.specs.Assembly.{HasAssembled, IsAssembling};
 
 use super::Assembler;
 use crate::outcome::FlowOutcome;
 use docsis_wire::{Bytes, HeaderCheck};
-use flow_core::{Core, Event, FlowRecord};
+use flow_core::{Core, Event, FlowCounts, FlowRecord, laws};
 use std::alloc::{AllocError, Global};
 
 /// Takes an item, and appends the frames that its flow then gives.
@@ -28,6 +31,25 @@ pub fn take_item<C: HeaderCheck + Drop>(
     let flow = event.flow();
     core.apply(event);
     core.drain(alloc, flow, frames)
+}
+
+/// Closes a drained flow, appends the frames that it then gives, and answers what was counted.
+pub fn close_flow<C: HeaderCheck + Drop>(
+    alloc: Global,
+    core: &mut Core<C>,
+    flow: usize,
+    frames: &mut Vec<Bytes>,
+) -> Result<FlowCounts, AllocError>
+    requires running { IsRunning C.accepts core.old flow }
+    requires drained { IsDrainedAt core.old flow }
+    ensures gives { IfOk result (λ counts.
+        GivesTheRest C.accepts core.old flow frames.old.items frames.new.items counts) }
+    ensures others { OthersStay core.old core.new flow }
+{
+    laws::drained_flow_has_its_outcome();
+    laws::events_have_one_outcome();
+    core.close(alloc, flow, frames)?;
+    Ok(core.counts(flow))
 }
 
 impl<C: HeaderCheck + Drop> Assembler<C> {
@@ -83,13 +105,12 @@ impl<C: HeaderCheck + Drop> Assembler<C> {
     {
         let Assembler { mut core, frames } = self;
         let mut flows = Vec::with_capacity(alloc, records.len())?;
-        for (k, (record, given)) in records.iter().zip(frames).enumerate() {
-            let mut frames = given;
-            core.close(alloc, k, &mut frames)?;
+        for (record, mut frames) in records.iter().zip(frames) {
+            let counts = close_flow(alloc, &mut core, flows.len(), &mut frames)?;
             flows.push_reserved(FlowOutcome {
                 sfid: record.sfid,
                 frames,
-                counts: core.counts(k),
+                counts,
             });
         }
         Ok(flows)
