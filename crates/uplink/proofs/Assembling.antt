@@ -1,5 +1,5 @@
 -- What one more item makes of what the flows have taken and given.
-use Rattle.std.proofs.Common.{◌≡◌, ◌≢◌, ℕ, zero, suc, ◌<◌, ◌==◌, ⊎_elim, Bool, Some, List, [], ◌∷◌, ◌++◌, map, filter, replicate, cond, true, false, length, slice_get, slice_index_or, slice_set, Vec, refl, ap, sym, subst, ◌∙◌, arith}
+use Rattle.std.proofs.Common.{◌≡◌, ◌≢◌, ℕ, zero, suc, ◌<◌, ◌≤◌, ◌==◌, ⊎_elim, Bool, Some, List, [], ◌∷◌, ◌++◌, map, filter, replicate, cond, true, false, length, slice_get, slice_index_or, slice_set, Vec, refl, ap, sym, subst, ◌∙◌, arith}
 use Rattle.std.proofs.lemmas.Bool.{cases_eq, eq-eqb, ne_eqb}
 use Rattle.std.proofs.lemmas.List.{append-nil, map-append, map-set, length-map, get_or-map, get_or-set_same, get_or-set_other, length-set, length-replicate}
 use Rattle.std.proofs.lemmas.List.Elements.{filter-append}
