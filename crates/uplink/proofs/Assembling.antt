@@ -1,5 +1,5 @@
 -- What one more item makes of what the flows have taken and given.
-use Rattle.std.proofs.Common.{◌≡◌, ◌≢◌, ℕ, zero, suc, ◌<◌, ◌≤◌, ◌==◌, ⊎_elim, Bool, Some, List, [], ◌∷◌, ◌++◌, map, filter, replicate, cond, true, false, length, slice_get, slice_index_or, slice_set, Vec, refl, ap, sym, subst, ◌∙◌, arith}
+use Rattle.std.proofs.Common.{◌≡◌, ◌≢◌, ℕ, zero, suc, ◌<◌, ◌==◌, ⊎_elim, Bool, Some, List, [], ◌∷◌, ◌++◌, map, filter, replicate, cond, true, false, length, slice_get, slice_index_or, slice_set, Vec, refl, ap, sym, subst, ◌∙◌, arith}
 use Rattle.std.proofs.lemmas.Bool.{cases_eq, eq-eqb, ne_eqb}
 use Rattle.std.proofs.lemmas.List.{append-nil, map-append, map-set, length-map, get_or-map, get_or-set_same, get_or-set_other, length-set, length-replicate}
 use Rattle.std.proofs.lemmas.List.Elements.{filter-append}
@@ -19,7 +19,7 @@ use Rattle.flow_core.specs.Flows.{flow_of, event_of, OthersStay, TakesEventAt, I
 use Rattle.flow_core.specs.Giving.{HasGiven, HasDrained, IsRunning, Drains}
 use Rattle.uplink.specs.Items.{events_at}
 use Rattle.uplink.specs.declared.assembler.Assembler.{Assembler}
-use Rattle.uplink.specs.Assembly.{HasTaken, IsTaking, TakesItem, HasAssembled, collected}
+use Rattle.uplink.specs.Assembly.{IsTaking, TakesItem, HasAssembled, collected}
 
 -- the events of one item: it is one of its flow, and none of any other
 module _ (items : List Event) (event : Event) where
@@ -38,8 +38,8 @@ module _ (items : List Event) (event : Event) where
 
 module _ {C : Type 0} (accepts : C → List ℕ → Bool) (core after : Core C) (k : ℕ) (others : OthersStay core after k) where
   -- a flow takes an event
-  pub event_given : (accepted : List ℕ → Bool) (r : FlowRecord) (events : List FlowEvent) (given : List (List ℕ)) (event : FlowEvent) (answer : Applied)
-      → TakesEventAt core k event answer after → HasGiven accepts core k accepted r events given
+  pub event_given : (accepted : List ℕ → Bool) (r : FlowRecord) (events : List FlowEvent) (given : List (List ℕ))
+      → (event : FlowEvent) (answer : Applied) → TakesEventAt core k event answer after → HasGiven accepts core k accepted r events given
       → HasGiven accepts after k accepted r (events ++ event ∷ []) given
   event_given accepted r events given event answer takes has =
       let there = takes has.flow has.there in
@@ -83,8 +83,8 @@ module _ {C : Type 0} (accepts : C → List ℕ → Bool) (core : Core C) (event
         record { flow = has.has_given.flow; there = has.has_given.there; drained = has.drained }
 
     -- and runs once it has taken the item
-    pub running_with : (between : Core C) (answer : Applied) → OthersStay core between (flow_of event) → TakesEventAt core (flow_of event) (event_of event) answer between
-        → IsRunning accepts between (flow_of event)
+    pub running_with : (between : Core C) (answer : Applied) → OthersStay core between (flow_of event)
+        → TakesEventAt core (flow_of event) (event_of event) answer between → IsRunning accepts between (flow_of event)
     running_with between answer others takes =
         let its = its_record in
         let has = taking.has_taken in
@@ -95,8 +95,8 @@ module _ {C : Type 0} (accepts : C → List ℕ → Bool) (core : Core C) (event
           events = events ++ event_of event ∷ [];
           given = taking.given (flow_of event);
           in_range = has.set_up.each (flow_of event) its.0 its.1;
-          has_given = event_given accepts core between (flow_of event) others taking.accepted its.0 events (taking.given (flow_of event)) (event_of event) answer takes
-              (has.each (flow_of event) its.0 its.1).has_given;
+          has_given = event_given accepts core between (flow_of event) others taking.accepted its.0 events (taking.given (flow_of event))
+              (event_of event) answer takes (has.each (flow_of event) its.0 its.1).has_given;
         }
 
   -- the flow takes the event and is drained: all flows have taken the item
@@ -132,7 +132,8 @@ module _ {C : Type 0} (accepts : C → List ℕ → Bool) (core : Core C) (event
 
 -- one of some lists has grown
 module _ {V : Type 0} (contents : V → List (List ℕ)) (lists : List V) (i : ℕ) (grown : V) where
-  it_has_grown : (before : V) (more : List (List ℕ)) → i < length lists → before ≡ slice_index_or lists i before → contents grown ≡ contents before ++ more
+  it_has_grown : (before : V) (more : List (List ℕ)) → i < length lists → before ≡ slice_index_or lists i before
+      → contents grown ≡ contents before ++ more
       → slice_index_or (map contents (slice_set lists i grown)) i [] ≡ slice_index_or (map contents lists) i [] ++ more
   it_has_grown before more within there appended =
       ap (λ l. slice_index_or l i []) (map-set contents lists i grown)
@@ -141,7 +142,9 @@ module _ {V : Type 0} (contents : V → List (List ℕ)) (lists : List V) (i : �
       ∙ ap (λ gave. gave ++ more) (ap contents there ∙ sym (get_or-map contents lists i before [] within))
 
   no_other_has : (k : ℕ) → k ≢ i → slice_index_or (map contents (slice_set lists i grown)) k [] ≡ slice_index_or (map contents lists) k []
-  no_other_has k apart = ap (λ l. slice_index_or l k []) (map-set contents lists i grown) ∙ get_or-set_other (map contents lists) i k (contents grown) [] apart
+  no_other_has k apart =
+      ap (λ l. slice_index_or l k []) (map-set contents lists i grown)
+      ∙ get_or-set_other (map contents lists) i k (contents grown) [] apart
 
 -- the frames of the item's flow are collected with what it gave before
 module _ {C : Type 0} (accepts : C → List ℕ → Bool) (assembler after : Assembler C) (event : Event) (frames grown : Vec Bytes Global) where
@@ -156,7 +159,8 @@ module _ {C : Type 0} (accepts : C → List ℕ → Bool) (assembler after : Ass
       let n = flow_of event in
       let contents : Vec Bytes Global → List (List ℕ) = λ one. one.items in
       let within : n < length lists = omega (arith, has.count, has.has_taken.count) in
-      let gave = ap (λ l. slice_index_or (map contents l) n []) written ∙ it_has_grown contents lists n grown frames takes.more within there takes.appended in
+      let gave = ap (λ l. slice_index_or (map contents l) n []) written
+      ∙ it_has_grown contents lists n grown frames takes.more within there takes.appended in
       record {
         has_taken = takes.takes accepted records items (collected assembler) (collected after) has.has_taken gave
             (λ k apart. ap (λ l. slice_index_or (map contents l) k []) written ∙ no_other_has contents lists n grown k apart);

@@ -1,5 +1,5 @@
 -- What the close of one flow after another makes of an assembler.
-use Rattle.std.proofs.Common.{◌≡◌, ◌≢◌, ℕ, zero, suc, ◌+◌, ◌<◌, ◌≤◌, ⊎_elim, Bool, Some, List, [], ◌∷◌, ◌++◌, drop, length, slice_get, slice_index_or, map, Vec, refl, ap, sym, subst, ◌∙◌, arith}
+use Rattle.std.proofs.Common.{◌≡◌, ℕ, zero, suc, ◌<◌, ◌≤◌, ⊎_elim, Bool, Some, List, [], ◌∷◌, ◌++◌, drop, length, slice_get, Vec, ap, sym, subst, ◌∙◌, arith}
 use Rattle.std.proofs.lemmas.Bool.{cases_lt}
 use Rattle.std.proofs.lemmas.List.{length_push, get_or-map, get_or_push, get_or_append_left}
 use Rattle.std.proofs.lemmas.Option.{slice_get_within, get_or_from_slice_get, slice_get-get_or, same_Some}
@@ -9,7 +9,6 @@ use Rattle.docsis_wire.proofs.Places.{element_at}
 use Rattle.flow_core.specs.declared.record.FlowRecord.{FlowRecord}
 use Rattle.flow_core.specs.declared.flows.Core.{Core}
 use Rattle.flow_core.specs.declared.event.Event.{Event}
-use Rattle.flow_core.specs.declared.counts.FlowCounts.{FlowCounts}
 use Rattle.flow_core.specs.Flows.{OthersStay, IsDrainedAt}
 use Rattle.flow_core.specs.Giving.{HasDrained, IsRunning}
 use Rattle.uplink.specs.declared.assembler.Assembler.{Assembler}
@@ -20,13 +19,15 @@ use Rattle.uplink.specs.Assembly.{GivesTheRest, HasAssembled, collected}
 use Rattle.uplink.proofs.Assembling.{another_drained}
 
 -- the first of what is left of a list after its first k
-pub first_left : {X : Type 0} (xs : List X) (k : ℕ) (x : X) (rest : List X) → drop k xs ≡ x ∷ rest → (slice_get xs k ≡ Some x) × (drop (suc k) xs ≡ rest)
+pub first_left : {X : Type 0} (xs : List X) (k : ℕ) (x : X) (rest : List X) → drop k xs ≡ x ∷ rest
+    → (slice_get xs k ≡ Some x) × (drop (suc k) xs ≡ rest)
 first_left [] zero x rest is = absurd (cc)
 first_left [] (suc k) x rest is = absurd (cc)
 first_left (y ∷ xs) zero x rest is = (cc, cc)
 first_left (y ∷ xs) (suc k) x rest is = first_left xs k x rest is
 
-module _ {C : Type 0} (accepts : C → List ℕ → Bool) (assembler : Assembler C) (accepted : List ℕ → Bool) (records : List FlowRecord) (items : List Event) where
+module _ {C : Type 0} (accepts : C → List ℕ → Bool) (assembler : Assembler C) (accepted : List ℕ → Bool) (records : List FlowRecord)
+    (items : List Event) where
   -- as many flows as there are outcomes are closed, with these outcomes, and all others are as they were
   pub record AreClosedBelow (core : Core C) (flows : List FlowOutcome) : Type 0 where
     pub few : length flows ≤ length records
@@ -46,7 +47,8 @@ module _ {C : Type 0} (accepts : C → List ℕ → Bool) (assembler : Assembler
   }
 
   -- and each has its outcome at last
-  pub all_closed : (core : Core C) (flows : List FlowOutcome) → AreClosedBelow core flows → length records ≤ length flows → AreOutcomesOfFlows accepted records items flows
+  pub all_closed : (core : Core C) (flows : List FlowOutcome) → AreClosedBelow core flows → length records ≤ length flows
+      → AreOutcomesOfFlows accepted records items flows
   all_closed core flows closed all = record {
     count = omega (arith, closed.few);
     each = λ k r of_flow.
@@ -55,8 +57,8 @@ module _ {C : Type 0} (accepts : C → List ℕ → Bool) (assembler : Assembler
         (there.0, there.1, closed.outcomes k r there.0 of_flow there.1);
   }
 
-  module _ (has : HasAssembled accepts assembler accepted records items) (core : Core C) (flows : List FlowOutcome) (closed : AreClosedBelow core flows)
-      (r : FlowRecord) (of_flow : slice_get records (length flows) ≡ Some r) where
+  module _ (has : HasAssembled accepts assembler accepted records items) (core : Core C) (flows : List FlowOutcome)
+      (closed : AreClosedBelow core flows) (r : FlowRecord) (of_flow : slice_get records (length flows) ≡ Some r) where
     abbrev next : ℕ
     next = length flows
 

@@ -16,7 +16,8 @@ use docsis_wire::{Bytes, HeaderCheck};
 use flow_core::{Core, Event, FlowCounts, FlowRecord, laws};
 use std::alloc::{AllocError, Global};
 
-/// Takes an item, and appends the frames that its flow then gives.
+/// Takes an item, and appends the frames that its flow then gives. Where an allocation failed a
+/// frame may be lost.
 pub fn take_item<C: HeaderCheck + Drop>(
     alloc: Global,
     core: &mut Core<C>,
@@ -33,7 +34,8 @@ pub fn take_item<C: HeaderCheck + Drop>(
     core.drain(alloc, flow, frames)
 }
 
-/// Closes a drained flow, appends the frames that it then gives, and answers what was counted.
+/// Closes a drained flow, appends the frames that it then gives, and answers what was counted of
+/// it. Where an allocation failed a frame may be lost.
 pub fn close_flow<C: HeaderCheck + Drop>(
     alloc: Global,
     core: &mut Core<C>,
@@ -77,7 +79,8 @@ impl<C: HeaderCheck + Drop> Assembler<C> {
         self.core.flow_count()
     }
 
-    /// Takes an item, and drains its flow.
+    /// Takes an item, and collects the frames that its flow then gives. Where an allocation failed
+    /// a frame may be lost.
     pub fn take(&mut self, alloc: Global, event: Event) -> Result<(), AllocError>
         requires item { IsItem (length self.old.core.flows.items) event }
         requires assembling { IsAssembling C.accepts self.old }
@@ -90,7 +93,7 @@ impl<C: HeaderCheck + Drop> Assembler<C> {
         take_item(alloc, &mut self.core, event, &mut self.frames[flow])
     }
 
-    /// Closes all flows, and answers what each gave.
+    /// Closes all flows, and answers what each gave, in the order of the records.
     pub fn finish(
         self,
         alloc: Global,

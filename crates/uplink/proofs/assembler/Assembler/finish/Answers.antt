@@ -21,8 +21,9 @@ loop-record-init g c = record {
   closed = λ accepted items has.
       let accepts = g.C.HeaderCheck.accepts in
       let self = c.args.self in
-      subst (λ (flows : List FlowOutcome). AreClosedBelow accepts self accepted c.args.records.now items self.core flows) (sym c.in_ok-flows.ensures.items)
-      (none_closed accepts self accepted c.args.records.now items has);
+      let records = c.args.records.now in
+      subst (λ (flows : List FlowOutcome). AreClosedBelow accepts self accepted records items self.core flows) (sym c.in_ok-flows.ensures.items)
+      (none_closed accepts self accepted records items has);
 }
 
 pub close_flow-requires : goal.close_flow-requires
@@ -32,14 +33,16 @@ close_flow-requires g c =
     let flows = loop.flows.items in
     let some = c.requires.assembling in
     let records = c.args.records.now in
-    let of_flow = first_left records (length flows) c.in-Some.record.now (iter_rest (zip_first c.next.new.self)) (sym loop.invariant.records_left ∙ c.in-Some.ensures.steps.0) in
+    let r = c.in-Some.record.now in
+    let of_flow = first_left records (length flows) r (iter_rest (zip_first c.next.new.self))
+    (sym loop.invariant.records_left ∙ c.in-Some.ensures.steps.0) in
     let closed = loop.invariant.closed some.0 some.1 some.2 in
     let is = sym (c.len.ensures ∙ loop.flows.ok.0) in
     record {
       running = subst (λ k. IsRunning accepts loop.core k) is
-          (next_is_running accepts c.args.self some.0 records some.1 some.2 loop.core flows closed c.in-Some.record.now of_flow.0);
+          (next_is_running accepts c.args.self some.0 records some.1 some.2 loop.core flows closed r of_flow.0);
       drained = subst (λ k. IsDrainedAt loop.core k) is
-          (next_is_drained accepts c.args.self some.0 records some.1 some.2 loop.core flows closed c.in-Some.record.now of_flow.0);
+          (next_is_drained accepts c.args.self some.0 records some.1 some.2 loop.core flows closed r of_flow.0);
     }
 
 pub loop-record-preserved : goal.loop-record-preserved

@@ -1,9 +1,8 @@
 -- So many flows are closed, with their outcomes, and the others are as they were.
-use Rattle.std.proofs.Common.{◌≡◌, ◌≤◌, ℕ, ◌+◌, Bool, Some, List, length, drop, slice_get, vec_capacity}
+use Rattle.std.proofs.Common.{◌≡◌, ◌≤◌, ℕ, ◌+◌, Bool, List, length, drop, vec_capacity}
 use Rattle.std.specs.Iterator.Adapters.{zip_first, zip_second}
 use Rattle.std.specs.Slice.Iter.{iter_rest}
 use Rattle.std.specs.Vec.Iter.{into_iter_items, into_iter_len}
-use Rattle.flow_core.specs.declared.record.FlowRecord.{FlowRecord}
 use Rattle.flow_core.specs.declared.event.Event.{Event}
 use Rattle.uplink.specs.Assembly.{HasAssembled}
 use Rattle.uplink.proofs.Finishing.{AreClosedBelow}

@@ -1,5 +1,5 @@
 -- What the item's flow gives is collected.
-use Rattle.std.proofs.Common.{ℕ, ◌≡◌, refl, subst, slice_index_or, slice_set}
+use Rattle.std.proofs.Common.{◌≡◌, refl, subst, slice_index_or, slice_set}
 use Rattle.std.specs.Vec.{with_item}
 use Rattle.std.proofs.lemmas.Result.{IfOk-weaker}
 use Rattle.uplink.specs.Assembly.{TakesItem}

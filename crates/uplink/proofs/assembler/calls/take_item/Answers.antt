@@ -1,9 +1,8 @@
 -- The item's flow takes its event, and is drained.
-use Rattle.std.proofs.Common.{ℕ, sym, subst}
+use Rattle.std.proofs.Common.{sym, subst}
 use Rattle.std.proofs.lemmas.Result.{IfOk-weaker}
 use Rattle.flow_core.specs.Flows.{OthersStay}
 use Rattle.flow_core.specs.Giving.{IsRunning, Drains}
-use Rattle.uplink.specs.Assembly.{TakesItem}
 use Rattle.uplink.proofs.Assembling.{drained_before, running_with, item_taken}
 use Rattle.uplink.proofs.assembler.calls.take_item.Goals as goal
 
