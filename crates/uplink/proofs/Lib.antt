@@ -4,3 +4,5 @@ pub mod Taking
 pub mod SidFlows
 pub mod OneAnswer
 pub mod Places
+pub mod Assembling
+pub mod Finishing
