@@ -94,7 +94,8 @@ notes before after answer items are_items requests admitted refused flow_count a
         refused = refused ∙ ap (λ t. t ++ refusal_numbers last) has.report.refused ∙ sym (refusal_numbers-append answered last);
       };
       each = All-same (IsItem flow_count) after.items.items (before.items.items ++ map event_of_admitted (admitted_of last)) items
-          (All-append (IsItem flow_count) before.items.items (map event_of_admitted (admitted_of last)) has.each (admits-items flow_count answer within));
+          (All-append (IsItem flow_count) before.items.items (map event_of_admitted (admitted_of last)) has.each
+          (admits-items flow_count answer within));
     }
 
 module _ (before after : Received) (answer : Answer) where

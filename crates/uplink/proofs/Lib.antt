@@ -5,3 +5,4 @@ pub mod SidFlows
 pub mod OneAnswer
 pub mod Places
 pub mod Gathered
+pub mod Merged
