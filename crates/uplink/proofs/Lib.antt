@@ -6,3 +6,5 @@ pub mod OneAnswer
 pub mod Places
 pub mod Assembling
 pub mod Finishing
+pub mod Gathered
+pub mod Merged
