@@ -18,6 +18,7 @@ pub mod Joining
 pub mod Setup
 pub mod OneFlow
 pub mod FlowSteps
+pub mod Running
 pub mod NewFlows
 pub mod Closing
 pub mod Turns
