@@ -4,3 +4,4 @@ pub mod Taking
 pub mod SidFlows
 pub mod OneAnswer
 pub mod Places
+pub mod Merges
