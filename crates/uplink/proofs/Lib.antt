@@ -5,3 +5,4 @@ pub mod SidFlows
 pub mod OneAnswer
 pub mod Places
 pub mod Merges
+pub mod FourLanes

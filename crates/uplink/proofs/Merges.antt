@@ -17,6 +17,11 @@ five P a b c d e (suc (suc (suc zero))) below = d
 five P a b c d e (suc (suc (suc (suc zero)))) below = e
 five P a b c d e (suc (suc (suc (suc (suc sender))))) below = absurd (omega arith)
 
+-- an order is lawful for other lists of the same lengths
+pub lawful-same : (lengths others order : List ℕ) → ((s : ℕ) → s < senders → slice_index_or lengths s 0 ≡ slice_index_or others s 0)
+    → IsLawfulOrder lengths order → IsLawfulOrder others order
+lawful-same lengths others order same lawful = record { named = lawful.named; whole = λ s named. lawful.whole s named ∙ same s named }
+
 module _ {T : Type 0} where
   -- an item at the end is picked for its own sender
   pub picked-push : (s t : ℕ) (order : List ℕ) (x : T) (items : List T) → length order ≡ length items
@@ -39,6 +44,22 @@ module _ {T : Type 0} where
   -- how many items a sender has
   pub length-of : (lists : ℕ → List T) (s : ℕ) → s < senders → slice_index_or (lengths_of lists) s 0 ≡ length (lists s)
   length-of lists = five (λ s. slice_index_or (lengths_of lists) s 0 ≡ length (lists s)) refl refl refl refl refl
+
+  -- lists that are the same for each sender have the same lengths
+  pub lengths-same : (lists others : ℕ → List T) → ((s : ℕ) → s < senders → lists s ≡ others s) → lengths_of lists ≡ lengths_of others
+  lengths-same lists others same =
+      let a0 = same 0 (omega arith) in
+      let a1 = same 1 (omega arith) in
+      let a2 = same 2 (omega arith) in
+      let a3 = same 3 (omega arith) in
+      let a4 = same 4 (omega arith) in
+      cc
+
+  -- and are merged in the same way
+  pub merge-same : (lists others : ℕ → List T) (order : List ℕ) (items : List T) → ((s : ℕ) → s < senders → lists s ≡ others s)
+      → IsMergeOf lists order items → IsMergeOf others order items
+  merge-same lists others order items same merged =
+      record { named = merged.named; paired = merged.paired; lists_are = λ s named. merged.lists_are s named ∙ same s named }
 
   -- After k places of an order these items were taken, and this is left of each list.
   pub record IsMergedUpTo (lists left : ℕ → List T) (order : List ℕ) (k : ℕ) (items : List T) : Type 0 where
@@ -112,9 +133,9 @@ module _ {T : Type 0} where
               let joined = append_assoc before (x ∷ []) (after s) in
               let whole = so_far.whole s named in
               rw (taken, push) (⊎_elim
-                (λ (is : s ≡ tag). let here : left s ≡ x ∷ after s = subst (λ t. left t ≡ x ∷ after t) (sym is) first in grind (arith, nat_tests, here, joined, whole))
-                (λ (differs : s ≢ tag). let same = others s differs named in grind (arith, nat_tests, same, whole))
-                (cases_eq s tag));
+              (λ (is : s ≡ tag). let here : left s ≡ x ∷ after s = subst (λ t. left t ≡ x ∷ after t) (sym is) first in grind (arith, nat_tests, here, joined, whole))
+              (λ (differs : s ≢ tag). let same = others s differs named in grind (arith, nat_tests, same, whole))
+              (cases_eq s tag));
         }
 
 -- one more place is kept if its flag is true

@@ -17,7 +17,7 @@ use crate::outcome::{FlowOutcome, Outcome};
 use crate::received::FourReceived;
 use crate::receiving::receive;
 use crate::row::check_rows;
-use crate::setup::{Decision, Lists, Setup};
+use crate::setup::{Lists, Setup};
 use docsis_wire::HeaderCheck;
 use flow_core::{Event, FlowRecord, check_records};
 use std::alloc::{AllocError, Global};
@@ -59,7 +59,9 @@ pub fn admitted_order(
     ensures fault { IfErr result (IsTagsFault setup.now lists.now tags.now) }
 {
     check_setup(setup)?;
-    check_order(input_counts(lists), tags).map_err(ReplayFault::BadOrder)?;
+    if let Err(place) = check_order(input_counts(lists), tags) {
+        return Err(ReplayFault::BadOrder(place));
+    }
     let flags = flags_of(alloc, setup, lists)?;
     Ok(keep(alloc, flags, tags)?)
 }
@@ -84,10 +86,7 @@ fn flags_of(alloc: Global, setup: &Setup, lists: &Lists) -> Result<Merging<bool>
     ensures { IfOk result (AreFlagsOf setup.now lists.now) }
 {
     let FourReceived { r0, r1, r2, r3 } = receive_all(alloc, setup, lists)?;
-    let flow_count = setup.flows.len();
-    let decided: Vec<bool> = (lists.decisions.iter())
-        .map(|decision| decision.names_a_flow(flow_count))
-        .collect(alloc)?;
+    let decided = decision_flags(alloc, setup, lists)?;
     Ok(Merging {
         l0: r0.are_items.into_iter(),
         l1: r1.are_items.into_iter(),
@@ -95,6 +94,17 @@ fn flags_of(alloc: Global, setup: &Setup, lists: &Lists) -> Result<Merging<bool>
         l3: r3.are_items.into_iter(),
         l4: decided.into_iter(),
     })
+}
+
+/// Of each decision, whether it names a flow.
+fn decision_flags(alloc: Global, setup: &Setup, lists: &Lists) -> Result<Vec<bool>, AllocError>
+    ensures { IfOk result (λ flags.
+        flags.items ≡ map (names_a_flow (length setup.now.flows.items)) lists.now.decisions.items) }
+{
+    let flow_count = setup.flows.len();
+    (lists.decisions.iter())
+        .map(|decision| decision.names_a_flow(flow_count))
+        .collect(alloc)
 }
 
 /// The tags whose flags are true, where each tag names the sender of its flag.
@@ -117,16 +127,14 @@ fn keep(alloc: Global, flags: Merging<bool>, tags: &[u8]) -> Result<Vec<u8>, All
     Ok(kept)
 }
 
-/// The decisions that name one of so many flows, as what they are to the flows.
-fn decisions_of(
-    alloc: Global,
-    flow_count: usize,
-    decisions: &[Decision],
-) -> Result<Vec<Event>, AllocError>
+/// The decisions that name a flow, as what they are to the flows.
+fn decisions_of(alloc: Global, setup: &Setup, lists: &Lists) -> Result<Vec<Event>, AllocError>
     ensures { IfOk result (λ items.
-        items.items ≡ map event_of_decision (filter (names_a_flow flow_count) decisions.now)) }
+        items.items ≡ map event_of_decision
+        (filter (names_a_flow (length setup.now.flows.items)) lists.now.decisions.items)) }
 {
-    (decisions.iter())
+    let flow_count = setup.flows.len();
+    (lists.decisions.iter())
         .filter(|decision| decision.names_a_flow(flow_count))
         .map(|decision| decision.event())
         .collect(alloc)
@@ -148,7 +156,7 @@ pub fn replay<C: HeaderCheck + Drop>(
 {
     check_setup(setup)?;
     let FourReceived { r0, r1, r2, r3 } = receive_all(alloc, setup, lists)?;
-    let decided = decisions_of(alloc, setup.flows.len(), &lists.decisions)?;
+    let decided = decisions_of(alloc, setup, lists)?;
     let lengths = [
         r0.items.len(),
         r1.items.len(),
@@ -156,7 +164,9 @@ pub fn replay<C: HeaderCheck + Drop>(
         r3.items.len(),
         decided.len(),
     ];
-    check_order(lengths, order).map_err(ReplayFault::BadOrder)?;
+    if let Err(place) = check_order(lengths, order) {
+        return Err(ReplayFault::BadOrder(place));
+    }
     let merging = Merging {
         l0: r0.items.into_iter(),
         l1: r1.items.into_iter(),

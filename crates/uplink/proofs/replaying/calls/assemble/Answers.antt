@@ -17,7 +17,7 @@ pub unreachable-requires : goal.unreachable-requires
 unreachable-requires g c =
     let so_far = c.loop-sender.invariant in
     next-comes (left_of c.args.merging) (left_of c.loop-sender.merging) c.args.order.now c.loop-sender.sender-index so_far.items so_far.merged
-        c.requires.lawful c.loop-sender-test.true c.in_default.ensures.item
+    c.requires.lawful c.loop-sender-test.true c.in_default.ensures.item
 
 pub take-requires-clause-item : goal.take-requires-clause-item
 take-requires-clause-item g c =
@@ -29,7 +29,7 @@ take-requires-clause-item g c =
     let tag = get_or order k 0 in
     let named : tag < senders = c.in-Some.ensures.named in
     let all : All (IsItem (length records)) (left tag) =
-        left-all (left_of c.args.merging) left order k so_far.items so_far.merged (IsItem (length records)) tag named (c.requires.items tag named) in
+    left-all (left_of c.args.merging) left order k so_far.items so_far.merged (IsItem (length records)) tag named (c.requires.items tag named) in
     let rest = left_of c.next.new.self tag in
     let some : All (IsItem (length records)) (c.in-Some.item ∷ rest) = subst (All (IsItem (length records))) c.in-Some.ensures.item all in
     subst (λ n. IsItem n c.in-Some.item) (sym so_far.assembled.has_taken.count) (All-head (IsItem (length records)) c.in-Some.item rest some)
@@ -60,7 +60,7 @@ returns g c =
     let check = g.C.HeaderCheck.accepts c.args.check in
     let records = c.args.records.now in
     let merged = all-merged (left_of c.args.merging) (left_of c.loop-sender.merging) c.args.order.now c.loop-sender.sender-index so_far.items so_far.merged
-        c.requires.lawful c.loop-sender-test.false in
+    c.requires.lawful c.loop-sender-test.false in
     IfOk-weaker c.finish.result
     (λ flows. (accepted : List ℕ → Bool) (items : List Event) → HasAssembled g.C.HeaderCheck.accepts c.loop-sender.assembler accepted records items
     → AreOutcomesOfFlows accepted records items flows.items)

@@ -22,7 +22,7 @@ pub loop-tag-preserved : goal.loop-tag-preserved
 loop-tag-preserved c =
     let so_far = c.loop-tag.invariant in
     let more = keeps-more (left_of c.args.flags) (left_of c.loop-tag.flags) c.args.tags.now c.loop-tag.tag-index c.loop-tag.kept.items so_far.keeps
-        (left_of c.next.new.self) c.in-Some.is_item c.if-is_item.kept.items c.loop-tag-test.true c.in-Some.ensures.item c.in-Some.ensures.others in
+    (left_of c.next.new.self) c.in-Some.is_item c.if-is_item.kept.items c.loop-tag-test.true c.in-Some.ensures.item c.in-Some.ensures.others in
     elim c.if-is_item.branch [
       | then-is_item w ↦ record { keeps = more (cc); room = omega (arith, ap vec_capacity w.kept-is) }
       | else-is_item w ↦ record { keeps = more (cc); room = omega (arith, ap vec_capacity w.kept-is) }
