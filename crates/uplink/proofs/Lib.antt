@@ -6,3 +6,5 @@ pub mod OneAnswer
 pub mod Places
 pub mod Merges
 pub mod FourLanes
+pub mod Assembling
+pub mod Finishing
