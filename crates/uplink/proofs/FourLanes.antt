@@ -1,12 +1,11 @@
 -- What the inputs of the four channels gave, and the items and flags of the five senders that come of it.
-use Rattle.std.proofs.Common.{◌≡◌, ℕ, zero, suc, ◌+◌, ◌<◌, ◌&&◌, nat_lt, Bool, true, is_some, Vec, Global, Option, None, Some, List, [], ◌∷◌, ◌++◌, map, filter, length, get_or, slice_get, slice_index_or, All, refl, sym, ap, subst, ◌∙◌, arith}
+use Rattle.std.proofs.Common.{◌≡◌, ℕ, zero, suc, ◌<◌, nat_lt, Bool, true, is_some, Option, None, Some, List, [], ◌∷◌, map, filter, length, get_or, slice_get, slice_index_or, All, sym, ap, subst, ◌∙◌, arith}
 use Rattle.std.specs.Vec.Iter.{into_iter_items}
 use Rattle.std.proofs.lemmas.Bool.{ltb-true, and_parts}
 use Rattle.std.proofs.lemmas.List.{length-map}
 use Rattle.std.proofs.lemmas.List.Elements.{All-map, All-weaker, All-same, filter_passes}
 use Rattle.docsis_wire.specs.Limits.{sequence_modulus}
 use Rattle.flow_core.specs.declared.event.Event.{Event}
-use Rattle.uplink.specs.declared.input.Input.{Input}
 use Rattle.uplink.specs.declared.setup.Decision.{Decision}
 use Rattle.uplink.specs.declared.setup.Setup.{Setup}
 use Rattle.uplink.specs.declared.setup.Lists.{Lists}
@@ -16,13 +15,14 @@ use Rattle.uplink.specs.declared.merging.Merging.{Merging}
 use Rattle.uplink.specs.declared.outcome.LaneReport.{LaneReport}
 use Rattle.uplink.specs.declared.outcome.Outcome.{Outcome}
 use Rattle.uplink.specs.Limits.{channel_limit}
-use Rattle.uplink.specs.Inputs.{AnsweredInput, inputs_of}
-use Rattle.uplink.specs.Items.{lane_setup, inputs_on, IsLaneOf, AreLanesOf, IsItem, items_of, are_items, gap_of, event_of_decision, names_a_flow, names_a_number}
+use Rattle.uplink.specs.Inputs.{AnsweredInput}
+use Rattle.uplink.specs.Items.{inputs_on, IsLaneOf, AreLanesOf, IsItem, items_of, are_items, gap_of, event_of_decision, names_a_flow, names_a_number}
 use Rattle.uplink.specs.Order.{senders, lengths_of, IsLawfulOrder, IsOrderFault, IsMergeOf}
 use Rattle.uplink.specs.Answer.{IsOutcome, HasBadOrder, AreOutcomesOfFlows, IsReportOf, requests_on, input_counts}
 use Rattle.uplink.specs.Report.{admitted_by, requests_of}
 use Rattle.uplink.specs.Received.{HasReceived, HaveReceived, received_on, AreFlagsOf, left_of}
-use Rattle.uplink.proofs.Merges.{five, length-of, lengths-same, lawful-same, merge-same}
+use Rattle.uplink.proofs.Merged.{length-of}
+use Rattle.uplink.proofs.Interleaving.{five, lawful-same, merge-same}
 
 -- what holds of each of the four channels holds of every channel
 pub four : (P : ℕ → Type 0) → P 0 → P 1 → P 2 → P 3 → (channel : ℕ) → channel < channel_limit → P channel

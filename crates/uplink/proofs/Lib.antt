@@ -4,7 +4,9 @@ pub mod Taking
 pub mod SidFlows
 pub mod OneAnswer
 pub mod Places
-pub mod Merges
+pub mod Interleaving
 pub mod FourLanes
 pub mod Assembling
 pub mod Finishing
+pub mod Gathered
+pub mod Merged

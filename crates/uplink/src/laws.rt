@@ -1,5 +1,5 @@
-//! Laws about the definitions: each input of a lane has at most one answer, and rows have at most
-//! one first fault.
+//! Laws about the definitions: each input of a lane has at most one answer, rows have at most one
+//! first fault, lists have one merge in an order, and the admitted order is lawful.
 //!
 //! Each function states a law in its contract and does nothing.
 ghost use Rattle.std.specs.Prelude.{◌≡◌, ◌↔◌, ◌++◌, ◌∷◌, [], ℕ, List, length};
@@ -7,7 +7,13 @@ ghost use Rattle.uplink.specs.declared.grant.OutstandingGrant.{OutstandingGrant}
 ghost use Rattle.uplink.specs.declared.row.LaneFault.{LaneFault};
 ghost use Rattle.uplink.specs.declared.row.SidRow.{SidRow};
 ghost use Rattle.uplink.specs.Rows.{CanBeOpened, IsLaneFault};
-ghost use Rattle.uplink.specs.Inputs.{LaneSetup, AnsweredInput, IsGrant, IsAnswer, AreAnswered, inputs_of};
+ghost use Rattle.uplink.specs.declared.setup.Lists.{Lists};
+ghost use Rattle.uplink.specs.declared.setup.Setup.{Setup};
+ghost use Rattle.uplink.specs.Order.{IsLawfulOrder, IsOrderFault, IsMergeOf, lengths_of};
+ghost use Rattle.uplink.specs.Items.{items_of};
+ghost use Rattle.uplink.specs.Answer.{IsAdmittedOrder, CanReceive, HasBadOrder};
+ghost use Rattle.uplink.specs.Inputs.{LaneSetup, AnsweredInput, IsGrant, IsAnswer};
+ghost use Rattle.uplink.specs.Inputs.{AreAnswered, inputs_of};
 
 /// The same inputs have at most one list of answers.
 pub fn lane_has_at_most_one_answer_to_each_input()
@@ -41,4 +47,29 @@ pub fn rows_have_one_first_fault()
         → fault ≡ other }
     ensures none { (rows : List SidRow) (flow_count : ℕ) (fault : LaneFault)
         → IsLaneFault rows flow_count fault → ¬ (CanBeOpened rows flow_count) }
+{}
+
+/// A lawful order has no fault.
+pub fn lawful_order_has_no_fault()
+    ensures { (lengths order : List ℕ) (k : ℕ)
+        → IsLawfulOrder lengths order → ¬ (IsOrderFault lengths order k) }
+{}
+
+/// Lists are merged in lawful orders only, and in each order in one way.
+pub fn lists_have_one_merge<T>()
+    ensures lawful { (lists : ℕ → List T) (order : List ℕ) (items : List T)
+        → IsMergeOf lists order items → IsLawfulOrder (lengths_of lists) order }
+    ensures one { (lists : ℕ → List T) (order : List ℕ) (items others : List T)
+        → IsMergeOf lists order items → IsMergeOf lists order others → items ≡ others }
+{}
+
+/// An admitted order is a lawful order of the items, and has no fault where flows and lanes can be
+/// set up.
+pub fn admitted_order_is_lawful()
+    ensures lawful { (setup : Setup) (lists : Lists) (tags order : List ℕ)
+        → (is : IsAdmittedOrder setup lists tags order)
+        → IsLawfulOrder (lengths_of (items_of setup lists is.answered)) order }
+    ensures faultless { (setup : Setup) (lists : Lists) (tags order : List ℕ) (k : ℕ)
+        → CanReceive setup → IsAdmittedOrder setup lists tags order
+        → ¬ (HasBadOrder setup lists order k) }
 {}

@@ -1,9 +1,9 @@
 //! All inputs of a channel, one after another.
-ghost use Rattle.std.specs.Prelude.{◌≡◌, ◌<◌, List, IfOk, length};
+ghost use Rattle.std.specs.Prelude.{◌≡◌, ℕ, List, [], IfOk, length};
 ghost use Rattle.uplink.specs.Rows.{CanBeOpened};
 ghost use Rattle.uplink.specs.Inputs.{AnsweredInput, AreAnswered, inputs_of};
 ghost use Rattle.uplink.specs.Items.{lane_setup};
-ghost use Rattle.uplink.specs.Received.{HasReceived};
+ghost use Rattle.uplink.specs.Received.{HasReceived, NotesAnswer};
 
 use crate::admitted::Admitted;
 use crate::input::Input;
@@ -17,7 +17,9 @@ use std::alloc::{AllocError, Global};
 
 impl Received {
     /// Nothing was received yet.
-    fn none(alloc: Global) -> Received {
+    fn none(alloc: Global) -> Received
+        ensures { (flow_count : ℕ) → HasReceived flow_count [] result }
+    {
         Received {
             items: Vec::new(alloc),
             are_items: Vec::new(alloc),
@@ -30,7 +32,9 @@ impl Received {
     }
 
     /// Notes what became of one input.
-    fn note(&mut self, answer: Result<Option<Admitted>, Refusal>) -> Result<(), AllocError> {
+    fn note(&mut self, answer: Result<Option<Admitted>, Refusal>) -> Result<(), AllocError>
+        ensures { IfOk result (λ _. NotesAnswer self.old answer self.new) }
+    {
         match answer {
             Ok(Some(admitted)) => {
                 self.are_items.push(true)?;
@@ -69,10 +73,9 @@ pub fn receive(
     let mut received = Received::none(alloc);
     for input in inputs {
         let answer = lane.take(alloc, input);
-        if matches!(
-            answer,
-            Err(Refusal::GrantOutOfMemory | Refusal::BurstOutOfMemory)
-        ) {
+        if let Err(refusal) = &answer
+            && refusal.is_out_of_memory()
+        {
             return Err(AllocError);
         }
         received.note(answer)?;

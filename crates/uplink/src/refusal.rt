@@ -1,5 +1,5 @@
 //! Why a lane refuses an input.
-ghost use Rattle.std.specs.Prelude.{◌≡◌};
+ghost use Rattle.std.specs.Prelude.{◌≡◌, ◌↔◌, ◌⊎◌, IsTrue};
 ghost use Rattle.uplink.specs.Report.{refusal_number};
 
 use thiserror::Error;
@@ -63,5 +63,13 @@ impl Refusal {
             Refusal::PointerPast => 10,
             Refusal::BurstOutOfMemory => 11,
         }
+    }
+
+    /// Whether it is that an allocation failed.
+    pub fn is_out_of_memory(self) -> bool
+        ensures { IsTrue result
+            ↔ ((self ≡ Refusal.GrantOutOfMemory) ⊎ (self ≡ Refusal.BurstOutOfMemory)) }
+    {
+        matches!(self, Refusal::GrantOutOfMemory | Refusal::BurstOutOfMemory)
     }
 }

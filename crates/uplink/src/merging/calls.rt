@@ -1,5 +1,5 @@
 //! Taking the items of five senders.
-ghost use Rattle.std.specs.Prelude.{◌≡◌, ◌≢◌, ◌<◌, ◌≤◌, ◌⊎◌, ◌∷◌, [], ℕ, MatchOption};
+ghost use Rattle.std.specs.Prelude.{◌≡◌, ◌≢◌, ◌<◌, ◌≤◌, ◌⊎◌, ◌∷◌, [], ℕ, MatchOption, IfSome};
 ghost use Rattle.uplink.specs.Order.{senders};
 ghost use Rattle.uplink.specs.Received.{left_of};
 
@@ -11,7 +11,9 @@ impl<T: Drop> Merging<T> {
         ensures item { MatchOption result
             ((senders ≤ sender) ⊎ (left_of self.old sender ≡ []))
             (λ item. left_of self.old sender ≡ item ∷ left_of self.new sender) }
-        ensures named { MatchOption result (self.new ≡ self.new) (λ item. sender < senders) }
+        ensures named { IfSome result (λ _. sender < senders) }
+        ensures unchanged { result ≡ None → (other : ℕ) → other < senders
+            → left_of self.new other ≡ left_of self.old other }
         ensures others { (other : ℕ) → other ≢ sender → other < senders
             → left_of self.new other ≡ left_of self.old other }
     {

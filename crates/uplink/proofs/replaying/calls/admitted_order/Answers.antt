@@ -1,4 +1,4 @@
-use Rattle.std.proofs.Common.{◌≡◌, ℕ, List, length, refl, subst, ap, arith}
+use Rattle.std.proofs.Common.{refl, subst}
 use Rattle.uplink.specs.Order.{IsLawfulOrder, IsOrderFault}
 use Rattle.uplink.proofs.FourLanes.{flags-lawful}
 use Rattle.uplink.proofs.replaying.calls.admitted_order.Goals as goal

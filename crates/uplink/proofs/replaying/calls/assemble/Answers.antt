@@ -1,4 +1,4 @@
-use Rattle.std.proofs.Common.{◌≡◌, ◌<◌, ◌∷◌, [], ◌++◌, ℕ, Bool, All, List, length, get_or, sym, subst, arith}
+use Rattle.std.proofs.Common.{◌<◌, ◌∷◌, [], ◌++◌, ℕ, Bool, All, List, length, get_or, sym, subst}
 use Rattle.std.proofs.lemmas.List.Elements.{All-head}
 use Rattle.std.proofs.lemmas.Result.{IfOk-weaker}
 use Rattle.flow_core.specs.declared.event.Event.{Event}
@@ -7,7 +7,7 @@ use Rattle.uplink.specs.Order.{senders, IsMergeOf}
 use Rattle.uplink.specs.Answer.{AreOutcomesOfFlows}
 use Rattle.uplink.specs.Received.{left_of}
 use Rattle.uplink.specs.Assembly.{HasAssembled}
-use Rattle.uplink.proofs.Merges.{none-merged, next-comes, left-all, one-more, all-merged}
+use Rattle.uplink.proofs.Interleaving.{none-merged, next-comes, left-all, one-more, all-merged}
 use Rattle.uplink.proofs.replaying.calls.assemble.Goals as goal
 
 pub loop-sender-init : goal.loop-sender-init

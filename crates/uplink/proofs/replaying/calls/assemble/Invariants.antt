@@ -3,7 +3,7 @@ use Rattle.std.proofs.Common.{List}
 use Rattle.flow_core.specs.declared.event.Event.{Event}
 use Rattle.uplink.specs.Received.{left_of}
 use Rattle.uplink.specs.Assembly.{HasAssembled}
-use Rattle.uplink.proofs.Merges.{IsMergedUpTo}
+use Rattle.uplink.proofs.Interleaving.{IsMergedUpTo}
 use Rattle.uplink.proofs.replaying.calls.assemble.Given as goal
 
 abbrev pub invariant-loop-sender : goal.invariant-loop-sender

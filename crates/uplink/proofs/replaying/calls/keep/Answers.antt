@@ -1,6 +1,6 @@
-use Rattle.std.proofs.Common.{◌≡◌, ◌≤◌, ℕ, Bool, List, length, get_or, vec_capacity, ap, arith}
+use Rattle.std.proofs.Common.{vec_capacity, ap, arith}
 use Rattle.uplink.specs.Received.{left_of}
-use Rattle.uplink.proofs.Merges.{KeepsUpTo, next-comes, none-kept, kept-within, keeps-more, all-kept}
+use Rattle.uplink.proofs.Interleaving.{next-comes, none-kept, kept-within, keeps-more, all-kept}
 use Rattle.uplink.proofs.replaying.calls.keep.Goals as goal
 use Rattle.uplink.proofs.replaying.calls.keep.Goals.{then-is_item, else-is_item}
 

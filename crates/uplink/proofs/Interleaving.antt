@@ -1,12 +1,13 @@
 -- The items of five senders, taken one after another in a lawful order.
-use Rattle.std.proofs.Common.{◌≡◌, ◌≢◌, ℕ, zero, suc, ◌+◌, ◌<◌, ◌≤◌, ◌==◌, Bool, true, false, cond, List, [], ◌∷◌, ◌++◌, length, take, drop, get_or, slice_index_or, if◌then◌else◌, ◌⊎◌, inl, inr, ⊎_elim, All, refl, sym, ap, subst, ◌∙◌, append_assoc, append-nil, arith}
+use Rattle.std.proofs.Common.{◌≡◌, ◌≢◌, ℕ, zero, suc, ◌+◌, ◌<◌, ◌≤◌, ◌==◌, Bool, true, false, cond, List, [], ◌∷◌, ◌++◌, length, take, get_or, slice_index_or, if◌then◌else◌, ◌⊎◌, inl, inr, ⊎_elim, All, refl, sym, ap, subst, ◌∙◌, append_assoc, append-nil, arith}
 use Rattle.std.proofs.lemmas.Bool.{cases_eq}
 use Rattle.std.proofs.lemmas.Bool.Decides.{nat_tests}
 use Rattle.std.proofs.lemmas.List.{take_more, take_all, drop_at, length-append, length_push, get_or_default, length-take, nil_from_length}
-use Rattle.std.proofs.lemmas.List.Elements.{All-get_or, All-drop, All-head, All-tail}
-use Rattle.std.proofs.lemmas.List.Sums.{sum_by-cons, sum_by-take-le}
+use Rattle.std.proofs.lemmas.List.Elements.{All-get_or, All-drop}
+use Rattle.std.proofs.lemmas.List.Sums.{sum_by-take-le}
 use Rattle.uplink.specs.Order.{senders, times_of, picked, kept_places, lengths_of, IsLawfulOrder, IsMergeOf}
 use Rattle.uplink.proofs.Places.{times-same}
+use Rattle.uplink.proofs.Merged.{times-picked, length-of}
 
 -- what holds of each of the five senders holds of every sender
 pub five : (P : ℕ → Type 0) → P 0 → P 1 → P 2 → P 3 → P 4 → (sender : ℕ) → sender < senders → P sender
@@ -31,31 +32,7 @@ module _ {T : Type 0} where
   picked-push s t (u ∷ order) x [] same = absurd (omega arith)
   picked-push s t (u ∷ order) x (y ∷ items) same = let h = picked-push s t order x items (omega arith) in grind (arith, nat_tests, cases_eq s t, cases_eq s u)
 
-  -- of a sender as many items are picked as places name it
-  pub length-picked : (s : ℕ) (order : List ℕ) (items : List T) → length order ≡ length items → length (picked s order items) ≡ times_of s order
-  length-picked s [] [] same = refl
-  length-picked s [] (x ∷ items) same = absurd (omega arith)
-  length-picked s (t ∷ order) [] same = absurd (omega arith)
-  length-picked s (t ∷ order) (x ∷ items) same =
-      let h = length-picked s order items (omega arith) in
-      let more = sum_by-cons (λ tag. cond {A = ℕ} (tag == s) 1 0) t order in
-      grind (arith, nat_tests, cases_eq s t, cases_eq t s)
-
-  -- how many items a sender has
-  pub length-of : (lists : ℕ → List T) (s : ℕ) → s < senders → slice_index_or (lengths_of lists) s 0 ≡ length (lists s)
-  length-of lists = five (λ s. slice_index_or (lengths_of lists) s 0 ≡ length (lists s)) refl refl refl refl refl
-
-  -- lists that are the same for each sender have the same lengths
-  pub lengths-same : (lists others : ℕ → List T) → ((s : ℕ) → s < senders → lists s ≡ others s) → lengths_of lists ≡ lengths_of others
-  lengths-same lists others same =
-      let a0 = same 0 (omega arith) in
-      let a1 = same 1 (omega arith) in
-      let a2 = same 2 (omega arith) in
-      let a3 = same 3 (omega arith) in
-      let a4 = same 4 (omega arith) in
-      cc
-
-  -- and are merged in the same way
+  -- lists that are the same for each sender are merged in the same way
   pub merge-same : (lists others : ℕ → List T) (order : List ℕ) (items : List T) → ((s : ℕ) → s < senders → lists s ≡ others s)
       → IsMergeOf lists order items → IsMergeOf others order items
   merge-same lists others order items same merged =
@@ -74,7 +51,7 @@ module _ {T : Type 0} where
     -- so many were taken, and the others are left
     counted : (s : ℕ) → s < senders → times_of s (take k order) + length (left s) ≡ length (lists s)
     counted s named =
-        let picks = length-picked s (take k order) items so_far.paired in
+        let picks = times-picked s (take k order) items so_far.paired in
         let both = length-append (picked s (take k order) items) (left s) in
         let all = ap length (so_far.whole s named) in
         omega arith

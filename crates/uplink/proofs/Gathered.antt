@@ -1,0 +1,176 @@
+-- What lists of inputs give one after the other, and what one more adds to what was received.
+use Rattle.std.proofs.Common.{◌≡◌, ◌≢◌, ℕ, ◌+◌, ◌<◌, Bool, true, false, Some, None, Ok, Err, All, List, [], ◌∷◌, ◌++◌, length, get_or, map, take, filter_map, is_some, sym, ap, subst, ◌∙◌, arith}
+use Rattle.std.specs.List.{cons_option}
+use Rattle.std.proofs.lemmas.List.{map-append, length-append, append-nil, take_more}
+use Rattle.std.proofs.lemmas.List.Elements.{filter_map-append, All-nil, All-cons, All-same, All-append}
+use Rattle.std.proofs.lemmas.Option.{slice_get_within}
+use Rattle.flow_core.specs.declared.record.FlowRecord.{FlowRecord}
+use Rattle.flow_core.specs.Counts.{counted}
+use Rattle.uplink.specs.declared.admitted.Admitted.{Admitted}
+use Rattle.uplink.specs.declared.input.Input.{Input}
+use Rattle.uplink.specs.declared.input.Input.TheVariants.{Grant, Burst}
+use Rattle.uplink.specs.declared.lane.Lane.{Lane}
+use Rattle.uplink.specs.declared.refusal.Refusal.{Refusal}
+use Rattle.uplink.specs.declared.refusal.Refusal.TheVariants.{GrantOutOfMemory, BurstOutOfMemory}
+use Rattle.uplink.specs.declared.received.Received.{Received}
+use Rattle.uplink.specs.declared.row.SidRow.{SidRow}
+use Rattle.uplink.specs.declared.setup.Setup.{Setup}
+use Rattle.uplink.specs.Inputs.{LaneSetup, Answer, AnsweredInput, IsAnswer, inputs_of}
+use Rattle.uplink.specs.Report.{refusal_number, admitted_by, refused_by, admitted_of, requests_of, refusal_numbers, admitted_count}
+use Rattle.uplink.specs.Items.{IsItem, event_of_admitted, lane_setup}
+use Rattle.uplink.specs.Stands.{StandsFor, IsOutOfMemory, TakesInput}
+use Rattle.uplink.specs.Received.{HasReceived, AdmitsWithin, NotesAnswer}
+use Rattle.uplink.proofs.Taking.{answered-last}
+
+-- the lane and what was received are those of the first n inputs
+pub record IsReceiving (setup : Setup) (channel : ℕ) (inputs : List Input) (n : ℕ) (lane : Lane) (received : Received) : Type 0 where
+  pub answered : List AnsweredInput
+  pub inputs_are : inputs_of answered ≡ take n inputs
+  pub stands : StandsFor (lane_setup setup channel) lane answered
+  pub has_received : HasReceived (length setup.flows.items) answered received
+
+module _ (taken others : List AnsweredInput) where
+  -- what lists of inputs give, one after the other
+  pub admitted_of-append : admitted_of (taken ++ others) ≡ admitted_of taken ++ admitted_of others
+  admitted_of-append = filter_map-append (λ (one : AnsweredInput). admitted_by one.answer) taken others
+
+  pub requests_of-append : requests_of (taken ++ others) ≡ requests_of taken ++ requests_of others
+  requests_of-append =
+      ap (filter_map (λ (one : Admitted). one.request)) admitted_of-append
+      ∙ filter_map-append (λ (one : Admitted). one.request) (admitted_of taken) (admitted_of others)
+
+  pub refusal_numbers-append : refusal_numbers (taken ++ others) ≡ refusal_numbers taken ++ refusal_numbers others
+  refusal_numbers-append = filter_map-append (λ (one : AnsweredInput). refused_by one.answer) taken others
+
+  pub admitted_count-append : admitted_count (taken ++ others) ≡ counted (admitted_count taken + admitted_count others)
+  admitted_count-append =
+      let long = ap length admitted_of-append ∙ length-append (admitted_of taken) (admitted_of others) in
+      omega arith
+
+-- what is admitted of an input is of a flow that has a record
+pub admits-within : (setup : LaneSetup) (taken : List AnsweredInput) (input : Input) (answer : Answer) → IsAnswer setup taken input answer
+    → AdmitsWithin (length setup.records) answer
+admits-within setup taken input (Err refusal) is = tt
+admits-within setup taken input (Ok None) is = tt
+admits-within setup taken (Grant number sid bytes) (Ok (Some admitted)) is = absurd is
+admits-within setup taken (Burst number hcs_ok bytes) (Ok (Some admitted)) is =
+    let flow = is.1.flow in
+    let within = slice_get_within setup.records flow.row.flow flow.flow_record flow.stands in
+    let index = flow.index in
+    let of_flow = is.2.2.flow_is in
+    omega arith
+
+-- so it is an item
+admits-items : (flow_count : ℕ) (answer : Answer) → AdmitsWithin flow_count answer
+    → All (IsItem flow_count) (map event_of_admitted (filter_map admitted_by (answer ∷ [])))
+admits-items flow_count (Err refusal) within = All-nil (IsItem flow_count)
+admits-items flow_count (Ok None) within = All-nil (IsItem flow_count)
+admits-items flow_count (Ok (Some admitted)) within =
+    All-cons (IsItem flow_count) (event_of_admitted admitted) []
+    (record { flow_exists = within; takable = admitted.ready }) (All-nil (IsItem flow_count))
+
+-- what one more input gives is noted
+notes : (before after : Received) (answer : Answer)
+    → after.items.items ≡ before.items.items ++ map event_of_admitted (filter_map admitted_by (answer ∷ []))
+    → after.are_items.items ≡ before.are_items.items ++ is_some (admitted_by answer) ∷ []
+    → after.requests.items ≡ before.requests.items ++ filter_map (λ (one : Admitted). one.request) (filter_map admitted_by (answer ∷ []))
+    → after.report.admitted ≡ counted (before.report.admitted + length (filter_map admitted_by (answer ∷ [])))
+    → after.report.refused.items ≡ before.report.refused.items ++ filter_map refused_by (answer ∷ [])
+    → NotesAnswer before answer after
+notes before after answer items are_items requests admitted refused flow_count answered input within has =
+    let last : List AnsweredInput = record { input = input; answer = answer } ∷ [] in
+    let is_item : AnsweredInput → Bool = λ one. is_some (admitted_by one.answer) in
+    let count : before.report.admitted ≡ admitted_count answered = has.report.admitted in
+    let all : admitted_count (answered ++ last) ≡ counted (admitted_count answered + admitted_count last) = admitted_count-append answered last in
+    record {
+      items =
+          items ∙ ap (λ t. t ++ map event_of_admitted (admitted_of last)) has.items
+          ∙ sym (ap (map event_of_admitted) (admitted_of-append answered last)
+          ∙ map-append event_of_admitted (admitted_of answered) (admitted_of last));
+      are_items = are_items ∙ ap (λ t. t ++ map is_item last) has.are_items ∙ sym (map-append is_item answered last);
+      requests = requests ∙ ap (λ t. t ++ requests_of last) has.requests ∙ sym (requests_of-append answered last);
+      report = record {
+        admitted = omega arith;
+        refused = refused ∙ ap (λ t. t ++ refusal_numbers last) has.report.refused ∙ sym (refusal_numbers-append answered last);
+      };
+      each = All-same (IsItem flow_count) after.items.items (before.items.items ++ map event_of_admitted (admitted_of last)) items
+          (All-append (IsItem flow_count) before.items.items (map event_of_admitted (admitted_of last)) has.each
+          (admits-items flow_count answer within));
+    }
+
+module _ (before after : Received) (answer : Answer) where
+  -- a segment is admitted
+  pub notes-admitted : (admitted : Admitted) → answer ≡ Ok (Some admitted)
+      → after.items.items ≡ before.items.items ++ event_of_admitted admitted ∷ []
+      → after.are_items.items ≡ before.are_items.items ++ true ∷ []
+      → after.requests.items ≡ before.requests.items ++ cons_option admitted.request []
+      → after.report.admitted ≡ counted (before.report.admitted + 1)
+      → after.report.refused.items ≡ before.report.refused.items
+      → NotesAnswer before answer after
+  notes-admitted admitted is items are_items requests count refused =
+      subst (λ a. NotesAnswer before a after) (sym is)
+      (notes before after (Ok (Some admitted)) items are_items requests count
+      (refused ∙ sym (append-nil before.report.refused.items)))
+
+  -- nothing is admitted and nothing refused
+  pub notes-nothing : answer ≡ Ok None
+      → after.items.items ≡ before.items.items
+      → after.are_items.items ≡ before.are_items.items ++ false ∷ []
+      → after.requests.items ≡ before.requests.items
+      → after.report.admitted ≡ before.report.admitted
+      → after.report.refused.items ≡ before.report.refused.items
+      → NotesAnswer before answer after
+  notes-nothing is items are_items requests count refused =
+      subst (λ a. NotesAnswer before a after) (sym is)
+      (λ flow_count answered input within has.
+      notes before after (Ok None)
+      (items ∙ sym (append-nil before.items.items)) are_items (requests ∙ sym (append-nil before.requests.items))
+      (let was = has.report.admitted in omega arith) (refused ∙ sym (append-nil before.report.refused.items)) flow_count answered input within has)
+
+  -- the input is refused
+  pub notes-refusal : (refusal : Refusal) → answer ≡ Err refusal
+      → after.items.items ≡ before.items.items
+      → after.are_items.items ≡ before.are_items.items ++ false ∷ []
+      → after.requests.items ≡ before.requests.items
+      → after.report.admitted ≡ before.report.admitted
+      → after.report.refused.items ≡ before.report.refused.items ++ refusal_number refusal ∷ []
+      → NotesAnswer before answer after
+  notes-refusal refusal is items are_items requests count refused =
+      subst (λ a. NotesAnswer before a after) (sym is)
+      (λ flow_count answered input within has.
+      notes before after (Err refusal)
+      (items ∙ sym (append-nil before.items.items)) are_items (requests ∙ sym (append-nil before.requests.items))
+      (let was = has.report.admitted in omega arith) refused flow_count answered input within has)
+
+-- neither a grant nor a burst is answered that an allocation failed
+pub not-memory : (input : Input) (answer : Answer) → answer ≢ Err GrantOutOfMemory → answer ≢ Err BurstOutOfMemory → ¬ (IsOutOfMemory input answer)
+not-memory (Grant number sid bytes) answer not_grant not_burst = not_grant
+not-memory (Burst number hcs_ok bytes) answer not_grant not_burst = not_burst
+
+module _ (setup : Setup) (channel : ℕ) where
+  -- a lane that was opened stands for no inputs
+  pub opened : (rows : List SidRow) (records : List FlowRecord) (lane : Lane) → rows ≡ setup.sids.items → records ≡ setup.flows.items
+      → StandsFor (record { channel = channel; rows = rows; records = records }) lane [] → StandsFor (lane_setup setup channel) lane []
+  opened rows records lane rows_are records_are stands =
+      subst (λ (r : List FlowRecord). StandsFor (record { channel = channel; rows = setup.sids.items; records = r }) lane []) records_are
+      (subst (λ (r : List SidRow). StandsFor (record { channel = channel; rows = r; records = records }) lane []) rows_are stands)
+
+  -- one more input is taken and noted
+  pub one-more : (inputs : List Input) (n : ℕ) (lane lane' : Lane) (received received' : Received) (input : Input) (answer : Answer)
+      → n < length inputs → input ≡ get_or inputs n input → TakesInput lane input answer lane' → NotesAnswer received answer received'
+      → IsReceiving setup channel inputs n lane received → IsReceiving setup channel inputs (n + 1) lane' received'
+  one-more inputs n lane lane' received received' input answer within at takes notes_it is =
+      let one : AnsweredInput = record { input = input; answer = answer } in
+      let stands = takes (lane_setup setup channel) is.answered is.stands in
+      record {
+        answered = is.answered ++ one ∷ [];
+        inputs_are =
+            map-append (λ (t : AnsweredInput). t.input) is.answered (one ∷ []) ∙ ap (λ t. t ++ input ∷ []) is.inputs_are
+            ∙ ap (λ i. take n inputs ++ i ∷ []) at ∙ sym (take_more inputs n input within);
+        stands = stands;
+        has_received =
+            notes_it (length setup.flows.items) is.answered input
+            (admits-within (lane_setup setup channel) is.answered input answer
+            (answered-last (lane_setup setup channel) is.answered one stands.answered))
+            is.has_received;
+      }
