@@ -10,3 +10,4 @@ pub mod Assembling
 pub mod Finishing
 pub mod Gathered
 pub mod Merged
+pub mod OneOutcome

@@ -1,8 +1,9 @@
 //! Laws about the definitions: each input of a lane has at most one answer, rows have at most one
-//! first fault, lists have one merge in an order, and the admitted order is lawful.
+//! first fault, lists have one merge in an order, the admitted order is lawful, and a replay has one
+//! outcome or one fault.
 //!
 //! Each function states a law in its contract and does nothing.
-ghost use Rattle.std.specs.Prelude.{◌≡◌, ◌↔◌, ◌++◌, ◌∷◌, [], ℕ, List, length};
+ghost use Rattle.std.specs.Prelude.{◌≡◌, ◌≢◌, ◌↔◌, ◌++◌, ◌∷◌, [], ℕ, Bool, List, length};
 ghost use Rattle.uplink.specs.declared.grant.OutstandingGrant.{OutstandingGrant};
 ghost use Rattle.uplink.specs.declared.row.LaneFault.{LaneFault};
 ghost use Rattle.uplink.specs.declared.row.SidRow.{SidRow};
@@ -11,7 +12,11 @@ ghost use Rattle.uplink.specs.declared.setup.Lists.{Lists};
 ghost use Rattle.uplink.specs.declared.setup.Setup.{Setup};
 ghost use Rattle.uplink.specs.Order.{IsLawfulOrder, IsOrderFault, IsMergeOf, lengths_of};
 ghost use Rattle.uplink.specs.Items.{items_of};
+ghost use Rattle.uplink.specs.declared.outcome.Outcome.{Outcome};
+ghost use Rattle.uplink.specs.declared.replaying.ReplayFault.{ReplayFault};
 ghost use Rattle.uplink.specs.Answer.{IsAdmittedOrder, CanReceive, HasBadOrder};
+ghost use Rattle.uplink.specs.Answer.{IsOutcome, IsReplayFault, IsTagsFault};
+ghost use Rattle.uplink.specs.SameOutcome.{IsSameOutcome};
 ghost use Rattle.uplink.specs.Inputs.{LaneSetup, AnsweredInput, IsGrant, IsAnswer};
 ghost use Rattle.uplink.specs.Inputs.{AreAnswered, inputs_of};
 
@@ -72,4 +77,32 @@ pub fn admitted_order_is_lawful()
     ensures faultless { (setup : Setup) (lists : Lists) (tags order : List ℕ) (k : ℕ)
         → CanReceive setup → IsAdmittedOrder setup lists tags order
         → ¬ (HasBadOrder setup lists order k) }
+{}
+
+/// Lists that are replayed in one order have one outcome. An order that has an outcome has no
+/// fault.
+pub fn replay_has_one_outcome()
+    ensures one { (check : List ℕ → Bool) (setup : Setup) (lists : Lists) (order : List ℕ)
+        (outcome other : Outcome)
+        → CanReceive setup → IsOutcome check setup lists order outcome
+        → IsOutcome check setup lists order other → IsSameOutcome outcome other }
+    ensures faultless { (check : List ℕ → Bool) (setup : Setup) (lists : Lists) (order : List ℕ)
+        (outcome : Outcome) (k : ℕ)
+        → CanReceive setup → IsOutcome check setup lists order outcome
+        → ¬ (HasBadOrder setup lists order k) }
+{
+    flow_core::laws::closed_flow_has_one_outcome();
+}
+
+/// Of the faults other than a failed allocation at most one is why nothing is replayed, or why
+/// there is no admitted order.
+pub fn replay_has_one_fault()
+    ensures replay { (setup : Setup) (lists : Lists) (order : List ℕ) (fault other : ReplayFault)
+        → fault ≢ ReplayFault.OutOfMemory → other ≢ ReplayFault.OutOfMemory
+        → IsReplayFault setup lists order fault → IsReplayFault setup lists order other
+        → fault ≡ other }
+    ensures tags { (setup : Setup) (lists : Lists) (tags : List ℕ) (fault other : ReplayFault)
+        → fault ≢ ReplayFault.OutOfMemory → other ≢ ReplayFault.OutOfMemory
+        → IsTagsFault setup lists tags fault → IsTagsFault setup lists tags other
+        → fault ≡ other }
 {}
