@@ -6,3 +6,5 @@ pub mod OneAnswer
 pub mod Places
 pub mod Gathered
 pub mod Merged
+pub mod Outstanding
+pub mod Answering
