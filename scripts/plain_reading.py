@@ -1,7 +1,20 @@
-"""A plain, slow reading of frames and of how segments are joined, for the scripts that compare it with the code.
+"""A plain, slow reading of frames, of how segments are joined and of what becomes of a flow's segments, and a modem's
+cut, for the scripts that compare them with the code.
 
-A frame is known only by its grammar: every length is tried for a whole frame in front of some bytes.
+A frame is known only by its grammar: every length is tried for a whole frame in front of some bytes. A segment is its
+bytes, of which the first eight are its header.
 """
+
+import collections
+
+MODULUS, AHEAD = 8192, 4096
+Header = collections.namedtuple("Header", "pfi pointer number cluster request")
+
+
+def header(segment):
+    words = [segment[k] * 256 + segment[k + 1] for k in (0, 2, 4)]
+    return Header(words[0] // 32768, words[0] % 16384, words[1] // 8, words[1] % 8, words[2])
+
 
 
 def is_frame(text):
@@ -34,7 +47,7 @@ def walk(text):
 
 def feed(unfinished, segment):
     """The frames that a segment completes, and what is unfinished then."""
-    pfi, pointer = segment[0] >> 7, (segment[0] & 0x3F) * 256 + segment[1]
+    pfi, pointer, *_ = header(segment)
     payload = segment[8:]
     if pfi == 0 and not unfinished:
         return [], b""
@@ -48,6 +61,91 @@ def feed(unfinished, segment):
     done = [ended] if unfinished and is_frame(ended) else []
     frames, rest = walk(payload[pointer:])
     return done + frames, rest
+
+
+class Flow:
+    """What became of the segments of a flow. An index is a segment's true place in its flow and never goes round; the
+    number in its header is the first number plus the index, modulo 8192."""
+
+    def __init__(self, first, window):
+        self.first, self.window = first, window
+        self.kept = {}  # the kept indexes, each with its segment
+        self.declared = set()  # the indexes that were declared lost
+        self.expected = 0  # the least index in neither
+
+    def index(self, number):
+        """The one index with this number from 4096 before the expected one up to, not including, 4096 after it."""
+        least = self.expected - AHEAD
+        return least + (number - self.first - least) % MODULUS
+
+    def arrive(self, segment):
+        index = self.index(header(segment).number)
+        if index < self.expected:
+            return "late"
+        if index >= self.expected + self.window:
+            return "beyond"
+        if index in self.kept:
+            return "repeat"
+        self.kept[index] = segment
+        self.pass_settled()
+        return "kept"
+
+    def gap(self, number=None):
+        """Declares the expected index lost or, with a number, all that is missing before the index that has it, but only
+        what lies before a kept index. Answers whether anything was declared."""
+        end = self.expected + 1 if number is None else self.index(number)
+        last = max(self.kept, default=-1)
+        lost = [index for index in range(self.expected, min(end, last)) if index not in self.kept]
+        self.declared.update(lost)
+        self.pass_settled()
+        return bool(lost)
+
+    def pass_settled(self):
+        while self.expected in self.kept or self.expected in self.declared:
+            self.expected += 1
+
+    def joined(self):
+        """The frames of what is settled, in the order of the indexes, and what is unfinished then."""
+        frames, unfinished = [], b""
+        for index in range(self.expected):
+            given, unfinished = feed(unfinished, self.kept[index]) if index in self.kept else ([], b"")
+            frames += given
+        return frames, unfinished
+
+
+class Cut:
+    """A modem's frames, cut into segments. Each segment has the places of its chunk in the stream of frames."""
+
+    def __init__(self, rng, first, count):
+        self.frames, self.chunks, self.segments = [], [], []
+        fill, stream, ends, place = rng.choice([b"\x00", b"\xff"]), b"", {0}, 0
+        for index in range(count):
+            size = rng.choice([0, 0, 1, 2, 3, 5, 8, 13, 21])
+            while len(stream) < place + size:
+                self.frames.append(some_frame(rng))
+                stream += self.frames[-1]
+                ends.add(len(stream))
+            if rng.random() < 0.3:
+                size = min((end - place for end in ends if end >= place), default=size)
+            chunk = stream[place : place + size]
+            begun = [p for p in range(size) if place + p in ends]
+            self.chunks.append((place, place + size))
+            place += size
+            filled = fill * rng.choice([0, 0, 1, 2, 4, 7]) if place in ends else b""
+            pointer = 0x8000 | begun[0] if begun else rng.choice([0, 0x3FFF])
+            self.segments.append((pointer, (first + index) % MODULUS, chunk + filled))
+
+    def delivered(self, flow):
+        """The frames that lie wholly in the cut and of which each segment was kept, below the expected index."""
+        end = 0
+        for frame in self.frames:
+            start, end = end, end + len(frame)
+            shares = [i for i, (low, high) in enumerate(self.chunks) if max(low, start) < min(high, end)]
+            if end > self.chunks[-1][1]:
+                return
+            span = range(shares[0], shares[-1] + 1)
+            if all(i in flow.kept and i < flow.expected for i in span):
+                yield frame
 
 
 def some_frame(rng):

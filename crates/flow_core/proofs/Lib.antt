@@ -17,6 +17,8 @@ pub mod Declaring
 pub mod Joining
 pub mod Setup
 pub mod OneFlow
+pub mod FlowSteps
+pub mod Running
 pub mod NewFlows
 pub mod Closing
 pub mod Turns

@@ -50,8 +50,8 @@ module _ {C : Type 0} where
         → IsInRange flow_record → HasGiven accepts core k accepted flow_record events given
         → HasDrained accepts after k accepted flow_record events (given ++ more)
 
-  -- Flow k is closed, and the frames that the close gives are appended: whatever events it stood for, it stands for them and then for as many
-  -- gaps as still changed anything, has given these frames more, and is drained.
+  -- Flow k is closed, and the frames that the close gives are appended: whatever events it stood for, it stands for them and then for gaps, as
+  -- many as still changed anything and possibly some more, has given these frames more, and is drained.
   pub record ClosesFlow (accepts : C → List ℕ → Bool) (core : Core C) (k : ℕ) (frames : List (List ℕ)) (after : Core C) (frames' : List (List ℕ)) : Type 0 where
     pub more : List (List ℕ)
     pub appended : frames' ≡ frames ++ more

@@ -8,9 +8,9 @@
 //! were all kept and lie before the expected one, in the modem's order
 //! ([`laws::flow_gives_the_delivery_sequence`]).
 //!
-//! To drain a flow is to advance it until `Nothing`. To close it is to drain it, to call
-//! [`Core::close_gap`], and to do both again until that answers false. Then its frames are all
-//! those whose segments were kept ([`laws::closed_flow_gives_the_frames_that_were_all_kept`]).
+//! [`Core::drain`] advances a flow until `Nothing`. [`Core::close`] calls [`Core::close_gap`] and
+//! drains, until that answers false. Then a flow's frames are all those whose segments were kept
+//! ([`laws::closed_flow_gives_the_frames_that_were_all_kept`]).
 #![tactic(auto)]
 
 mod counts;

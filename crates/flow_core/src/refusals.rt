@@ -3,6 +3,8 @@
 ghost use Rattle.std.specs.Prelude.{◌≡◌, IfOk, length};
 ghost use Rattle.docsis_wire.specs.Ready.{IsReady};
 
+mod draining;
+
 use crate::tests::expect_drained;
 use crate::{Applied, Core, Event, FlowCounts, FlowRecord, SetupFault, Step, check_records};
 use docsis_wire::{NoCheck, Segment};

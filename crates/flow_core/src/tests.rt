@@ -3,6 +3,7 @@ ghost use Rattle.std.specs.Prelude.{◌<◌, length, IfOk};
 ghost use Rattle.docsis_wire.specs.Ready.{IsReady};
 ghost use Rattle.flow_core.specs.Flows.{IsDrainedAt};
 
+pub(crate) mod draining;
 mod gaps;
 mod gaps_to;
 mod order;
@@ -10,7 +11,7 @@ mod records;
 mod verdicts;
 
 use crate::{Applied, Core, Event, FlowCounts, FlowRecord, Step};
-use docsis_wire::{Bytes, NoCheck, Segment};
+use docsis_wire::{Bytes, HeaderCheck, NoCheck, Segment};
 use reorder::{Declared, Verdict};
 use std::alloc::Global;
 use std::process::Abort;
@@ -125,7 +126,7 @@ fn answer_of(verdict: &Verdict<Segment>, Part(number, _, payload): Part) -> Opti
     same.then_some(answer)
 }
 
-fn same_bytes(frames: &[Bytes], wanted: &[&[u8]]) -> bool {
+pub(crate) fn same_bytes(frames: &[Bytes], wanted: &[&[u8]]) -> bool {
     frames.len() == wanted.len()
         && frames
             .iter()
@@ -134,7 +135,7 @@ fn same_bytes(frames: &[Bytes], wanted: &[&[u8]]) -> bool {
 }
 
 /// Ends the test if the core has no such flow, or one that isn't drained.
-pub(crate) fn expect_drained(rt: &impl Abort, core: &Core<NoCheck>, flow: usize)
+pub(crate) fn expect_drained<C: HeaderCheck + Drop>(rt: &impl Abort, core: &Core<C>, flow: usize)
     ensures exists { flow < length core.now.flows.items }
     ensures drained { IsDrainedAt core.now flow }
 {

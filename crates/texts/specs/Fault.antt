@@ -8,6 +8,8 @@ use Rattle.texts.specs.declared.fault.TraceKind.{TraceKind}
 use Rattle.texts.specs.declared.fault.TraceKind.TheVariants.{NotHex, TooShort, PointerPast}
 use Rattle.texts.specs.declared.fault.LineFault.{LineFault}
 use Rattle.texts.specs.declared.fault.LineFault.TheVariants as line
+use Rattle.texts.specs.declared.fault.ParseFault.{ParseFault}
+use Rattle.texts.specs.declared.fault.ParseFault.TheVariants as parse
 use Rattle.texts.specs.declared.fault.TextFault.{TextFault}
 use Rattle.texts.specs.declared.fault.TextFault.TheVariants as text
 use Rattle.texts.specs.declared.field.FieldFault.{FieldFault}
@@ -19,9 +21,14 @@ IsLineFault HasFault (line.Kind kind) = HasFault kind
 IsLineFault HasFault line.OutOfMemory = Unit {0}
 
 -- the fault of an input whose line of this number has this fault
-abbrev pub fault_at : ℕ → LineFault → TextFault
-fault_at number (line.Kind kind) = text.Trace (record { line = number; kind = kind })
-fault_at number line.OutOfMemory = text.OutOfMemory
+abbrev pub fault_at : ℕ → LineFault → ParseFault
+fault_at number (line.Kind kind) = parse.Line (record { line = number; kind = kind })
+fault_at number line.OutOfMemory = parse.OutOfMemory
+
+-- what that fault is to a text
+abbrev pub text_fault_of_parse : ParseFault → TextFault
+text_fault_of_parse (parse.Line fault) = text.Trace fault
+text_fault_of_parse parse.OutOfMemory = text.OutOfMemory
 
 -- the fault of a line whose hexadecimal field has this one
 abbrev pub line_fault_of_field : FieldFault → LineFault

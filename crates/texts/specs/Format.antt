@@ -2,8 +2,8 @@
 use Rattle.std.specs.Prelude.{◌≡◌, ℕ, ◌+◌, List, [], ◌∷◌, ◌++◌, length}
 use Rattle.texts.specs.declared.fault.TraceKind.{TraceKind}
 use Rattle.texts.specs.declared.fault.TraceFault.{TraceFault}
-use Rattle.texts.specs.declared.fault.TextFault.{TextFault}
-use Rattle.texts.specs.declared.fault.TextFault.TheVariants.{Trace, Cut, OutOfMemory}
+use Rattle.texts.specs.declared.fault.ParseFault.{ParseFault}
+use Rattle.texts.specs.declared.fault.ParseFault.TheVariants.{Line, OutOfMemory}
 use Rattle.texts.specs.Lines.{fields_of}
 
 -- A format, whose lines together say a state. Only lines that have fields are spoken of: in every format a line without fields is skipped.
@@ -34,7 +34,6 @@ pub record IsFirstFaultyLine {State : Type 0} (format : Format State) (start : S
   pub kind : format.HasFault state (fields_of line) fault.kind
 
 -- why lines were not read: the first faulty line, or a failed allocation
-abbrev pub IsReadingFault : {State : Type 0} → Format State → State → List (List ℕ) → TextFault → Type 0
-IsReadingFault format start lines (Trace fault) = IsFirstFaultyLine format start lines fault
-IsReadingFault format start lines (Cut fault) = ⊥
+abbrev pub IsReadingFault : {State : Type 0} → Format State → State → List (List ℕ) → ParseFault → Type 0
+IsReadingFault format start lines (Line fault) = IsFirstFaultyLine format start lines fault
 IsReadingFault format start lines OutOfMemory = Unit {0}

@@ -7,3 +7,6 @@ pub mod Fault
 pub mod Format
 pub mod Join
 pub mod Cut
+pub mod Trace
+pub mod Report
+pub mod Replay

@@ -11,3 +11,11 @@ pub record IsNumber (field : List ℕ) (most number : ℕ) : Type 0 where
 -- the field is no number of at most so much
 abbrev pub IsNoNumber : List ℕ → ℕ → Type 0
 IsNoNumber field most = (number : ℕ) → ¬ IsNumber field most number
+
+-- the field is a number in this range
+abbrev pub IsNumberIn : List ℕ → ℕ → ℕ → ℕ → Type 0
+IsNumberIn field least most number = IsNumber field most number × (least ≤ number)
+
+-- the field is no number in this range
+abbrev pub IsNoNumberIn : List ℕ → ℕ → ℕ → Type 0
+IsNoNumberIn field least most = (number : ℕ) → ¬ IsNumberIn field least most number

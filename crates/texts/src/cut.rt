@@ -10,7 +10,7 @@ ghost use Rattle.texts.specs.Cut.{IsPrinted, IsCutText, IsCutFault, segment_line
 
 mod line;
 
-use crate::fault::{LineFault, TextFault};
+use crate::fault::{LineFault, ParseFault, TextFault};
 use crate::field::append_hex;
 use crate::lines::{TakeLine, take_lines};
 use docsis_wire::{Bytes, Cutter, FillByte, NoCheck, Piece, Segment, write_segment};
@@ -48,7 +48,7 @@ impl TakeLine for CutInput {
 }
 
 /// The frames and the pieces that the lines of an input carry. The input is freed.
-fn read_cut_input(alloc: Global, input: Vec<u8>) -> Result<CutInput, TextFault>
+fn read_cut_input(alloc: Global, input: Vec<u8>) -> Result<CutInput, ParseFault>
     ensures read { IfOk result (λ read. IsRead cut_format nothing (lines_of input.items)
         (record { frames = read.frames.items; pieces = read.pieces.items })) }
     ensures fault { IfErr result (IsReadingFault cut_format nothing (lines_of input.items)) }

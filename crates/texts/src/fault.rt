@@ -3,9 +3,10 @@
 ghost use Rattle.std.specs.Prelude.{◌≡◌};
 ghost use Rattle.texts.specs.Kinds.{kind_text};
 ghost use Rattle.texts.specs.declared.fault.LineFault.TheVariants as line_fault;
+ghost use Rattle.texts.specs.declared.fault.ParseFault.TheVariants as parse_fault;
 ghost use Rattle.texts.specs.declared.fault.TextFault.TheVariants as text_fault;
 ghost use Rattle.texts.specs.Fault.{fault_at, line_fault_of_field, line_fault_of_segment};
-ghost use Rattle.texts.specs.Fault.{text_fault_of_cut};
+ghost use Rattle.texts.specs.Fault.{text_fault_of_cut, text_fault_of_parse};
 
 use crate::field::FieldFault;
 use docsis_wire::{CutFault, SegmentFault};
@@ -18,12 +19,24 @@ use thiserror::Error;
 pub enum TraceKind {
     /// The first word is none of the command's.
     UnknownLine,
+    /// A line that sets a trace up stands after one that says what came in.
+    SetupLate,
     /// There are too few or too many words.
     FieldCount,
     /// A number field is no number in its range.
     BadNumber,
+    /// The word for a burst's check is neither `ok` nor `bad`.
+    BadWord,
     /// A hexadecimal field is none.
     NotHex,
+    /// No line above gives the flow that is named.
+    UnknownFlow,
+    /// There are 64 flows already.
+    TooManyFlows,
+    /// The service flow identifier stands in a line above.
+    SameFlow,
+    /// The channel and the service identifier stand in a line above.
+    SameSid,
     /// A segment has fewer than the eight bytes of its header.
     TooShort,
     /// A segment's pointer leads past its payload.
@@ -37,9 +50,15 @@ impl TraceKind {
     {
         match self {
             TraceKind::UnknownLine => "unknown line",
+            TraceKind::SetupLate => "setup after input",
             TraceKind::FieldCount => "wrong number of fields",
             TraceKind::BadNumber => "bad number",
+            TraceKind::BadWord => "not ok or bad",
             TraceKind::NotHex => "not hexadecimal",
+            TraceKind::UnknownFlow => "unknown flow",
+            TraceKind::TooManyFlows => "too many flows",
+            TraceKind::SameFlow => "flow given before",
+            TraceKind::SameSid => "sid given before",
             TraceKind::TooShort => "too short",
             TraceKind::PointerPast => "pointer past the end",
         }
@@ -54,6 +73,17 @@ pub struct TraceFault {
     pub line: u64,
     /// Why it cannot be read.
     pub kind: TraceKind,
+}
+
+/// Why an input's lines were not read.
+#[derive(Clone, Copy, Debug, PartialEq, Eq, Error)]
+pub enum ParseFault {
+    /// A line of the input cannot be read. It is the first such line.
+    #[error(transparent)]
+    Line(TraceFault),
+    /// An allocation failed.
+    #[error("out of memory")]
+    OutOfMemory,
 }
 
 /// Why no text stands for an input.
@@ -83,12 +113,12 @@ pub enum LineFault {
 
 impl LineFault {
     /// The fault of the input whose line of this number it is.
-    pub fn at(self, line: u64) -> TextFault
+    pub fn at(self, line: u64) -> ParseFault
         ensures { result ≡ fault_at line self }
     {
         match self {
-            LineFault::Kind(kind) => TextFault::Trace(TraceFault { line, kind }),
-            LineFault::OutOfMemory => TextFault::OutOfMemory,
+            LineFault::Kind(kind) => ParseFault::Line(TraceFault { line, kind }),
+            LineFault::OutOfMemory => ParseFault::OutOfMemory,
         }
     }
 }
@@ -128,6 +158,25 @@ impl From<SegmentFault> for LineFault {
             SegmentFault::TooShort => LineFault::Kind(TraceKind::TooShort),
             SegmentFault::PointerPast => LineFault::Kind(TraceKind::PointerPast),
             SegmentFault::OutOfMemory => LineFault::OutOfMemory,
+        }
+    }
+}
+
+impl From<AllocError> for ParseFault {
+    ghost from_gives = { λ _ fault. fault ≡ parse_fault.OutOfMemory };
+
+    fn from(_: AllocError) -> ParseFault {
+        ParseFault::OutOfMemory
+    }
+}
+
+impl From<ParseFault> for TextFault {
+    ghost from_gives = { λ parse text. text ≡ text_fault_of_parse parse };
+
+    fn from(fault: ParseFault) -> TextFault {
+        match fault {
+            ParseFault::Line(fault) => TextFault::Trace(fault),
+            ParseFault::OutOfMemory => TextFault::OutOfMemory,
         }
     }
 }

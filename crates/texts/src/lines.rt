@@ -4,7 +4,7 @@ ghost use Rattle.texts.specs.Fault.{IsLineFault};
 ghost use Rattle.texts.specs.Format.{Format, IsRead, IsReadingFault};
 ghost use Rattle.texts.specs.Lines.{lines_of, words_of, fields_of, is_line_feed};
 
-use crate::fault::{LineFault, TextFault};
+use crate::fault::{LineFault, ParseFault};
 use crate::words::split_field;
 use memchr::memchr;
 use std::alloc::Global;
@@ -64,7 +64,7 @@ fn take_or_skip<T: TakeLine>(alloc: Global, line: &[u8], taker: &mut T) -> Resul
 
 /// Takes the lines of an input in order, and reports the first faulty one. A line without fields is
 /// skipped.
-pub fn take_lines<T: TakeLine>(alloc: Global, input: &[u8], taker: &mut T) -> Result<(), TextFault>
+pub fn take_lines<T: TakeLine>(alloc: Global, input: &[u8], taker: &mut T) -> Result<(), ParseFault>
     ensures read { (start : T.State) → T.stands_for start taker.old
         → OnOk result ((end : T.State)
         × IsRead T.format start (lines_of input.now) end × T.stands_for end taker.new) }

@@ -1,28 +1,35 @@
 //! Number fields.
 ghost use Rattle.std.specs.Prelude.{◌≡◌, IfSome};
-ghost use Rattle.texts.specs.Number.{IsNumber, IsNoNumber};
+ghost use Rattle.texts.specs.Number.{IsNumber, IsNoNumber, IsNumberIn, IsNoNumberIn};
 
 /// The number that a field spells in decimal digits, leading zeros or not, if it is at most `most`.
 /// A field without digits, with any other byte, as a sign, or with a greater number is none.
-pub fn read_number(field: &[u8], most: u16) -> Option<u16>
+pub fn read_number(field: &[u8], most: u32) -> Option<u32>
     ensures number { IfSome result (IsNumber field.now most) }
     ensures none { result ≡ None → IsNoNumber field.now most }
 {
     if field.is_empty() {
         return None;
     }
-    let mut number = 0u16;
+    let mut number = 0u64;
     for byte in field {
         let Some(digit) = char::from(*byte).to_digit(10) else {
             return None;
         };
-        let next = u32::from(number) * 10 + digit;
-        if next > u32::from(most) {
+        number = number * 10 + u64::from(digit);
+        if number > u64::from(most) {
             return None;
         }
-        number = next as u16;
     }
-    Some(number)
+    Some(number as u32)
+}
+
+/// The number that a field spells, if it lies from `least` to `most`.
+pub fn read_number_in(field: &[u8], least: u32, most: u32) -> Option<u32>
+    ensures number { IfSome result (IsNumberIn field.now least most) }
+    ensures none { result ≡ None → IsNoNumberIn field.now least most }
+{
+    read_number(field, most).filter(|number| *number >= least)
 }
 
 #[cfg(test)]
@@ -32,11 +39,13 @@ mod tests {
 
     #[test]
     fn reads_numbers_at_their_edges(rt: HostRuntime) -> Result<(), Fail> {
-        let cases: [(&str, u16, Option<u16>); 13] = [
+        let cases: [(&str, u32, Option<u32>); 15] = [
             ("0", 0, Some(0)),
             ("1", 0, None),
             ("65535", 65_535, Some(65_535)),
             ("65536", 65_535, None),
+            ("4294967295", u32::MAX, Some(u32::MAX)),
+            ("4294967296", u32::MAX, None),
             ("8191", 8191, Some(8191)),
             ("8192", 8191, None),
             ("000000000000000000000000000007", 7, Some(7)),

@@ -80,6 +80,27 @@ pub fn only_two_words(rest: &[u8]) -> Option<(&[u8], &[u8])>
     Some((word, second))
 }
 
+/// The only three words, or `None` where there are more or fewer.
+pub fn only_three_words(rest: &[u8]) -> Option<(&[u8], &[u8], &[u8])>
+    ensures { MatchOption result (length (words_of rest.now) ≢ 3)
+        (λ three. words_of rest.now ≡ three.0.now ∷ three.1.now ∷ three.2.now ∷ []) }
+{
+    let (word, more) = split_word(rest)?;
+    let (second, third) = only_two_words(more)?;
+    Some((word, second, third))
+}
+
+/// The only four words, or `None` where there are more or fewer.
+pub fn only_four_words(rest: &[u8]) -> Option<(&[u8], &[u8], &[u8], &[u8])>
+    ensures { MatchOption result (length (words_of rest.now) ≢ 4)
+        (λ four. words_of rest.now
+        ≡ four.0.now ∷ four.1.now ∷ four.2.now ∷ four.3.now ∷ []) }
+{
+    let (word, more) = split_word(rest)?;
+    let (second, third, fourth) = only_three_words(more)?;
+    Some((word, second, third, fourth))
+}
+
 #[cfg(test)]
 mod tests {
     use super::*;

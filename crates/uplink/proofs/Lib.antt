@@ -4,6 +4,10 @@ pub mod Taking
 pub mod SidFlows
 pub mod OneAnswer
 pub mod Places
+pub mod Interleaving
+pub mod FourLanes
+pub mod Assembling
+pub mod Finishing
 pub mod Gathered
 pub mod Merged
 pub mod Outstanding

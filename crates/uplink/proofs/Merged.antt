@@ -45,7 +45,7 @@ module _ {T : Type 0} where
     picked-there apart = ap (λ b. if b then item ∷ picked sender order items else picked sender order items) (ne_eqb sender tag apart)
 
   -- of each sender as many items are picked as it has places
-  times-picked : (sender : ℕ) (order : List ℕ) (items : List T) → length order ≡ length items
+  pub times-picked : (sender : ℕ) (order : List ℕ) (items : List T) → length order ≡ length items
       → times_of sender order ≡ length (picked sender order items)
   times-picked sender [] items same = refl
   times-picked sender (tag ∷ order) [] same = absurd (omega arith)
@@ -57,7 +57,7 @@ module _ {T : Type 0} where
       (cases_eq sender tag)
 
   -- a list for each sender has its length among theirs
-  length-of : (lists : ℕ → List T) (sender : ℕ) → sender < senders → slice_index_or (lengths_of lists) sender 0 ≡ length (lists sender)
+  pub length-of : (lists : ℕ → List T) (sender : ℕ) → sender < senders → slice_index_or (lengths_of lists) sender 0 ≡ length (lists sender)
   length-of lists zero below = refl
   length-of lists (suc zero) below = refl
   length-of lists (suc (suc zero)) below = refl
@@ -201,13 +201,13 @@ module _ (setup : Setup) (lists : Lists) where
   -- there are as many items, whatever answers the inputs have
   module _ (can : CanReceive setup) (answered others : ℕ → List AnsweredInput) where
     module _ (lanes : AreLanesOf setup lists answered) (also : AreLanesOf setup lists others) where
-      one-lane : (channel : ℕ) → channel < channel_limit → answered channel ≡ others channel
+      pub one-lane : (channel : ℕ) → channel < channel_limit → answered channel ≡ others channel
       one-lane channel below =
           one-list-of-answers (lane_setup setup channel) can.lanes (answered channel) (others channel)
           (lanes channel below).answers (also channel below).answers
           ((lanes channel below).inputs ∙ sym (also channel below).inputs)
 
-      same-lengths : lengths_of (items_of setup lists answered) ≡ lengths_of (items_of setup lists others)
+      pub same-lengths : lengths_of (items_of setup lists answered) ≡ lengths_of (items_of setup lists others)
       same-lengths =
           let long : List AnsweredInput → ℕ = λ taken. length (map event_of_admitted (admitted_of taken)) in
           let l0 = ap long (one-lane 0 (lit< tt)) in

@@ -15,7 +15,7 @@ pub record IsLeftOver (lengths order : List ℕ) (k : ℕ) (left : List ℕ) : T
   pub good : (j : ℕ) → j < k → ¬ (IsBadPlace lengths order j)
 
 -- a sender stands once more in an order after a place that names it, and no more often after any other
-times-same : (order : List ℕ) (k tag : ℕ) → k < length order → get_or order k tag ≡ tag → times_of tag (take (k + 1) order) ≡ times_of tag (take k order) + 1
+pub times-same : (order : List ℕ) (k tag : ℕ) → k < length order → get_or order k tag ≡ tag → times_of tag (take (k + 1) order) ≡ times_of tag (take k order) + 1
 times-same order k tag within here = count_by_more_yes (λ t. t == tag) order k tag within (eq-eqb (get_or order k tag) tag here)
 
 times-other : (order : List ℕ) (k tag sender : ℕ) → k < length order → get_or order k tag ≡ tag → sender ≢ tag → times_of sender (take (k + 1) order) ≡ times_of sender (take k order)

@@ -1,6 +1,5 @@
 -- Rows have at most one fault, and none if a lane can be opened with them.
-use Rattle.std.proofs.Common.{◌≡◌, ◌↔◌, ℕ, ◌<◌, ◌≤◌, ⊎_elim, Result, Err, List, ap, subst, ◌∙◌, arith}
-use Rattle.std.proofs.lemmas.Bool.{cases_lt}
+use Rattle.std.proofs.Common.{◌≡◌, ◌↔◌, ℕ, Result, Err, List, ap, subst, ◌∙◌}
 use Rattle.flow_core.proofs.Setup.{least-one}
 use Rattle.uplink.specs.declared.row.SidRow.{SidRow}
 use Rattle.uplink.specs.declared.row.LaneFault.{LaneFault}

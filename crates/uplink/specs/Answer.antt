@@ -19,7 +19,7 @@ use Rattle.uplink.specs.Rows.{CanBeOpened, IsLaneFault}
 use Rattle.uplink.specs.Limits.{channel_limit}
 use Rattle.uplink.specs.Inputs.{AnsweredInput}
 use Rattle.uplink.specs.Report.{requests_of, admitted_count, refusal_numbers}
-use Rattle.uplink.specs.Items.{AreLanesOf, items_of, are_items, events_at}
+use Rattle.uplink.specs.Items.{inputs_on, AreLanesOf, items_of, are_items, events_at}
 use Rattle.uplink.specs.Order.{IsMergeOf, IsOrderFault, lengths_of, kept_places}
 
 -- What a flow with this record gives after these events and its close: as many gaps as still change anything.
@@ -77,7 +77,8 @@ pub record IsAdmittedOrder (setup : Setup) (lists : Lists) (tags order : List �
 
 -- how many inputs each channel has, and how many decisions there are
 abbrev pub input_counts : Lists → List ℕ
-input_counts lists = map (λ inputs. length inputs.items) lists.inputs ++ length lists.decisions.items ∷ []
+input_counts lists =
+    length (inputs_on lists 0) ∷ length (inputs_on lists 1) ∷ length (inputs_on lists 2) ∷ length (inputs_on lists 3) ∷ length lists.decisions.items ∷ []
 
 -- neither the flows nor the lanes have a fault
 pub record CanReceive (setup : Setup) : Type 0 where

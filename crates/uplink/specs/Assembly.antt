@@ -1,13 +1,16 @@
 -- What all flows of a core have taken and given, of the items so far.
-use Rattle.std.specs.Prelude.{◌≡◌, ◌≢◌, ℕ, ◌<◌, Bool, Some, List, [], ◌∷◌, ◌++◌, map, length, slice_get, slice_index_or}
+use Rattle.std.specs.Prelude.{◌≡◌, ◌≢◌, ℕ, Bool, Some, List, [], ◌∷◌, ◌++◌, map, length, slice_get, slice_index_or}
 use Rattle.flow_core.specs.declared.record.FlowRecord.{FlowRecord}
 use Rattle.flow_core.specs.declared.flows.Core.{Core}
 use Rattle.flow_core.specs.declared.event.Event.{Event}
-use Rattle.flow_core.specs.Setup.{CanBeSetUp}
+use Rattle.flow_core.specs.declared.counts.FlowCounts.{FlowCounts}
+use Rattle.flow_core.specs.Setup.{IsInRange, CanBeSetUp}
+use Rattle.flow_core.specs.Events.{FlowEvent}
 use Rattle.flow_core.specs.Flows.{flow_of}
-use Rattle.flow_core.specs.Giving.{HasDrained, HasClosed}
+use Rattle.flow_core.specs.Giving.{HasDrained}
 use Rattle.uplink.specs.declared.assembler.Assembler.{Assembler}
 use Rattle.uplink.specs.Items.{events_at}
+use Rattle.uplink.specs.Answer.{GivesAtItsClose}
 
 module _ {C : Type 0} where
   -- Each flow of the core has taken its events among these items, is drained, and has given these frames, by its index.
@@ -34,6 +37,15 @@ module _ {C : Type 0} where
         → HasTaken accepts core accepted records items given
         → given' (flow_of event) ≡ given (flow_of event) ++ more → ((k : ℕ) → k ≢ flow_of event → given' k ≡ given k)
         → HasTaken accepts after accepted records (items ++ event ∷ []) given'
+
+  -- Flow k is closed, and the frames that it then gives are appended: whatever events it had taken and whatever it had given, with these frames
+  -- more and these counts that is what it gives at its close.
+  pub record GivesTheRest (accepts : C → List ℕ → Bool) (core : Core C) (k : ℕ) (frames frames' : List (List ℕ)) (counts : FlowCounts) : Type 0 where
+    pub more : List (List ℕ)
+    pub appended : frames' ≡ frames ++ more
+    pub gives : (accepted : List ℕ → Bool) (flow_record : FlowRecord) (events : List FlowEvent) (given : List (List ℕ))
+        → IsInRange flow_record → HasDrained accepts core k accepted flow_record events given
+        → GivesAtItsClose accepted flow_record events (given ++ more) counts
 
   -- the frames that an assembler has collected of flow k
   abbrev pub collected : Assembler C → ℕ → List (List ℕ)

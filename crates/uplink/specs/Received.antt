@@ -1,12 +1,17 @@
 -- What a channel's whole list of inputs gave, and the items of five senders that are still to be taken.
-use Rattle.std.specs.Prelude.{◌≡◌, ℕ, ◌<◌, zero, suc, All, MatchOption, List, [], ◌∷◌, ◌++◌, map, is_some}
+use Rattle.std.specs.Prelude.{◌≡◌, ℕ, ◌<◌, zero, suc, All, MatchOption, Bool, List, [], ◌∷◌, ◌++◌, map, length, is_some}
 use Rattle.std.specs.Vec.Iter.{into_iter_items}
 use Rattle.uplink.specs.declared.input.Input.{Input}
 use Rattle.uplink.specs.declared.received.Received.{Received}
+use Rattle.uplink.specs.declared.received.FourReceived.{FourReceived}
 use Rattle.uplink.specs.declared.merging.Merging.{Merging}
+use Rattle.uplink.specs.declared.setup.Setup.{Setup}
+use Rattle.uplink.specs.declared.setup.Lists.{Lists}
+use Rattle.uplink.specs.Limits.{channel_limit}
 use Rattle.uplink.specs.Inputs.{Answer, AnsweredInput}
 use Rattle.uplink.specs.Report.{admitted_by, admitted_of, requests_of}
-use Rattle.uplink.specs.Items.{IsItem, event_of_admitted}
+use Rattle.uplink.specs.Items.{IsItem, AreLanesOf, event_of_admitted, are_items}
+use Rattle.uplink.specs.Order.{senders}
 use Rattle.uplink.specs.Answer.{IsReportOf}
 
 -- this is what the inputs with these answers gave, where there are so many flows
@@ -35,3 +40,22 @@ left_of merging (suc zero) = into_iter_items merging.l1
 left_of merging (suc (suc zero)) = into_iter_items merging.l2
 left_of merging (suc (suc (suc zero))) = into_iter_items merging.l3
 left_of merging _ = into_iter_items merging.l4
+
+-- what the inputs of this channel, 0 to 3, gave
+abbrev pub received_on : FourReceived → ℕ → Received
+received_on received zero = received.r0
+received_on received (suc zero) = received.r1
+received_on received (suc (suc zero)) = received.r2
+received_on received _ = received.r3
+
+-- this is what the inputs of the four channels gave
+pub record HaveReceived (setup : Setup) (lists : Lists) (received : FourReceived) : Type 0 where
+  pub answered : ℕ → List AnsweredInput
+  pub lanes : AreLanesOf setup lists answered
+  pub each : (channel : ℕ) → channel < channel_limit → HasReceived (length setup.flows.items) (answered channel) (received_on received channel)
+
+-- these say of each input and decision whether it gives an item
+pub record AreFlagsOf (setup : Setup) (lists : Lists) (flags : Merging Bool) : Type 0 where
+  pub answered : ℕ → List AnsweredInput
+  pub lanes : AreLanesOf setup lists answered
+  pub are : (sender : ℕ) → sender < senders → left_of flags sender ≡ are_items setup lists answered sender

@@ -1,10 +1,4 @@
 //! The assembler: all flows, and the frames that each gave.
-ghost use Rattle.std.specs.Prelude.{◌≡◌, ◌++◌, ◌∷◌, [], ℕ, Bool, List, length, IfOk};
-ghost use Rattle.flow_core.specs.declared.record.FlowRecord.{FlowRecord};
-ghost use Rattle.flow_core.specs.declared.event.Event.{Event};
-ghost use Rattle.flow_core.specs.Setup.{CanBeSetUp};
-ghost use Rattle.uplink.specs.Items.{IsItem};
-ghost use Rattle.uplink.specs.Answer.{AreOutcomesOfFlows};
 
 mod calls;
 

@@ -34,4 +34,5 @@ pub use outcome::{FlowOutcome, LaneReport, Outcome};
 pub use refusal::Refusal;
 pub use replaying::{ReplayFault, admitted_order, replay};
 pub use row::{LaneFault, SidRow};
+pub use seen::SeenSids;
 pub use setup::{Decision, Lists, Setup};

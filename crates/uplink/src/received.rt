@@ -1,4 +1,4 @@
-//! What a channel's whole list of inputs gives.
+//! What the whole lists of the channels' inputs give.
 use crate::admitted::Request;
 use crate::outcome::LaneReport;
 use flow_core::Event;
@@ -14,4 +14,13 @@ pub struct Received {
     pub requests: Vec<Request>,
     /// What became of the inputs.
     pub report: LaneReport,
+}
+
+/// What the inputs of the channels 0 to 3 gave.
+#[derive(Drop)]
+pub struct FourReceived {
+    pub r0: Received,
+    pub r1: Received,
+    pub r2: Received,
+    pub r3: Received,
 }

@@ -1,74 +1,11 @@
 //! One flow that is played to its end: its segments arrive, and then it is closed.
-ghost use Rattle.std.specs.Prelude.{◌<◌, ℕ, Bool, All, List, IfOk, length};
+ghost use Rattle.std.specs.Prelude.{All, IfOk};
 ghost use Rattle.docsis_wire.specs.Ready.{IsReady};
-ghost use Rattle.flow_core.specs.declared.record.FlowRecord.{FlowRecord};
-ghost use Rattle.flow_core.specs.Setup.{IsInRange};
-ghost use Rattle.flow_core.specs.Events.{FlowEvent};
-ghost use Rattle.flow_core.specs.Flows.{IsDrainedAt};
-ghost use Rattle.uses.specs.OneFlow.{GivesWhatIsDelivered, HasGiven, HasClosed, IsRunning};
+ghost use Rattle.uses.specs.OneFlow.{GivesWhatIsDelivered};
 
 use docsis_wire::{Bytes, HeaderCheck, Segment};
-use flow_core::{Core, Event, FlowRecord, SetupFault, Step, laws};
-use std::alloc::{AllocError, Global};
-
-/// The greatest width of a window.
-const WINDOW_MAX: u16 = 4096;
-
-/// Joins all segments of the first flow that are next, and appends the frames.
-fn drain<C: HeaderCheck + Drop>(
-    alloc: Global,
-    core: &mut Core<C>,
-    frames: &mut Vec<Bytes>,
-) -> Result<(), AllocError>
-    requires { 0 < length core.old.flows.items }
-    ensures exists { 0 < length core.new.flows.items }
-    ensures given { IfOk result
-        (λ _. (accepted : List ℕ → Bool) (flow_record : FlowRecord) (events : List FlowEvent)
-        → IsInRange flow_record
-        → HasGiven C.accepts core.old accepted flow_record events frames.old.items
-        → HasGiven C.accepts core.new accepted flow_record events frames.new.items
-        × IsDrainedAt core.new 0) }
-{
-    laws::draining_ends();
-    laws::events_have_one_outcome();
-    for _joined in 0..=WINDOW_MAX {
-        match core.advance(alloc, 0)? {
-            Step::Frames(given) => {
-                let mut given = given;
-                frames.append(&mut given)?;
-            }
-            Step::Nothing => return Ok(()),
-        }
-    }
-    Ok(())
-}
-
-/// Closes the first flow: declares losses until one changes nothing, and joins what is next after
-/// each.
-fn close<C: HeaderCheck + Drop>(
-    alloc: Global,
-    core: &mut Core<C>,
-    frames: &mut Vec<Bytes>,
-) -> Result<(), AllocError>
-    requires drained { IsDrainedAt core.old 0 }
-    requires running { IsRunning C.accepts core.old frames.old.items }
-    ensures { IfOk result
-        (λ _. (accepted : List ℕ → Bool) (flow_record : FlowRecord) (events : List FlowEvent)
-        → IsInRange flow_record
-        → HasGiven C.accepts core.old accepted flow_record events frames.old.items
-        → HasClosed C.accepts core.new accepted flow_record events frames.new.items) }
-{
-    laws::flow_has_one_close();
-    laws::events_have_one_outcome();
-    laws::events_lead_on_in_turn();
-    for _closed in 0..WINDOW_MAX {
-        if !core.close_gap(0) {
-            return Ok(());
-        }
-        drain(alloc, core, frames)?;
-    }
-    Ok(())
-}
+use flow_core::{Core, Event, FlowRecord, SetupFault, laws};
+use std::alloc::Global;
 
 /// Plays one flow to its end: these segments arrive, and then the flow is closed. Answers the
 /// frames, or the fault of the record.
@@ -92,9 +29,9 @@ pub fn play<C: HeaderCheck + Drop>(
     let mut frames = Vec::new(alloc);
     for segment in segments {
         core.apply(Event::Arrive { flow: 0, segment });
-        drain(alloc, &mut core, &mut frames)?;
+        core.drain(alloc, 0, &mut frames)?;
     }
-    close(alloc, &mut core, &mut frames)?;
+    core.close(alloc, 0, &mut frames)?;
     Ok(frames)
 }
 

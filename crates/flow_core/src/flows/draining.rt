@@ -4,8 +4,13 @@ ghost use Rattle.flow_core.specs.Flows.{IsDrainedAt, OthersStay};
 ghost use Rattle.flow_core.specs.Giving.{IsRunning, Drains, ClosesFlow};
 
 use super::Core;
+use crate::event::Step;
+use crate::laws;
 use docsis_wire::{Bytes, HeaderCheck};
 use std::alloc::{AllocError, Global};
+
+/// The greatest width of a window.
+const WINDOW_MAX: u16 = 4096;
 
 impl<C: HeaderCheck + Drop> Core<C> {
     /// Advances a flow until nothing is next, and appends the frames that it gives. Where an
@@ -21,7 +26,18 @@ impl<C: HeaderCheck + Drop> Core<C> {
             Drains C.accepts self.old flow frames.old.items self.new frames.new.items) }
         ensures others { OthersStay self.old self.new flow }
     {
-        Err(AllocError)
+        laws::draining_ends();
+        laws::events_have_one_outcome();
+        for _joined in 0..=WINDOW_MAX {
+            match self.advance(alloc, flow)? {
+                Step::Frames(given) => {
+                    let mut given = given;
+                    frames.append(&mut given)?;
+                }
+                Step::Nothing => return Ok(()),
+            }
+        }
+        Ok(())
     }
 
     /// Closes a drained flow: declares losses until one changes nothing, drains it after each, and
@@ -39,6 +55,15 @@ impl<C: HeaderCheck + Drop> Core<C> {
             ClosesFlow C.accepts self.old flow frames.old.items self.new frames.new.items) }
         ensures others { OthersStay self.old self.new flow }
     {
-        Err(AllocError)
+        laws::flow_has_one_close();
+        laws::events_have_one_outcome();
+        laws::events_lead_on_in_turn();
+        for _closed in 0..WINDOW_MAX {
+            if !self.close_gap(flow) {
+                return Ok(());
+            }
+            self.drain(alloc, flow, frames)?;
+        }
+        Ok(())
     }
 }

@@ -2,7 +2,7 @@
 use Rattle.std.specs.Prelude.{◌≡◌, ◌≢◌, ◌⊎◌, ℕ, List, [], ◌∷◌, ◌++◌, length, codes}
 use Rattle.docsis_wire.specs.declared.pieces.Piece.{Piece}
 use Rattle.texts.specs.declared.fault.TraceKind.{TraceKind}
-use Rattle.texts.specs.declared.fault.TraceKind.TheVariants.{UnknownLine, FieldCount, BadNumber, NotHex, TooShort, PointerPast}
+use Rattle.texts.specs.declared.fault.TraceKind.TheVariants.{UnknownLine, SetupLate, FieldCount, BadNumber, BadWord, NotHex, UnknownFlow, TooManyFlows, SameFlow, SameSid, TooShort, PointerPast}
 use Rattle.texts.specs.declared.cut.line.CutLine.{CutLine}
 use Rattle.texts.specs.declared.cut.line.CutLine.TheVariants as cut_line
 use Rattle.texts.specs.Field.{SpellsBytes, IsHex}
@@ -71,9 +71,15 @@ pub record HasBadHex (fields : List (List ℕ)) : Type 0 where
 -- for, with a wrong number of fields there is no field to look at, and a frame has no numbers and a piece no hexadecimal field.
 abbrev pub HasFault : List (List ℕ) → TraceKind → Type 0
 HasFault fields UnknownLine = IsUnknown fields
+HasFault fields SetupLate = ⊥
 HasFault fields FieldCount = HasOtherCount fields frame_word 1 ⊎ HasOtherCount fields piece_word 2
 HasFault fields BadNumber = HasBadNumber fields
+HasFault fields BadWord = ⊥
 HasFault fields NotHex = HasBadHex fields
+HasFault fields UnknownFlow = ⊥
+HasFault fields TooManyFlows = ⊥
+HasFault fields SameFlow = ⊥
+HasFault fields SameSid = ⊥
 HasFault fields TooShort = ⊥
 HasFault fields PointerPast = ⊥
 

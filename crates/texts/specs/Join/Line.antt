@@ -6,7 +6,7 @@ use Rattle.docsis_wire.specs.Ready.{IsReady}
 use Rattle.docsis_wire.specs.SegmentBytes.{segment_bytes}
 use Rattle.docsis_wire.specs.SegmentBytes as segment
 use Rattle.texts.specs.declared.fault.TraceKind.{TraceKind}
-use Rattle.texts.specs.declared.fault.TraceKind.TheVariants.{UnknownLine, FieldCount, BadNumber, NotHex, TooShort, PointerPast}
+use Rattle.texts.specs.declared.fault.TraceKind.TheVariants.{UnknownLine, SetupLate, FieldCount, BadNumber, BadWord, NotHex, UnknownFlow, TooManyFlows, SameFlow, SameSid, TooShort, PointerPast}
 use Rattle.texts.specs.Field.{SpellsBytes, IsHex}
 use Rattle.texts.specs.Format.{Format}
 
@@ -43,9 +43,15 @@ pub record PointsPast (fields : List (List ℕ)) : Type 0 where
 -- field to look at, what is no hexadecimal field has no bytes, and too few bytes have no header.
 abbrev pub HasFault : List (List ℕ) → TraceKind → Type 0
 HasFault fields UnknownLine = ⊥
+HasFault fields SetupLate = ⊥
 HasFault fields FieldCount = 1 < length fields
 HasFault fields BadNumber = ⊥
+HasFault fields BadWord = ⊥
 HasFault fields NotHex = IsNotHex fields
+HasFault fields UnknownFlow = ⊥
+HasFault fields TooManyFlows = ⊥
+HasFault fields SameFlow = ⊥
+HasFault fields SameSid = ⊥
 HasFault fields TooShort = IsTooShort fields
 HasFault fields PointerPast = PointsPast fields
 

@@ -11,6 +11,9 @@ use crate::words::{only_two_words, only_word};
 use docsis_wire::{Bytes, Piece};
 use std::alloc::Global;
 
+/// The greatest number of bytes, and of fill, that a piece can name.
+const NUMBER_MAX: u32 = 65_535;
+
 /// What a line of `cut` carries.
 #[derive(Debug, Drop)]
 pub enum CutLine {
@@ -49,11 +52,14 @@ fn read_piece(rest: &[u8]) -> Result<CutLine, LineFault>
     ensures fault { IfErr result (IsLineFault (HasFault (piece_word ∷ words_of rest.now))) }
 {
     let (bytes, fill) = only_two_words(rest).ok_or(LineFault::Kind(TraceKind::FieldCount))?;
-    let Some(bytes) = read_number(bytes, u16::MAX) else {
+    let Some(bytes) = read_number(bytes, NUMBER_MAX) else {
         return Err(LineFault::Kind(TraceKind::BadNumber));
     };
-    let Some(fill) = read_number(fill, u16::MAX) else {
+    let Some(fill) = read_number(fill, NUMBER_MAX) else {
         return Err(LineFault::Kind(TraceKind::BadNumber));
     };
-    Ok(CutLine::Piece(Piece { bytes, fill }))
+    Ok(CutLine::Piece(Piece {
+        bytes: bytes as u16,
+        fill: fill as u16,
+    }))
 }

@@ -3,17 +3,21 @@ ghost use Rattle.std.specs.Prelude.{◌≡◌, ◌++◌, ◌∷◌, [], ℕ, Boo
 ghost use Rattle.flow_core.specs.declared.record.FlowRecord.{FlowRecord};
 ghost use Rattle.flow_core.specs.declared.event.Event.{Event};
 ghost use Rattle.flow_core.specs.Setup.{CanBeSetUp};
+ghost use Rattle.flow_core.specs.Flows.{IsDrainedAt, OthersStay};
+ghost use Rattle.flow_core.specs.Giving.{IsRunning};
 ghost use Rattle.uplink.specs.Items.{IsItem};
 ghost use Rattle.uplink.specs.Answer.{AreOutcomesOfFlows};
-ghost use Rattle.uplink.specs.Assembly.{IsTaking, TakesItem, HasAssembled, IsAssembling};
+ghost use Rattle.uplink.specs.Assembly.{IsTaking, TakesItem, GivesTheRest};
+ghost use Rattle.uplink.specs.Assembly.{HasAssembled, IsAssembling};
 
 use super::Assembler;
 use crate::outcome::FlowOutcome;
 use docsis_wire::{Bytes, HeaderCheck};
-use flow_core::{Core, Event, FlowRecord};
+use flow_core::{Core, Event, FlowCounts, FlowRecord, laws};
 use std::alloc::{AllocError, Global};
 
-/// Takes an item, and appends the frames that its flow then gives.
+/// Takes an item, and appends the frames that its flow then gives. Where an allocation failed a
+/// frame may be lost.
 pub fn take_item<C: HeaderCheck + Drop>(
     alloc: Global,
     core: &mut Core<C>,
@@ -30,6 +34,26 @@ pub fn take_item<C: HeaderCheck + Drop>(
     core.drain(alloc, flow, frames)
 }
 
+/// Closes a drained flow, appends the frames that it then gives, and answers what was counted of
+/// it. Where an allocation failed a frame may be lost.
+pub fn close_flow<C: HeaderCheck + Drop>(
+    alloc: Global,
+    core: &mut Core<C>,
+    flow: usize,
+    frames: &mut Vec<Bytes>,
+) -> Result<FlowCounts, AllocError>
+    requires running { IsRunning C.accepts core.old flow }
+    requires drained { IsDrainedAt core.old flow }
+    ensures gives { IfOk result (λ counts.
+        GivesTheRest C.accepts core.old flow frames.old.items frames.new.items counts) }
+    ensures others { OthersStay core.old core.new flow }
+{
+    laws::drained_flow_has_its_outcome();
+    laws::events_have_one_outcome();
+    core.close(alloc, flow, frames)?;
+    Ok(core.counts(flow))
+}
+
 impl<C: HeaderCheck + Drop> Assembler<C> {
     /// Flows that have taken nothing yet, for records that have no fault.
     pub fn new(alloc: Global, records: &[FlowRecord], check: C) -> Result<Assembler<C>, AllocError>
@@ -41,7 +65,10 @@ impl<C: HeaderCheck + Drop> Assembler<C> {
         for _ in records {
             frames.push_reserved(Vec::new(alloc));
         }
-        let core = Core::new(alloc, records, check).map_err(|_| AllocError)?;
+        // The records have no fault: only an allocation can fail.
+        let Ok(core) = Core::new(alloc, records, check) else {
+            return Err(AllocError);
+        };
         Ok(Assembler { core, frames })
     }
 
@@ -52,7 +79,8 @@ impl<C: HeaderCheck + Drop> Assembler<C> {
         self.core.flow_count()
     }
 
-    /// Takes an item, and drains its flow.
+    /// Takes an item, and collects the frames that its flow then gives. Where an allocation failed
+    /// a frame may be lost.
     pub fn take(&mut self, alloc: Global, event: Event) -> Result<(), AllocError>
         requires item { IsItem (length self.old.core.flows.items) event }
         requires assembling { IsAssembling C.accepts self.old }
@@ -65,7 +93,7 @@ impl<C: HeaderCheck + Drop> Assembler<C> {
         take_item(alloc, &mut self.core, event, &mut self.frames[flow])
     }
 
-    /// Closes all flows, and answers what each gave.
+    /// Closes all flows, and answers what each gave, in the order of the records.
     pub fn finish(
         self,
         alloc: Global,
@@ -80,13 +108,12 @@ impl<C: HeaderCheck + Drop> Assembler<C> {
     {
         let Assembler { mut core, frames } = self;
         let mut flows = Vec::with_capacity(alloc, records.len())?;
-        for (k, (record, given)) in records.iter().zip(frames).enumerate() {
-            let mut frames = given;
-            core.close(alloc, k, &mut frames)?;
+        for (record, mut frames) in records.iter().zip(frames) {
+            let counts = close_flow(alloc, &mut core, flows.len(), &mut frames)?;
             flows.push_reserved(FlowOutcome {
                 sfid: record.sfid,
                 frames,
-                counts: core.counts(k),
+                counts,
             });
         }
         Ok(flows)

@@ -1,17 +1,23 @@
 //! A receiver on one thread, for inputs that were recorded.
-ghost use Rattle.std.specs.Prelude.{◌≡◌, ◌↔◌, ℕ, IfOk, IfErr, Ok, Err, length};
+ghost use Rattle.std.specs.Prelude.{◌≡◌, ◌↔◌, ◌<◌, ℕ, Bool, List, IfOk, IfErr, Ok, Err, All, length, map, filter};
+ghost use Rattle.flow_core.specs.declared.event.Event.{Event};
+ghost use Rattle.flow_core.specs.Setup.{CanBeSetUp};
 ghost use Rattle.uplink.specs.declared.replaying.ReplayFault.{ReplayFault};
-ghost use Rattle.uplink.specs.Answer.{IsOutcome, IsAdmittedOrder, CanReceive, input_counts, IsFirstFault, IsReplayFault, IsTagsFault};
+ghost use Rattle.uplink.specs.Items.{IsItem, event_of_decision, names_a_flow};
+ghost use Rattle.uplink.specs.Order.{senders, lengths_of, kept_places, IsLawfulOrder, IsMergeOf};
+ghost use Rattle.uplink.specs.Answer.{IsOutcome, IsAdmittedOrder, CanReceive, input_counts, AreOutcomesOfFlows};
+ghost use Rattle.uplink.specs.Answer.{IsFirstFault, IsReplayFault, IsTagsFault};
+ghost use Rattle.uplink.specs.Received.{HaveReceived, AreFlagsOf, left_of};
 
 use super::ReplayFault;
 use crate::assembler::Assembler;
 use crate::merging::Merging;
 use crate::order::check_order;
 use crate::outcome::{FlowOutcome, Outcome};
-use crate::received::Received;
+use crate::received::FourReceived;
 use crate::receiving::receive;
 use crate::row::check_rows;
-use crate::setup::{Decision, Lists, Setup};
+use crate::setup::{Lists, Setup};
 use docsis_wire::HeaderCheck;
 use flow_core::{Event, FlowRecord, check_records};
 use std::alloc::{AllocError, Global};
@@ -25,16 +31,11 @@ fn check_setup(setup: &Setup) -> Result<(), ReplayFault>
     check_rows(&setup.sids, setup.flows.len()).map_err(ReplayFault::Lane)
 }
 
-/// What the inputs of the four channels give.
-#[derive(Drop)]
-struct FourReceived {
-    r0: Received,
-    r1: Received,
-    r2: Received,
-    r3: Received,
-}
-
-fn receive_all(alloc: Global, setup: &Setup, lists: &Lists) -> Result<FourReceived, AllocError> {
+/// What the inputs of the channels 0 to 3 give.
+fn receive_all(alloc: Global, setup: &Setup, lists: &Lists) -> Result<FourReceived, AllocError>
+    requires { CanReceive setup.now }
+    ensures { IfOk result (HaveReceived setup.now lists.now) }
+{
     let [i0, i1, i2, i3] = &lists.inputs;
     Ok(FourReceived {
         r0: receive(alloc, setup, 0, i0)?,
@@ -58,15 +59,11 @@ pub fn admitted_order(
     ensures fault { IfErr result (IsTagsFault setup.now lists.now tags.now) }
 {
     check_setup(setup)?;
-    check_order(input_counts(lists), tags).map_err(ReplayFault::BadOrder)?;
-    let mut flags = flags_of(alloc, setup, lists)?;
-    let mut order = Vec::with_capacity(alloc, tags.len())?;
-    for tag in tags {
-        if flags.next(*tag) == Some(true) {
-            order.push_reserved(*tag);
-        }
+    if let Err(place) = check_order(input_counts(lists), tags) {
+        return Err(ReplayFault::BadOrder(place));
     }
-    Ok(order)
+    let flags = flags_of(alloc, setup, lists)?;
+    Ok(keep(alloc, flags, tags)?)
 }
 
 /// How many inputs each channel has, and how many decisions there are.
@@ -84,13 +81,12 @@ fn input_counts(lists: &Lists) -> [usize; 5]
 }
 
 /// Of each input and decision, whether it gives an item.
-fn flags_of(alloc: Global, setup: &Setup, lists: &Lists) -> Result<Merging<bool>, AllocError> {
+fn flags_of(alloc: Global, setup: &Setup, lists: &Lists) -> Result<Merging<bool>, AllocError>
+    requires { CanReceive setup.now }
+    ensures { IfOk result (AreFlagsOf setup.now lists.now) }
+{
     let FourReceived { r0, r1, r2, r3 } = receive_all(alloc, setup, lists)?;
-    let flow_count = setup.flows.len();
-    let mut decided = Vec::with_capacity(alloc, lists.decisions.len())?;
-    for decision in &lists.decisions {
-        decided.push_reserved(decision.names_a_flow(flow_count));
-    }
+    let decided = decision_flags(alloc, setup, lists)?;
     Ok(Merging {
         l0: r0.are_items.into_iter(),
         l1: r1.are_items.into_iter(),
@@ -100,20 +96,48 @@ fn flags_of(alloc: Global, setup: &Setup, lists: &Lists) -> Result<Merging<bool>
     })
 }
 
-/// The decisions that name a flow, as what they are to the flows.
-fn decisions_of(
-    alloc: Global,
-    setup: &Setup,
-    decisions: &[Decision],
-) -> Result<Vec<Event>, AllocError> {
+/// Of each decision, whether it names a flow.
+fn decision_flags(alloc: Global, setup: &Setup, lists: &Lists) -> Result<Vec<bool>, AllocError>
+    ensures { IfOk result (λ flags.
+        flags.items ≡ map (names_a_flow (length setup.now.flows.items)) lists.now.decisions.items) }
+{
     let flow_count = setup.flows.len();
-    let mut items = Vec::new(alloc);
-    for decision in decisions {
-        if decision.names_a_flow(flow_count) {
-            items.push(decision.event())?;
+    (lists.decisions.iter())
+        .map(|decision| decision.names_a_flow(flow_count))
+        .collect(alloc)
+}
+
+/// The tags whose flags are true, where each tag names the sender of its flag.
+fn keep(alloc: Global, flags: Merging<bool>, tags: &[u8]) -> Result<Vec<u8>, AllocError>
+    requires { IsLawfulOrder (lengths_of (left_of flags)) tags.now }
+    ensures { IfOk result (λ kept. (merged : List Bool)
+        × IsMergeOf (left_of flags) tags.now merged
+        × (kept.items ≡ kept_places tags.now merged)) }
+{
+    let mut flags = flags;
+    let mut kept = Vec::with_capacity(alloc, tags.len())?;
+    for tag in tags {
+        let Some(is_item) = flags.next(*tag) else {
+            unreachable!()
+        };
+        if is_item {
+            kept.push_reserved(*tag);
         }
     }
-    Ok(items)
+    Ok(kept)
+}
+
+/// The decisions that name a flow, as what they are to the flows.
+fn decisions_of(alloc: Global, setup: &Setup, lists: &Lists) -> Result<Vec<Event>, AllocError>
+    ensures { IfOk result (λ items.
+        items.items ≡ map event_of_decision
+        (filter (names_a_flow (length setup.now.flows.items)) lists.now.decisions.items)) }
+{
+    let flow_count = setup.flows.len();
+    (lists.decisions.iter())
+        .filter(|decision| decision.names_a_flow(flow_count))
+        .map(|decision| decision.event())
+        .collect(alloc)
 }
 
 /// Replays the inputs of all channels and the decisions on the caller's thread: it takes the
@@ -131,9 +155,8 @@ pub fn replay<C: HeaderCheck + Drop>(
     ensures fault { IfErr result (IsReplayFault setup.now lists.now order.now) }
 {
     check_setup(setup)?;
-    let received = receive_all(alloc, setup, lists)?;
-    let decided = decisions_of(alloc, setup, &lists.decisions)?;
-    let FourReceived { r0, r1, r2, r3 } = received;
+    let FourReceived { r0, r1, r2, r3 } = receive_all(alloc, setup, lists)?;
+    let decided = decisions_of(alloc, setup, lists)?;
     let lengths = [
         r0.items.len(),
         r1.items.len(),
@@ -141,7 +164,9 @@ pub fn replay<C: HeaderCheck + Drop>(
         r3.items.len(),
         decided.len(),
     ];
-    check_order(lengths, order).map_err(ReplayFault::BadOrder)?;
+    if let Err(place) = check_order(lengths, order) {
+        return Err(ReplayFault::BadOrder(place));
+    }
     let merging = Merging {
         l0: r0.items.into_iter(),
         l1: r1.items.into_iter(),
@@ -165,13 +190,22 @@ fn assemble<C: HeaderCheck + Drop>(
     merging: Merging<Event>,
     order: &[u8],
     check: C,
-) -> Result<Vec<FlowOutcome>, AllocError> {
+) -> Result<Vec<FlowOutcome>, AllocError>
+    requires set_up { CanBeSetUp records.now }
+    requires items { (sender : ℕ) → sender < senders
+        → All (IsItem (length records.now)) (left_of merging sender) }
+    requires lawful { IsLawfulOrder (lengths_of (left_of merging)) order.now }
+    ensures { IfOk result (λ flows. (items : List Event)
+        × IsMergeOf (left_of merging) order.now items
+        × AreOutcomesOfFlows (C.accepts check) records.now items flows.items) }
+{
     let mut merging = merging;
     let mut assembler = Assembler::new(alloc, records, check)?;
     for sender in order {
-        if let Some(item) = merging.next(*sender) {
-            assembler.take(alloc, item)?;
-        }
+        let Some(item) = merging.next(*sender) else {
+            unreachable!()
+        };
+        assembler.take(alloc, item)?;
     }
     assembler.finish(alloc, records)
 }

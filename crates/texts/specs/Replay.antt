@@ -1,0 +1,34 @@
+-- The text that stands for a trace.
+use Rattle.std.specs.Prelude.{◌≡◌, ℕ, List}
+use Rattle.uplink.specs.declared.outcome.Outcome.{Outcome}
+use Rattle.uplink.specs.Answer.{IsOutcome, IsAdmittedOrder}
+use Rattle.texts.specs.declared.fault.TextFault.{TextFault}
+use Rattle.texts.specs.declared.fault.TextFault.TheVariants.{Trace, Cut, OutOfMemory}
+use Rattle.texts.specs.declared.trace.Trace.{Trace as TraceValue}
+use Rattle.texts.specs.Lines.{lines_of}
+use Rattle.texts.specs.Format.{IsFirstFaultyLine}
+use Rattle.texts.specs.AnyHeader.{any_header}
+use Rattle.texts.specs.Report.{report_text}
+use Rattle.texts.specs.Trace.{IsTrace}
+use Rattle.texts.specs.Trace.Place.{nothing_said, trace_format}
+
+-- the capacity of the rings and mailboxes of a receiver that is replayed, where none is asked for
+abbrev pub default_capacity : ℕ
+default_capacity = 16
+
+-- the text that stands for an input: the report of the one-thread answer for the trace, in the order in which its lines say that what was
+-- admitted came
+pub record IsReplayed (input text : List ℕ) : Type 0 where
+  pub trace : TraceValue
+  pub is_trace : IsTrace default_capacity default_capacity input trace
+  pub order : List ℕ
+  pub admitted : IsAdmittedOrder trace.setup trace.lists trace.tags.items order
+  pub outcome : Outcome
+  pub answered : IsOutcome any_header trace.setup trace.lists order outcome
+  pub printed : text ≡ report_text outcome
+
+-- why an input was not replayed: its first faulty line, or a failed allocation
+abbrev pub IsReplayFault : List ℕ → TextFault → Type 0
+IsReplayFault input (Trace fault) = IsFirstFaultyLine trace_format (nothing_said default_capacity) (lines_of input) fault
+IsReplayFault input (Cut fault) = ⊥
+IsReplayFault input OutOfMemory = Unit {0}

@@ -1,0 +1,71 @@
+-- The report of an outcome, line by line.
+use Rattle.std.specs.Prelude.{ℕ, ◌+◌, List, [], ◌∷◌, ◌++◌, map, flat_map, codes}
+use Rattle.std.specs.Fmt.{decimal}
+use Rattle.hex.specs.Hex.{encode_lower}
+use Rattle.flow_core.specs.declared.counts.FlowCounts.{FlowCounts}
+use Rattle.uplink.specs.declared.admitted.Request.{Request}
+use Rattle.uplink.specs.declared.outcome.FlowOutcome.{FlowOutcome}
+use Rattle.uplink.specs.declared.outcome.LaneReport.{LaneReport}
+use Rattle.uplink.specs.declared.outcome.Outcome.{Outcome}
+use Rattle.texts.specs.Lines.{line_feed}
+
+-- a space and a number
+abbrev pub spaced : ℕ → List ℕ
+spaced number = codes " " ++ decimal number
+
+-- a space, a word, a space and a number
+abbrev pub named : List ℕ → ℕ → List ℕ
+named word number = codes " " ++ word ++ spaced number
+
+-- what was counted of a flow
+abbrev pub counts_text : FlowCounts → List ℕ
+counts_text counts =
+    named (codes "kept") counts.kept ++ named (codes "late") counts.late ++ named (codes "repeat") counts.repeat
+    ++ named (codes "beyond") counts.beyond ++ named (codes "lost") counts.lost ++ named (codes "frames") counts.frames
+    ++ named (codes "skipped") counts.skipped
+
+-- `flow <index> <sfid> kept <n> late <n> repeat <n> beyond <n> lost <n> frames <n> skipped <n>`
+abbrev pub flow_line : ℕ → FlowOutcome → List ℕ
+flow_line k flow = codes "flow" ++ spaced k ++ spaced flow.sfid ++ counts_text flow.counts ++ line_feed ∷ []
+
+-- `frame <index> <hex>`
+abbrev pub frame_line : ℕ → List ℕ → List ℕ
+frame_line k frame = codes "frame" ++ spaced k ++ codes " " ++ encode_lower frame ++ line_feed ∷ []
+
+-- the line of a flow with this index, and one for each of its frames
+abbrev pub flow_lines : ℕ → FlowOutcome → List ℕ
+flow_lines k flow = flow_line k flow ++ flat_map (frame_line k) flow.frames.items
+
+-- the lines of flows, from this index on
+abbrev pub flow_lines_from : ℕ → List FlowOutcome → List ℕ
+flow_lines_from k [] = []
+flow_lines_from k (flow ∷ flows) = flow_lines k flow ++ flow_lines_from (k + 1) flows
+
+-- `request <channel> <flow> <cluster> <units> <sequence>`
+abbrev pub request_line : Request → List ℕ
+request_line request =
+    codes "request" ++ spaced request.channel ++ spaced request.flow ++ spaced request.cluster ++ spaced request.units
+    ++ spaced request.sequence ++ line_feed ∷ []
+
+-- the numbers of refusals, each after a space; `-` if there is none
+abbrev pub refused_text : List ℕ → List ℕ
+refused_text [] = codes " -"
+refused_text (number ∷ more) = flat_map spaced (number ∷ more)
+
+-- `lane <channel> admitted <n> refused <list>`
+abbrev pub lane_line : ℕ → LaneReport → List ℕ
+lane_line channel lane =
+    codes "lane" ++ spaced channel ++ named (codes "admitted") lane.admitted ++ codes " refused" ++ refused_text lane.refused.items
+    ++ line_feed ∷ []
+
+-- the lines of lanes, from this channel on
+abbrev pub lane_lines_from : ℕ → List LaneReport → List ℕ
+lane_lines_from channel [] = []
+lane_lines_from channel (lane ∷ lanes) = lane_line channel lane ++ lane_lines_from (channel + 1) lanes
+
+-- The report of an outcome: the lines of each flow and its frames, of each channel's requests, and of each lane.
+abbrev pub report_text : Outcome → List ℕ
+report_text outcome =
+    flow_lines_from 0 outcome.flows.items
+    ++ flat_map (λ requests. flat_map request_line requests.items) outcome.requests
+    ++ lane_lines_from 0 outcome.lanes

@@ -1,0 +1,49 @@
+-- A trace: what its lines say, and the receiver's setup, lists and tags that they give.
+pub mod Line
+pub mod Place
+pub mod Reading
+use Rattle.std.specs.Prelude.{◌≡◌, ◌<◌, ◌==◌, ℕ, Option, Some, None, List, map, filter_map, if◌then◌else◌}
+use Rattle.uplink.specs.Limits.{channel_limit}
+use Rattle.uplink.specs.declared.input.Input.{Input}
+use Rattle.uplink.specs.declared.setup.Decision.{Decision}
+use Rattle.uplink.specs.Items.{inputs_on}
+use Rattle.texts.specs.declared.fault.ParseFault.{ParseFault}
+use Rattle.texts.specs.declared.trace.Trace.{Trace}
+use Rattle.texts.specs.Lines.{lines_of}
+use Rattle.texts.specs.Format.{IsRead, IsReadingFault}
+use Rattle.texts.specs.Trace.Place.{Entry, came, decided, Said, nothing_said, trace_format}
+
+-- the sender of an entry: its channel, or 4 for a decision
+abbrev pub tag_of : Entry → ℕ
+tag_of (came channel input) = channel
+tag_of (decided decision) = 4
+
+-- what came in on this channel, if the entry says so
+abbrev pub came_on : ℕ → Entry → Option Input
+came_on channel (came other input) = if other == channel then Some input else None
+came_on channel (decided decision) = None
+
+-- the decision that an entry is
+abbrev pub decision_in : Entry → Option Decision
+decision_in (came channel input) = None
+decision_in (decided decision) = Some decision
+
+-- The trace that lines give which say this, with mailboxes of this capacity: the flows and rows; of each channel its inputs in order; the
+-- decisions in order; and for each input line its sender.
+pub record IsGivenBy (mailbox : ℕ) (said : Said) (trace : Trace) : Type 0 where
+  pub flows : trace.setup.flows.items ≡ said.flows
+  pub sids : trace.setup.sids.items ≡ said.sids
+  pub mailbox_is : trace.setup.mailbox ≡ mailbox
+  pub inputs : (channel : ℕ) → channel < channel_limit → inputs_on trace.lists channel ≡ filter_map (came_on channel) said.entries
+  pub decisions : trace.lists.decisions.items ≡ filter_map decision_in said.entries
+  pub tags : trace.tags.items ≡ map tag_of said.entries
+
+-- the bytes are a trace, and it is this one
+pub record IsTrace (ring mailbox : ℕ) (input : List ℕ) (trace : Trace) : Type 0 where
+  pub said : Said
+  pub read : IsRead trace_format (nothing_said ring) (lines_of input) said
+  pub given : IsGivenBy mailbox said trace
+
+-- why an input is no trace: its first faulty line, with the least kind of its faults; or an allocation failed
+abbrev pub IsTraceFault : ℕ → List ℕ → ParseFault → Type 0
+IsTraceFault ring input = IsReadingFault trace_format (nothing_said ring) (lines_of input)

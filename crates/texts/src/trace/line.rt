@@ -1,0 +1,153 @@
+//! A line of a trace, by itself.
+ghost use Rattle.std.specs.Prelude.{◌≡◌, ◌∷◌, ◌≤◌, [], ℕ, Bool, IfOk, IfErr, IfSome};
+ghost use Rattle.texts.specs.declared.fault.TraceKind.{TraceKind};
+ghost use Rattle.texts.specs.Fault.{IsLineFault};
+ghost use Rattle.texts.specs.Lines.{words_of};
+ghost use Rattle.texts.specs.Trace.Line.{Carries};
+ghost use Rattle.texts.specs.Trace.Place.{HasNoFaultByItself, IsLeastFaultByItself};
+
+use crate::fault::{LineFault, TraceKind};
+use crate::field::read_hex;
+use crate::number::{read_number, read_number_in};
+use crate::words::{only_four_words, only_three_words, only_two_words, only_word};
+use docsis_wire::Bytes;
+use flow_core::FlowRecord;
+use std::alloc::Global;
+use uplink::{Decision, Input, SidRow};
+
+/// The greatest number of a channel.
+const CHANNEL_MAX: u32 = 3;
+/// The greatest service identifier.
+const SID_MAX: u32 = 16_383;
+/// The greatest index of a flow.
+const FLOW_MAX: u32 = 63;
+/// The greatest sequence number.
+const SEQUENCE_MAX: u32 = 8191;
+
+/// What a line of a trace says.
+#[derive(Debug, Drop)]
+pub enum TraceLine {
+    /// The record of a flow.
+    Flow(FlowRecord),
+    /// A service identifier of a channel.
+    Sid(SidRow),
+    /// What came in on a channel.
+    Input { channel: u8, input: Input },
+    /// A decision that segments are lost.
+    Gap(Decision),
+}
+
+/// What a line of a trace says by itself, by its first field and what follows that. Each flow has a
+/// ring of this capacity.
+pub fn read_trace_line(
+    alloc: Global,
+    ring: u16,
+    field: &[u8],
+    rest: &[u8],
+) -> Result<TraceLine, LineFault>
+    ensures carried { IfOk result (Carries ring (field.now ∷ words_of rest.now)) }
+    ensures faultless { IfOk result (λ _. HasNoFaultByItself (field.now ∷ words_of rest.now)) }
+    ensures fault { IfErr result
+        (IsLineFault (IsLeastFaultByItself (field.now ∷ words_of rest.now))) }
+{
+    if field == b"burst".as_slice() {
+        read_burst(alloc, rest)
+    } else if field == b"grant".as_slice() {
+        read_grant(rest)
+    } else if field == b"gap".as_slice() {
+        read_gap(rest)
+    } else if field == b"flow".as_slice() {
+        read_flow(ring, rest)
+    } else if field == b"sid".as_slice() {
+        read_sid(rest)
+    } else {
+        Err(LineFault::Kind(TraceKind::UnknownLine))
+    }
+}
+
+/// The number of a field, at most so much.
+fn number_of(field: &[u8], most: u32) -> Result<u32, LineFault> {
+    read_number(field, most).ok_or(LineFault::Kind(TraceKind::BadNumber))
+}
+
+/// The number of a field, in this range.
+fn number_in(field: &[u8], least: u32, most: u32) -> Result<u32, LineFault> {
+    read_number_in(field, least, most).ok_or(LineFault::Kind(TraceKind::BadNumber))
+}
+
+/// `flow <sfid> <first> <window> <clusters>`, by what follows the first word.
+fn read_flow(ring: u16, rest: &[u8]) -> Result<TraceLine, LineFault> {
+    let (sfid, first, window, clusters) = only_four_words(rest).ok_or(LineFault::Kind(
+        TraceKind::FieldCount,
+    ))?;
+    Ok(TraceLine::Flow(FlowRecord {
+        sfid: number_of(sfid, u32::MAX)?,
+        first: number_of(first, SEQUENCE_MAX)? as u16,
+        window: number_in(window, 1, 4096)? as u16,
+        clusters: number_in(clusters, 1, 8)? as u8,
+        ring,
+    }))
+}
+
+/// `sid <channel> <sid> <flow>`, by what follows the first word.
+fn read_sid(rest: &[u8]) -> Result<TraceLine, LineFault> {
+    let (channel, sid, flow) = only_three_words(rest).ok_or(LineFault::Kind(
+        TraceKind::FieldCount,
+    ))?;
+    Ok(TraceLine::Sid(SidRow {
+        channel: number_of(channel, CHANNEL_MAX)? as u8,
+        sid: number_of(sid, SID_MAX)? as u16,
+        flow: number_of(flow, FLOW_MAX)? as usize,
+    }))
+}
+
+/// `grant <channel> <number> <sid> <bytes>`, by what follows the first word.
+fn read_grant(rest: &[u8]) -> Result<TraceLine, LineFault> {
+    let (channel, number, sid, bytes) = only_four_words(rest).ok_or(LineFault::Kind(
+        TraceKind::FieldCount,
+    ))?;
+    let channel = number_of(channel, CHANNEL_MAX)? as u8;
+    let input = Input::Grant {
+        number: number_of(number, u32::MAX)?,
+        sid: number_of(sid, SID_MAX)? as u16,
+        bytes: number_of(bytes, u32::MAX)?,
+    };
+    Ok(TraceLine::Input { channel, input })
+}
+
+/// `burst <channel> <number> ok|bad <hex>`, by what follows the first word.
+fn read_burst(alloc: Global, rest: &[u8]) -> Result<TraceLine, LineFault> {
+    let (channel, number, check, hex) = only_four_words(rest).ok_or(LineFault::Kind(
+        TraceKind::FieldCount,
+    ))?;
+    let channel = number_of(channel, CHANNEL_MAX)? as u8;
+    let input = Input::Burst {
+        grant: number_of(number, u32::MAX)?,
+        hcs_ok: read_check(check)?,
+        bytes: Bytes::from(read_hex(alloc, hex)?),
+    };
+    Ok(TraceLine::Input { channel, input })
+}
+
+/// Whether a burst's check is right, by the word for it.
+fn read_check(word: &[u8]) -> Result<bool, LineFault> {
+    if word == b"ok".as_slice() {
+        Ok(true)
+    } else if word == b"bad".as_slice() {
+        Ok(false)
+    } else {
+        Err(LineFault::Kind(TraceKind::BadWord))
+    }
+}
+
+/// `gap <flow>` or `gap <flow> <number>`, by what follows the first word.
+fn read_gap(rest: &[u8]) -> Result<TraceLine, LineFault> {
+    if let Some(flow) = only_word(rest) {
+        let flow = number_of(flow, FLOW_MAX)? as usize;
+        return Ok(TraceLine::Gap(Decision { flow, upto: None }));
+    }
+    let (flow, number) = only_two_words(rest).ok_or(LineFault::Kind(TraceKind::FieldCount))?;
+    let flow = number_of(flow, FLOW_MAX)? as usize;
+    let upto = Some(number_of(number, SEQUENCE_MAX)? as u16);
+    Ok(TraceLine::Gap(Decision { flow, upto }))
+}

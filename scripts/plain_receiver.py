@@ -1,0 +1,259 @@
+"""A plain, slow reading of what `segrx replay` answers: of traces, of what a channel admits, and of reports.
+
+The joining of segments and what becomes of a flow's segments are in plain_reading.py.
+"""
+
+import collections
+import re
+import sys
+
+from plain_reading import Flow, header
+
+CHANNELS, MOST_FLOWS, MOST_GRANTS = 4, 64, 65536
+DECISION = 4
+# What a word of a line may be: a number of a range, one of some words, or bytes in hexadecimal.
+UNITS_32 = range(1 << 32)
+CHANNEL, FLOW, SID, NUMBER = range(CHANNELS), range(MOST_FLOWS), range(1 << 14), range(8192)
+CHECK = {b"ok": True, b"bad": False}
+HEX = re.compile(rb"-|([0-9A-Fa-f][0-9A-Fa-f])+")
+# The words that may follow the first one.
+FORMS = {
+    b"flow": [[UNITS_32, NUMBER, range(1, 4097), range(1, 9)]],
+    b"sid": [[CHANNEL, SID, FLOW]],
+    b"grant": [[CHANNEL, UNITS_32, SID, UNITS_32]],
+    b"burst": [[CHANNEL, UNITS_32, CHECK, HEX]],
+    b"gap": [[FLOW], [FLOW, NUMBER]],
+}
+# Of several faults of a line the first of these is told.
+FAULTS = [
+    *["unknown line", "setup after input", "wrong number of fields", "bad number", "not ok or bad", "not hexadecimal"],
+    *["unknown flow", "too many flows", "flow given before", "sid given before"],
+]
+
+Grant = collections.namedtuple("Grant", "number sid bytes")
+Burst = collections.namedtuple("Burst", "number check segment")
+# A number has as many digits as its writer likes.
+sys.set_int_max_str_digits(0)
+
+
+class Trace:
+    """What the lines of a trace give."""
+
+    def __init__(self):
+        self.flows = []  # sfid, first number, window and clusters
+        self.sids = {}  # the flow of a channel and a SID
+        self.inputs = [[] for _ in range(CHANNELS)]
+        self.decisions = []  # the flow, and the number up to which it is meant or None
+        self.tags = []  # the channel of each input line, or DECISION
+
+    def add(self, kind, values):
+        if kind == b"flow":
+            self.flows.append(values)
+        elif kind == b"sid":
+            channel, sid, flow = values
+            self.sids[channel, sid] = flow
+        elif kind == b"gap":
+            self.decisions.append((values + [None])[:2])
+            self.tags.append(DECISION)
+        else:
+            channel, *rest = values
+            self.inputs[channel].append(Grant(*rest) if kind == b"grant" else Burst(*rest))
+            self.tags.append(channel)
+
+
+class LineFault(Exception):
+    def __init__(self, place, faults):
+        super().__init__(f"line {place}: {min(faults, key=FAULTS.index)}")
+        self.faults = faults
+
+
+def value_of(form, word):
+    """What a word says, or None where it isn't of its form."""
+    if form is HEX:
+        return bytes.fromhex(word.decode().strip("-")) if HEX.fullmatch(word) else None
+    if form is CHECK:
+        return CHECK.get(word)
+    number = int(word) if re.fullmatch(rb"[0-9]+", word) else -1
+    return number if number in form else None
+
+
+def fault_of_form(form):
+    return "not hexadecimal" if form is HEX else "not ok or bad" if form is CHECK else "bad number"
+
+
+def faults_in_setup(trace, kind, values):
+    """The faults of a line whose words are of their forms."""
+    if kind == b"flow":
+        if len(trace.flows) == MOST_FLOWS:
+            yield "too many flows"
+        if any(values[0] == earlier[0] for earlier in trace.flows):
+            yield "flow given before"
+    if kind == b"sid" and (values[0], values[1]) in trace.sids:
+        yield "sid given before"
+    if (kind == b"sid" and values[2] >= len(trace.flows)) or (kind == b"gap" and values[0] >= len(trace.flows)):
+        yield "unknown flow"
+
+
+def read_line(trace, kind, words):
+    """The values of a line after those that gave the trace, and its faults: all of them that can be seen."""
+    if kind not in FORMS:
+        return [], {"unknown line"}
+    late = {"setup after input"} if kind in (b"flow", b"sid") and trace.tags else set()
+    form = next((form for form in FORMS[kind] if len(form) == len(words)), None)
+    if form is None:
+        return [], late | {"wrong number of fields"}
+    values = [value_of(*pair) for pair in zip(form, words)]
+    wrong = {fault_of_form(form[k]) for k, value in enumerate(values) if value is None}
+    return values, late | (wrong or set(faults_in_setup(trace, kind, values)))
+
+
+def read_trace(text):
+    """The trace that a text is. The first faulty line is raised."""
+    trace = Trace()
+    for place, line in enumerate(text.split(b"\n"), 1):
+        words = [word for word in re.split(rb"[ \t\r]", line) if word]
+        if words and not words[0].startswith(b"#"):
+            values, faults = read_line(trace, words[0], words[1:])
+            if faults:
+                raise LineFault(place, faults)
+            trace.add(words[0], values)
+    return trace
+
+
+class Lane:
+    """The inputs of a channel, in order, each with its answer: ACCEPTED for a grant, ADMITTED for a burst, or the number
+    of the refusal, which is the first that fits."""
+
+    ACCEPTED, ADMITTED = "accepted", "admitted"
+    GRANT_RANGE, GRANT_KNOWN, UNKNOWN_SID, TOO_MANY_GRANTS = 1, 2, 3, 4
+    NO_GRANT, TOO_LONG, BAD_CHECK, TOO_SHORT, POINTER_PAST = 6, 7, 8, 9, 10
+
+    def __init__(self, channel, trace):
+        self.channel, self.sids, self.flows = channel, trace.sids, trace.flows
+        self.answers = []
+        # The same by the number of the grant, since nothing is said of a number by the inputs of others.
+        self.inputs_of = collections.defaultdict(list)
+        for one in trace.inputs[channel]:
+            answer = self.answer_to_grant(one) if isinstance(one, Grant) else self.answer_to_burst(one)
+            self.answers.append((one, answer, self.outstanding(one.number)))  # the grant before this input
+            self.inputs_of[one.number].append((one, answer))
+
+    def outstanding(self, number):
+        """The grant of this number that was accepted and behind which no burst on it was admitted or refused, but for
+        want of a grant."""
+        for one, answer in reversed(self.inputs_of[number]):
+            if answer == self.ACCEPTED:
+                return one
+            if answer in (self.ADMITTED, self.TOO_LONG, self.BAD_CHECK, self.TOO_SHORT, self.POINTER_PAST):
+                return None
+        return None
+
+    def is_full(self):
+        """Whether as many grants are outstanding as may be, which takes as many inputs."""
+        if len(self.answers) < MOST_GRANTS:
+            return False
+        return sum(self.outstanding(number) is not None for number in list(self.inputs_of)) >= MOST_GRANTS
+
+    def answer_to_grant(self, grant):
+        if not 8 <= grant.bytes <= 65535:
+            return self.GRANT_RANGE
+        if self.outstanding(grant.number) is not None:
+            return self.GRANT_KNOWN
+        if (self.channel, grant.sid) not in self.sids:
+            return self.UNKNOWN_SID
+        return self.TOO_MANY_GRANTS if self.is_full() else self.ACCEPTED
+
+    def answer_to_burst(self, burst):
+        grant = self.outstanding(burst.number)
+        if grant is None:
+            return self.NO_GRANT
+        if len(burst.segment) > grant.bytes:
+            return self.TOO_LONG
+        if not burst.check:
+            return self.BAD_CHECK
+        if len(burst.segment) < 8:
+            return self.TOO_SHORT
+        head = header(burst.segment)
+        return self.POINTER_PAST if head.pfi and head.pointer >= len(burst.segment) - 8 else self.ADMITTED
+
+    def admitted(self):
+        """For each input what it admits: the flow and the segment, or None."""
+        for one, answer, grant in self.answers:
+            yield (self.sids[self.channel, grant.sid], one.segment) if answer == self.ADMITTED else None
+
+    def requests(self):
+        for flow, segment in filter(None, self.admitted()):
+            head = header(segment)
+            if head.request and head.cluster < self.flows[flow][3]:
+                yield flow, head.cluster, head.request, head.number
+
+    def refused(self):
+        return [answer for _, answer, _ in self.answers if answer not in (self.ACCEPTED, self.ADMITTED)]
+
+
+class FlowOutcome:
+    """A flow with the events of its items in the order of the trace and then its close."""
+
+    def __init__(self, record):
+        self.sfid, first, window, _ = record
+        self.flow = Flow(first, window)
+        self.verdicts = dict(kept=0, late=0, repeat=0, beyond=0)
+        self.gaps = [0, 0]  # how many decisions declared nothing, and how many declared something
+        self.frames, self.skipped = [], 0
+
+    def arrive(self, segment):
+        self.verdicts[self.flow.arrive(segment)] += 1
+
+    def gap(self, number):
+        self.gaps[self.flow.gap(number)] += 1
+
+    def close(self):
+        while self.flow.gap():
+            pass
+        self.frames, unfinished = self.flow.joined()
+        payload_bytes = sum(len(segment) - 8 for segment in self.flow.kept.values())
+        self.skipped = payload_bytes - sum(map(len, self.frames)) - len(unfinished)
+
+    def counts(self):
+        counts = {**self.verdicts, "lost": len(self.flow.declared)}
+        counts |= {"frames": len(self.frames), "skipped": self.skipped}
+        return " ".join(f"{name} {count}" for name, count in counts.items())
+
+
+class Outcome:
+    """What comes of a trace."""
+
+    def __init__(self, trace):
+        self.lanes = [Lane(channel, trace) for channel in range(CHANNELS)]
+        self.flows = [FlowOutcome(record) for record in trace.flows]
+        items = [lane.admitted() for lane in self.lanes] + [iter(trace.decisions)]
+        for tag in trace.tags:
+            item = next(items[tag])
+            if tag == DECISION:
+                self.flows[item[0]].gap(item[1])
+            elif item is not None:
+                self.flows[item[0]].arrive(item[1])
+        for flow in self.flows:
+            flow.close()
+
+    def report(self):
+        for index, flow in enumerate(self.flows):
+            yield f"flow {index} {flow.sfid} {flow.counts()}"
+            for frame in flow.frames:
+                yield f"frame {index} {frame.hex()}"
+        for lane in self.lanes:
+            for request in lane.requests():
+                yield f"request {lane.channel} {' '.join(map(str, request))}"
+        for lane in self.lanes:
+            admitted = sum(item is not None for item in lane.admitted())
+            yield f"lane {lane.channel} admitted {admitted} refused {' '.join(map(str, lane.refused())) or '-'}"
+
+
+def replay(text):
+    """What the program has to answer to a text: its standard output, its standard error and its exit status. The
+    outcome, or the line's fault, stands behind them."""
+    try:
+        outcome = Outcome(read_trace(text))
+    except LineFault as fault:
+        return b"", f"segrx: {fault}\n".encode(), 1, fault
+    return "".join(line + "\n" for line in outcome.report()).encode(), b"", 0, outcome

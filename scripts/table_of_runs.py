@@ -1,0 +1,59 @@
+"""Reads the table of runs in runs/. runs/README.md says how a run is written."""
+
+import glob
+import os
+import re
+import sys
+
+RUNS = os.path.join(os.path.dirname(os.path.abspath(__file__)), "..", "runs")
+
+
+class Run:
+    def __init__(self, file, name):
+        self.file, self.name = file, name
+        self.command, self.status, self.times = None, 0, 1
+        self.input, self.output, self.parts, self.error = b"", b"", [], b""
+
+
+def text_of(written):
+    """The bytes of a line of the table: {00*3} stands for 000000, and \\t, \\r, \\x0b and the like for such bytes."""
+    repeated = re.sub(r"\{([^{}*]+)\*(\d+)\}", lambda m: m[1] * int(m[2]), written)
+    return repeated.encode().decode("unicode_escape").encode("latin-1") if "\\" in repeated else repeated.encode()
+
+
+def add_line(run, mark, rest):
+    if mark == "$":
+        run.command = rest
+    elif mark == "<":
+        run.input += text_of(rest) + b"\n"
+    elif mark == "<.":
+        run.input += text_of(rest)
+    elif mark == ">":
+        run.output += text_of(rest) + b"\n"
+    elif mark == ">~":
+        run.parts.append(text_of(rest))
+    elif mark == "!":
+        run.error += text_of(rest) + b"\n"
+    elif mark == "=":
+        run.status = int(rest)
+    elif mark == "*":
+        run.times = int(rest)
+    else:
+        sys.exit(f"runs: {run.file}: {run.name}: no line of a run begins with {mark}")
+
+
+def read_runs(path):
+    runs = []
+    with open(path) as table:
+        for line in table.read().split("\n"):
+            mark, _, rest = line.partition(" ")
+            if mark == "==":
+                runs.append(Run(os.path.basename(path), rest))
+            elif runs and line:
+                add_line(runs[-1], mark, rest)
+    return runs
+
+
+def read_table():
+    """All runs."""
+    return [run for path in sorted(glob.glob(os.path.join(RUNS, "*.txt"))) for run in read_runs(path)]
