@@ -1,5 +1,5 @@
 -- The fields of a 16-bit word, by masks and shifts, against their sums.
-use Rattle.std.proofs.Common.{◌≡◌, ℕ, suc, zero, ◌+◌, ◌*◌, ◌/◌, ◌%◌, ◌<◌, nat_eq, Bool, true, false, List, [], ◌∷◌, ◌++◌, length, take, get_or, Option, Some, None, IsSome, IfSome, refl, ap, ◌∙◌, subst, arith, bit_and, bit_or, ◌≤◌, ◌↔◌}
+use Rattle.std.proofs.Common.{◌≡◌, ℕ, suc, zero, ◌+◌, ◌*◌, ◌/◌, ◌%◌, ◌<◌, nat_eq, Bool, true, false, All, List, [], ◌∷◌, ◌++◌, length, take, get_or, Option, Some, None, IsSome, IfSome, refl, ap, ◌∙◌, subst, arith, bit_and, bit_or, ◌≤◌, ◌↔◌}
 use Rattle.std.specs.Int.{w16, from_be_bytes, to_be_bytes, byte_at}
 use Rattle.std.proofs.lemmas.Bool.{eq-eqb, ne_eqb, false≢true}
 use Rattle.std.proofs.lemmas.List.{take_all}
@@ -63,6 +63,28 @@ pub words_of-fields : (w0 w1 w2 w3 : ℕ) → w0 < 65536
 words_of-fields w0 w1 w2 w3 h =
     ap (λ n. two_bytes n ++ two_bytes (w1 / 8 * 8 + bit_and w1 7) ++ two_bytes w2 ++ two_bytes w3) (first_word w0 h)
     ∙ ap (λ n. two_bytes w0 ++ two_bytes n ++ two_bytes w2 ++ two_bytes w3) (second_word w1)
+
+-- eight bytes are those of the header whose fields are read from them
+pub header_of-bytes : (bytes : List ℕ) → length bytes ≡ 8 → All (λ byte. byte < 256) bytes → (head : SegmentHeader) × (header_bytes head ≡ bytes)
+header_of-bytes bytes size small =
+    let word : ℕ → ℕ = λ i. from_be_bytes w16 (get_or bytes i 0 ∷ get_or bytes (i + 1) 0 ∷ []) in
+    let in_range = λ (i : ℕ) (within : i < 8). small i 0 (omega arith) in
+    let words = four_words bytes (word 0) (word 2) (word 4) (word 6) size in_range refl refl refl refl in
+    let second : word 2 < 65536 = word_lt (word 2) (get_or bytes 2 0) (get_or bytes 3 0) (in_range 2 (omega arith)) (in_range 3 (omega arith)) refl in (
+      record {
+        pfi = not (nat_eq (bit_and (word 0) 32768) 0);
+        reserved = not (nat_eq (bit_and (word 0) 16384) 0);
+        pointer = bit_and (word 0) 16383;
+        sequence = word 2 / 8;
+        cluster = bit_and (word 2) 7;
+        request = word 4;
+        hcs = word 6;
+        pointer_in_range = omega (arith, and_mask (word 0) 14);
+        sequence_in_range = omega arith;
+        cluster_in_range = omega (arith, and_mask (word 2) 3);
+      },
+      words_of-fields (word 0) (word 2) (word 4) (word 6) words.0 ∙ words.1,
+    )
 
 -- two bytes, each by an equation
 same_pair : (a b c d : ℕ) → a ≡ c → b ≡ d → a ∷ b ∷ [] ≡ c ∷ d ∷ []

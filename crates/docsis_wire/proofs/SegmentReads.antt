@@ -1,12 +1,9 @@
 -- What bytes are a segment, by their header.
-use Rattle.std.proofs.Common.{◌≡◌, ℕ, ◌<◌, ◌≤◌, true, List, ◌++◌, length, take, drop, sym, ap, ◌∙◌, refl, ◌+◌, arith, take-append-drop}
-use Rattle.std.proofs.lemmas.List.{take_at, drop_at, length-drop}
+use Rattle.std.proofs.Common.{◌≡◌, ℕ, ◌≤◌, true, List, ◌++◌, length, take, drop, ap, ◌∙◌, refl, ◌+◌, arith, take-append-drop}
+use Rattle.std.proofs.lemmas.List.{length-drop}
 use Rattle.docsis_wire.specs.declared.header.SegmentHeader.{SegmentHeader}
-use Rattle.docsis_wire.specs.declared.segment.Segment.{Segment}
 use Rattle.docsis_wire.specs.Header.{header_bytes}
-use Rattle.docsis_wire.specs.Ready.{IsReady}
-use Rattle.docsis_wire.specs.SegmentBytes.{segment_bytes, PointsPast}
-use Rattle.docsis_wire.proofs.HeaderWords.{header_bytes-inj}
+use Rattle.docsis_wire.specs.SegmentBytes.{PointsPast}
 
 -- bytes are their header's eight and those after them
 pub spelled_as : (bytes payload : List ℕ) (head : SegmentHeader) → header_bytes head ≡ take 8 bytes → payload ≡ drop 8 bytes → header_bytes head ++ payload ≡ bytes

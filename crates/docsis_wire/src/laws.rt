@@ -2,7 +2,7 @@
 //! first fault.
 //!
 //! Each function states a law in its contract and does nothing.
-ghost use Rattle.std.specs.Prelude.{◌≡◌, ◌≢◌, ◌≤◌, ◌↔◌, ℕ, Bool, true, Option, Some, IsSome, IfSome, List, [], ◌∷◌, ◌++◌, length, take};
+ghost use Rattle.std.specs.Prelude.{◌≡◌, ◌≢◌, ◌<◌, ◌≤◌, ◌↔◌, ℕ, Bool, true, Option, Some, IsSome, IfSome, All, List, [], ◌∷◌, ◌++◌, length, take};
 ghost use Rattle.docsis_wire.specs.declared.header.SegmentHeader.{SegmentHeader};
 ghost use Rattle.docsis_wire.specs.declared.header_check.NoCheck.{NoCheck};
 ghost use Rattle.docsis_wire.specs.declared.pieces.Piece.{Piece};
@@ -21,6 +21,12 @@ use crate::header_check::{HeaderCheck, NoCheck};
 pub fn eight_bytes_spell_one_header()
     ensures { (head other : SegmentHeader)
         → header_bytes head ≡ header_bytes other → head ≡ other }
+{}
+
+/// Any eight bytes, each below 256, are the bytes of a header.
+pub fn eight_bytes_spell_a_header()
+    ensures { (bytes : List ℕ) → length bytes ≡ header_length → All (λ byte. byte < 256) bytes
+        → (head : SegmentHeader) × (header_bytes head ≡ bytes) }
 {}
 
 /// What `read_segment` answers, by its contract, for the bytes that a header is written as is that

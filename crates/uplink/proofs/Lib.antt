@@ -11,3 +11,5 @@ pub mod Finishing
 pub mod Gathered
 pub mod Merged
 pub mod OneOutcome
+pub mod Outstanding
+pub mod Answering

@@ -1,5 +1,5 @@
 -- Each input of a lane has one answer.
-use Rattle.std.proofs.Common.{◌≡◌, ℕ, zero, suc, ◌<◌, ◌≤◌, ◌⊎◌, inl, inr, ⊎_elim, Bool, Option, Some, None, Result, Ok, Err, List, [], ◌∷◌, ◌++◌, length, take, drop, slice_get, sym, ap, subst, ◌∙◌, refl, arith}
+use Rattle.std.proofs.Common.{◌≡◌, ℕ, zero, suc, ◌<◌, ◌≤◌, ⊎_elim, Bool, Option, Some, None, Result, Ok, Err, List, [], ◌∷◌, ◌++◌, length, take, drop, slice_get, sym, ap, subst, ◌∙◌, refl, arith}
 use Rattle.std.proofs.Props.{props}
 use Rattle.std.proofs.lemmas.Bool.{cases_lt}
 use Rattle.std.proofs.lemmas.Option.{slice_get_within, slice_get-map, same_Some}
@@ -15,14 +15,15 @@ use Rattle.uplink.specs.declared.row.SidRow.{SidRow}
 use Rattle.uplink.specs.declared.input.Input.{Input}
 use Rattle.uplink.specs.declared.input.Input.TheVariants.{Grant, Burst}
 use Rattle.uplink.specs.declared.refusal.Refusal.{Refusal}
-use Rattle.uplink.specs.declared.refusal.Refusal.TheVariants.{GrantRange, GrantKnown, UnknownSid, TooManyGrants, NoGrant, TooLong, BadCheck, TooShort, PointerPast}
+use Rattle.uplink.specs.declared.refusal.Refusal.TheVariants.{GrantRange, GrantKnown, UnknownSid, TooManyGrants, TooLong, BadCheck, TooShort, PointerPast}
 use Rattle.uplink.specs.declared.admitted.Admitted.{Admitted}
 use Rattle.uplink.specs.declared.admitted.Request.{Request}
 use Rattle.uplink.specs.declared.grant.SidFlow.{SidFlow}
 use Rattle.uplink.specs.declared.grant.OutstandingGrant.{OutstandingGrant}
 use Rattle.uplink.specs.Rows.{CanBeOpened}
 use Rattle.uplink.specs.Admission.{IsRequestIn, IsAdmitted, IsMadeOf}
-use Rattle.uplink.specs.Inputs.{LaneSetup, Answer, AnsweredInput, IsRowOf, IsFlowOf, IsOutstanding, IsKnown, IsGrant, IsAnswerToGrant, IsAnswerToBurst, IsAnswer, AreAnswered, inputs_of}
+use Rattle.uplink.specs.Inputs.{LaneSetup, Answer, AnsweredInput, IsRowOf, IsFlowOf, IsOutstanding, IsGrant, IsAnswerToGrant, IsAnswerToBurst, IsAnswer, AreAnswered, inputs_of}
+use Rattle.uplink.proofs.Taking.{granted, by-cases}
 
 -- the identifier and the bytes of a grant
 abbrev sid_of : Input → ℕ
@@ -175,9 +176,6 @@ module _ (setup : LaneSetup) (can : CanBeOpened setup.rows (length setup.records
       ∙ ap (λ n. let f : SidFlow = record { index = other.index; clusters = n } in f) clusters
 
   module _ (taken : List AnsweredInput) (answered : AreAnswered setup taken) where
-    abbrev granted : ℕ → ℕ → ℕ → AnsweredInput
-    granted number sid bytes = record { input = Grant number sid bytes; answer = Ok None }
-
     -- where a grant is outstanding none of its number was accepted later
     not-later : (number sid bytes other_sid other_bytes : ℕ) (is : IsOutstanding taken number sid bytes) (are : IsOutstanding taken number other_sid other_bytes) → ¬ (is.at < are.at)
     not-later number sid bytes other_sid other_bytes is are later =
@@ -212,18 +210,6 @@ module _ (setup : LaneSetup) (can : CanBeOpened setup.rows (length setup.records
         ap (λ f. let g : OutstandingGrant = record { flow = f; bytes = grant.bytes } in g) flow
         ∙ ap (λ n. let g : OutstandingGrant = record { flow = other.flow; bytes = n } in g) same.1
 
-    -- the answer to a burst by cases
-    abbrev ByCases : ℕ → Bool → List ℕ → Result Admitted Refusal → Type 0
-    ByCases number hcs_ok bytes answer =
-        (¬ (IsKnown taken number) × (answer ≡ Err NoGrant))
-        ⊎ ((grant : OutstandingGrant) × IsGrant setup taken number grant × IsMadeOf setup.channel grant hcs_ok bytes answer)
-
-    by-cases : (number : ℕ) (hcs_ok : Bool) (bytes : List ℕ) (answer : Result Admitted Refusal)
-        → IsAnswerToBurst setup taken number hcs_ok bytes answer → ByCases number hcs_ok bytes answer
-    by-cases number hcs_ok bytes (Err NoGrant) is = inl (is, refl)
-    by-cases number hcs_ok bytes (Ok admitted) is = inr is
-    by-cases number hcs_ok bytes (Err _) is = inr is
-
     one-burst : (number : ℕ) (hcs_ok : Bool) (bytes : List ℕ) (answer other : Result Admitted Refusal)
         → IsAnswerToBurst setup taken number hcs_ok bytes answer → IsAnswerToBurst setup taken number hcs_ok bytes other → answer ≡ other
     one-burst number hcs_ok bytes answer other is are =
@@ -231,14 +217,14 @@ module _ (setup : LaneSetup) (can : CanBeOpened setup.rows (length setup.records
         (λ none. ⊎_elim
         (λ also. none.1 ∙ sym also.1)
         (λ some. absurd (none.0 (some.1.sid, some.0.bytes, some.1.outstanding)))
-        (by-cases number hcs_ok bytes other are))
+        (by-cases setup taken number hcs_ok bytes other are))
         (λ some. ⊎_elim
         (λ none. absurd (none.0 (some.1.sid, some.0.bytes, some.1.outstanding)))
         (λ also.
         let same = one-grant number some.0 also.0 some.1 also.1 in
         one-made setup.channel also.0 hcs_ok bytes answer other (subst (λ g. IsMadeOf setup.channel g hcs_ok bytes answer) same some.2) also.2)
-        (by-cases number hcs_ok bytes other are))
-        (by-cases number hcs_ok bytes answer is)
+        (by-cases setup taken number hcs_ok bytes other are))
+        (by-cases setup taken number hcs_ok bytes answer is)
 
     one-answer-to-grant : (number sid bytes : ℕ) (answer other : Answer) → IsAnswerToGrant setup taken number sid bytes answer
         → IsAnswerToGrant setup taken number sid bytes other → answer ≡ other
@@ -274,7 +260,7 @@ module _ (setup : LaneSetup) (can : CanBeOpened setup.rows (length setup.records
     one-answer-to-grant number sid bytes (Ok None) _ is are = absurd are
     one-answer-to-grant number sid bytes _ _ is are = absurd is
 
-    one-answer : (input : Input) (answer other : Answer) → IsAnswer setup taken input answer → IsAnswer setup taken input other → answer ≡ other
+    pub one-answer : (input : Input) (answer other : Answer) → IsAnswer setup taken input answer → IsAnswer setup taken input other → answer ≡ other
     one-answer (Grant number sid bytes) answer other is are = one-answer-to-grant number sid bytes answer other is are
     one-answer (Burst number hcs_ok bytes) (Ok None) other is are = absurd is
     one-answer (Burst number hcs_ok bytes) (Ok (Some admitted)) (Ok None) is are = absurd are

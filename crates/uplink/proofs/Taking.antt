@@ -1,5 +1,5 @@
 -- What one more input makes of what is outstanding, and of what a lane stands for.
-use Rattle.std.proofs.Common.{◌≡◌, ◌≢◌, ℕ, ◌+◌, ◌⊎◌, inl, inr, ⊎_elim, Bool, true, false, cond, IsTrue, Option, Some, None, MatchOption, is_some, Ok, Err, List, [], ◌∷◌, ◌++◌, length, take, slice_get, count_by, sym, ap, subst, ◌∙◌, refl, arith, zero, suc}
+use Rattle.std.proofs.Common.{◌≡◌, ◌≢◌, ℕ, ◌+◌, ◌⊎◌, inl, inr, ⊎_elim, Bool, true, false, cond, IsTrue, Option, Some, None, MatchOption, is_some, Result, Ok, Err, List, [], ◌∷◌, ◌++◌, length, take, slice_get, count_by, sym, ap, subst, ◌∙◌, refl, arith, zero, suc}
 use Rattle.std.specs.Ordering.{nat_cmp}
 use Rattle.std.specs.Cmp.{unsigned_tied}
 use Rattle.std.specs.BTreeMap.{BTreeMap, get, is_at, btree_map_len}
@@ -10,6 +10,7 @@ use Rattle.std.proofs.lemmas.List.{take-append-le, length-append}
 use Rattle.std.proofs.lemmas.List.Sums.{sum_by_push}
 use Rattle.std.proofs.Math.Seq.{take-append_seam}
 use Rattle.docsis_wire.proofs.Places.{slice_get-at}
+use Rattle.uplink.specs.declared.admitted.Admitted.{Admitted}
 use Rattle.uplink.specs.declared.input.Input.TheVariants.{Grant}
 use Rattle.uplink.specs.declared.grant.SidFlow.{SidFlow}
 use Rattle.uplink.specs.declared.grant.OutstandingGrant.{OutstandingGrant}
@@ -37,10 +38,10 @@ module _ {X : Type 0} where
       ⊎_elim (λ of. inl of) (λ last. inr (ap suc last.0, last.1)) (from-pushed xs y k x is)
 
   -- a count of a list with one more
-  count-no : (p : X → Bool) (xs : List X) (x : X) → p x ≡ false → count_by p (xs ++ x ∷ []) ≡ count_by p xs
+  pub count-no : (p : X → Bool) (xs : List X) (x : X) → p x ≡ false → count_by p (xs ++ x ∷ []) ≡ count_by p xs
   count-no p xs x is = let pushed = sum_by_push (λ y. cond (p y) 1 0) xs x in let none : cond {A = ℕ} (p x) 1 0 ≡ 0 = ap (λ b. cond {A = ℕ} b 1 0) is in omega arith
 
-  count-yes : (p : X → Bool) (xs : List X) (x : X) → p x ≡ true → count_by p (xs ++ x ∷ []) ≡ count_by p xs + 1
+  pub count-yes : (p : X → Bool) (xs : List X) (x : X) → p x ≡ true → count_by p (xs ++ x ∷ []) ≡ count_by p xs + 1
   count-yes p xs x is = let pushed = sum_by_push (λ y. cond (p y) 1 0) xs x in let one : cond {A = ℕ} (p x) 1 0 ≡ 1 = ap (λ b. cond {A = ℕ} b 1 0) is in omega arith
 
   -- what holds of an option holds of it by weaker words
@@ -71,7 +72,7 @@ module _ (taken : List AnsweredInput) (one : AnsweredInput) where
   more = taken ++ one ∷ []
 
   -- a grant that isn't spent stays outstanding
-  still-outstanding : (number sid bytes : ℕ) → IsOutstanding taken number sid bytes → Leaves number one → IsOutstanding more number sid bytes
+  pub still-outstanding : (number sid bytes : ℕ) → IsOutstanding taken number sid bytes → Leaves number one → IsOutstanding more number sid bytes
   still-outstanding number sid bytes is leaves = record {
     at = is.at;
     stands = stays-behind taken (one ∷ []) is.at (granted number sid bytes) is.stands;
@@ -83,7 +84,7 @@ module _ (taken : List AnsweredInput) (one : AnsweredInput) where
   }
 
   -- what is outstanding was so before and isn't spent, or was accepted now
-  was-outstanding : (number sid bytes : ℕ) → IsOutstanding more number sid bytes
+  pub was-outstanding : (number sid bytes : ℕ) → IsOutstanding more number sid bytes
       → (IsOutstanding taken number sid bytes × Leaves number one) ⊎ (one ≡ granted number sid bytes)
   was-outstanding number sid bytes is =
       ⊎_elim
@@ -96,7 +97,7 @@ module _ (taken : List AnsweredInput) (one : AnsweredInput) where
       (from-pushed taken one is.at (granted number sid bytes) is.stands)
 
 -- an accepted grant is outstanding
-now-outstanding : (taken : List AnsweredInput) (number sid bytes : ℕ) → IsOutstanding (taken ++ granted number sid bytes ∷ []) number sid bytes
+pub now-outstanding : (taken : List AnsweredInput) (number sid bytes : ℕ) → IsOutstanding (taken ++ granted number sid bytes ∷ []) number sid bytes
 now-outstanding taken number sid bytes = record {
   at = length taken;
   stands = slice_get-at taken (granted number sid bytes) [];
@@ -281,6 +282,18 @@ module _ (setup : LaneSetup) (taken : List AnsweredInput) (lane : Lane) (stands 
 
   pub as-many : btree_map_len lane.grants ≡ outstanding_count taken
   as-many = let count = stands.count in omega arith
+
+module _ (setup : LaneSetup) (taken : List AnsweredInput) (number : ℕ) (hcs_ok : Bool) (bytes : List ℕ) where
+  -- the answer to a burst by cases
+  abbrev pub ByCases : Result Admitted Refusal → Type 0
+  ByCases answer =
+      (¬ (IsKnown taken number) × (answer ≡ Err NoGrant))
+      ⊎ ((grant : OutstandingGrant) × IsGrant setup taken number grant × IsMadeOf setup.channel grant hcs_ok bytes answer)
+
+  pub by-cases : (answer : Result Admitted Refusal) → IsAnswerToBurst setup taken number hcs_ok bytes answer → ByCases answer
+  by-cases (Err NoGrant) is = inl (is, refl)
+  by-cases (Ok admitted) is = inr is
+  by-cases (Err _) is = inr is
 
 -- a refusal that is made of a burst spends its grant
 pub spends : (channel : ℕ) (grant : OutstandingGrant) (hcs_ok : Bool) (bytes : List ℕ) (refusal : Refusal)

@@ -1,5 +1,6 @@
 -- A lane over the whole list of one channel's inputs, each with its answer.
-use Rattle.std.specs.Prelude.{◌≡◌, ℕ, ◌-◌, ◌<◌, ◌≤◌, Bool, true, false, IsTrue, Option, Some, None, Result, Ok, Err, List, take, slice_get, count_by, map}
+use Rattle.std.specs.Prelude.{◌≡◌, ◌≢◌, ◌↔◌, ℕ, ◌-◌, ◌<◌, ◌≤◌, Bool, true, false, IsTrue, Option, Some, None, Result, Ok, Err, List, take, slice_get, count_by, map}
+use Rattle.std.specs.List.{All, AllPairs, Contains}
 use Rattle.docsis_wire.specs.Limits.{header_length}
 use Rattle.flow_core.specs.declared.record.FlowRecord.{FlowRecord}
 use Rattle.uplink.specs.declared.row.SidRow.{SidRow}
@@ -80,6 +81,11 @@ answer_spends _ _ = false
 abbrev pub spends_its_grant : AnsweredInput → Bool
 spends_its_grant one = answer_spends one.input one.answer
 
+-- the bytes of a burst are bytes
+abbrev pub HasBytes : Input → Type 0
+HasBytes (Grant number sid bytes) = Unit {0}
+HasBytes (Burst number hcs_ok bytes) = All (λ byte. byte < 256) bytes
+
 -- the number of the grant that an input is or belongs to
 abbrev pub number_of : Input → ℕ
 number_of (Grant number sid bytes) = number
@@ -95,6 +101,11 @@ pub record IsOutstanding (taken : List AnsweredInput) (number sid bytes : ℕ) :
 -- a grant of this number is outstanding
 abbrev pub IsKnown : List AnsweredInput → ℕ → Type 0
 IsKnown taken number = (sid : ℕ) × (bytes : ℕ) × IsOutstanding taken number sid bytes
+
+-- these numbers are different, and just those of which a grant is outstanding
+pub record AreOutstanding (taken : List AnsweredInput) (numbers : List ℕ) : Type 0 where
+  pub different : AllPairs (λ number other. number ≢ other) numbers
+  pub known : (number : ℕ) → Contains numbers number ↔ IsKnown taken number
 
 -- how many grants are outstanding: as many as were accepted, less those that were spent
 abbrev pub outstanding_count : List AnsweredInput → ℕ

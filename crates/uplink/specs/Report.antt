@@ -1,9 +1,11 @@
 -- What a lane admits, asks for and reports, of the whole list of its inputs with their answers.
-use Rattle.std.specs.Prelude.{ℕ, Option, Some, None, Ok, Err, List, length, filter_map}
+use Rattle.std.specs.Prelude.{◌≡◌, ℕ, ◌<◌, Option, Some, None, Ok, Err, List, length, filter_map, slice_get}
+use Rattle.docsis_wire.specs.Limits.{sequence_modulus}
 use Rattle.flow_core.specs.Counts.{counted}
+use Rattle.flow_core.specs.declared.record.FlowRecord.{FlowRecord}
 use Rattle.uplink.specs.declared.admitted.Admitted.{Admitted}
 use Rattle.uplink.specs.declared.admitted.Request.{Request}
-use Rattle.uplink.specs.Inputs.{Answer, AnsweredInput}
+use Rattle.uplink.specs.Inputs.{LaneSetup, Answer, AnsweredInput}
 use Rattle.uplink.specs.declared.refusal.Refusal.{Refusal}
 use Rattle.uplink.specs.declared.refusal.Refusal.TheVariants.{GrantRange, GrantKnown, UnknownSid, TooManyGrants, GrantOutOfMemory, NoGrant, TooLong, BadCheck, TooShort, PointerPast, BurstOutOfMemory}
 
@@ -37,6 +39,15 @@ admitted_of taken = filter_map (λ one. admitted_by one.answer) taken
 -- the requests of what was admitted, in order
 abbrev pub requests_of : List AnsweredInput → List Request
 requests_of taken = filter_map (λ one. one.request) (admitted_of taken)
+
+-- a request on the lane's channel, made for a cluster that its flow has
+pub record IsLaneRequest (setup : LaneSetup) (request : Request) : Type 0 where
+  pub channel : request.channel ≡ setup.channel
+  pub units : 0 < request.units
+  pub sequence : request.sequence < sequence_modulus
+  pub flow_record : FlowRecord
+  pub stands : slice_get setup.records request.flow ≡ Some flow_record
+  pub cluster : request.cluster < flow_record.clusters
 
 -- the lane's report: how many bursts were admitted, and the numbers of the refusals, in order
 abbrev pub admitted_count : List AnsweredInput → ℕ

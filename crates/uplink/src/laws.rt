@@ -1,9 +1,13 @@
-//! Laws about the definitions: each input of a lane has at most one answer, rows have at most one
-//! first fault, lists have one merge in an order, the admitted order is lawful, and a replay has one
-//! outcome or one fault.
+//! Laws about the definitions: each input of a lane has one answer, what is outstanding and what is
+//! admitted after one more input, rows have at most one first fault, lists have one merge in an
+//! order, the admitted order is lawful, and a replay has one outcome or one fault.
 //!
 //! Each function states a law in its contract and does nothing.
-ghost use Rattle.std.specs.Prelude.{◌≡◌, ◌≢◌, ◌↔◌, ◌++◌, ◌∷◌, [], ℕ, Bool, List, length};
+ghost use Rattle.std.specs.Prelude.{◌≡◌, ◌≢◌, ◌↔◌, ℕ, ◌+◌, Bool, IsTrue, Ok, None};
+ghost use Rattle.std.specs.Prelude.{List, [], ◌∷◌, ◌++◌, length, map, All};
+ghost use Rattle.flow_core.specs.Counts.{counted};
+ghost use Rattle.uplink.specs.declared.input.Input.{Input};
+ghost use Rattle.uplink.specs.declared.lane.Lane.{Lane};
 ghost use Rattle.uplink.specs.declared.grant.OutstandingGrant.{OutstandingGrant};
 ghost use Rattle.uplink.specs.declared.row.LaneFault.{LaneFault};
 ghost use Rattle.uplink.specs.declared.row.SidRow.{SidRow};
@@ -11,14 +15,19 @@ ghost use Rattle.uplink.specs.Rows.{CanBeOpened, IsLaneFault};
 ghost use Rattle.uplink.specs.declared.setup.Lists.{Lists};
 ghost use Rattle.uplink.specs.declared.setup.Setup.{Setup};
 ghost use Rattle.uplink.specs.Order.{IsLawfulOrder, IsOrderFault, IsMergeOf, lengths_of};
-ghost use Rattle.uplink.specs.Items.{items_of};
 ghost use Rattle.uplink.specs.declared.outcome.Outcome.{Outcome};
 ghost use Rattle.uplink.specs.declared.replaying.ReplayFault.{ReplayFault};
+ghost use Rattle.uplink.specs.Items.{IsItem, event_of_admitted, items_of};
 ghost use Rattle.uplink.specs.Answer.{IsAdmittedOrder, CanReceive, HasBadOrder};
 ghost use Rattle.uplink.specs.Answer.{IsOutcome, IsReplayFault, IsTagsFault};
 ghost use Rattle.uplink.specs.SameOutcome.{IsSameOutcome};
-ghost use Rattle.uplink.specs.Inputs.{LaneSetup, AnsweredInput, IsGrant, IsAnswer};
-ghost use Rattle.uplink.specs.Inputs.{AreAnswered, inputs_of};
+ghost use Rattle.uplink.specs.Inputs.{LaneSetup, Answer, AnsweredInput, IsGrant, IsAnswer};
+ghost use Rattle.uplink.specs.Inputs.{AreAnswered, inputs_of, number_of, is_accepted};
+ghost use Rattle.uplink.specs.Inputs.{spends_its_grant, IsOutstanding, IsKnown};
+ghost use Rattle.uplink.specs.Inputs.{AreOutstanding, outstanding_count, HasBytes};
+ghost use Rattle.uplink.specs.Report.{admitted_of, requests_of, refusal_numbers, admitted_count};
+ghost use Rattle.uplink.specs.Report.{IsLaneRequest};
+ghost use Rattle.uplink.specs.Stands.{StandsFor, TakesInput};
 
 /// The same inputs have at most one list of answers.
 pub fn lane_has_at_most_one_answer_to_each_input()
@@ -26,6 +35,17 @@ pub fn lane_has_at_most_one_answer_to_each_input()
         → CanBeOpened setup.rows (length setup.records)
         → AreAnswered setup taken → AreAnswered setup others
         → inputs_of taken ≡ inputs_of others → taken ≡ others }
+{}
+
+/// Each input has an answer, and each list of inputs has answers, if the bytes of the bursts are
+/// below 256.
+pub fn each_input_has_an_answer()
+    ensures next { (setup : LaneSetup) (taken : List AnsweredInput) (input : Input)
+        → CanBeOpened setup.rows (length setup.records) → AreAnswered setup taken
+        → HasBytes input → (answer : Answer) × IsAnswer setup taken input answer }
+    ensures all { (setup : LaneSetup) (inputs : List Input)
+        → CanBeOpened setup.rows (length setup.records) → All HasBytes inputs
+        → (taken : List AnsweredInput) × AreAnswered setup taken × (inputs_of taken ≡ inputs) }
 {}
 
 /// With one more input at the end a list of inputs is answered rightly exactly if it was so
@@ -43,6 +63,66 @@ pub fn number_has_one_outstanding_grant()
         → CanBeOpened setup.rows (length setup.records) → AreAnswered setup taken
         → IsGrant setup taken number grant → IsGrant setup taken number other
         → grant ≡ other }
+{}
+
+/// Lanes that stand for the same inputs answer the next one alike, so that an input which a failed
+/// allocation left out can be taken again.
+pub fn lanes_of_the_same_inputs_answer_alike()
+    ensures { (setup : LaneSetup) (taken : List AnsweredInput) (input : Input)
+        (lane other after other_after : Lane) (answer other_answer : Answer)
+        → CanBeOpened setup.rows (length setup.records)
+        → StandsFor setup lane taken → StandsFor setup other taken
+        → TakesInput lane input answer after → TakesInput other input other_answer other_after
+        → answer ≡ other_answer }
+{}
+
+/// What is outstanding after one more input: a grant that was accepted is, one that was spent
+/// isn't, and otherwise what was so before.
+pub fn next_input_changes_what_is_outstanding()
+    ensures accepted { (taken : List AnsweredInput) (one : AnsweredInput) (number sid bytes : ℕ)
+        → one.input ≡ Input.Grant number sid bytes → one.answer ≡ Ok None
+        → IsOutstanding (taken ++ one ∷ []) number sid bytes }
+    ensures spent { (taken : List AnsweredInput) (one : AnsweredInput)
+        → IsTrue (spends_its_grant one) → ¬ (IsKnown (taken ++ one ∷ []) (number_of one.input)) }
+    ensures other_numbers { (taken : List AnsweredInput) (one : AnsweredInput)
+        (number sid bytes : ℕ) → number_of one.input ≢ number
+        → IsOutstanding (taken ++ one ∷ []) number sid bytes
+        ↔ IsOutstanding taken number sid bytes }
+    ensures other_answers { (taken : List AnsweredInput) (one : AnsweredInput)
+        (number sid bytes : ℕ)
+        → ¬ (IsTrue (is_accepted one)) → ¬ (IsTrue (spends_its_grant one))
+        → IsOutstanding (taken ++ one ∷ []) number sid bytes
+        ↔ IsOutstanding taken number sid bytes }
+{}
+
+/// As many numbers are outstanding as `outstanding_count` says: as many grants as were accepted,
+/// less those that were spent.
+pub fn outstanding_numbers_are_counted()
+    ensures { (setup : LaneSetup) (taken : List AnsweredInput) → AreAnswered setup taken
+        → (numbers : List ℕ) × AreOutstanding taken numbers
+        × (length numbers ≡ outstanding_count taken) }
+{}
+
+/// What is admitted of lists of inputs, asked for and reported, one list after the other.
+pub fn reports_are_appended()
+    ensures admitted { (taken others : List AnsweredInput)
+        → admitted_of (taken ++ others) ≡ admitted_of taken ++ admitted_of others }
+    ensures requests { (taken others : List AnsweredInput)
+        → requests_of (taken ++ others) ≡ requests_of taken ++ requests_of others }
+    ensures refused { (taken others : List AnsweredInput)
+        → refusal_numbers (taken ++ others) ≡ refusal_numbers taken ++ refusal_numbers others }
+    ensures count { (taken others : List AnsweredInput)
+        → admitted_count (taken ++ others)
+        ≡ counted (admitted_count taken + admitted_count others) }
+{}
+
+/// What is admitted is of a flow that has a record, and its segment is ready. Its request is of the
+/// lane's channel and made for a cluster that the flow has.
+pub fn admitted_segments_are_of_the_flows()
+    ensures items { (setup : LaneSetup) (taken : List AnsweredInput) → AreAnswered setup taken
+        → All (IsItem (length setup.records)) (map event_of_admitted (admitted_of taken)) }
+    ensures requests { (setup : LaneSetup) (taken : List AnsweredInput) → AreAnswered setup taken
+        → All (IsLaneRequest setup) (requests_of taken) }
 {}
 
 /// Rows have one first fault at most, and none where a lane can be opened with them.

@@ -1,5 +1,5 @@
 -- The two clauses of `read_head` on frames, where nothing follows the frame.
-use Rattle.std.proofs.Common.{◌≡◌, ◌+◌, ◌-◌, Bool, List, ℕ, IsTrue, [], length, take, drop, refl, sym, ap, ◌∙◌, subst, arith}
+use Rattle.std.proofs.Common.{◌≡◌, Bool, List, ℕ, [], length, refl, sym, ap, ◌∙◌, subst, arith}
 use Rattle.std.proofs.lemmas.List.{append-nil, take_all}
 use Rattle.docsis_wire.specs.Frame.{IsFrame, header_front}
 use Rattle.docsis_wire.proofs.frame.well_formed.Goals as goal
