@@ -12,12 +12,11 @@ use Rattle.uplink.specs.declared.outcome.Outcome.{Outcome}
 use Rattle.uplink.specs.declared.replaying.ReplayFault.{ReplayFault}
 use Rattle.uplink.specs.declared.replaying.ReplayFault.TheVariants.{Setup as AtSetup, Lane as AtLane, BadOrder, OutOfMemory}
 use Rattle.uplink.specs.declared.setup.Setup.{Setup}
-use Rattle.uplink.specs.declared.setup.Lists.{Lists}
 use Rattle.uplink.specs.Limits.{channel_limit}
 use Rattle.uplink.specs.Inputs.{AnsweredInput}
 use Rattle.uplink.specs.Report.{admitted_of, requests_of}
 use Rattle.uplink.specs.Order.{senders, lengths_of, IsOrderFault}
-use Rattle.uplink.specs.Items.{event_of_admitted, items_of, events_at}
+use Rattle.uplink.specs.Items.{Incoming, event_of_admitted, items_of, events_at}
 use Rattle.uplink.specs.Answer.{IsOutcome, IsOutcomeOfFlow, AreOutcomesOfFlows, GivesAtItsClose, IsReportOf, CanReceive, HasBadOrder, IsFirstFault, input_counts, IsReplayFault, IsTagsFault}
 use Rattle.uplink.specs.SameOutcome.{GaveTheSame, ReportTheSame, IsSameOutcome}
 use Rattle.uplink.proofs.Rows.{one_fault as one_lane_fault, fault-refused as lane-refused}
@@ -63,23 +62,23 @@ report-same taken others report other same is are =
     let also = subst (λ t. IsReportOf t other) (sym same) are in
     record { admitted = is.admitted ∙ sym also.admitted; refused = is.refused ∙ sym also.refused }
 
-module _ (setup : Setup) (lists : Lists) (order : List ℕ) (can : CanReceive setup) where
+module _ (setup : Setup) (incoming : Incoming) (order : List ℕ) (can : CanReceive setup) where
   -- the items of each sender are the same, whatever answers the inputs have
   items-same : (answered others : ℕ → List AnsweredInput) → ((channel : ℕ) → channel < channel_limit → answered channel ≡ others channel)
-      → (s : ℕ) → s < senders → items_of setup lists answered s ≡ items_of setup lists others s
+      → (s : ℕ) → s < senders → items_of setup incoming answered s ≡ items_of setup incoming others s
   items-same answered others same =
       let items : List AnsweredInput → List Event = λ taken. map event_of_admitted (admitted_of taken) in
-      five (λ s. items_of setup lists answered s ≡ items_of setup lists others s)
+      five (λ s. items_of setup incoming answered s ≡ items_of setup incoming others s)
       (ap items (same 0 (omega arith))) (ap items (same 1 (omega arith))) (ap items (same 2 (omega arith))) (ap items (same 3 (omega arith))) refl
 
-  module _ (check : List ℕ → Bool) (outcome : Outcome) (is : IsOutcome check setup lists order outcome) where
+  module _ (check : List ℕ → Bool) (outcome : Outcome) (is : IsOutcome check setup incoming order outcome) where
     -- so there is one outcome
-    pub one-outcome : HasOneClose check → (other : Outcome) → IsOutcome check setup lists order other → IsSameOutcome outcome other
+    pub one-outcome : HasOneClose check → (other : Outcome) → IsOutcome check setup incoming order other → IsSameOutcome outcome other
     one-outcome close other are =
         let same : (channel : ℕ) → channel < channel_limit → is.answered channel ≡ are.answered channel =
-        one-lane setup lists can is.answered are.answered is.lanes are.lanes in
-        let again = merge-same (items_of setup lists is.answered) (items_of setup lists are.answered) order is.items (items-same is.answered are.answered same) is.merged in
-        let items : are.items ≡ is.items = one-merge (items_of setup lists are.answered) order are.items is.items are.merged again in
+        one-lane setup incoming can is.answered are.answered is.lanes are.lanes in
+        let again = merge-same (items_of setup incoming is.answered) (items_of setup incoming are.answered) order is.items (items-same is.answered are.answered same) is.merged in
+        let items : are.items ≡ is.items = one-merge (items_of setup incoming are.answered) order are.items is.items are.merged again in
         record {
           count = is.flows.count ∙ sym are.flows.count;
           flows = flows-same check close setup.flows.items is.items are.items outcome.flows.items other.flows.items items is.flows are.flows;
@@ -90,16 +89,16 @@ module _ (setup : Setup) (lists : Lists) (order : List ℕ) (can : CanReceive se
         }
 
     -- and no fault
-    pub outcome-faultless : (k : ℕ) → ¬ (HasBadOrder setup lists order k)
+    pub outcome-faultless : (k : ℕ) → ¬ (HasBadOrder setup incoming order k)
     outcome-faultless k bad =
-        lawful-faultless (lengths_of (items_of setup lists is.answered)) order (merge-lawful (items_of setup lists is.answered) order is.items is.merged) k
-        (subst (λ lengths. IsOrderFault lengths order k) (same-lengths setup lists can bad.answered is.answered bad.lanes is.lanes) bad.fault)
+        lawful-faultless (lengths_of (items_of setup incoming is.answered)) order (merge-lawful (items_of setup incoming is.answered) order is.items is.merged) k
+        (subst (λ lengths. IsOrderFault lengths order k) (same-lengths setup incoming can bad.answered is.answered bad.lanes is.lanes) bad.fault)
 
   -- an order of the items has one fault
-  one-bad_order : (j k : ℕ) → HasBadOrder setup lists order j → HasBadOrder setup lists order k → j ≡ k
+  one-bad_order : (j k : ℕ) → HasBadOrder setup incoming order j → HasBadOrder setup incoming order k → j ≡ k
   one-bad_order j k is are =
-      one-fault (lengths_of (items_of setup lists is.answered)) order j k is.fault
-      (subst (λ lengths. IsOrderFault lengths order k) (same-lengths setup lists can are.answered is.answered are.lanes is.lanes) are.fault)
+      one-fault (lengths_of (items_of setup incoming is.answered)) order j k is.fault
+      (subst (λ lengths. IsOrderFault lengths order k) (same-lengths setup incoming can are.answered is.answered are.lanes is.lanes) are.fault)
 
 -- a setup has one first fault
 first-one : (setup : Setup) (IsBadOrder : ℕ → Type 0) → ((j k : ℕ) → CanReceive setup → IsBadOrder j → IsBadOrder k → j ≡ k) → (fault other : ReplayFault)
@@ -117,10 +116,10 @@ first-one setup P one OutOfMemory other no_f no_g is are = absurd (no_f refl)
 first-one setup P one fault OutOfMemory no_f no_g is are = absurd (no_g refl)
 
 -- so nothing is replayed for one reason at most, nor is an order admitted
-pub one-replay_fault : (setup : Setup) (lists : Lists) (order : List ℕ) (fault other : ReplayFault) → fault ≢ OutOfMemory → other ≢ OutOfMemory
-    → IsReplayFault setup lists order fault → IsReplayFault setup lists order other → fault ≡ other
-one-replay_fault setup lists order = first-one setup (HasBadOrder setup lists order) (λ j k can. one-bad_order setup lists order can j k)
+pub one-replay_fault : (setup : Setup) (incoming : Incoming) (order : List ℕ) (fault other : ReplayFault) → fault ≢ OutOfMemory → other ≢ OutOfMemory
+    → IsReplayFault setup incoming order fault → IsReplayFault setup incoming order other → fault ≡ other
+one-replay_fault setup incoming order = first-one setup (HasBadOrder setup incoming order) (λ j k can. one-bad_order setup incoming order can j k)
 
-pub one-tags_fault : (setup : Setup) (lists : Lists) (tags : List ℕ) (fault other : ReplayFault) → fault ≢ OutOfMemory → other ≢ OutOfMemory
-    → IsTagsFault setup lists tags fault → IsTagsFault setup lists tags other → fault ≡ other
-one-tags_fault setup lists tags = first-one setup (IsOrderFault (input_counts lists) tags) (λ j k can. one-fault (input_counts lists) tags j k)
+pub one-tags_fault : (setup : Setup) (incoming : Incoming) (tags : List ℕ) (fault other : ReplayFault) → fault ≢ OutOfMemory → other ≢ OutOfMemory
+    → IsTagsFault setup incoming tags fault → IsTagsFault setup incoming tags other → fault ≡ other
+one-tags_fault setup incoming tags = first-one setup (IsOrderFault (input_counts incoming) tags) (λ j k can. one-fault (input_counts incoming) tags j k)

@@ -12,12 +12,11 @@ ghost use Rattle.uplink.specs.declared.grant.OutstandingGrant.{OutstandingGrant}
 ghost use Rattle.uplink.specs.declared.row.LaneFault.{LaneFault};
 ghost use Rattle.uplink.specs.declared.row.SidRow.{SidRow};
 ghost use Rattle.uplink.specs.Rows.{CanBeOpened, IsLaneFault};
-ghost use Rattle.uplink.specs.declared.setup.Lists.{Lists};
 ghost use Rattle.uplink.specs.declared.setup.Setup.{Setup};
 ghost use Rattle.uplink.specs.Order.{IsLawfulOrder, IsOrderFault, IsMergeOf, lengths_of};
 ghost use Rattle.uplink.specs.declared.outcome.Outcome.{Outcome};
 ghost use Rattle.uplink.specs.declared.replaying.ReplayFault.{ReplayFault};
-ghost use Rattle.uplink.specs.Items.{IsItem, event_of_admitted, items_of};
+ghost use Rattle.uplink.specs.Items.{Incoming, IsItem, event_of_admitted, items_of};
 ghost use Rattle.uplink.specs.Answer.{IsAdmittedOrder, CanReceive, HasBadOrder};
 ghost use Rattle.uplink.specs.Answer.{IsOutcome, IsReplayFault, IsTagsFault};
 ghost use Rattle.uplink.specs.SameOutcome.{IsSameOutcome};
@@ -151,25 +150,25 @@ pub fn lists_have_one_merge<T>()
 /// An admitted order is a lawful order of the items, and has no fault where flows and lanes can be
 /// set up.
 pub fn admitted_order_is_lawful()
-    ensures lawful { (setup : Setup) (lists : Lists) (tags order : List ℕ)
-        → (is : IsAdmittedOrder setup lists tags order)
-        → IsLawfulOrder (lengths_of (items_of setup lists is.answered)) order }
-    ensures faultless { (setup : Setup) (lists : Lists) (tags order : List ℕ) (k : ℕ)
-        → CanReceive setup → IsAdmittedOrder setup lists tags order
-        → ¬ (HasBadOrder setup lists order k) }
+    ensures lawful { (setup : Setup) (incoming : Incoming) (tags order : List ℕ)
+        → (is : IsAdmittedOrder setup incoming tags order)
+        → IsLawfulOrder (lengths_of (items_of setup incoming is.answered)) order }
+    ensures faultless { (setup : Setup) (incoming : Incoming) (tags order : List ℕ) (k : ℕ)
+        → CanReceive setup → IsAdmittedOrder setup incoming tags order
+        → ¬ (HasBadOrder setup incoming order k) }
 {}
 
-/// Lists that are replayed in one order have one outcome. An order that has an outcome has no
+/// What is replayed in one order have one outcome. An order that has an outcome has no
 /// fault.
 pub fn replay_has_one_outcome()
-    ensures one { (check : List ℕ → Bool) (setup : Setup) (lists : Lists) (order : List ℕ)
+    ensures one { (check : List ℕ → Bool) (setup : Setup) (incoming : Incoming) (order : List ℕ)
         (outcome other : Outcome)
-        → CanReceive setup → IsOutcome check setup lists order outcome
-        → IsOutcome check setup lists order other → IsSameOutcome outcome other }
-    ensures faultless { (check : List ℕ → Bool) (setup : Setup) (lists : Lists) (order : List ℕ)
+        → CanReceive setup → IsOutcome check setup incoming order outcome
+        → IsOutcome check setup incoming order other → IsSameOutcome outcome other }
+    ensures faultless { (check : List ℕ → Bool) (setup : Setup) (incoming : Incoming) (order : List ℕ)
         (outcome : Outcome) (k : ℕ)
-        → CanReceive setup → IsOutcome check setup lists order outcome
-        → ¬ (HasBadOrder setup lists order k) }
+        → CanReceive setup → IsOutcome check setup incoming order outcome
+        → ¬ (HasBadOrder setup incoming order k) }
 {
     flow_core::laws::closed_flow_has_one_outcome();
 }
@@ -177,12 +176,12 @@ pub fn replay_has_one_outcome()
 /// Of the faults other than a failed allocation at most one is why nothing is replayed, or why
 /// there is no admitted order.
 pub fn replay_has_one_fault()
-    ensures replay { (setup : Setup) (lists : Lists) (order : List ℕ) (fault other : ReplayFault)
+    ensures replay { (setup : Setup) (incoming : Incoming) (order : List ℕ) (fault other : ReplayFault)
         → fault ≢ ReplayFault.OutOfMemory → other ≢ ReplayFault.OutOfMemory
-        → IsReplayFault setup lists order fault → IsReplayFault setup lists order other
+        → IsReplayFault setup incoming order fault → IsReplayFault setup incoming order other
         → fault ≡ other }
-    ensures tags { (setup : Setup) (lists : Lists) (tags : List ℕ) (fault other : ReplayFault)
+    ensures tags { (setup : Setup) (incoming : Incoming) (tags : List ℕ) (fault other : ReplayFault)
         → fault ≢ ReplayFault.OutOfMemory → other ≢ ReplayFault.OutOfMemory
-        → IsTagsFault setup lists tags fault → IsTagsFault setup lists tags other
+        → IsTagsFault setup incoming tags fault → IsTagsFault setup incoming tags other
         → fault ≡ other }
 {}
