@@ -4,15 +4,15 @@ use Rattle.std.proofs.lemmas.Bool.{cases_lt}
 use Rattle.std.proofs.lemmas.List.{length-map, length-take}
 use Rattle.std.proofs.lemmas.Option.{same_Some, slice_get_within}
 use Rattle.std.specs.Prelude.{map, codes, ◌↔◌}
-use Rattle.segrx.specs.Command.{AsksToJoin, AsksToCut, IsHelpWord, HasNoHelpWord, StandsBeforeHelp}
+use Rattle.segrx.specs.Command.{IsCommandAlone, AsksToCut, IsHelpWord, HasNoHelpWord, StandsBeforeHelp}
 
--- two words ask to join where the second is the command's
-pub AsksToJoin-two : {X : Type 0} (text : X → List ℕ) (words : List X) (word : X) → 2 ≤ length words → length words < 3 → word ≡ get_or words 1 word
-    → (text word ≡ codes "join") ↔ AsksToJoin (map text words)
-AsksToJoin-two text [] word some few is = absurd (omega arith)
-AsksToJoin-two text (name ∷ []) word some few is = absurd (omega arith)
-AsksToJoin-two text (name ∷ second ∷ []) word some few is = (λ e. ap text (sym is) ∙ e, λ e. ap text is ∙ e)
-AsksToJoin-two text (name ∷ second ∷ third ∷ more) word some few is = absurd (omega arith)
+-- of two words the second is a command's alone
+pub IsCommandAlone-two : {X : Type 0} (command : List ℕ) (text : X → List ℕ) (words : List X) (word : X) → 2 ≤ length words → length words < 3 → word ≡ get_or words 1 word
+    → (text word ≡ command) ↔ IsCommandAlone command (map text words)
+IsCommandAlone-two command text [] word some few is = absurd (omega arith)
+IsCommandAlone-two command text (name ∷ []) word some few is = absurd (omega arith)
+IsCommandAlone-two command text (name ∷ second ∷ []) word some few is = (λ e. ap text (sym is) ∙ e, λ e. ap text is ∙ e)
+IsCommandAlone-two command text (name ∷ second ∷ third ∷ more) word some few is = absurd (omega arith)
 
 -- words ask to cut where the second is the command's
 pub AsksToCut-second : {X : Type 0} (text : X → List ℕ) (words : List X) (word : X) → 2 ≤ length words → word ≡ get_or words 1 word

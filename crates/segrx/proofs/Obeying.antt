@@ -1,17 +1,19 @@
 -- What the step that obeys the words promises, by the command that they were read as.
-use Rattle.std.proofs.Common.{◌≡◌, ℕ, length, List, [], ◌∷◌, Option, Result, Ok, Err, inl, ap, sym, ◌∙◌, subst, arith}
-use Rattle.std.specs.Prelude.{string_bytes}
+use Rattle.std.proofs.Common.{◌≡◌, ℕ, zero, suc, length, List, [], ◌∷◌, get_or, Option, Result, Ok, Err, inl, inr, ap, sym, ◌∙◌, subst, arith}
+use Rattle.std.proofs.lemmas.Option.{same_Some}
+use Rattle.std.specs.Prelude.{string_bytes, codes}
 use Rattle.segrx.specs.declared.device.Device.{Device}
 use Rattle.segrx.specs.declared.command.Command.{Command}
-use Rattle.segrx.specs.declared.command.Command.TheVariants.{Join, Cut, Help}
+use Rattle.segrx.specs.declared.command.Command.TheVariants.{Join, Cut, Replay, Help}
 use Rattle.segrx.specs.declared.fault.EngineFault.{EngineFault}
 use Rattle.segrx.specs.declared.fault.EngineFault.TheVariants.{Read, Write}
 use Rattle.texts.specs.declared.fault.TextFault.{TextFault}
 use Rattle.texts.specs.Join.{IsJoined, IsJoinFault}
 use Rattle.texts.specs.Cut.{IsCutText, IsCutFault}
+use Rattle.texts.specs.Replay.{IsReplayed, IsReplayFault}
 use Rattle.segrx.specs.Device.{inner_of, IsFresh}
 use Rattle.segrx.specs.Engine.{HasCause, RunsEngine}
-use Rattle.segrx.specs.Command.{AsksToJoin, AsksToCut, HasNoHelpWord, Asks}
+use Rattle.segrx.specs.Command.{AsksToJoin, AsksToCut, AsksToReplay, IsHelpWord, HasNoHelpWord, Asks}
 use Rattle.segrx.specs.Program.{AsksToCutOnly, AsksForNothing, RunsCut, WritesHelp, Performs, Obeys}
 
 -- no words ask both to join and to cut
@@ -21,16 +23,39 @@ joins_and_cuts (name ∷ []) joins cuts = cuts
 joins_and_cuts (name ∷ word ∷ []) joins cuts = let e : 4 ≡ 3 = ap length (sym joins ∙ cuts) in absurd (omega (arith, e))
 joins_and_cuts (name ∷ word ∷ another ∷ more) joins cuts = joins
 
--- words that ask to join or to cut, and not for help, have what an engine promises
+-- nor both to cut and to replay
+cuts_and_replays : (words : List (List ℕ)) → AsksToCut words → AsksToReplay words → ⊥
+cuts_and_replays [] cuts replays = cuts
+cuts_and_replays (name ∷ []) cuts replays = cuts
+cuts_and_replays (name ∷ word ∷ []) cuts replays = let e : 3 ≡ 6 = ap length (sym cuts ∙ replays) in absurd (omega (arith, e))
+cuts_and_replays (name ∷ word ∷ another ∷ more) cuts replays = replays
+
+-- words that ask to replay have no word that asks for help
+replays_without_help : (words : List (List ℕ)) → AsksToReplay words → HasNoHelpWord words
+replays_without_help [] replays k word behind at = absurd replays
+replays_without_help (name ∷ []) replays k word behind at = absurd replays
+replays_without_help (name ∷ second ∷ []) replays zero word behind at = absurd (omega arith)
+replays_without_help (name ∷ second ∷ []) replays (suc zero) word behind at =
+    let is : word ≡ codes "replay" = sym (same_Some second word at) ∙ replays in
+    λ help. elim help [
+      | inl short ↦ let e : 6 ≡ 2 = ap length (sym is ∙ short) in omega (arith, e)
+      | inr long ↦ let e : 114 ≡ 45 = ap (λ text. get_or text 0 0) (sym is ∙ long) in omega (arith, e)
+    ]
+replays_without_help (name ∷ second ∷ []) replays (suc (suc k)) word behind at = absurd cc
+replays_without_help (name ∷ second ∷ third ∷ more) replays k word behind at = absurd replays
+
+-- words that ask to join, to cut or to replay, and not for help, have what an engine promises
 Obeys-engine : {R W : Type 0} (remaining : R → Option (List ℕ)) (contents : W → Option (List ℕ)) (words : List (List ℕ)) (IsText : List ℕ → List ℕ → Type 0)
     (IsFault : List ℕ → TextFault → Type 0) (reader reader' : Device R) (writer writer' : Device W) (result : Result (Unit {0}) EngineFault)
     → RunsEngine remaining contents IsText IsFault reader reader' writer writer' result
     → (AsksToJoin words → RunsEngine remaining contents IsJoined IsJoinFault reader reader' writer writer' result)
     → (AsksToCutOnly words → RunsCut remaining contents reader reader' writer writer' result)
+    → (AsksToReplay words → RunsEngine remaining contents IsReplayed IsReplayFault reader reader' writer writer' result)
     → ¬ AsksForNothing words → (¬ AsksToJoin words → HasNoHelpWord words) → Obeys remaining contents words reader reader' writer writer' result
-Obeys-engine remaining contents words IsText IsFault reader reader' writer writer' (Ok done) ran joins cuts something no_help = record {
+Obeys-engine remaining contents words IsText IsFault reader reader' writer writer' (Ok done) ran joins cuts replays something no_help = record {
   join = joins;
   cut = λ asks. inl (cuts asks);
+  replay = replays;
   nothing = λ asks. absurd (something asks);
   help = λ other asks. absurd (asks (no_help other));
   flushed = ran.flushed;
@@ -39,11 +64,12 @@ Obeys-engine remaining contents words IsText IsFault reader reader' writer write
   write_fault = λ is. absurd cc;
   read_first = tt;
 }
-Obeys-engine remaining contents words IsText IsFault reader reader' writer writer' (Err fault) ran joins cuts something no_help =
+Obeys-engine remaining contents words IsText IsFault reader reader' writer writer' (Err fault) ran joins cuts replays something no_help =
     let P : EngineFault → Type 0 = HasCause IsFault (remaining (inner_of reader)) reader' writer' in
     record {
       join = joins;
       cut = λ asks. inl (cuts asks);
+      replay = replays;
       nothing = λ asks. absurd (something asks);
       help = λ other asks. absurd (asks (no_help other));
       flushed = tt;
@@ -56,11 +82,12 @@ Obeys-engine remaining contents words IsText IsFault reader reader' writer write
 -- so have those that ask for help, where its text is written
 Obeys-help : {R W : Type 0} (remaining : R → Option (List ℕ)) (contents : W → Option (List ℕ)) (words : List (List ℕ)) (text : List ℕ)
     (reader reader' : Device R) (writer writer' : Device W) (result : Result (Unit {0}) EngineFault)
-    → IsFresh reader → IsFresh writer → ¬ AsksToJoin words → ¬ AsksToCutOnly words → ¬ AsksForNothing words
+    → IsFresh reader → IsFresh writer → ¬ AsksToJoin words → ¬ AsksToCutOnly words → ¬ AsksToReplay words → ¬ AsksForNothing words
     → WritesHelp contents text reader reader' writer writer' result → Obeys remaining contents words reader reader' writer writer' result
-Obeys-help remaining contents words text reader reader' writer writer' (Ok done) unread unwritten other no_cut something wrote = record {
+Obeys-help remaining contents words text reader reader' writer writer' (Ok done) unread unwritten other no_cut no_replay something wrote = record {
   join = λ asks. absurd (other asks);
   cut = λ asks. absurd (no_cut asks);
+  replay = λ asks. absurd (no_replay asks);
   nothing = λ asks. absurd (something asks);
   help = λ _ _. inl (text, wrote);
   flushed = wrote.left_flushed;
@@ -69,9 +96,10 @@ Obeys-help remaining contents words text reader reader' writer writer' (Ok done)
   write_fault = λ is. absurd cc;
   read_first = tt;
 }
-Obeys-help remaining contents words text reader reader' writer writer' (Err fault) unread unwritten other no_cut something wrote = record {
+Obeys-help remaining contents words text reader reader' writer writer' (Err fault) unread unwritten other no_cut no_replay something wrote = record {
   join = λ asks. absurd (other asks);
   cut = λ asks. absurd (no_cut asks);
+  replay = λ asks. absurd (no_replay asks);
   nothing = λ asks. absurd (something asks);
   help = λ _ _. inl (text, wrote);
   flushed = tt;
@@ -84,14 +112,18 @@ Obeys-help remaining contents words text reader reader' writer writer' (Err faul
 -- each command, where the words ask for it and for nothing else
 pub Obeys-performed : {R W : Type 0} (remaining : R → Option (List ℕ)) (contents : W → Option (List ℕ)) (words : List (List ℕ)) (command : Command)
     (reader reader' : Device R) (writer writer' : Device W) (result : Result (Unit {0}) EngineFault) → IsFresh reader → IsFresh writer
-    → Asks words command → (AsksToJoin words → command ≡ Join) → Performs remaining contents command reader reader' writer writer' result
+    → Asks words command → (AsksToJoin words → command ≡ Join) → (AsksToReplay words → command ≡ Replay)
+    → Performs remaining contents command reader reader' writer writer' result
     → Obeys remaining contents words reader reader' writer writer' result
-Obeys-performed remaining contents words Join reader reader' writer writer' result unread unwritten asked joins ran =
+Obeys-performed remaining contents words Join reader reader' writer writer' result unread unwritten asked joins replays ran =
     Obeys-engine remaining contents words IsJoined IsJoinFault reader reader' writer writer' result ran (λ _. ran) (λ asks. absurd (joins_and_cuts words asked asks.0))
-    (λ nothing. nothing.0 asked) (λ other. absurd (other asked))
-Obeys-performed remaining contents words (Cut first fill) reader reader' writer writer' result unread unwritten asked joins ran =
+    (λ asks. let e = replays asks in absurd cc) (λ nothing. nothing.0 asked) (λ other. absurd (other asked))
+Obeys-performed remaining contents words (Cut first fill) reader reader' writer writer' result unread unwritten asked joins replays ran =
     Obeys-engine remaining contents words (IsCutText first fill) IsCutFault reader reader' writer writer' result ran (λ asks. absurd (joins_and_cuts words asks asked.0))
-    (λ _. (first, fill, asked.2, ran)) (λ nothing. nothing.1 asked.0) (λ _. asked.1)
-Obeys-performed remaining contents words (Help text) reader reader' writer writer' result unread unwritten asked joins ran =
+    (λ _. (first, fill, asked.2, ran)) (λ asks. let e = replays asks in absurd cc) (λ nothing. nothing.1 asked.0) (λ _. asked.1)
+Obeys-performed remaining contents words Replay reader reader' writer writer' result unread unwritten asked joins replays ran =
+    Obeys-engine remaining contents words IsReplayed IsReplayFault reader reader' writer writer' result ran (λ asks. let e = joins asks in absurd cc)
+    (λ asks. absurd (cuts_and_replays words asks.0 asked)) (λ _. ran) (λ nothing. nothing.2 asked) (λ _. replays_without_help words asked)
+Obeys-performed remaining contents words (Help text) reader reader' writer writer' result unread unwritten asked joins replays ran =
     Obeys-help remaining contents words (string_bytes text) reader reader' writer writer' result unread unwritten (λ asks. let e = joins asks in absurd cc)
-    (λ asks. asks.1 asked) (λ nothing. nothing.2 asked) ran
+    (λ asks. asks.1 asked) (λ asks. let e = replays asks in absurd cc) (λ nothing. nothing.3 asked) ran

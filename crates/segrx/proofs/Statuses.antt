@@ -8,11 +8,12 @@ use Rattle.texts.specs.declared.fault.TextFault.{TextFault}
 use Rattle.texts.specs.declared.fault.TextFault.TheVariants as text_fault
 use Rattle.texts.specs.Join.{IsJoined, IsJoinFault}
 use Rattle.texts.specs.Cut.{IsCutText, IsCutFault}
+use Rattle.texts.specs.Replay.{IsReplayed, IsReplayFault}
 use Rattle.segrx.specs.Device.{inner_of}
 use Rattle.segrx.specs.Fault.{status_of, exit_status_of}
-use Rattle.segrx.specs.Command.{AsksToJoin}
+use Rattle.segrx.specs.Command.{AsksToJoin, AsksToReplay}
 use Rattle.segrx.specs.Engine.{engine_fault, WritesText, IsFaultOfKnown, HasCause, RunsEngine}
-use Rattle.segrx.specs.Program.{AsksToCutOnly, AsksForNothing, IsRefused, Obeys, RunsWords, IsStatus, HasJoinedText, HasCutText, SaysOf}
+use Rattle.segrx.specs.Program.{AsksToCutOnly, AsksForNothing, IsRefused, Obeys, RunsWords, IsStatus, HasJoinedText, HasCutText, HasReport, SaysOf}
 
 -- a status other than 0 and 1 says nothing
 says_nothing : (HasText : List ℕ → Type 0) (IsFault : List ℕ → TextFault → Type 0) (status : ℕ) (input : List ℕ) → 1 < status → SaysOf HasText IsFault status input
@@ -72,7 +73,7 @@ SaysOf-above HasText IsFault None status above = tt
 SaysOf-above HasText IsFault (Some input) status above =
     elim above [ inl two ↦ says_nothing HasText IsFault status input (omega (arith, two)) | inr three ↦ says_nothing HasText IsFault status input (omega (arith, three)) ]
 
--- words that ask to join are known: whatever comes of them, it is not usage
+-- words that ask to join or to replay are known: whatever comes of them, it is not usage
 known_status : {R W : Type 0} (remaining : R → Option (List ℕ)) (contents : W → Option (List ℕ)) (IsText : List ℕ → List ℕ → Type 0) (IsFault : List ℕ → TextFault → Type 0)
     (reader reader' : Device R) (writer writer' : Device W) (result : Result (Unit {0}) EngineFault) → RunsEngine remaining contents IsText IsFault reader reader' writer writer' result
     → exit_status_of result ≢ 2
@@ -98,6 +99,8 @@ pub record SaysOfWords {R : Type 0} (remaining : R → Option (List ℕ)) (words
   pub join : AsksToJoin words → IfSome (remaining reader) (SaysOf HasJoinedText IsJoinFault n)
   pub join_is_known : AsksToJoin words → n ≢ 2
   pub cut : AsksToCutOnly words → IfSome (remaining reader) (SaysOf HasCutText IsCutFault n)
+  pub replay : AsksToReplay words → IfSome (remaining reader) (SaysOf HasReport IsReplayFault n)
+  pub replay_is_known : AsksToReplay words → n ≢ 2
   pub usage : AsksForNothing words → (n ≡ 2) ⊎ (n ≡ 3)
 
 -- so does that of what came of them
@@ -116,6 +119,9 @@ SaysOfWords-outcome remaining contents words reader reader' writer writer' resul
             (λ input text is. (ran.0, ran.1, text, ran.2, is)) ran.3
         | inr refused ↦ SaysOf-above HasCutText IsCutFault (remaining (inner_of reader)) (exit_status_of result) (refused_status reader reader' writer writer' result refused)
       ];
+  replay = λ asks.
+      SaysOf-engine remaining contents HasReport IsReplayed IsReplayFault reader reader' writer writer' result (λ input text is. (text, is)) (obeyed.replay asks);
+  replay_is_known = λ asks. known_status remaining contents IsReplayed IsReplayFault reader reader' writer writer' result (obeyed.replay asks);
   usage = λ asks. refused_status reader reader' writer writer' result (obeyed.nothing asks);
 }
 

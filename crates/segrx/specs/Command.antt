@@ -8,7 +8,14 @@ use Rattle.segrx.specs.declared.command.UsageFault.TheVariants.{Usage, OutOfMemo
 use Rattle.texts.specs.Number.{IsNumber}
 use Rattle.segrx.specs.Limits.{sequence_max}
 use Rattle.segrx.specs.declared.command.Command.{Command}
-use Rattle.segrx.specs.declared.command.Command.TheVariants.{Join, Cut, Help}
+use Rattle.segrx.specs.declared.command.Command.TheVariants.{Join, Cut, Replay, Help}
+
+-- the command's word alone follows the name
+abbrev pub IsCommandAlone : List ℕ → List (List ℕ) → Type 0
+IsCommandAlone command [] = ⊥
+IsCommandAlone command (name ∷ []) = ⊥
+IsCommandAlone command (name ∷ word ∷ []) = word ≡ command
+IsCommandAlone command (name ∷ word ∷ another ∷ more) = ⊥
 
 -- to join, no word follows the name, or the command's own alone
 abbrev pub AsksToJoin : List (List ℕ) → Type 0
@@ -22,6 +29,10 @@ abbrev pub AsksToCut : List (List ℕ) → Type 0
 AsksToCut [] = ⊥
 AsksToCut (name ∷ []) = ⊥
 AsksToCut (name ∷ word ∷ options) = word ≡ codes "cut"
+
+-- to replay, the command's word alone follows the name
+abbrev pub AsksToReplay : List (List ℕ) → Type 0
+AsksToReplay words = IsCommandAlone (codes "replay") words
 
 -- the word asks for help
 abbrev pub IsHelpWord : List ℕ → Type 0
@@ -40,20 +51,22 @@ pub record StandsBeforeHelp (before words : List (List ℕ)) : Type 0 where
   pub help : IsHelpWord word
   pub first : HasNoHelpWord before
 
--- a word asks for help, and the words before it ask to join or to cut
+-- a word asks for help, and the words before it ask to join, to cut or to replay
 abbrev pub AsksForHelp : List (List ℕ) → Type 0
-AsksForHelp words = (before : List (List ℕ)) × StandsBeforeHelp before words × (AsksToJoin before ⊎ AsksToCut before)
+AsksForHelp words = (before : List (List ℕ)) × StandsBeforeHelp before words × (AsksToJoin before ⊎ AsksToCut before ⊎ AsksToReplay before)
 
 -- the words ask for this; the first number of a cut is one of a segment, and no word of a cut asks for help
 abbrev pub Asks : List (List ℕ) → Command → Type 0
 Asks words Join = AsksToJoin words
 Asks words (Cut first fill) = AsksToCut words × HasNoHelpWord words × (first < sequence_modulus)
+Asks words Replay = AsksToReplay words
 Asks words (Help text) = AsksForHelp words
 
 -- a cut begins with the number of a segment
 abbrev pub IsInRange : Command → Type 0
 IsInRange Join = Unit {0}
 IsInRange (Cut first fill) = first < sequence_modulus
+IsInRange Replay = Unit {0}
 IsInRange (Help text) = Unit {0}
 
 -- the number that the option `first` asks for, 0 where it is left out

@@ -9,14 +9,15 @@ use Rattle.segrx.specs.declared.fault.EngineFault.{EngineFault}
 use Rattle.segrx.specs.declared.fault.EngineFault.TheVariants.{OutOfMemory, Read, Write, Usage}
 use Rattle.texts.specs.declared.fault.TextFault.{TextFault}
 use Rattle.segrx.specs.declared.command.Command.{Command}
-use Rattle.segrx.specs.declared.command.Command.TheVariants.{Join, Cut, Help}
+use Rattle.segrx.specs.declared.command.Command.TheVariants.{Join, Cut, Replay, Help}
 use Rattle.segrx.specs.Device.{inner_of, has_failed, is_flushed, IsFresh}
 use Rattle.segrx.specs.Transfer.{AppendsFront, IsLeftFlushed, IsReadFault, IsRead}
 use Rattle.segrx.specs.Fault.{status_of, exit_status_of, fault_line}
 use Rattle.segrx.specs.Engine.{engine_fault, RunsEngine}
-use Rattle.segrx.specs.Command.{AsksToJoin, AsksToCut, AsksForHelp, HasNoHelpWord}
+use Rattle.segrx.specs.Command.{AsksToJoin, AsksToCut, AsksToReplay, AsksForHelp, HasNoHelpWord}
 use Rattle.texts.specs.Join.{IsJoined, IsJoinFault}
 use Rattle.texts.specs.Cut.{IsCutText, IsCutFault}
+use Rattle.texts.specs.Replay.{IsReplayed, IsReplayFault}
 
 -- the words ask to cut and not for help
 abbrev pub AsksToCutOnly : List (List ℕ) → Type 0
@@ -24,7 +25,7 @@ AsksToCutOnly words = AsksToCut words × ¬ AsksForHelp words
 
 -- the words ask for nothing
 abbrev pub AsksForNothing : List (List ℕ) → Type 0
-AsksForNothing words = ¬ AsksToJoin words × ¬ AsksToCut words × ¬ AsksForHelp words
+AsksForNothing words = ¬ AsksToJoin words × ¬ AsksToCut words × ¬ AsksToReplay words × ¬ AsksForHelp words
 
 -- the words were not obeyed, and neither device was used
 pub record IsRefused {R W : Type 0} (reader reader' : Device R) (writer writer' : Device W) (result : Result (Unit {0}) EngineFault) : Type 0 where
@@ -51,6 +52,7 @@ pub record WritesHelp {R W : Type 0} (contents : W → Option (List ℕ)) (text 
 abbrev pub Performs : {R W : Type 0} → (R → Option (List ℕ)) → (W → Option (List ℕ)) → Command → Device R → Device R → Device W → Device W → Result (Unit {0}) EngineFault → Type 0
 Performs remaining contents Join reader reader' writer writer' result = RunsEngine remaining contents IsJoined IsJoinFault reader reader' writer writer' result
 Performs remaining contents (Cut first fill) reader reader' writer writer' result = RunsEngine remaining contents (IsCutText first fill) IsCutFault reader reader' writer writer' result
+Performs remaining contents Replay reader reader' writer writer' result = RunsEngine remaining contents IsReplayed IsReplayFault reader reader' writer writer' result
 Performs remaining contents (Help text) reader reader' writer writer' result = WritesHelp contents (string_bytes text) reader reader' writer writer' result
 
 -- some text of help was written
@@ -69,6 +71,7 @@ pub record Obeys {R W : Type 0} (remaining : R → Option (List ℕ)) (contents 
   -- an engine keeps all its promises, words that ask for nothing do nothing, and where a word asks for help no engine runs
   pub join : AsksToJoin words → RunsEngine remaining contents IsJoined IsJoinFault reader reader' writer writer' result
   pub cut : AsksToCutOnly words → RunsCut remaining contents reader reader' writer writer' result ⊎ IsRefused reader reader' writer writer' result
+  pub replay : AsksToReplay words → RunsEngine remaining contents IsReplayed IsReplayFault reader reader' writer writer' result
   pub nothing : AsksForNothing words → IsRefused reader reader' writer writer' result
   pub help : ¬ AsksToJoin words → ¬ HasNoHelpWord words → Helps contents reader reader' writer writer' result ⊎ IsRefused reader reader' writer writer' result
   -- where the work was done all that was written is flushed
@@ -121,6 +124,10 @@ HasJoinedText input = (text : List ℕ) × IsJoined input text
 -- some text stands for an input of `cut`
 abbrev pub HasCutText : List ℕ → Type 0
 HasCutText input = (first : ℕ) × (fill : FillByte) × (text : List ℕ) × (first < sequence_modulus) × IsCutText first fill input text
+
+-- some text stands for an input of `replay`
+abbrev pub HasReport : List ℕ → Type 0
+HasReport input = (text : List ℕ) × IsReplayed input text
 
 -- what a status says of an input: with 0 it has a text, with 1 a fault of that status
 pub record SaysOf (HasText : List ℕ → Type 0) (IsFault : List ℕ → TextFault → Type 0) (status : ℕ) (input : List ℕ) : Type 0 where

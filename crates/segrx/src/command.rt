@@ -2,7 +2,8 @@
 ghost use Rattle.std.specs.Prelude.{◌≡◌, ◌<◌, ◌↔◌, map, codes, IsTrue, IfOk, MatchOption};
 ghost use Rattle.segrx.specs.declared.command.UsageFault.TheVariants.{OutOfMemory};
 ghost use Rattle.docsis_wire.specs.Limits.{sequence_modulus};
-ghost use Rattle.segrx.specs.Command.{AsksToJoin, AsksToCut, IsHelpWord, HasNoHelpWord, StandsBeforeHelp, Asks, ReadsOptions};
+ghost use Rattle.segrx.specs.Command.{IsCommandAlone, AsksToJoin, AsksToCut, AsksToReplay};
+ghost use Rattle.segrx.specs.Command.{IsHelpWord, HasNoHelpWord, StandsBeforeHelp, Asks, ReadsOptions};
 ghost use Rattle.clap.specs.Matches.{found_of, first_value};
 
 use crate::command_line::command_line;
@@ -27,6 +28,8 @@ pub enum Command {
         /// What pieces are filled with.
         fill: FillByte,
     },
+    /// To replay a trace, and report what a receiver gives for it.
+    Replay,
     /// To print this text, which says how the program is used.
     Help(String),
 }
@@ -69,7 +72,17 @@ impl From<clap::Error> for UsageFault {
 }
 
 /// The greatest number of a segment.
-const FIRST_MAX: u16 = 8191;
+const FIRST_MAX: u32 = 8191;
+
+/// Whether the words are the program's name and this command's word.
+fn is_command_alone<S: AsStr>(words: &[S], command: &str) -> bool
+    ensures { IsTrue result ↔ IsCommandAlone command.now (map S.text words.now) }
+{
+    match words {
+        [_, word] => word.as_str() == command,
+        _ => false,
+    }
+}
 
 /// Whether the words, the program's name first, ask to join and for nothing else.
 fn asks_to_join<S: AsStr>(words: &[S]) -> bool
@@ -77,9 +90,15 @@ fn asks_to_join<S: AsStr>(words: &[S]) -> bool
 {
     match words {
         [] | [_] => true,
-        [_, word] => word.as_str() == "join",
-        _ => false,
+        _ => is_command_alone(words, "join"),
     }
+}
+
+/// Whether the words, the program's name first, ask to replay and for nothing else.
+fn asks_to_replay<S: AsStr>(words: &[S]) -> bool
+    ensures { IsTrue result ↔ AsksToReplay (map S.text words.now) }
+{
+    is_command_alone(words, "replay")
 }
 
 /// Whether the words, the program's name first, begin with the command `cut`.
@@ -138,7 +157,7 @@ fn read_cut(options: &ArgMatches<'_>) -> Result<(u16, FillByte), UsageFault>
         "ones" => FillByte::Ones,
         _ => return Err(UsageFault::Usage),
     };
-    Ok((first, fill))
+    Ok((first as u16, fill))
 }
 
 /// The first number and the fill of words that ask to cut and of which none asks for help.
@@ -179,15 +198,19 @@ fn help_text<'a, S: AsStr>(alloc: Global, words: &'a [S]) -> Result<String, Usag
 pub fn read_words<'a, S: AsStr>(alloc: Global, words: &'a [S]) -> Result<Command, UsageFault>
     ensures asked { IfOk result (Asks (map S.text words.now)) }
     ensures join { AsksToJoin (map S.text words.now) → result ≡ Ok Command.Join }
+    ensures replay { AsksToReplay (map S.text words.now) → result ≡ Ok Command.Replay }
 {
     if asks_to_join(words) {
         return Ok(Command::Join);
+    }
+    if asks_to_replay(words) {
+        return Ok(Command::Replay);
     }
     let Some(before) = before_help(words) else {
         let (first, fill) = read_cut_words(alloc, words)?;
         return Ok(Command::Cut { first, fill });
     };
-    if !asks_to_join(before) {
+    if !asks_to_join(before) && !asks_to_replay(before) {
         read_cut_words(alloc, before)?;
     }
     Ok(Command::Help(help_text(alloc, words)?))

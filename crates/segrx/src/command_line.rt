@@ -11,12 +11,27 @@ Lines of cut:
   frame FRAME      one whole frame; frames are cut in their order
   piece DATA FILL  one segment with DATA bytes of frames and FILL of fill,
                    0 to 65535 each; segments are made in their order
+Lines of replay, a trace of what came in on the channels:
+  flow SFID FIRST WINDOW CLUSTERS
+                   a service flow: the number of its first segment, its window
+                   of 1 to 4096 segments, and its 1 to 8 SID clusters; FLOW
+                   below is its place among these lines, from 0
+  sid CHANNEL SID FLOW
+                   a SID of that flow on a channel, 0 to 3
+  grant CHANNEL NUMBER SID BYTES
+                   a grant to that SID, under a number
+  burst CHANNEL NUMBER ok|bad BURST
+                   what came in that grant: whether the header's check was
+                   right, and the segment, header and payload
+  gap FLOW [NUMBER]
+                   the expected segment is lost, or all before that number
 Bytes are written as hexadecimal digits, two a byte, or as - for no bytes. Words
 are separated by spaces, tabs or carriage returns. A line without words, or that
 begins with #, is skipped. At most 268435456 bytes are read.
 
-join prints one frame a line, and cut one segment a line. Nothing is printed
-before the whole input was read and is without fault.
+join prints one frame a line, and cut one segment a line. replay prints a report
+of each flow with its frames, of the requests and of the channels. Nothing is
+printed before the whole input was read and is without fault.
 
 Exit status:
   0  done
@@ -52,14 +67,20 @@ pub fn command_line<'a>(alloc: Global) -> Result<Command<'a>, AllocError> {
         .about("Joins segments, and prints their frames; the default")
         .override_usage("segrx join < SEGMENTS > FRAMES")
         .after_help(FORMATS);
+    let replay = Command::new(alloc, "replay")
+        .about("Replays a trace, and prints what each flow gave")
+        .override_usage("segrx replay < TRACE > REPORT")
+        .after_help(FORMATS);
     Command::new(alloc, "segrx")
         .about("Receives DOCSIS 3.0 upstream service flows that are bonded over channels")
         .override_usage(
             "segrx [join] < SEGMENTS > FRAMES
-       segrx cut [--first N] [--fill zero|ones] < FRAMES_AND_PIECES > SEGMENTS",
+       segrx cut [--first N] [--fill zero|ones] < FRAMES_AND_PIECES > SEGMENTS
+       segrx replay < TRACE > REPORT",
         )
         .after_help(FORMATS)
         .disable_help_subcommand(true)
         .subcommand(join)?
-        .subcommand(cut_command(alloc)?)
+        .subcommand(cut_command(alloc)?)?
+        .subcommand(replay)
 }

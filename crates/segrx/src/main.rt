@@ -1,11 +1,12 @@
 //! A receiver of DOCSIS 3.0 upstream service flows that are bonded over several channels, as a
 //! program.
 //!
-//! `join` reads one segment in hexadecimal a line and prints one frame a line. `cut` reads frames
-//! and pieces, one a line, and prints one segment a line. What matters most: `join_text` and
-//! `cut_text` write exactly the text that stands for the lines they read, or report the first
-//! faulty line and its least kind of fault, and then write nothing. Where no line is at fault,
-//! `cut_text` reports the first fault of the frames and pieces.
+//! `replay` reads a trace of what came in on the channels and prints the report of what each flow
+//! gave. `join` reads one segment in hexadecimal a line and prints one frame a line. `cut` reads
+//! frames and pieces, one a line, and prints one segment a line. What matters most: `replay_text`,
+//! `join_text` and `cut_text` write exactly the text that stands for the lines they read, or report
+//! the first faulty line and its least kind of fault, and then write nothing. Where no line is at
+//! fault, `cut_text` reports the first fault of the frames and pieces.
 #![tactic(auto)]
 
 pub mod command;
@@ -17,6 +18,7 @@ pub mod fault;
 pub mod fault_line;
 pub mod join;
 pub mod program;
+pub mod replay;
 #[cfg(test)]
 mod tests;
 pub mod transfer;

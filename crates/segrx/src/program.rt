@@ -3,11 +3,12 @@ ghost use Rattle.std.specs.Prelude.{◌≡◌, ◌≢◌, ◌⊎◌, map, Result
 ghost use Rattle.segrx.specs.declared.fault.EngineFault.{EngineFault};
 ghost use Rattle.segrx.specs.Device.{IsFresh};
 ghost use Rattle.segrx.specs.Fault.{exit_status_of};
-ghost use Rattle.segrx.specs.Command.{AsksToJoin, IsInRange};
+ghost use Rattle.segrx.specs.Command.{AsksToJoin, AsksToReplay, IsInRange};
 ghost use Rattle.texts.specs.Join.{IsJoinFault};
 ghost use Rattle.texts.specs.Cut.{IsCutFault};
+ghost use Rattle.texts.specs.Replay.{IsReplayFault};
 ghost use Rattle.segrx.specs.Program.{AsksToCutOnly, AsksForNothing, Performs, Obeys, IsReported, RunsWords, ComesOf};
-ghost use Rattle.segrx.specs.Program.{IsStatus, HasJoinedText, HasCutText, SaysOf};
+ghost use Rattle.segrx.specs.Program.{IsStatus, HasJoinedText, HasCutText, HasReport, SaysOf};
 
 use crate::command::{Command, read_words};
 use crate::cut::cut_text;
@@ -15,13 +16,14 @@ use crate::device::Device;
 use crate::fault::{EngineFault, exit_status};
 use crate::fault_line::write_fault;
 use crate::join::join_text;
+use crate::replay::replay_text;
 use crate::transfer::write_text;
 use std::alloc::Global;
 use std::convert::AsStr;
 use std::io::{Read, Write};
 
-/// Does what a command asks for: runs the engine of `join` or of `cut` between the reader and the
-/// writer, or writes the text of help.
+/// Does what a command asks for: runs the engine of `join`, of `cut` or of `replay` between the
+/// reader and the writer, or writes the text of help.
 fn perform<R: Read, W: Write>(
     alloc: Global,
     command: Command,
@@ -37,6 +39,7 @@ fn perform<R: Read, W: Write>(
     match command {
         Command::Join => join_text(alloc, reader, out),
         Command::Cut { first, fill } => cut_text(alloc, first, fill, reader, out),
+        Command::Replay => replay_text(alloc, reader, out),
         Command::Help(text) => Ok(write_text(out, text.as_bytes())?),
     }
 }
@@ -108,6 +111,9 @@ pub fn program<S: AsStr, R: Read + Drop, O: Write + Drop, E: Write + Drop>(
     ensures join_is_known { AsksToJoin (map S.text words.now) → result ≢ 2 }
     ensures cut { AsksToCutOnly (map S.text words.now)
         → IfSome (R.remaining reader) (SaysOf HasCutText IsCutFault result) }
+    ensures replay { AsksToReplay (map S.text words.now)
+        → IfSome (R.remaining reader) (SaysOf HasReport IsReplayFault result) }
+    ensures replay_is_known { AsksToReplay (map S.text words.now) → result ≢ 2 }
     ensures usage { AsksForNothing (map S.text words.now) → (result ≡ 2) ⊎ (result ≡ 3) }
 {
     let mut reader = Device::new(reader);

@@ -3,6 +3,7 @@ pub mod ReadSoFar
 pub mod OneReading
 pub mod JoinedSoFar
 pub mod JoinLineFaults
+pub mod FirstField
 pub mod OneJoinLine
 pub mod OneCutLine
 pub mod OneJoinFault
@@ -13,3 +14,15 @@ pub mod PrintedSoFar
 pub mod HexText
 pub mod Numbers
 pub mod FirstBytes
+pub mod NumberedLines
+pub mod OutOfMemoryAlone
+pub mod TraceFields
+pub mod OneTraceLine
+pub mod Pushed
+pub mod ReadKeeps
+pub mod TraceChecks
+pub mod TraceTags
+pub mod TraceLineFaults
+pub mod TraceLines
+pub mod OneTrace
+pub mod Readings

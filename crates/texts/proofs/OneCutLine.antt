@@ -3,26 +3,15 @@ use Rattle.std.proofs.Common.{◌≡◌, ℕ, List, [], ◌∷◌, ◌++◌, ◌
 use Rattle.std.specs.Prelude.{codes}
 use Rattle.docsis_wire.specs.declared.pieces.Piece.{Piece}
 use Rattle.texts.specs.declared.fault.TraceKind.{TraceKind}
-use Rattle.texts.specs.declared.fault.TraceKind.TheVariants.{UnknownLine, FieldCount, BadNumber, NotHex, TooShort, PointerPast}
+use Rattle.texts.specs.declared.fault.TraceKind.TheVariants.{UnknownLine, FieldCount, BadNumber, NotHex}
 use Rattle.texts.specs.Field.{SpellsBytes}
 use Rattle.texts.specs.Number.{IsNumber}
 use Rattle.texts.specs.Cut.Line.{CarriesFrame, CarriesPiece, HasOtherCount, HasBadNumber, HasFault, FramesAndPieces, AddsFrame, AddsPiece, cut_format}
+use Rattle.texts.proofs.FirstField.{none_or_some, one_word, same_after}
 use Rattle.texts.proofs.OneReading.{IsDetermined}
 use Rattle.texts.proofs.OneJoinLine.{one_spelling}
 
 -- ---- fields that are there twice
-
--- no fields are none
-none_or_some : (fields : List (List ℕ)) (word : List ℕ) (more : List (List ℕ)) → fields ≡ [] → fields ≡ word ∷ more → ⊥
-none_or_some fields word more a b = let no : [] ≡ word ∷ more = sym a ∙ b in cc no
-
--- fields have one first word
-one_word : (fields : List (List ℕ)) (word other : List ℕ) (more others : List (List ℕ)) → fields ≡ word ∷ more → fields ≡ other ∷ others → word ≡ other
-one_word fields word other more others a b = let same : word ∷ more ≡ other ∷ others = sym a ∙ b in cc same
-
--- and the same after it
-same_after : (fields : List (List ℕ)) (word other : List ℕ) (more others : List (List ℕ)) → fields ≡ word ∷ more → fields ≡ other ∷ others → more ≡ others
-same_after fields word other more others a b = let same : word ∷ more ≡ other ∷ others = sym a ∙ b in cc same
 
 -- the first word is not both of the two
 frame_or_piece : (fields more others : List (List ℕ)) → fields ≡ codes "frame" ∷ more → fields ≡ codes "piece" ∷ others → ⊥
@@ -84,8 +73,7 @@ none_without_fault fields FieldCount a (inl b) = none_or_some fields (codes "fra
 none_without_fault fields FieldCount a (inr b) = none_or_some fields (codes "piece") b.more a b.are
 none_without_fault fields BadNumber a b = none_or_some fields (codes "piece") (b.bytes ∷ b.fill ∷ []) a b.are
 none_without_fault fields NotHex a b = none_or_some fields (codes "frame") (b.field ∷ []) a b.are
-none_without_fault fields TooShort a b = absurd b
-none_without_fault fields PointerPast a b = absurd b
+none_without_fault fields _ a b = absurd b
 
 frame_without_fault : (fields : List (List ℕ)) (frame : List ℕ) (kind : TraceKind) → CarriesFrame fields frame → HasFault fields kind → ⊥
 frame_without_fault fields frame UnknownLine a b = b.no_frame (one_word fields b.word (codes "frame") b.more (a.field ∷ []) b.are a.are)
@@ -94,8 +82,7 @@ frame_without_fault fields frame FieldCount a (inr b) = frame_or_piece fields (a
 frame_without_fault fields frame BadNumber a b = frame_or_piece fields (a.field ∷ []) (b.bytes ∷ b.fill ∷ []) a.are b.are
 frame_without_fault fields frame NotHex a b =
     b.no_bytes (frame, subst (λ f. SpellsBytes f frame) (one_field fields a.field b.field a.are b.are) a.spelled)
-frame_without_fault fields frame TooShort a b = absurd b
-frame_without_fault fields frame PointerPast a b = absurd b
+frame_without_fault fields frame _ a b = absurd b
 
 -- after `piece` two numbers are two numbers
 numbers_without_fault : (fields : List (List ℕ)) (piece : Piece) → CarriesPiece fields piece → HasBadNumber fields → ⊥
@@ -112,8 +99,7 @@ piece_without_fault fields piece FieldCount a (inl b) = frame_or_piece fields b.
 piece_without_fault fields piece FieldCount a (inr b) = one_count fields (codes "piece") (a.bytes ∷ a.fill ∷ []) 2 a.are refl b
 piece_without_fault fields piece BadNumber a b = numbers_without_fault fields piece a b
 piece_without_fault fields piece NotHex a b = frame_or_piece fields (b.field ∷ []) (a.bytes ∷ a.fill ∷ []) b.are a.are
-piece_without_fault fields piece TooShort a b = absurd b
-piece_without_fault fields piece PointerPast a b = absurd b
+piece_without_fault fields piece _ a b = absurd b
 
 -- ---- one kind of fault
 
@@ -143,28 +129,23 @@ one_kind fields UnknownLine UnknownLine a b = refl
 one_kind fields UnknownLine FieldCount a b = absurd (unknown_or_count fields a b)
 one_kind fields UnknownLine BadNumber a b = absurd (unknown_or_number fields a b)
 one_kind fields UnknownLine NotHex a b = absurd (unknown_or_hex fields a b)
-one_kind fields UnknownLine TooShort a b = absurd b
-one_kind fields UnknownLine PointerPast a b = absurd b
+one_kind fields UnknownLine _ a b = absurd b
 one_kind fields FieldCount UnknownLine a b = absurd (unknown_or_count fields b a)
 one_kind fields FieldCount FieldCount a b = refl
 one_kind fields FieldCount BadNumber a b = absurd (count_or_number fields a b)
 one_kind fields FieldCount NotHex a b = absurd (count_or_hex fields a b)
-one_kind fields FieldCount TooShort a b = absurd b
-one_kind fields FieldCount PointerPast a b = absurd b
+one_kind fields FieldCount _ a b = absurd b
 one_kind fields BadNumber UnknownLine a b = absurd (unknown_or_number fields b a)
 one_kind fields BadNumber FieldCount a b = absurd (count_or_number fields b a)
 one_kind fields BadNumber BadNumber a b = refl
 one_kind fields BadNumber NotHex a b = absurd (number_or_hex fields a b)
-one_kind fields BadNumber TooShort a b = absurd b
-one_kind fields BadNumber PointerPast a b = absurd b
+one_kind fields BadNumber _ a b = absurd b
 one_kind fields NotHex UnknownLine a b = absurd (unknown_or_hex fields b a)
 one_kind fields NotHex FieldCount a b = absurd (count_or_hex fields b a)
 one_kind fields NotHex BadNumber a b = absurd (number_or_hex fields b a)
 one_kind fields NotHex NotHex a b = refl
-one_kind fields NotHex TooShort a b = absurd b
-one_kind fields NotHex PointerPast a b = absurd b
-one_kind fields TooShort other a b = absurd a
-one_kind fields PointerPast other a b = absurd a
+one_kind fields NotHex _ a b = absurd b
+one_kind fields _ _ a b = absurd a
 
 -- ---- what a line makes of those above it
 

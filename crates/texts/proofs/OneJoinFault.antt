@@ -1,9 +1,12 @@
 -- An input of `join` has one fault, or its lines are all read.
 use Rattle.std.proofs.Common.{◌≡◌, ◌≢◌, ℕ, List, [], refl, ap}
 use Rattle.docsis_wire.specs.declared.segment.Segment.{Segment}
+use Rattle.texts.specs.declared.fault.ParseFault.{ParseFault}
+use Rattle.texts.specs.declared.fault.ParseFault.TheVariants as parse
 use Rattle.texts.specs.declared.fault.TextFault.{TextFault}
 use Rattle.texts.specs.declared.fault.TextFault.TheVariants.{Trace, Cut, OutOfMemory}
 use Rattle.texts.specs.Lines.{lines_of}
+use Rattle.texts.specs.Fault.{text_fault_of_parse}
 use Rattle.texts.specs.Format.{IsRead, IsReadingFault}
 use Rattle.texts.specs.Join.{IsJoinFault}
 use Rattle.texts.specs.Join.Line.{join_format}
@@ -11,10 +14,9 @@ use Rattle.texts.proofs.OneReading as lines
 use Rattle.texts.proofs.OneJoinLine.{OneHeader, join_is_determined}
 
 -- a fault of the lines is one of the input
-pub join_fault : (input : List ℕ) (fault : TextFault) → IsReadingFault join_format [] (lines_of input) fault → IsJoinFault input fault
-join_fault input (Trace fault) h = h
-join_fault input (Cut fault) h = h
-join_fault input OutOfMemory h = h
+pub join_fault : (input : List ℕ) (fault : ParseFault) → IsReadingFault join_format [] (lines_of input) fault → IsJoinFault input (text_fault_of_parse fault)
+join_fault input (parse.Line fault) h = h
+join_fault input parse.OutOfMemory h = h
 
 module _ (one_header : OneHeader) where
   pub one_fault : (input : List ℕ) (fault other : TextFault) → IsJoinFault input fault → fault ≢ OutOfMemory → IsJoinFault input other → other ≢ OutOfMemory → fault ≡ other

@@ -9,7 +9,7 @@ use Rattle.docsis_wire.specs.SegmentBytes.{segment_bytes}
 use Rattle.hex.specs.Hex.{decode_of}
 use Rattle.hex.specs.declared.error.FromHexError.TheVariants.{OddLength}
 use Rattle.texts.specs.declared.fault.TraceKind.{TraceKind}
-use Rattle.texts.specs.declared.fault.TraceKind.TheVariants.{UnknownLine, FieldCount, BadNumber, NotHex, TooShort, PointerPast}
+use Rattle.texts.specs.declared.fault.TraceKind.TheVariants.{FieldCount, NotHex, TooShort, PointerPast}
 use Rattle.texts.specs.Field.{SpellsBytes}
 use Rattle.texts.specs.Join.Line.{OnlySpells, Carries, HasFault, IsNotHex, IsTooShort, PointsPast, AddsSegment, join_format}
 use Rattle.texts.proofs.OneReading.{IsDetermined}
@@ -74,8 +74,6 @@ module _ (one_header : OneHeader) where
       a.added ∙ ap (λ s. before ++ s ∷ []) (one_carried fields a.segment b.segment a.carries b.carries) ∙ sym b.added
 
   carried_without_fault : (fields : List (List ℕ)) (s : Segment) (kind : TraceKind) → Carries fields s → HasFault fields kind → ⊥
-  carried_without_fault fields s UnknownLine a b = absurd b
-  carried_without_fault fields s BadNumber a b = absurd b
   carried_without_fault fields s FieldCount a b = spells_or_more fields (segment_bytes s) a.spelled b
   carried_without_fault fields s NotHex a b = spells_or_not fields (segment_bytes s) a.spelled b
   carried_without_fault fields s TooShort a b =
@@ -83,6 +81,7 @@ module _ (one_header : OneHeader) where
   carried_without_fault fields s PointerPast a b =
       let same : segment_bytes s ≡ segment_bytes b.past.segment = one_bytes fields (segment_bytes s) b.bytes a.spelled b.spelled ∙ sym b.past.spelled in
       b.past.past (subst (λ t. IsReady t) (one_segment s b.past.segment same) a.ready)
+  carried_without_fault fields s _ a b = absurd b
 
 -- bytes that are too few are no segment
 too_few : (fields : List (List ℕ)) → IsTooShort fields → PointsPast fields → ⊥
@@ -91,32 +90,27 @@ too_few fields a b =
     omega (arith, segment_long b.past.segment, ap length same, a.short)
 
 one_kind : (fields : List (List ℕ)) (kind other : TraceKind) → HasFault fields kind → HasFault fields other → kind ≡ other
-one_kind fields UnknownLine other a b = absurd a
-one_kind fields BadNumber other a b = absurd a
-one_kind fields FieldCount UnknownLine a b = absurd b
-one_kind fields FieldCount BadNumber a b = absurd b
 one_kind fields FieldCount FieldCount a b = refl
 one_kind fields FieldCount NotHex a b = absurd (not_hex_or_more fields b a)
 one_kind fields FieldCount TooShort a b = absurd (spells_or_more fields b.bytes b.spelled a)
 one_kind fields FieldCount PointerPast a b = absurd (spells_or_more fields b.bytes b.spelled a)
-one_kind fields NotHex UnknownLine a b = absurd b
-one_kind fields NotHex BadNumber a b = absurd b
+one_kind fields FieldCount _ a b = absurd b
 one_kind fields NotHex FieldCount a b = absurd (not_hex_or_more fields a b)
 one_kind fields NotHex NotHex a b = refl
 one_kind fields NotHex TooShort a b = absurd (spells_or_not fields b.bytes b.spelled a)
 one_kind fields NotHex PointerPast a b = absurd (spells_or_not fields b.bytes b.spelled a)
-one_kind fields TooShort UnknownLine a b = absurd b
-one_kind fields TooShort BadNumber a b = absurd b
+one_kind fields NotHex _ a b = absurd b
 one_kind fields TooShort FieldCount a b = absurd (spells_or_more fields a.bytes a.spelled b)
 one_kind fields TooShort NotHex a b = absurd (spells_or_not fields a.bytes a.spelled b)
 one_kind fields TooShort TooShort a b = refl
 one_kind fields TooShort PointerPast a b = absurd (too_few fields a b)
-one_kind fields PointerPast UnknownLine a b = absurd b
-one_kind fields PointerPast BadNumber a b = absurd b
+one_kind fields TooShort _ a b = absurd b
 one_kind fields PointerPast FieldCount a b = absurd (spells_or_more fields a.bytes a.spelled b)
 one_kind fields PointerPast NotHex a b = absurd (spells_or_not fields a.bytes a.spelled b)
 one_kind fields PointerPast TooShort a b = absurd (too_few fields b a)
 one_kind fields PointerPast PointerPast a b = refl
+one_kind fields PointerPast _ a b = absurd b
+one_kind fields _ _ a b = absurd a
 
 -- no fields carry nothing
 none_carries : (s : Segment) → Carries [] s → ⊥
@@ -127,12 +121,11 @@ none_spells : (bytes : List ℕ) → OnlySpells [] bytes → ⊥
 none_spells bytes a = let no : [] ≡ a.field ∷ [] = a.alone in cc no
 
 none_without_fault : (kind : TraceKind) → HasFault [] kind → ⊥
-none_without_fault UnknownLine b = absurd b
-none_without_fault BadNumber b = absurd b
 none_without_fault FieldCount b = omega arith
 none_without_fault NotHex b = let no : [] ≡ b.field ∷ [] = b.alone in cc no
 none_without_fault TooShort b = none_spells b.bytes b.spelled
 none_without_fault PointerPast b = none_spells b.bytes b.spelled
+none_without_fault _ b = absurd b
 
 -- the lines of `join` leave nothing open
 pub join_is_determined : OneHeader → IsDetermined join_format

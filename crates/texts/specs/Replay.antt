@@ -1,6 +1,7 @@
 -- The text that stands for a trace.
 use Rattle.std.specs.Prelude.{◌≡◌, ℕ, List}
 use Rattle.uplink.specs.declared.outcome.Outcome.{Outcome}
+use Rattle.uplink.specs.Items.{incoming_of}
 use Rattle.uplink.specs.Answer.{IsOutcome, IsAdmittedOrder}
 use Rattle.texts.specs.declared.fault.TextFault.{TextFault}
 use Rattle.texts.specs.declared.fault.TextFault.TheVariants.{Trace, Cut, OutOfMemory}
@@ -16,15 +17,18 @@ use Rattle.texts.specs.Trace.Place.{nothing_said, trace_format}
 abbrev pub default_capacity : ℕ
 default_capacity = 16
 
--- the text that stands for an input: the report of the one-thread answer for the trace, in the order in which its lines say that what was
--- admitted came
+-- what a trace gives: the one-thread answer, in the order in which its lines say that what was admitted came
+pub record IsPlayed (trace : TraceValue) (outcome : Outcome) : Type 0 where
+  pub order : List ℕ
+  pub admitted : IsAdmittedOrder trace.setup (incoming_of trace.lists) trace.tags.items order
+  pub answered : IsOutcome any_header trace.setup (incoming_of trace.lists) order outcome
+
+-- the text that stands for an input: the report of what its trace gives
 pub record IsReplayed (input text : List ℕ) : Type 0 where
   pub trace : TraceValue
   pub is_trace : IsTrace default_capacity default_capacity input trace
-  pub order : List ℕ
-  pub admitted : IsAdmittedOrder trace.setup trace.lists trace.tags.items order
   pub outcome : Outcome
-  pub answered : IsOutcome any_header trace.setup trace.lists order outcome
+  pub played : IsPlayed trace outcome
   pub printed : text ≡ report_text outcome
 
 -- why an input was not replayed: its first faulty line, or a failed allocation

@@ -1,5 +1,6 @@
 -- The report of an outcome, line by line.
-use Rattle.std.specs.Prelude.{ℕ, ◌+◌, List, [], ◌∷◌, ◌++◌, map, flat_map, codes}
+use Rattle.std.specs.Prelude.{ℕ, List, [], ◌∷◌, ◌++◌, flat_map, codes}
+use Rattle.std.specs.List.{enumerate_from}
 use Rattle.std.specs.Fmt.{decimal}
 use Rattle.hex.specs.Hex.{encode_lower}
 use Rattle.flow_core.specs.declared.counts.FlowCounts.{FlowCounts}
@@ -36,11 +37,6 @@ frame_line k frame = codes "frame" ++ spaced k ++ codes " " ++ encode_lower fram
 abbrev pub flow_lines : ℕ → FlowOutcome → List ℕ
 flow_lines k flow = flow_line k flow ++ flat_map (frame_line k) flow.frames.items
 
--- the lines of flows, from this index on
-abbrev pub flow_lines_from : ℕ → List FlowOutcome → List ℕ
-flow_lines_from k [] = []
-flow_lines_from k (flow ∷ flows) = flow_lines k flow ++ flow_lines_from (k + 1) flows
-
 -- `request <channel> <flow> <cluster> <units> <sequence>`
 abbrev pub request_line : Request → List ℕ
 request_line request =
@@ -58,14 +54,13 @@ lane_line channel lane =
     codes "lane" ++ spaced channel ++ named (codes "admitted") lane.admitted ++ codes " refused" ++ refused_text lane.refused.items
     ++ line_feed ∷ []
 
--- the lines of lanes, from this channel on
-abbrev pub lane_lines_from : ℕ → List LaneReport → List ℕ
-lane_lines_from channel [] = []
-lane_lines_from channel (lane ∷ lanes) = lane_line channel lane ++ lane_lines_from (channel + 1) lanes
+-- the lines of items, each made with its place
+abbrev pub numbered_lines : {T : Type 0} → (ℕ → T → List ℕ) → List T → List ℕ
+numbered_lines lines items = flat_map (λ one. lines one.0 one.1) (enumerate_from 0 items)
 
 -- The report of an outcome: the lines of each flow and its frames, of each channel's requests, and of each lane.
 abbrev pub report_text : Outcome → List ℕ
 report_text outcome =
-    flow_lines_from 0 outcome.flows.items
+    numbered_lines flow_lines outcome.flows.items
     ++ flat_map (λ requests. flat_map request_line requests.items) outcome.requests
-    ++ lane_lines_from 0 outcome.lanes
+    ++ numbered_lines lane_line outcome.lanes

@@ -2,10 +2,11 @@
 pub mod Line
 pub mod Place
 pub mod Reading
-use Rattle.std.specs.Prelude.{◌≡◌, ◌<◌, ◌==◌, ℕ, Option, Some, None, List, map, filter_map, if◌then◌else◌}
+use Rattle.std.specs.Prelude.{◌≡◌, ◌<◌, ◌==◌, ℕ, Option, Some, None, List, length, map, filter_map, if◌then◌else◌}
 use Rattle.uplink.specs.Limits.{channel_limit}
 use Rattle.uplink.specs.declared.input.Input.{Input}
 use Rattle.uplink.specs.declared.setup.Decision.{Decision}
+use Rattle.uplink.specs.declared.setup.Lists.{Lists}
 use Rattle.uplink.specs.Items.{inputs_on}
 use Rattle.texts.specs.declared.fault.ParseFault.{ParseFault}
 use Rattle.texts.specs.declared.trace.Trace.{Trace}
@@ -28,14 +29,19 @@ abbrev pub decision_in : Entry → Option Decision
 decision_in (came channel input) = None
 decision_in (decided decision) = Some decision
 
--- The trace that lines give which say this, with mailboxes of this capacity: the flows and rows; of each channel its inputs in order; the
--- decisions in order; and for each input line its sender.
+-- The lists that these entries give: of each of the four channels its inputs, and the decisions, each in order.
+pub record AreListsOf (entries : List Entry) (lists : Lists) : Type 0 where
+  pub channels : length lists.inputs ≡ channel_limit
+  pub inputs : (channel : ℕ) → channel < channel_limit → inputs_on lists channel ≡ filter_map (came_on channel) entries
+  pub decisions : lists.decisions.items ≡ filter_map decision_in entries
+
+-- The trace that lines give which say this, with mailboxes of this capacity: the flows, the rows and the lists, and for each input line its
+-- sender.
 pub record IsGivenBy (mailbox : ℕ) (said : Said) (trace : Trace) : Type 0 where
   pub flows : trace.setup.flows.items ≡ said.flows
   pub sids : trace.setup.sids.items ≡ said.sids
   pub mailbox_is : trace.setup.mailbox ≡ mailbox
-  pub inputs : (channel : ℕ) → channel < channel_limit → inputs_on trace.lists channel ≡ filter_map (came_on channel) said.entries
-  pub decisions : trace.lists.decisions.items ≡ filter_map decision_in said.entries
+  pub lists : AreListsOf said.entries trace.lists
   pub tags : trace.tags.items ≡ map tag_of said.entries
 
 -- the bytes are a trace, and it is this one
@@ -47,3 +53,12 @@ pub record IsTrace (ring mailbox : ℕ) (input : List ℕ) (trace : Trace) : Typ
 -- why an input is no trace: its first faulty line, with the least kind of its faults; or an allocation failed
 abbrev pub IsTraceFault : ℕ → List ℕ → ParseFault → Type 0
 IsTraceFault ring input = IsReadingFault trace_format (nothing_said ring) (lines_of input)
+
+-- two traces say the same: their vectors have the same items
+pub record AreSameTraces (trace other : Trace) : Type 0 where
+  pub flows : trace.setup.flows.items ≡ other.setup.flows.items
+  pub sids : trace.setup.sids.items ≡ other.setup.sids.items
+  pub mailbox : trace.setup.mailbox ≡ other.setup.mailbox
+  pub inputs : (channel : ℕ) → channel < channel_limit → inputs_on trace.lists channel ≡ inputs_on other.lists channel
+  pub decisions : trace.lists.decisions.items ≡ other.lists.decisions.items
+  pub tags : trace.tags.items ≡ other.tags.items

@@ -1,14 +1,21 @@
-//! The definitions of `join` and of `cut` determine their answers: an input has at most one text,
-//! at most one first fault, and never both.
+//! The definitions of `join`, of `cut` and of traces determine their answers: an input has at most
+//! one text, or is at most one trace, has at most one first fault, and never both. A trace passes
+//! the checks of a receiver.
 //!
 //! Each function states a law in its contract and does nothing.
-ghost use Rattle.std.specs.Prelude.{◌≡◌, ◌≢◌, ℕ, List, length, flat_map};
+ghost use Rattle.std.specs.Prelude.{◌≡◌, ◌≢◌, ◌≤◌, ℕ, List, length, flat_map};
 ghost use Rattle.docsis_wire.specs.declared.pieces.FillByte.{FillByte};
 ghost use Rattle.docsis_wire.specs.declared.pieces.Piece.{Piece};
 ghost use Rattle.docsis_wire.specs.declared.segment.Segment.{Segment};
+ghost use Rattle.uplink.specs.Items.{incoming_of};
+ghost use Rattle.uplink.specs.Answer.{CanReceive, input_counts};
+ghost use Rattle.uplink.specs.Order.{IsLawfulOrder};
+ghost use Rattle.texts.specs.declared.fault.ParseFault.{ParseFault};
 ghost use Rattle.texts.specs.declared.fault.TextFault.{TextFault};
+ghost use Rattle.texts.specs.declared.trace.Trace.{Trace};
 ghost use Rattle.texts.specs.Join.{IsJoined, IsJoinFault};
 ghost use Rattle.texts.specs.Cut.{IsCutInto, IsCutText, IsCutFault, segment_line, cut_text_length};
+ghost use Rattle.texts.specs.Trace.{IsTrace, IsTraceFault, AreSameTraces};
 
 /// At most one text stands for an input of `join`.
 pub fn join_has_one_text()
@@ -70,3 +77,39 @@ pub fn faulty_input_of_cut_has_no_text()
     docsis_wire::laws::lawful_cut_has_no_fault();
     docsis_wire::laws::cut_has_one_fault();
 }
+
+/// An input is at most one trace.
+pub fn input_is_one_trace()
+    ensures { (ring mailbox : ℕ) (input : List ℕ) (trace other : Trace)
+        → IsTrace ring mailbox input trace → IsTrace ring mailbox input other
+        → AreSameTraces trace other }
+{}
+
+/// An input that should be a trace has at most one first fault: its line, and the least kind of
+/// the faults of that line.
+pub fn trace_has_one_fault()
+    ensures { (ring : ℕ) (input : List ℕ) (fault other : ParseFault)
+        → IsTraceFault ring input fault → fault ≢ ParseFault.OutOfMemory
+        → IsTraceFault ring input other → other ≢ ParseFault.OutOfMemory → fault ≡ other }
+{}
+
+/// An input that has a fault is no trace.
+pub fn faulty_input_is_no_trace()
+    ensures { (ring mailbox : ℕ) (input : List ℕ) (trace : Trace) (fault : ParseFault)
+        → IsTrace ring mailbox input trace → IsTraceFault ring input fault
+        → fault ≡ ParseFault.OutOfMemory }
+{}
+
+/// The setup of a trace has no fault: a receiver can be set up with it.
+pub fn trace_passes_the_checks()
+    ensures { (ring mailbox : ℕ) (input : List ℕ) (trace : Trace)
+        → 1 ≤ ring → IsTrace ring mailbox input trace → CanReceive trace.setup }
+{}
+
+/// The tags of a trace name each channel as often as it has inputs, and the decisions as often as
+/// there are some.
+pub fn tags_of_a_trace_are_lawful()
+    ensures { (ring mailbox : ℕ) (input : List ℕ) (trace : Trace)
+        → IsTrace ring mailbox input trace
+        → IsLawfulOrder (input_counts (incoming_of trace.lists)) trace.tags.items }
+{}

@@ -1,6 +1,11 @@
 //! The text of `replay`: the report of a trace.
-ghost use Rattle.std.specs.Prelude.{◌≡◌, IfOk, IfErr};
-ghost use Rattle.texts.specs.Replay.{IsReplayed, IsReplayFault};
+ghost use Rattle.std.specs.Prelude.{◌≡◌, Ok, IfOk, IfErr};
+ghost use Rattle.uplink.specs.Items.{incoming_of};
+ghost use Rattle.uplink.specs.Answer.{CanReceive, input_counts};
+ghost use Rattle.uplink.specs.Order.{IsLawfulOrder};
+ghost use Rattle.uplink.specs.declared.replaying.ReplayFault.TheVariants as replay_fault;
+ghost use Rattle.texts.specs.Trace.{IsTrace, IsTraceFault};
+ghost use Rattle.texts.specs.Replay.{default_capacity, IsPlayed, IsReplayed, IsReplayFault};
 
 use crate::fault::{ParseFault, TextFault};
 use crate::reporting::report;
@@ -13,12 +18,18 @@ use uplink::{Outcome, ReplayFault, admitted_order, replay};
 const CAPACITY: u16 = 16;
 
 /// The trace of an input, which is freed.
-fn read_trace(alloc: Global, input: Vec<u8>) -> Result<Trace, ParseFault> {
+fn read_trace(alloc: Global, input: Vec<u8>) -> Result<Trace, ParseFault>
+    ensures trace { IfOk result (IsTrace default_capacity default_capacity input.items) }
+    ensures fault { IfErr result (IsTraceFault default_capacity input.items) }
+{
     parse_trace(alloc, &input, CAPACITY, CAPACITY)
 }
 
-/// The only fault that a trace without a faulty line can have.
-fn memory<T>(answer: Result<T, ReplayFault>) -> Result<T, AllocError> {
+/// An answer that has no other fault than that an allocation failed.
+fn unless_out_of_memory<T>(answer: Result<T, ReplayFault>) -> Result<T, AllocError>
+    requires { IfErr answer (λ fault. fault ≡ replay_fault.OutOfMemory) }
+    ensures { IfOk result (λ value. answer ≡ Ok value) }
+{
     match answer {
         Ok(value) => Ok(value),
         Err(ReplayFault::OutOfMemory) => Err(AllocError),
@@ -27,10 +38,18 @@ fn memory<T>(answer: Result<T, ReplayFault>) -> Result<T, AllocError> {
 }
 
 /// What a trace gives, which is freed.
-fn play(alloc: Global, trace: Trace) -> Result<Outcome, AllocError> {
+fn play(alloc: Global, trace: Trace) -> Result<Outcome, AllocError>
+    requires can_receive { CanReceive trace.setup }
+    requires lawful { IsLawfulOrder (input_counts (incoming_of trace.lists))
+        trace.tags.items }
+    ensures { IfOk result (IsPlayed trace) }
+{
+    uplink::laws::rows_have_one_first_fault();
+    uplink::laws::lawful_order_has_no_fault();
+    uplink::laws::admitted_order_is_lawful();
     let Trace { setup, lists, tags } = trace;
-    let order = memory(admitted_order(alloc, &setup, &lists, &tags))?;
-    memory(replay(alloc, &setup, &lists, &order, NoCheck))
+    let order = unless_out_of_memory(admitted_order(alloc, &setup, &lists, &tags))?;
+    unless_out_of_memory(replay(alloc, &setup, &lists, &order, NoCheck))
 }
 
 /// The report of a trace: its grants, bursts and decisions are taken in the order of their lines.
@@ -40,6 +59,8 @@ pub fn replay_lines(alloc: Global, input: Vec<u8>) -> Result<Vec<u8>, TextFault>
     ensures text { IfOk result (λ text. IsReplayed input.items text.items) }
     ensures fault { IfErr result (IsReplayFault input.items) }
 {
+    crate::laws::trace_passes_the_checks();
+    crate::laws::tags_of_a_trace_are_lawful();
     let trace = read_trace(alloc, input)?;
     let outcome = play(alloc, trace)?;
     Ok(report(alloc, &outcome)?)

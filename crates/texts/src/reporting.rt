@@ -1,8 +1,8 @@
 //! The report of an outcome.
-ghost use Rattle.std.specs.Prelude.{◌≡◌, ◌++◌, ◌∷◌, [], codes, flat_map, IfOk, OnOk};
-ghost use Rattle.texts.specs.Lines.{line_feed};
-ghost use Rattle.texts.specs.Report.{spaced, named, counts_text, flow_line, frame_line, flow_lines};
-ghost use Rattle.texts.specs.Report.{request_line, refused_text, lane_line, report_text};
+ghost use Rattle.std.specs.Prelude.{◌≡◌, ◌++◌, flat_map, IfOk, OnOk};
+ghost use Rattle.texts.specs.Report.{spaced, named, counts_text, frame_line, flow_line, flow_lines};
+ghost use Rattle.texts.specs.Report.{request_line, refused_text, lane_line, numbered_lines};
+ghost use Rattle.texts.specs.Report.{report_text};
 
 use crate::field::append_hex;
 use docsis_wire::Bytes;
@@ -65,24 +65,30 @@ fn append_frame(
     Ok(text.push(b'\n')?)
 }
 
-/// Appends the line of the flow with this index, and one for each of its frames.
-fn append_flow(
+/// Appends the lines of the frames of the flow with this index.
+fn append_frames(
     alloc: Global,
     text: &mut Vec<u8>,
     k: usize,
-    flow: &FlowOutcome,
+    frames: &[Bytes],
 ) -> Result<(), AllocError>
-    ensures { OnOk result (text.new.items ≡ text.old.items ++ flow_lines k flow.now) }
+    ensures { OnOk result (text.new.items ≡ text.old.items ++ flat_map (frame_line k) frames.now) }
+{
+    for frame in frames {
+        append_frame(alloc, text, k, frame)?;
+    }
+    Ok(())
+}
+
+/// Appends the line of the flow with this index.
+fn append_flow(text: &mut Vec<u8>, k: usize, flow: &FlowOutcome) -> Result<(), AllocError>
+    ensures { OnOk result (text.new.items ≡ text.old.items ++ flow_line k flow.now) }
 {
     append_word(text, "flow")?;
     append_number(text, k as u64)?;
     append_number(text, u64::from(flow.sfid))?;
     append_counts(text, &flow.counts)?;
-    text.push(b'\n')?;
-    for frame in &flow.frames {
-        append_frame(alloc, text, k, frame)?;
-    }
-    Ok(())
+    Ok(text.push(b'\n')?)
 }
 
 /// Appends the line of a request.
@@ -123,22 +129,56 @@ fn append_lane(text: &mut Vec<u8>, channel: usize, lane: &LaneReport) -> Result<
     Ok(text.push(b'\n')?)
 }
 
+/// Appends the lines of flows and of their frames.
+fn append_flows(alloc: Global, text: &mut Vec<u8>, flows: &[FlowOutcome]) -> Result<(), AllocError>
+    ensures { OnOk result (text.new.items ≡ text.old.items ++ numbered_lines flow_lines flows.now) }
+{
+    for (k, flow) in flows.iter().enumerate() {
+        append_flow(text, k, flow)?;
+        append_frames(alloc, text, k, &flow.frames)?;
+    }
+    Ok(())
+}
+
+/// Appends the lines of the requests that came on a channel.
+fn append_requests(text: &mut Vec<u8>, requests: &[Request]) -> Result<(), AllocError>
+    ensures { OnOk result (text.new.items ≡ text.old.items ++ flat_map request_line requests.now) }
+{
+    for request in requests {
+        append_request(text, request)?;
+    }
+    Ok(())
+}
+
+/// Appends the lines of the requests that came on these channels.
+fn append_channels(text: &mut Vec<u8>, channels: &[Vec<Request>]) -> Result<(), AllocError>
+    ensures { OnOk result (text.new.items ≡ text.old.items
+        ++ flat_map (λ requests. flat_map request_line requests.items) channels.now) }
+{
+    for requests in channels {
+        append_requests(text, requests)?;
+    }
+    Ok(())
+}
+
+/// Appends the lines of lanes.
+fn append_lanes(text: &mut Vec<u8>, lanes: &[LaneReport]) -> Result<(), AllocError>
+    ensures { OnOk result (text.new.items ≡ text.old.items ++ numbered_lines lane_line lanes.now) }
+{
+    for (channel, lane) in lanes.iter().enumerate() {
+        append_lane(text, channel, lane)?;
+    }
+    Ok(())
+}
+
 /// The report of an outcome: a line for each flow and each of its frames, in order; one for each
 /// request, by channels; and one for each lane. The order of the outcome is not told.
 pub fn report(alloc: Global, outcome: &Outcome) -> Result<Vec<u8>, AllocError>
     ensures { IfOk result (λ text. text.items ≡ report_text outcome.now) }
 {
     let mut text = Vec::new(alloc);
-    for (k, flow) in outcome.flows.iter().enumerate() {
-        append_flow(alloc, &mut text, k, flow)?;
-    }
-    for requests in &outcome.requests {
-        for request in requests {
-            append_request(&mut text, request)?;
-        }
-    }
-    for (channel, lane) in outcome.lanes.iter().enumerate() {
-        append_lane(&mut text, channel, lane)?;
-    }
+    append_flows(alloc, &mut text, &outcome.flows)?;
+    append_channels(&mut text, &outcome.requests)?;
+    append_lanes(&mut text, &outcome.lanes)?;
     Ok(text)
 }

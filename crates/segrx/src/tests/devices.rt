@@ -1,17 +1,49 @@
 //! Engines and the program on devices that fail or are interrupted.
 use super::fitful::{FAILURES, FitfulReader, FitfulWriter, Full};
-use super::{FRAMES, SEGMENTS};
+use super::{FRAMES, FRAMES_AND_PIECES, REPORT, SEGMENTS, TRACE};
+use crate::cut::cut_text;
 use crate::device::Device;
 use crate::fault::EngineFault;
 use crate::join::join_text;
 use crate::program::program;
+use crate::replay::replay_text;
+use docsis_wire::FillByte;
 use std::alloc::Global;
 use std::io;
 use std::io::{ErrorKind, Read, Write};
 
-/// What came of joining on a reader and a writer, and which of them failed.
+/// The engines, each of which is run on an input of its own.
+#[derive(Clone, Copy, Debug)]
+enum Command {
+    Join,
+    Cut,
+    Replay,
+}
+
+const COMMANDS: [Command; 3] = [Command::Join, Command::Cut, Command::Replay];
+
+impl Command {
+    fn input(self) -> &'static str {
+        match self {
+            Command::Join => SEGMENTS,
+            Command::Cut => FRAMES_AND_PIECES,
+            Command::Replay => TRACE,
+        }
+    }
+
+    /// The text that stands for the input.
+    fn text(self) -> &'static str {
+        match self {
+            Command::Join => FRAMES,
+            Command::Cut => SEGMENTS,
+            Command::Replay => REPORT,
+        }
+    }
+}
+
+/// What came of running an engine on a reader and a writer, and which of them failed.
 #[derive(Drop)]
-struct Joined {
+struct Ran {
     done: Result<(), EngineFault>,
     reader_failed: bool,
     writer_failed: bool,
@@ -19,12 +51,21 @@ struct Joined {
     given: u64,
 }
 
-/// Joins between a reader and a writer.
-fn join_between<R: Read + Drop, W: Write + Drop>(alloc: Global, reader: R, writer: W) -> Joined {
+/// Runs the engine of a command between a reader and a writer.
+fn run_between<R: Read + Drop, W: Write + Drop>(
+    alloc: Global,
+    command: Command,
+    reader: R,
+    writer: W,
+) -> Ran {
     let mut reader = Device::new(reader);
     let mut writer = Device::new(writer);
-    let done = join_text(alloc, &mut reader, &mut writer);
-    let joined = Joined {
+    let done = match command {
+        Command::Join => join_text(alloc, &mut reader, &mut writer),
+        Command::Cut => cut_text(alloc, 0, FillByte::Zero, &mut reader, &mut writer),
+        Command::Replay => replay_text(alloc, &mut reader, &mut writer),
+    };
+    let ran = Ran {
         done,
         reader_failed: reader.failed(),
         writer_failed: writer.failed(),
@@ -33,19 +74,33 @@ fn join_between<R: Read + Drop, W: Write + Drop>(alloc: Global, reader: R, write
     };
     reader.into_inner();
     writer.into_inner();
-    joined
+    ran
 }
 
 #[test]
 fn goes_on_after_interruptions(rt: HostRuntime) {
-    let mut written = Vec::new(rt.alloc());
-    let reader = FitfulReader::new(SEGMENTS, None);
-    let writer = FitfulWriter::new(&mut written, 1000, Full::TakesNothing);
-    let joined = join_between(rt.alloc(), reader, writer);
-    assert_eq!(rt; joined.done, Ok(()));
-    assert_eq!(rt; joined.given, SEGMENTS.len() as u64);
-    assert!(rt; !joined.reader_failed && !joined.writer_failed && joined.writer_flushed);
-    assert_eq!(rt; written.as_slice(), FRAMES.as_bytes());
+    for command in COMMANDS {
+        let mut written = Vec::new(rt.alloc());
+        let reader = FitfulReader::new(command.input().as_bytes(), None);
+        let writer = FitfulWriter::new(&mut written, 1000, Full::TakesNothing);
+        let ran = run_between(rt.alloc(), command, reader, writer);
+        assert_eq!(rt; ran.done, Ok(()), "{command:?}");
+        assert_eq!(rt; ran.given, command.input().len() as u64, "{command:?}");
+        assert!(rt;
+            !ran.reader_failed && !ran.writer_failed && ran.writer_flushed,
+            "{command:?}"
+        );
+        assert_eq!(rt;
+            written.as_slice(),
+            command.text().as_bytes(),
+            "{command:?}"
+        );
+    }
+}
+
+/// Whether an engine reported that the reader failed, and the writer had not.
+fn is_read_fault(ran: &Ran) -> bool {
+    ran.done == Err(EngineFault::Read) && ran.reader_failed && !ran.writer_failed
 }
 
 #[test]
@@ -54,22 +109,32 @@ fn reports_each_kind_of_failed_read(rt: HostRuntime) {
     for text in ["", "xx\n", SEGMENTS] {
         for kind in FAILURES {
             let mut written = Vec::new(rt.alloc());
-            let reader = FitfulReader::new(text, Some(kind));
-            let joined = join_between(rt.alloc(), reader, &mut written);
-            assert_eq!(rt; joined.done, Err(EngineFault::Read), "{kind} after {text}");
-            assert!(rt;
-                joined.reader_failed && !joined.writer_failed,
-                "{kind} after {text}"
-            );
-            assert_eq!(rt; joined.given, text.len() as u64, "{kind} after {text}");
+            let reader = FitfulReader::new(text.as_bytes(), Some(kind));
+            let ran = run_between(rt.alloc(), Command::Join, reader, &mut written);
+            assert!(rt; is_read_fault(&ran), "{kind} after {text}");
+            assert_eq!(rt; ran.given, text.len() as u64, "{kind} after {text}");
             assert_eq!(rt; written.len(), 0, "{kind} after {text}");
         }
     }
 }
 
-/// Whether joining reported that the writer failed, and the reader had not.
-fn is_write_fault(joined: &Joined) -> bool {
-    joined.done == Err(EngineFault::Write) && joined.writer_failed && !joined.reader_failed
+#[test]
+fn reports_a_read_that_fails_at_any_call(rt: HostRuntime) {
+    for command in COMMANDS {
+        let input = command.input().as_bytes();
+        for calls in 0..input.len() {
+            let mut written = Vec::new(rt.alloc());
+            let reader = FitfulReader::new(&input[..calls], Some(ErrorKind::Other));
+            let ran = run_between(rt.alloc(), command, reader, &mut written);
+            assert!(rt; is_read_fault(&ran), "{command:?} after {calls}");
+            assert_eq!(rt; written.len(), 0, "{command:?} after {calls}");
+        }
+    }
+}
+
+/// Whether an engine reported that the writer failed, and the reader had not.
+fn is_write_fault(ran: &Ran) -> bool {
+    ran.done == Err(EngineFault::Write) && ran.writer_failed && !ran.reader_failed
 }
 
 #[test]
@@ -78,8 +143,8 @@ fn reports_each_kind_of_failed_write(rt: HostRuntime) {
         for kind in FAILURES {
             let mut written = Vec::new(rt.alloc());
             let writer = FitfulWriter::new(&mut written, room, Full::Fails(kind));
-            let joined = join_between(rt.alloc(), SEGMENTS.as_bytes(), writer);
-            assert!(rt; is_write_fault(&joined), "{kind} after {room}");
+            let ran = run_between(rt.alloc(), Command::Join, SEGMENTS.as_bytes(), writer);
+            assert!(rt; is_write_fault(&ran), "{kind} after {room}");
             assert!(rt; room <= FRAMES.len());
             assert_eq!(rt;
                 written.as_slice(),
@@ -91,39 +156,72 @@ fn reports_each_kind_of_failed_write(rt: HostRuntime) {
 }
 
 #[test]
-fn reports_each_kind_of_failed_flush(rt: HostRuntime) {
-    for kind in FAILURES {
-        let mut written = Vec::new(rt.alloc());
-        let writer = FitfulWriter::fails_to_flush(&mut written, kind);
-        let joined = join_between(rt.alloc(), SEGMENTS.as_bytes(), writer);
-        assert!(rt; is_write_fault(&joined) && !joined.writer_flushed, "{kind}");
-        assert_eq!(rt; written.as_slice(), FRAMES.as_bytes(), "{kind}");
+fn reports_a_write_that_fails_at_any_call(rt: HostRuntime) {
+    for command in COMMANDS {
+        let text = command.text().as_bytes();
+        for calls in 0..text.len() {
+            let mut written = Vec::new(rt.alloc());
+            let writer = FitfulWriter::new(&mut written, calls, Full::TakesNothing);
+            let ran = run_between(rt.alloc(), command, command.input().as_bytes(), writer);
+            assert!(rt; is_write_fault(&ran), "{command:?} after {calls}");
+            assert_eq!(rt;
+                written.as_slice(),
+                &text[..calls],
+                "{command:?} after {calls}"
+            );
+        }
     }
 }
 
 #[test]
-fn reports_a_writer_that_takes_nothing(rt: HostRuntime) {
-    let mut written = Vec::new(rt.alloc());
-    let writer = FitfulWriter::new(&mut written, 7, Full::TakesNothing);
-    let joined = join_between(rt.alloc(), SEGMENTS.as_bytes(), writer);
-    assert!(rt; is_write_fault(&joined));
-    assert_eq!(rt; written.as_slice(), b"0000000".as_slice());
+fn reports_each_kind_of_failed_flush(rt: HostRuntime) {
+    for command in COMMANDS {
+        for kind in FAILURES {
+            let mut written = Vec::new(rt.alloc());
+            let writer = FitfulWriter::fails_to_flush(&mut written, kind);
+            let ran = run_between(rt.alloc(), command, command.input().as_bytes(), writer);
+            assert!(rt;
+                is_write_fault(&ran) && !ran.writer_flushed,
+                "{command:?}: {kind}"
+            );
+            assert_eq!(rt;
+                written.as_slice(),
+                command.text().as_bytes(),
+                "{command:?}: {kind}"
+            );
+        }
+    }
 }
 
 #[test]
 fn does_not_write_an_empty_text(rt: HostRuntime) {
     let mut written = Vec::new(rt.alloc());
     let writer = FitfulWriter::fails_to_flush(&mut written, ErrorKind::BrokenPipe);
-    let joined = join_between(rt.alloc(), "# nothing to join\n".as_bytes(), writer);
-    assert_eq!(rt; joined.done, Ok(()));
-    assert!(rt; !joined.writer_failed);
+    let input = "# nothing to join\n".as_bytes();
+    let ran = run_between(rt.alloc(), Command::Join, input, writer);
+    assert_eq!(rt; ran.done, Ok(()));
+    assert!(rt; !ran.writer_failed);
+}
+
+#[test]
+fn replays_each_front_of_a_trace_or_reports_a_faulty_line(rt: HostRuntime) {
+    let trace = TRACE.as_bytes();
+    for bytes in 0..trace.len() {
+        let mut written = Vec::new(rt.alloc());
+        let ran = run_between(rt.alloc(), Command::Replay, &trace[..bytes], &mut written);
+        match ran.done {
+            Ok(()) => assert!(rt; written.ends_with(b" refused -\n"), "{bytes}"),
+            Err(EngineFault::Trace(_)) => assert_eq!(rt; written.len(), 0, "{bytes}"),
+            Err(fault) => assert!(rt; false, "{bytes}: {fault}"),
+        }
+    }
 }
 
 #[test]
 fn exits_with_4_on_failing_devices(rt: HostRuntime) {
     let mut out = Vec::new(rt.alloc());
     let mut err = Vec::new(rt.alloc());
-    let reader = FitfulReader::new(SEGMENTS, Some(ErrorKind::WouldBlock));
+    let reader = FitfulReader::new(SEGMENTS.as_bytes(), Some(ErrorKind::WouldBlock));
     let words = ["segrx"];
     assert_eq!(rt; program(rt.alloc(), &words, reader, &mut out, &mut err), 4);
     assert_eq!(rt; err.as_slice(), b"segrx: read failed\n".as_slice());

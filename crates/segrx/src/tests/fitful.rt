@@ -56,9 +56,9 @@ pub(super) struct FitfulReader<'a> {
 }
 
 impl<'a> FitfulReader<'a> {
-    pub(super) fn new(text: &'a str, end: Option<ErrorKind>) -> Self {
+    pub(super) fn new(text: &'a [u8], end: Option<ErrorKind>) -> Self {
         FitfulReader {
-            rest: text.as_bytes(),
+            rest: text,
             end,
             interrupted: false,
         }

@@ -1,15 +1,17 @@
 //! An allocation that fails, at one place of each call. Each test takes out of memory as lawful
 //! there, says so by the word `refused`, and calls again; with no failed allocation it says
 //! nothing.
-use super::{FRAMES, SEGMENTS};
+use super::{FRAMES, FRAMES_AND_PIECES, REPORT, SEGMENTS, TRACE};
 use crate::command::{Command, UsageFault, read_words};
 use crate::cut::cut_text;
 use crate::device::Device;
 use crate::fault::EngineFault;
 use crate::join::join_text;
 use crate::program::program;
+use crate::replay::replay_text;
 use docsis_wire::FillByte;
 use std::alloc::Global;
+use std::process::Abort;
 use std::test::Fail;
 
 /// Joins the segments into an array that is just large enough for their frames.
@@ -36,10 +38,6 @@ fn join_text_is_refused(rt: HostRuntime) -> Result<(), Fail> {
     Ok(())
 }
 
-/// The frames, and pieces that cut them into the segments.
-const FRAMES_AND_PIECES: &str =
-    "frame 000000021111aabb\npiece 5 0\nframe 01010003e02222ccdd\npiece 7 0\npiece 5 0\n";
-
 /// Cuts the frames into an array that is just large enough for their segments.
 fn cut(alloc: Global, text: &mut [u8]) -> Result<(), EngineFault> {
     let mut reader = Device::new(FRAMES_AND_PIECES.as_bytes());
@@ -61,6 +59,30 @@ fn cut_text_is_refused(rt: HostRuntime) -> Result<(), Fail> {
     }
     assert_eq!(rt; done, Ok(()));
     assert_eq!(rt; text.as_slice(), SEGMENTS.as_bytes());
+    Ok(())
+}
+
+/// Replays the trace into an array that is just large enough for its report.
+fn replay(alloc: Global, text: &mut [u8]) -> Result<(), EngineFault> {
+    let mut reader = Device::new(TRACE.as_bytes());
+    let mut writer = Device::new(text);
+    let done = replay_text(alloc, &mut reader, &mut writer);
+    reader.into_inner();
+    writer.into_inner();
+    done
+}
+
+#[test]
+fn replay_text_is_refused(rt: HostRuntime) -> Result<(), Fail> {
+    let mut text = [0u8; 233];
+    let mut done = replay(rt.alloc(), &mut text);
+    if done == Err(EngineFault::OutOfMemory) {
+        println!(rt; "refused")?;
+        assert_eq!(rt; text.as_slice(), [0u8; 233].as_slice());
+        done = replay(rt.alloc(), &mut text);
+    }
+    assert_eq!(rt; done, Ok(()));
+    assert_eq!(rt; text.as_slice(), REPORT.as_bytes());
     Ok(())
 }
 
@@ -97,25 +119,49 @@ fn words_of_cut_are_refused(rt: HostRuntime) -> Result<(), Fail> {
     Ok(())
 }
 
-/// Runs the program on the segments, and gives its status.
-fn run(alloc: Global, out: &mut [u8], err: &mut [u8]) -> u8 {
-    program(alloc, &["segrx", "join"], SEGMENTS.as_bytes(), out, err)
+/// Runs the program on an input, again where an allocation fails, and looks at what it writes into
+/// an array that is just large enough for the text.
+fn run(
+    rt: &(impl Abort + AllocGlobal + Print),
+    command: &str,
+    input: &str,
+    text: &str,
+    out: &mut [u8],
+) -> Result<(), Fail> {
+    let words = ["segrx", command];
+    let mut err = [0u8; 21];
+    let mut status = program(
+        rt.alloc(),
+        &words,
+        input.as_bytes(),
+        &mut *out,
+        &mut err[..],
+    );
+    if status == 3 {
+        println!(rt; "refused")?;
+        assert_eq!(rt; err.as_slice(), b"segrx: out of memory\n".as_slice());
+        assert!(rt; out.iter().all(|byte| *byte == 0));
+        err = [0; 21];
+        status = program(
+            rt.alloc(),
+            &words,
+            input.as_bytes(),
+            &mut *out,
+            &mut err[..],
+        );
+    }
+    assert_eq!(rt; status, 0);
+    assert_eq!(rt; &*out, text.as_bytes());
+    assert_eq!(rt; err.as_slice(), [0u8; 21].as_slice());
+    Ok(())
 }
 
 #[test]
 fn program_is_refused(rt: HostRuntime) -> Result<(), Fail> {
-    let mut out = [0u8; 36];
-    let mut err = [0u8; 21];
-    let mut status = run(rt.alloc(), &mut out, &mut err);
-    if status == 3 {
-        println!(rt; "refused")?;
-        assert_eq!(rt; err.as_slice(), b"segrx: out of memory\n".as_slice());
-        assert_eq!(rt; out.as_slice(), [0u8; 36].as_slice());
-        err = [0; 21];
-        status = run(rt.alloc(), &mut out, &mut err);
-    }
-    assert_eq!(rt; status, 0);
-    assert_eq!(rt; out.as_slice(), FRAMES.as_bytes());
-    assert_eq!(rt; err.as_slice(), [0u8; 21].as_slice());
-    Ok(())
+    run(&rt, "join", SEGMENTS, FRAMES, &mut [0u8; 36])
+}
+
+#[test]
+fn replaying_program_is_refused(rt: HostRuntime) -> Result<(), Fail> {
+    run(&rt, "replay", TRACE, REPORT, &mut [0u8; 233])
 }

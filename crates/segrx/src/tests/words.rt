@@ -8,6 +8,7 @@ use std::alloc::Global;
 enum Asked {
     Join,
     Cut(u16, FillByte),
+    Replay,
     Help,
     Fault(UsageFault),
 }
@@ -16,6 +17,7 @@ fn what_is_asked(alloc: Global, words: &[&str]) -> Asked {
     match read_words(alloc, words) {
         Ok(Command::Join) => Asked::Join,
         Ok(Command::Cut { first, fill }) => Asked::Cut(first, fill),
+        Ok(Command::Replay) => Asked::Replay,
         Ok(Command::Help(_)) => Asked::Help,
         Err(fault) => Asked::Fault(fault),
     }
@@ -24,7 +26,7 @@ fn what_is_asked(alloc: Global, words: &[&str]) -> Asked {
 #[test]
 fn reads_words(rt: HostRuntime) {
     let usage = Asked::Fault(UsageFault::Usage);
-    let table: [(&str, &[&str], Asked); 9] = [
+    let table: [(&str, &[&str], Asked); 16] = [
         ("no words at all", &[], Asked::Join),
         ("no command", &["segrx"], Asked::Join),
         ("join", &["segrx", "join"], Asked::Join),
@@ -39,8 +41,19 @@ fn reads_words(rt: HostRuntime) {
             &["segrx", "cut", "--first=8192"],
             usage,
         ),
+        ("replay", &["segrx", "replay"], Asked::Replay),
+        ("replay twice", &["segrx", "replay", "replay"], usage),
+        (
+            "an option of replay",
+            &["segrx", "replay", "--ring=1"],
+            usage,
+        ),
+        ("the end of options", &["segrx", "replay", "--"], usage),
         ("an unknown word", &["segrx", "frob"], usage),
+        ("run", &["segrx", "run"], usage),
         ("help", &["segrx", "cut", "-h", "frob"], Asked::Help),
+        ("help of replay", &["segrx", "replay", "-h"], Asked::Help),
+        ("help too late", &["segrx", "replay", "x", "-h"], usage),
         // The program's name asks for nothing, whatever it is.
         ("a name like an option", &["-h", "join"], Asked::Join),
     ];
@@ -59,12 +72,19 @@ fn help_of(alloc: Global, words: &[&str]) -> String {
 
 #[test]
 fn help_suffices_alone(rt: HostRuntime) {
-    let table: [(&[&str], &[&str]); 3] = [
+    let table: [(&[&str], &[&str]); 4] = [
         (
             &["segrx", "-h"],
-            &["Usage: segrx [join] < ", "segrx cut [", "  cut   "],
+            &[
+                "Usage: segrx [join] < ",
+                "segrx cut [",
+                "segrx replay < ",
+                "  cut   ",
+                "  replay  ",
+            ],
         ),
         (&["segrx", "join", "-h"], &["Usage: segrx join < "]),
+        (&["segrx", "replay", "-h"], &["Usage: segrx replay < "]),
         (
             &["segrx", "cut", "-h"],
             &["Usage: segrx cut [", "--first <N>", "--fill <zero|ones>"],
@@ -74,6 +94,11 @@ fn help_suffices_alone(rt: HostRuntime) {
         "  SEGMENT ",
         "  frame FRAME ",
         "  piece DATA FILL ",
+        "  flow SFID FIRST WINDOW CLUSTERS\n",
+        "  sid CHANNEL SID FLOW\n",
+        "  grant CHANNEL NUMBER SID BYTES\n",
+        "  burst CHANNEL NUMBER ok|bad BURST\n",
+        "  gap FLOW [NUMBER]\n",
         "join does not look at their sequence numbers",
         "268435456 bytes",
         "Exit status:\n  0 ",

@@ -1,209 +1,188 @@
--- What a line of a trace says by itself.
-use Rattle.std.specs.Prelude.{◌≡◌, ◌≢◌, ◌≤◌, ◌⊎◌, ℕ, Bool, true, false, Some, None, List, [], ◌∷◌, length, codes}
-use Rattle.flow_core.specs.declared.record.FlowRecord.{FlowRecord}
-use Rattle.uplink.specs.declared.row.SidRow.{SidRow}
-use Rattle.uplink.specs.declared.input.Input.{Input}
+-- What a line of a trace says by itself, and the faults that it has by itself.
+use Rattle.std.specs.Prelude.{◌≡◌, ◌≢◌, ◌⊎◌, ℕ, Bool, true, false, Option, Some, None, List, [], ◌∷◌, length, codes}
 use Rattle.uplink.specs.declared.input.Input.TheVariants.{Grant, Burst}
-use Rattle.uplink.specs.declared.setup.Decision.{Decision}
+use Rattle.texts.specs.declared.fault.TraceKind.{TraceKind}
+use Rattle.texts.specs.declared.fault.TraceKind.TheVariants.{UnknownLine, SetupLate, FieldCount, BadNumber, BadWord, NotHex, UnknownFlow, TooManyFlows, SameFlow, SameSid, TooShort, PointerPast}
 use Rattle.texts.specs.declared.trace.line.TraceLine.{TraceLine}
-use Rattle.texts.specs.declared.trace.line.TraceLine.TheVariants as trace_line
-use Rattle.texts.specs.Field.{SpellsBytes, IsHex}
-use Rattle.texts.specs.Number.{IsNumber, IsNumberIn, IsNoNumber, IsNoNumberIn}
+use Rattle.texts.specs.declared.trace.line.TraceLine.TheVariants.{Flow, Sid, Input, Gap}
+use Rattle.texts.specs.Kinds.{IsLeastFault}
+use Rattle.texts.specs.Field.{SpellsBytes}
+use Rattle.texts.specs.Number.{IsNumberIn}
 
--- the words that begin the lines of a trace
-abbrev pub flow_word : List ℕ
-flow_word = codes "flow"
+-- ---- the forms of lines and of their fields
 
-abbrev pub sid_word : List ℕ
-sid_word = codes "sid"
+-- what a field is to be: a number from the first to the second, one of the words for a burst's check, or hexadecimal
+pub data FieldForm : Type 0 where
+  number_in : ℕ → ℕ → FieldForm
+  check_word : FieldForm
+  hex_field : FieldForm
 
-abbrev pub grant_word : List ℕ
-grant_word = codes "grant"
+-- the forms of a line; a gap may name a number up to which it goes
+pub data LineForm : Type 0 where
+  flow_line : LineForm
+  sid_line : LineForm
+  grant_line : LineForm
+  burst_line : LineForm
+  gap_line : LineForm
+  gap_to_line : LineForm
 
-abbrev pub burst_word : List ℕ
-burst_word = codes "burst"
+-- the word with which a line begins
+abbrev pub word_of : LineForm → List ℕ
+word_of flow_line = codes "flow"
+word_of sid_line = codes "sid"
+word_of grant_line = codes "grant"
+word_of burst_line = codes "burst"
+word_of gap_line = codes "gap"
+word_of gap_to_line = codes "gap"
 
-abbrev pub gap_word : List ℕ
-gap_word = codes "gap"
+-- numbers of 32 bits, of a segment, of a channel, of a service identifier, and of a flow's place among the flows
+abbrev pub any_number : FieldForm
+any_number = number_in 0 4294967295
 
--- the words for a burst's check
-abbrev pub ok_word : List ℕ
-ok_word = codes "ok"
+abbrev pub sequence_number : FieldForm
+sequence_number = number_in 0 8191
 
-abbrev pub bad_word : List ℕ
-bad_word = codes "bad"
+abbrev pub channel_number : FieldForm
+channel_number = number_in 0 3
 
--- the greatest numbers: of 32 bits, of a sequence, of a channel, of a service identifier, of a flow
-abbrev pub number_max : ℕ
-number_max = 4294967295
+abbrev pub sid_number : FieldForm
+sid_number = number_in 0 16383
 
-abbrev pub sequence_max : ℕ
-sequence_max = 8191
+abbrev pub flow_number : FieldForm
+flow_number = number_in 0 63
 
-abbrev pub channel_max : ℕ
-channel_max = 3
+-- The fields that follow that word:
+--   flow <sfid> <first> <window> <clusters>
+--   sid <channel> <sid> <flow>
+--   grant <channel> <number> <sid> <bytes>
+--   burst <channel> <number> <check> <hex>
+--   gap <flow>
+--   gap <flow> <number>
+abbrev pub fields_after : LineForm → List FieldForm
+fields_after flow_line = any_number ∷ sequence_number ∷ number_in 1 4096 ∷ number_in 1 8 ∷ []
+fields_after sid_line = channel_number ∷ sid_number ∷ flow_number ∷ []
+fields_after grant_line = channel_number ∷ any_number ∷ sid_number ∷ any_number ∷ []
+fields_after burst_line = channel_number ∷ any_number ∷ check_word ∷ hex_field ∷ []
+fields_after gap_line = flow_number ∷ []
+fields_after gap_to_line = flow_number ∷ sequence_number ∷ []
 
-abbrev pub sid_max : ℕ
-sid_max = 16383
+-- ---- what a line says
 
-abbrev pub flow_max : ℕ
-flow_max = 63
-
--- `flow <sfid> <first> <window> <clusters>`
-pub record FlowFields (fields : List (List ℕ)) : Type 0 where
-  pub sfid : List ℕ
-  pub first : List ℕ
-  pub window : List ℕ
-  pub clusters : List ℕ
-  pub are : fields ≡ flow_word ∷ sfid ∷ first ∷ window ∷ clusters ∷ []
-
--- `sid <channel> <sid> <flow>`
-pub record SidFields (fields : List (List ℕ)) : Type 0 where
-  pub channel : List ℕ
-  pub sid : List ℕ
-  pub flow : List ℕ
-  pub are : fields ≡ sid_word ∷ channel ∷ sid ∷ flow ∷ []
-
--- `grant <channel> <number> <sid> <bytes>`
-pub record GrantFields (fields : List (List ℕ)) : Type 0 where
-  pub channel : List ℕ
-  pub number : List ℕ
-  pub sid : List ℕ
-  pub bytes : List ℕ
-  pub are : fields ≡ grant_word ∷ channel ∷ number ∷ sid ∷ bytes ∷ []
-
--- `burst <channel> <number> ok|bad <hex>`
-pub record BurstFields (fields : List (List ℕ)) : Type 0 where
-  pub channel : List ℕ
-  pub number : List ℕ
-  pub check : List ℕ
-  pub hex : List ℕ
-  pub are : fields ≡ burst_word ∷ channel ∷ number ∷ check ∷ hex ∷ []
-
--- `gap <flow>`
-pub record GapFields (fields : List (List ℕ)) : Type 0 where
-  pub flow : List ℕ
-  pub are : fields ≡ gap_word ∷ flow ∷ []
-
--- `gap <flow> <number>`
-pub record GapToFields (fields : List (List ℕ)) : Type 0 where
-  pub flow : List ℕ
-  pub number : List ℕ
-  pub are : fields ≡ gap_word ∷ flow ∷ number ∷ []
-
--- the fields give this flow, with a ring of this capacity
-pub record CarriesFlow (ring : ℕ) (fields : List (List ℕ)) (flow_record : FlowRecord) : Type 0 where
-  pub named : FlowFields fields
-  pub sfid : IsNumber named.sfid number_max flow_record.sfid
-  pub first : IsNumber named.first sequence_max flow_record.first
-  pub window : IsNumberIn named.window 1 4096 flow_record.window
-  pub clusters : IsNumberIn named.clusters 1 8 flow_record.clusters
-  pub ring_is : flow_record.ring ≡ ring
-
--- the fields give this row
-pub record CarriesSid (fields : List (List ℕ)) (row : SidRow) : Type 0 where
-  pub named : SidFields fields
-  pub channel : IsNumber named.channel channel_max row.channel
-  pub sid : IsNumber named.sid sid_max row.sid
-  pub flow : IsNumber named.flow flow_max row.flow
-
--- the fields say that this grant was made on this channel
-pub record CarriesGrant (fields : List (List ℕ)) (channel number sid bytes : ℕ) : Type 0 where
-  pub named : GrantFields fields
-  pub channel_is : IsNumber named.channel channel_max channel
-  pub number_is : IsNumber named.number number_max number
-  pub sid_is : IsNumber named.sid sid_max sid
-  pub bytes_is : IsNumber named.bytes number_max bytes
+-- what a field says: a number, whether a check is right, or bytes
+pub data Value : Type 0 where
+  a_number : ℕ → Value
+  a_check : Bool → Value
+  some_bytes : List ℕ → Value
 
 -- the word says whether the check is right
 abbrev pub SaysCheck : List ℕ → Bool → Type 0
-SaysCheck word true = word ≡ ok_word
-SaysCheck word false = word ≡ bad_word
+SaysCheck word true = word ≡ codes "ok"
+SaysCheck word false = word ≡ codes "bad"
 
--- the fields say that this burst came on this channel
-pub record CarriesBurst (fields : List (List ℕ)) (channel number : ℕ) (hcs_ok : Bool) (bytes : List ℕ) : Type 0 where
-  pub named : BurstFields fields
-  pub channel_is : IsNumber named.channel channel_max channel
-  pub number_is : IsNumber named.number number_max number
-  pub check_is : SaysCheck named.check hcs_ok
-  pub bytes_are : SpellsBytes named.hex bytes
+-- the field has this form, and says this
+abbrev pub IsField : FieldForm → List ℕ → Value → Type 0
+IsField (number_in least most) field (a_number number) = IsNumberIn field least most number
+IsField check_word field (a_check right) = SaysCheck field right
+IsField hex_field field (some_bytes bytes) = SpellsBytes field bytes
+IsField _ field _ = ⊥
 
--- the fields say that this came on this channel
-abbrev pub CarriesInput : List (List ℕ) → ℕ → Input → Type 0
-CarriesInput fields channel (Grant number sid bytes) = CarriesGrant fields channel number sid bytes
-CarriesInput fields channel (Burst number hcs_ok bytes) = CarriesBurst fields channel number hcs_ok bytes
+-- so do the fields, each in its place
+abbrev pub AreFields : List FieldForm → List (List ℕ) → List Value → Type 0
+AreFields [] [] [] = Unit {0}
+AreFields (form ∷ forms) (field ∷ fields) (value ∷ values) = IsField form field value × AreFields forms fields values
+AreFields _ _ _ = ⊥
 
--- the fields say that the expected segment of this flow is lost
-pub record CarriesGap (fields : List (List ℕ)) (decision : Decision) : Type 0 where
-  pub named : GapFields fields
-  pub flow : IsNumber named.flow flow_max decision.flow
-  pub upto : decision.upto ≡ None
+-- a gap's form, and the number that it names
+abbrev pub gap_form : Option ℕ → LineForm
+gap_form None = gap_line
+gap_form (Some number) = gap_to_line
 
--- the fields say that the segments of this flow before this number are lost
-pub record CarriesGapTo (fields : List (List ℕ)) (decision : Decision) : Type 0 where
-  pub named : GapToFields fields
-  pub flow : IsNumber named.flow flow_max decision.flow
-  pub number : ℕ
-  pub upto : decision.upto ≡ Some number
-  pub number_is : IsNumber named.number sequence_max number
+abbrev pub upto_values : Option ℕ → List Value
+upto_values None = []
+upto_values (Some number) = a_number number ∷ []
 
--- what a line carries, by its fields
-abbrev pub Carries : ℕ → List (List ℕ) → TraceLine → Type 0
-Carries ring fields (trace_line.Flow flow_record) = CarriesFlow ring fields flow_record
-Carries ring fields (trace_line.Sid row) = CarriesSid fields row
-Carries ring fields (trace_line.Input channel input) = CarriesInput fields channel input
-Carries ring fields (trace_line.Gap decision) = CarriesGap fields decision ⊎ CarriesGapTo fields decision
+-- the form of the line that says this
+abbrev pub form_of : TraceLine → LineForm
+form_of (Flow flow_record) = flow_line
+form_of (Sid row) = sid_line
+form_of (Input channel (Grant number sid bytes)) = grant_line
+form_of (Input channel (Burst grant hcs_ok bytes)) = burst_line
+form_of (Gap decision) = gap_form decision.upto
 
--- the first field is none of the five words
+-- and what its fields say
+abbrev pub values_of : TraceLine → List Value
+values_of (Flow flow_record) =
+    a_number flow_record.sfid ∷ a_number flow_record.first ∷ a_number flow_record.window ∷ a_number flow_record.clusters ∷ []
+values_of (Sid row) = a_number row.channel ∷ a_number row.sid ∷ a_number row.flow ∷ []
+values_of (Input channel (Grant number sid bytes)) = a_number channel ∷ a_number number ∷ a_number sid ∷ a_number bytes ∷ []
+values_of (Input channel (Burst grant hcs_ok bytes)) = a_number channel ∷ a_number grant ∷ a_check hcs_ok ∷ some_bytes bytes ∷ []
+values_of (Gap decision) = a_number decision.flow ∷ upto_values decision.upto
+
+-- a flow has a ring of this capacity, which no line says
+abbrev pub HasRing : ℕ → TraceLine → Type 0
+HasRing ring (Flow flow_record) = flow_record.ring ≡ ring
+HasRing ring _ = Unit {0}
+
+-- the fields of a line say this
+pub record Carries (ring : ℕ) (fields : List (List ℕ)) (line : TraceLine) : Type 0 where
+  pub after : List (List ℕ)
+  pub are : fields ≡ word_of (form_of line) ∷ after
+  pub values : AreFields (fields_after (form_of line)) after (values_of line)
+  pub ring_is : HasRing ring line
+
+-- ---- the faults of a line by itself
+
+-- the first word begins no line
 pub record IsUnknown (fields : List (List ℕ)) : Type 0 where
   pub word : List ℕ
-  pub more : List (List ℕ)
-  pub are : fields ≡ word ∷ more
-  pub no_flow : word ≢ flow_word
-  pub no_sid : word ≢ sid_word
-  pub no_grant : word ≢ grant_word
-  pub no_burst : word ≢ burst_word
-  pub no_gap : word ≢ gap_word
+  pub after : List (List ℕ)
+  pub are : fields ≡ word ∷ after
+  pub unknown : (form : LineForm) → word ≢ word_of form
 
--- the first field is this word
-pub record BeginsWith (fields : List (List ℕ)) (word : List ℕ) : Type 0 where
-  pub more : List (List ℕ)
-  pub are : fields ≡ word ∷ more
-
--- the line sets up a flow or a service identifier
-abbrev pub IsSetupLine : List (List ℕ) → Type 0
-IsSetupLine fields = BeginsWith fields flow_word ⊎ BeginsWith fields sid_word
-
--- after one of the five words there are more or fewer fields than it asks for
+-- it begins a line, but more or fewer fields follow it than follow it in any form of line
 pub record HasWrongCount (fields : List (List ℕ)) : Type 0 where
-  pub word : List ℕ
-  pub more : List (List ℕ)
-  pub are : fields ≡ word ∷ more
-  pub known : ¬ (IsUnknown fields)
-  pub no_flow : ¬ (FlowFields fields)
-  pub no_sid : ¬ (SidFields fields)
-  pub no_grant : ¬ (GrantFields fields)
-  pub no_burst : ¬ (BurstFields fields)
-  pub no_gap : ¬ (GapFields fields)
-  pub no_gap_to : ¬ (GapToFields fields)
+  pub form : LineForm
+  pub after : List (List ℕ)
+  pub are : fields ≡ word_of form ∷ after
+  pub wrong : (other : LineForm) → word_of form ≡ word_of other → length after ≢ length (fields_after other)
 
--- a field that should be a number is no number in its range
-abbrev pub HasBadNumber : List (List ℕ) → Type 0
-HasBadNumber fields =
-    ((named : FlowFields fields) × (IsNoNumber named.sfid number_max ⊎ IsNoNumber named.first sequence_max ⊎ IsNoNumberIn named.window 1 4096 ⊎ IsNoNumberIn named.clusters 1 8))
-    ⊎ ((named : SidFields fields) × (IsNoNumber named.channel channel_max ⊎ IsNoNumber named.sid sid_max ⊎ IsNoNumber named.flow flow_max))
-    ⊎ ((named : GrantFields fields) × (IsNoNumber named.channel channel_max ⊎ IsNoNumber named.number number_max ⊎ IsNoNumber named.sid sid_max ⊎ IsNoNumber named.bytes number_max))
-    ⊎ ((named : BurstFields fields) × (IsNoNumber named.channel channel_max ⊎ IsNoNumber named.number number_max))
-    ⊎ ((named : GapFields fields) × IsNoNumber named.flow flow_max)
-    ⊎ ((named : GapToFields fields) × (IsNoNumber named.flow flow_max ⊎ IsNoNumber named.number sequence_max))
+-- the fault of a field that does not have its form
+abbrev pub fault_of : FieldForm → TraceKind
+fault_of (number_in least most) = BadNumber
+fault_of check_word = BadWord
+fault_of hex_field = NotHex
 
--- the word for a burst's check is neither `ok` nor `bad`
-pub record HasBadWord (fields : List (List ℕ)) : Type 0 where
-  pub named : BurstFields fields
-  pub not_ok : named.check ≢ ok_word
-  pub not_bad : named.check ≢ bad_word
+abbrev pub IsBadField : FieldForm → List ℕ → Type 0
+IsBadField form field = (value : Value) → ¬ (IsField form field value)
 
--- a burst's last field is no hexadecimal field
-pub record HasBadHex (fields : List (List ℕ)) : Type 0 where
-  pub named : BurstFields fields
-  pub no_bytes : ¬ (IsHex named.hex)
+-- one of the fields does not have the form of its place, and its fault is of this kind
+abbrev pub HasBadAmong : List FieldForm → List (List ℕ) → TraceKind → Type 0
+HasBadAmong (form ∷ forms) (field ∷ fields) kind = ((fault_of form ≡ kind) × IsBadField form field) ⊎ HasBadAmong forms fields kind
+HasBadAmong _ _ kind = ⊥
+
+-- as many fields as in a form of line follow its word, and one of them has this fault
+pub record HasBadField (fields : List (List ℕ)) (kind : TraceKind) : Type 0 where
+  pub form : LineForm
+  pub after : List (List ℕ)
+  pub are : fields ≡ word_of form ∷ after
+  pub count : length after ≡ length (fields_after form)
+  pub bad : HasBadAmong (fields_after form) after kind
+
+-- the faults that a line with these fields has, whatever the lines above say
+abbrev pub HasFaultByItself : List (List ℕ) → TraceKind → Type 0
+HasFaultByItself fields UnknownLine = IsUnknown fields
+HasFaultByItself fields SetupLate = ⊥
+HasFaultByItself fields FieldCount = HasWrongCount fields
+HasFaultByItself fields BadNumber = HasBadField fields BadNumber
+HasFaultByItself fields BadWord = HasBadField fields BadWord
+HasFaultByItself fields NotHex = HasBadField fields NotHex
+HasFaultByItself fields UnknownFlow = ⊥
+HasFaultByItself fields TooManyFlows = ⊥
+HasFaultByItself fields SameFlow = ⊥
+HasFaultByItself fields SameSid = ⊥
+HasFaultByItself fields TooShort = ⊥
+HasFaultByItself fields PointerPast = ⊥
+
+-- the least of them
+abbrev pub IsLeastFaultByItself : List (List ℕ) → TraceKind → Type 0
+IsLeastFaultByItself fields = IsLeastFault (HasFaultByItself fields)

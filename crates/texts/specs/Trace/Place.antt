@@ -7,10 +7,11 @@ use Rattle.uplink.specs.declared.input.Input.{Input}
 use Rattle.uplink.specs.declared.setup.Decision.{Decision}
 use Rattle.texts.specs.declared.fault.TraceKind.{TraceKind}
 use Rattle.texts.specs.declared.fault.TraceKind.TheVariants.{UnknownLine, SetupLate, FieldCount, BadNumber, BadWord, NotHex, UnknownFlow, TooManyFlows, SameFlow, SameSid, TooShort, PointerPast}
+use Rattle.texts.specs.declared.trace.line.TraceLine.{TraceLine}
+use Rattle.texts.specs.declared.trace.line.TraceLine.TheVariants as line
 use Rattle.texts.specs.Kinds.{IsLeastFault}
 use Rattle.texts.specs.Format.{Format}
-use Rattle.texts.specs.Number.{IsNumber}
-use Rattle.texts.specs.Trace.Line.{number_max, channel_max, sid_max, flow_max, FlowFields, SidFields, GapFields, GapToFields, CarriesFlow, CarriesSid, CarriesInput, CarriesGap, CarriesGapTo, IsUnknown, IsSetupLine, HasWrongCount, HasBadNumber, HasBadWord, HasBadHex}
+use Rattle.texts.specs.Trace.Line.{LineForm, flow_line, sid_line, word_of, Carries, HasFaultByItself}
 
 -- what an input line says: what came in on a channel, or a decision
 pub data Entry : Type 0 where
@@ -29,76 +30,93 @@ pub record Said : Type 0 where
 abbrev pub nothing_said : ℕ → Said
 nothing_said ring = record { ring = ring; flows = []; sids = []; entries = [] }
 
--- the field names a flow that no line above gives
-abbrev pub NamesUnknownFlow : Said → List ℕ → Type 0
-NamesUnknownFlow said field = (flow : ℕ) × IsNumber field flow_max flow × (length said.flows ≤ flow)
+-- what lines say together with one more
+abbrev pub with_line : Said → TraceLine → Said
+with_line said (line.Flow flow_record) = record said { flows = said.flows ++ flow_record ∷ [] }
+with_line said (line.Sid row) = record said { sids = said.sids ++ row ∷ [] }
+with_line said (line.Input channel input) = record said { entries = said.entries ++ came channel input ∷ [] }
+with_line said (line.Gap decision) = record said { entries = said.entries ++ decided decision ∷ [] }
 
--- the service flow identifier stands in a line above
-pub record HasSameFlow (said : Said) (fields : List (List ℕ)) : Type 0 where
-  pub named : FlowFields fields
-  pub sfid : ℕ
+-- ---- the faults of a line in its place
+
+-- the line sets up a flow or a service identifier, by its first word
+pub record IsSetupLine (fields : List (List ℕ)) : Type 0 where
+  pub form : LineForm
+  pub after : List (List ℕ)
+  pub are : fields ≡ word_of form ∷ after
+  pub sets_up : (form ≡ flow_line) ⊎ (form ≡ sid_line)
+
+-- the line names a flow that no line above gives
+abbrev pub NamesUnknownFlow : Said → TraceLine → Type 0
+NamesUnknownFlow said (line.Sid row) = length said.flows ≤ row.flow
+NamesUnknownFlow said (line.Gap decision) = length said.flows ≤ decision.flow
+NamesUnknownFlow said _ = ⊥
+
+-- the line gives one flow too many
+abbrev pub IsFlowTooMany : Said → TraceLine → Type 0
+IsFlowTooMany said (line.Flow flow_record) = flows_max ≤ length said.flows
+IsFlowTooMany said _ = ⊥
+
+-- this service flow identifier stands in a line above
+pub record IsSfidAbove (said : Said) (sfid : ℕ) : Type 0 where
   pub k : ℕ
   pub flow_record : FlowRecord
-  pub number : IsNumber named.sfid number_max sfid
   pub above : slice_get said.flows k ≡ Some flow_record
-  pub same : flow_record.sfid ≡ sfid
+  pub sfid_is : flow_record.sfid ≡ sfid
 
--- the channel and the service identifier stand in a line above
-pub record HasSameSid (said : Said) (fields : List (List ℕ)) : Type 0 where
-  pub named : SidFields fields
-  pub channel : ℕ
-  pub sid : ℕ
+abbrev pub HasSameFlow : Said → TraceLine → Type 0
+HasSameFlow said (line.Flow flow_record) = IsSfidAbove said flow_record.sfid
+HasSameFlow said _ = ⊥
+
+-- this channel and this service identifier stand in a line above
+pub record IsSidAbove (said : Said) (channel sid : ℕ) : Type 0 where
   pub k : ℕ
   pub row : SidRow
-  pub channel_is : IsNumber named.channel channel_max channel
-  pub sid_is : IsNumber named.sid sid_max sid
   pub above : slice_get said.sids k ≡ Some row
-  pub same_channel : row.channel ≡ channel
-  pub same_sid : row.sid ≡ sid
+  pub channel_is : row.channel ≡ channel
+  pub sid_is : row.sid ≡ sid
 
--- the faults that a line with these fields has after lines that say this
+abbrev pub HasSameSid : Said → TraceLine → Type 0
+HasSameSid said (line.Sid row) = IsSidAbove said row.channel row.sid
+HasSameSid said _ = ⊥
+
+-- the faults that what a line says has after lines that say this
+abbrev pub HasFaultAmong : Said → TraceLine → TraceKind → Type 0
+HasFaultAmong said line UnknownFlow = NamesUnknownFlow said line
+HasFaultAmong said line TooManyFlows = IsFlowTooMany said line
+HasFaultAmong said line SameFlow = HasSameFlow said line
+HasFaultAmong said line SameSid = HasSameSid said line
+HasFaultAmong said line _ = ⊥
+
+-- the fields say something that has this fault after lines that say this
+pub record SaysFaulty (said : Said) (fields : List (List ℕ)) (kind : TraceKind) : Type 0 where
+  pub line : TraceLine
+  pub carries : Carries said.ring fields line
+  pub faulty : HasFaultAmong said line kind
+
+-- The faults that a line with these fields has after lines that say this. A line with a fault by itself says nothing; its fault has a lesser
+-- number than those of what a line says.
 abbrev pub HasLineFault : Said → List (List ℕ) → TraceKind → Type 0
-HasLineFault said fields UnknownLine = IsUnknown fields
+HasLineFault said fields UnknownLine = HasFaultByItself fields UnknownLine
 HasLineFault said fields SetupLate = IsSetupLine fields × (0 < length said.entries)
-HasLineFault said fields FieldCount = HasWrongCount fields
-HasLineFault said fields BadNumber = HasBadNumber fields
-HasLineFault said fields BadWord = HasBadWord fields
-HasLineFault said fields NotHex = HasBadHex fields
-HasLineFault said fields UnknownFlow =
-    ((named : SidFields fields) × NamesUnknownFlow said named.flow)
-    ⊎ ((named : GapFields fields) × NamesUnknownFlow said named.flow)
-    ⊎ ((named : GapToFields fields) × NamesUnknownFlow said named.flow)
-HasLineFault said fields TooManyFlows = FlowFields fields × (flows_max ≤ length said.flows)
-HasLineFault said fields SameFlow = HasSameFlow said fields
-HasLineFault said fields SameSid = HasSameSid said fields
+HasLineFault said fields FieldCount = HasFaultByItself fields FieldCount
+HasLineFault said fields BadNumber = HasFaultByItself fields BadNumber
+HasLineFault said fields BadWord = HasFaultByItself fields BadWord
+HasLineFault said fields NotHex = HasFaultByItself fields NotHex
+HasLineFault said fields UnknownFlow = SaysFaulty said fields UnknownFlow
+HasLineFault said fields TooManyFlows = SaysFaulty said fields TooManyFlows
+HasLineFault said fields SameFlow = SaysFaulty said fields SameFlow
+HasLineFault said fields SameSid = SaysFaulty said fields SameSid
 HasLineFault said fields TooShort = ⊥
 HasLineFault said fields PointerPast = ⊥
 
--- a flow, a row, what came on a channel, or a decision, more than before
-pub record AddsFlow (before : Said) (fields : List (List ℕ)) (after : Said) : Type 0 where
-  pub flow_record : FlowRecord
-  pub carries : CarriesFlow before.ring fields flow_record
-  pub added : after ≡ record before { flows = before.flows ++ flow_record ∷ [] }
+-- ---- what a line adds
 
-pub record AddsSid (before : Said) (fields : List (List ℕ)) (after : Said) : Type 0 where
-  pub row : SidRow
-  pub carries : CarriesSid fields row
-  pub added : after ≡ record before { sids = before.sids ++ row ∷ [] }
-
-pub record AddsInput (before : Said) (fields : List (List ℕ)) (after : Said) : Type 0 where
-  pub channel : ℕ
-  pub input : Input
-  pub carries : CarriesInput fields channel input
-  pub added : after ≡ record before { entries = before.entries ++ came channel input ∷ [] }
-
-pub record AddsDecision (before : Said) (fields : List (List ℕ)) (after : Said) : Type 0 where
-  pub decision : Decision
-  pub carries : CarriesGap fields decision ⊎ CarriesGapTo fields decision
-  pub added : after ≡ record before { entries = before.entries ++ decided decision ∷ [] }
-
--- what a line with these fields adds
-abbrev pub AddsLine : Said → List (List ℕ) → Said → Type 0
-AddsLine before fields after = AddsFlow before fields after ⊎ AddsSid before fields after ⊎ AddsInput before fields after ⊎ AddsDecision before fields after
+-- what a line with these fields makes of what the lines above say
+pub record AddsLine (before : Said) (fields : List (List ℕ)) (after : Said) : Type 0 where
+  pub line : TraceLine
+  pub carries : Carries before.ring fields line
+  pub added : after ≡ with_line before line
 
 -- The lines of a trace. A line is taken if it has no fault; of its faults the one of the least kind is reported.
 abbrev pub trace_format : Format Said
@@ -106,18 +124,3 @@ trace_format = record {
   Takes = λ before fields after. AddsLine before fields after × ((kind : TraceKind) → ¬ (HasLineFault before fields kind));
   HasFault = λ above fields. IsLeastFault (HasLineFault above fields);
 }
-
--- the faults that don't depend on the lines above, and the least of them
-abbrev pub HasFaultByItself : List (List ℕ) → TraceKind → Type 0
-HasFaultByItself fields UnknownLine = IsUnknown fields
-HasFaultByItself fields FieldCount = HasWrongCount fields
-HasFaultByItself fields BadNumber = HasBadNumber fields
-HasFaultByItself fields BadWord = HasBadWord fields
-HasFaultByItself fields NotHex = HasBadHex fields
-HasFaultByItself fields _ = ⊥
-
-abbrev pub IsLeastFaultByItself : List (List ℕ) → TraceKind → Type 0
-IsLeastFaultByItself fields = IsLeastFault (HasFaultByItself fields)
-
-abbrev pub HasNoFaultByItself : List (List ℕ) → Type 0
-HasNoFaultByItself fields = (kind : TraceKind) → ¬ (HasFaultByItself fields kind)

@@ -5,9 +5,15 @@ use std::test::Fail;
 fn shows_each_kind_of_a_faulty_line(rt: HostRuntime) -> Result<(), Fail> {
     let cases = [
         (TraceKind::UnknownLine, "unknown line"),
+        (TraceKind::SetupLate, "setup after input"),
         (TraceKind::FieldCount, "wrong number of fields"),
         (TraceKind::BadNumber, "bad number"),
+        (TraceKind::BadWord, "not ok or bad"),
         (TraceKind::NotHex, "not hexadecimal"),
+        (TraceKind::UnknownFlow, "unknown flow"),
+        (TraceKind::TooManyFlows, "too many flows"),
+        (TraceKind::SameFlow, "flow given before"),
+        (TraceKind::SameSid, "sid given before"),
         (TraceKind::TooShort, "too short"),
         (TraceKind::PointerPast, "pointer past the end"),
     ];
@@ -18,6 +24,8 @@ fn shows_each_kind_of_a_faulty_line(rt: HostRuntime) -> Result<(), Fail> {
         };
         let line = format!(in rt.alloc(); "line 7: {words}")?;
         let shown = format!(in rt.alloc(); "{fault}")?;
+        assert_eq!(rt; shown.as_str(), line.as_str());
+        let shown = format!(in rt.alloc(); "{}", ParseFault::Line(fault))?;
         assert_eq!(rt; shown.as_str(), line.as_str());
         let shown = format!(in rt.alloc(); "{}", TextFault::Trace(fault))?;
         assert_eq!(rt; shown.as_str(), line.as_str());

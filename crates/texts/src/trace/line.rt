@@ -1,14 +1,15 @@
 //! A line of a trace, by itself.
-ghost use Rattle.std.specs.Prelude.{◌≡◌, ◌∷◌, ◌≤◌, [], ℕ, Bool, IfOk, IfErr, IfSome};
-ghost use Rattle.texts.specs.declared.fault.TraceKind.{TraceKind};
+ghost use Rattle.std.specs.Prelude.{◌≡◌, ◌∷◌, ℕ, IfOk, IfErr};
 ghost use Rattle.texts.specs.Fault.{IsLineFault};
 ghost use Rattle.texts.specs.Lines.{words_of};
-ghost use Rattle.texts.specs.Trace.Line.{Carries};
-ghost use Rattle.texts.specs.Trace.Place.{HasNoFaultByItself, IsLeastFaultByItself};
+ghost use Rattle.texts.specs.Trace.Line.{number_in, check_word, a_number, a_check};
+ghost use Rattle.texts.specs.Trace.Line.{flow_line, sid_line, grant_line, burst_line, gap_line};
+ghost use Rattle.texts.specs.Trace.Line.{word_of, IsField, IsBadField};
+ghost use Rattle.texts.specs.Trace.Line.{Carries, IsLeastFaultByItself};
 
 use crate::fault::{LineFault, TraceKind};
 use crate::field::read_hex;
-use crate::number::{read_number, read_number_in};
+use crate::number::read_number_in;
 use crate::words::{only_four_words, only_three_words, only_two_words, only_word};
 use docsis_wire::Bytes;
 use flow_core::FlowRecord;
@@ -46,7 +47,6 @@ pub fn read_trace_line(
     rest: &[u8],
 ) -> Result<TraceLine, LineFault>
     ensures carried { IfOk result (Carries ring (field.now ∷ words_of rest.now)) }
-    ensures faultless { IfOk result (λ _. HasNoFaultByItself (field.now ∷ words_of rest.now)) }
     ensures fault { IfErr result
         (IsLineFault (IsLeastFaultByItself (field.now ∷ words_of rest.now))) }
 {
@@ -65,35 +65,69 @@ pub fn read_trace_line(
     }
 }
 
-/// The number of a field, at most so much.
-fn number_of(field: &[u8], most: u32) -> Result<u32, LineFault> {
-    read_number(field, most).ok_or(LineFault::Kind(TraceKind::BadNumber))
-}
-
-/// The number of a field, in this range.
-fn number_in(field: &[u8], least: u32, most: u32) -> Result<u32, LineFault> {
+/// The number of a field, from `least` to `most`.
+fn number_between(field: &[u8], least: u32, most: u32) -> Result<u32, LineFault>
+    ensures number { IfOk result
+        (λ number. IsField (number_in least most) field.now (a_number number)) }
+    ensures kind { IfErr result (λ fault. fault ≡ LineFault.Kind TraceKind.BadNumber) }
+    ensures bad { IfErr result (λ _. IsBadField (number_in least most) field.now) }
+{
     read_number_in(field, least, most).ok_or(LineFault::Kind(TraceKind::BadNumber))
 }
 
+/// The number of a field, at most so much.
+fn number_of(field: &[u8], most: u32) -> Result<u32, LineFault>
+    ensures number { IfOk result
+        (λ number. IsField (number_in 0 most) field.now (a_number number)) }
+    ensures kind { IfErr result (λ fault. fault ≡ LineFault.Kind TraceKind.BadNumber) }
+    ensures bad { IfErr result (λ _. IsBadField (number_in 0 most) field.now) }
+{
+    number_between(field, 0, most)
+}
+
+/// Whether a burst's check is right, by the word for it.
+fn read_check(word: &[u8]) -> Result<bool, LineFault>
+    ensures check { IfOk result (λ right. IsField check_word word.now (a_check right)) }
+    ensures kind { IfErr result (λ fault. fault ≡ LineFault.Kind TraceKind.BadWord) }
+    ensures bad { IfErr result (λ _. IsBadField check_word word.now) }
+{
+    if word == b"ok".as_slice() {
+        Ok(true)
+    } else if word == b"bad".as_slice() {
+        Ok(false)
+    } else {
+        Err(LineFault::Kind(TraceKind::BadWord))
+    }
+}
+
 /// `flow <sfid> <first> <window> <clusters>`, by what follows the first word.
-fn read_flow(ring: u16, rest: &[u8]) -> Result<TraceLine, LineFault> {
-    let (sfid, first, window, clusters) = only_four_words(rest).ok_or(LineFault::Kind(
-        TraceKind::FieldCount,
-    ))?;
+fn read_flow(ring: u16, rest: &[u8]) -> Result<TraceLine, LineFault>
+    ensures carried { IfOk result (Carries ring (word_of flow_line ∷ words_of rest.now)) }
+    ensures fault { IfErr result
+        (IsLineFault (IsLeastFaultByItself (word_of flow_line ∷ words_of rest.now))) }
+{
+    let Some((sfid, first, window, clusters)) = only_four_words(rest) else {
+        return Err(LineFault::Kind(TraceKind::FieldCount));
+    };
     Ok(TraceLine::Flow(FlowRecord {
         sfid: number_of(sfid, u32::MAX)?,
         first: number_of(first, SEQUENCE_MAX)? as u16,
-        window: number_in(window, 1, 4096)? as u16,
-        clusters: number_in(clusters, 1, 8)? as u8,
+        window: number_between(window, 1, 4096)? as u16,
+        clusters: number_between(clusters, 1, 8)? as u8,
         ring,
     }))
 }
 
 /// `sid <channel> <sid> <flow>`, by what follows the first word.
-fn read_sid(rest: &[u8]) -> Result<TraceLine, LineFault> {
-    let (channel, sid, flow) = only_three_words(rest).ok_or(LineFault::Kind(
-        TraceKind::FieldCount,
-    ))?;
+fn read_sid(rest: &[u8]) -> Result<TraceLine, LineFault>
+    ensures carried { (ring : ℕ)
+        → IfOk result (Carries ring (word_of sid_line ∷ words_of rest.now)) }
+    ensures fault { IfErr result
+        (IsLineFault (IsLeastFaultByItself (word_of sid_line ∷ words_of rest.now))) }
+{
+    let Some((channel, sid, flow)) = only_three_words(rest) else {
+        return Err(LineFault::Kind(TraceKind::FieldCount));
+    };
     Ok(TraceLine::Sid(SidRow {
         channel: number_of(channel, CHANNEL_MAX)? as u8,
         sid: number_of(sid, SID_MAX)? as u16,
@@ -102,10 +136,15 @@ fn read_sid(rest: &[u8]) -> Result<TraceLine, LineFault> {
 }
 
 /// `grant <channel> <number> <sid> <bytes>`, by what follows the first word.
-fn read_grant(rest: &[u8]) -> Result<TraceLine, LineFault> {
-    let (channel, number, sid, bytes) = only_four_words(rest).ok_or(LineFault::Kind(
-        TraceKind::FieldCount,
-    ))?;
+fn read_grant(rest: &[u8]) -> Result<TraceLine, LineFault>
+    ensures carried { (ring : ℕ)
+        → IfOk result (Carries ring (word_of grant_line ∷ words_of rest.now)) }
+    ensures fault { IfErr result
+        (IsLineFault (IsLeastFaultByItself (word_of grant_line ∷ words_of rest.now))) }
+{
+    let Some((channel, number, sid, bytes)) = only_four_words(rest) else {
+        return Err(LineFault::Kind(TraceKind::FieldCount));
+    };
     let channel = number_of(channel, CHANNEL_MAX)? as u8;
     let input = Input::Grant {
         number: number_of(number, u32::MAX)?,
@@ -116,10 +155,15 @@ fn read_grant(rest: &[u8]) -> Result<TraceLine, LineFault> {
 }
 
 /// `burst <channel> <number> ok|bad <hex>`, by what follows the first word.
-fn read_burst(alloc: Global, rest: &[u8]) -> Result<TraceLine, LineFault> {
-    let (channel, number, check, hex) = only_four_words(rest).ok_or(LineFault::Kind(
-        TraceKind::FieldCount,
-    ))?;
+fn read_burst(alloc: Global, rest: &[u8]) -> Result<TraceLine, LineFault>
+    ensures carried { (ring : ℕ)
+        → IfOk result (Carries ring (word_of burst_line ∷ words_of rest.now)) }
+    ensures fault { IfErr result
+        (IsLineFault (IsLeastFaultByItself (word_of burst_line ∷ words_of rest.now))) }
+{
+    let Some((channel, number, check, hex)) = only_four_words(rest) else {
+        return Err(LineFault::Kind(TraceKind::FieldCount));
+    };
     let channel = number_of(channel, CHANNEL_MAX)? as u8;
     let input = Input::Burst {
         grant: number_of(number, u32::MAX)?,
@@ -129,25 +173,24 @@ fn read_burst(alloc: Global, rest: &[u8]) -> Result<TraceLine, LineFault> {
     Ok(TraceLine::Input { channel, input })
 }
 
-/// Whether a burst's check is right, by the word for it.
-fn read_check(word: &[u8]) -> Result<bool, LineFault> {
-    if word == b"ok".as_slice() {
-        Ok(true)
-    } else if word == b"bad".as_slice() {
-        Ok(false)
-    } else {
-        Err(LineFault::Kind(TraceKind::BadWord))
-    }
-}
-
 /// `gap <flow>` or `gap <flow> <number>`, by what follows the first word.
-fn read_gap(rest: &[u8]) -> Result<TraceLine, LineFault> {
+fn read_gap(rest: &[u8]) -> Result<TraceLine, LineFault>
+    ensures carried { (ring : ℕ)
+        → IfOk result (Carries ring (word_of gap_line ∷ words_of rest.now)) }
+    ensures fault { IfErr result
+        (IsLineFault (IsLeastFaultByItself (word_of gap_line ∷ words_of rest.now))) }
+{
     if let Some(flow) = only_word(rest) {
         let flow = number_of(flow, FLOW_MAX)? as usize;
         return Ok(TraceLine::Gap(Decision { flow, upto: None }));
     }
-    let (flow, number) = only_two_words(rest).ok_or(LineFault::Kind(TraceKind::FieldCount))?;
+    let Some((flow, number)) = only_two_words(rest) else {
+        return Err(LineFault::Kind(TraceKind::FieldCount));
+    };
     let flow = number_of(flow, FLOW_MAX)? as usize;
     let upto = Some(number_of(number, SEQUENCE_MAX)? as u16);
     Ok(TraceLine::Gap(Decision { flow, upto }))
 }
+
+#[cfg(test)]
+mod tests;

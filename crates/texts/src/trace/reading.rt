@@ -1,6 +1,8 @@
 //! The lines of a trace, one after another.
-ghost use Rattle.std.specs.Prelude.{◌≡◌, ◌≤◌, IfOk, IfErr};
+ghost use Rattle.std.specs.Prelude.{◌≡◌, ◌≤◌, ◌<◌, ◌↔◌, ◌⊎◌, IsTrue, OnOk, IfOk, IfErr, vec_len};
+ghost use Rattle.uplink.specs.Limits.{channel_limit, sid_limit};
 ghost use Rattle.texts.specs.Trace.{IsTrace, IsTraceFault};
+ghost use Rattle.texts.specs.Trace.Line.{word_of, flow_line, sid_line};
 
 use super::Trace;
 use super::line::{TraceLine, read_trace_line};
@@ -19,18 +21,21 @@ const DECISION: u8 = 4;
 #[derive(Drop)]
 struct Reading {
     ring: u16,
-    trace: Trace,
+    flows: Vec<FlowRecord>,
+    sids: Vec<SidRow>,
+    lists: Lists,
+    tags: Vec<u8>,
     seen: SeenSids,
 }
 
 impl Reading {
-    /// What no lines give.
-    fn new(alloc: Global, ring: u16, mailbox: u16) -> Reading {
-        let setup = Setup {
-            flows: Vec::new(alloc),
-            sids: Vec::new(alloc),
-            mailbox,
-        };
+    ghost use Rattle.texts.specs.Trace.Place.{nothing_said};
+    ghost use Rattle.texts.specs.Trace.Reading.{HasRead, IsInRange, ReadsLine};
+
+    /// What no lines give, where each flow is to have a ring of this capacity.
+    fn new(alloc: Global, ring: u16) -> Reading
+        ensures { HasRead (nothing_said ring) result }
+    {
         let lists = Lists {
             inputs: [
                 Vec::new(alloc),
@@ -40,61 +45,95 @@ impl Reading {
             ],
             decisions: Vec::new(alloc),
         };
-        let tags = Vec::new(alloc);
         Reading {
             ring,
-            trace: Trace { setup, lists, tags },
+            flows: Vec::new(alloc),
+            sids: Vec::new(alloc),
+            lists,
+            tags: Vec::new(alloc),
             seen: SeenSids::new(),
         }
     }
 
+    /// Whether a line that begins with this word is late: it sets up a flow or a service identifier,
+    /// and a line above says what came in.
+    fn is_late(&self, word: &[u8]) -> bool
+        ensures { IsTrue result
+            ↔ (((word.now ≡ word_of flow_line) ⊎ (word.now ≡ word_of sid_line))
+            × (0 < vec_len self.now.tags)) }
+    {
+        (word == b"flow".as_slice() || word == b"sid".as_slice()) && !self.tags.is_empty()
+    }
+
+    /// Adds what a line says.
+    fn add(&mut self, line: TraceLine) -> Result<(), LineFault>
+        requires { IsInRange line }
+        ensures { ReadsLine self.old line result self.new }
+    {
+        match line {
+            TraceLine::Flow(flow) => self.add_flow(flow),
+            TraceLine::Sid(row) => self.add_sid(row),
+            TraceLine::Input { channel, input } => self.add_input(channel, input),
+            TraceLine::Gap(decision) => self.add_decision(decision),
+        }
+    }
+
     /// Adds a flow.
-    fn add_flow(&mut self, flow: FlowRecord) -> Result<(), LineFault> {
-        let flows = &mut self.trace.setup.flows;
-        if flows.len() >= FLOWS_MAX {
+    fn add_flow(&mut self, flow: FlowRecord) -> Result<(), LineFault>
+        ensures { ReadsLine self.old (TraceLine.Flow flow) result self.new }
+    {
+        if self.flows.len() >= FLOWS_MAX {
             return Err(LineFault::Kind(TraceKind::TooManyFlows));
         }
-        if flows.iter().any(|other| other.sfid == flow.sfid) {
+        if self.flows.iter().any(|other| other.sfid == flow.sfid) {
             return Err(LineFault::Kind(TraceKind::SameFlow));
         }
-        Ok(flows.push(flow)?)
+        Ok(self.flows.push(flow)?)
     }
 
     /// Adds a service identifier.
-    fn add_sid(&mut self, row: SidRow) -> Result<(), LineFault> {
+    fn add_sid(&mut self, row: SidRow) -> Result<(), LineFault>
+        requires channel { row.channel < channel_limit }
+        requires sid { row.sid < sid_limit }
+        ensures { ReadsLine self.old (TraceLine.Sid row) result self.new }
+    {
         self.find_flow(row.flow)?;
         if self.seen.contains(row.channel, row.sid) {
             return Err(LineFault::Kind(TraceKind::SameSid));
         }
         self.seen.insert(row.channel, row.sid);
-        Ok(self.trace.setup.sids.push(row)?)
+        Ok(self.sids.push(row)?)
     }
 
     /// Adds what came in on a channel, 0 to 3.
-    fn add_input(&mut self, channel: u8, input: Input) -> Result<(), LineFault> {
-        self.trace.tags.push(channel)?;
-        Ok(self.trace.lists.inputs[usize::from(channel)].push(input)?)
+    fn add_input(&mut self, channel: u8, input: Input) -> Result<(), LineFault>
+        requires { channel < channel_limit }
+        ensures { ReadsLine self.old (TraceLine.Input channel input) result self.new }
+    {
+        self.tags.push(channel)?;
+        Ok(self.lists.inputs[usize::from(channel)].push(input)?)
     }
 
     /// Adds a decision.
-    fn add_decision(&mut self, decision: Decision) -> Result<(), LineFault> {
+    fn add_decision(&mut self, decision: Decision) -> Result<(), LineFault>
+        ensures { ReadsLine self.old (TraceLine.Gap decision) result self.new }
+    {
         self.find_flow(decision.flow)?;
-        self.trace.tags.push(DECISION)?;
-        Ok(self.trace.lists.decisions.push(decision)?)
+        self.tags.push(DECISION)?;
+        Ok(self.lists.decisions.push(decision)?)
     }
 
     /// Looks whether a line above gives this flow.
-    fn find_flow(&self, flow: usize) -> Result<(), LineFault> {
-        if flow >= self.trace.setup.flows.len() {
+    fn find_flow(&self, flow: usize) -> Result<(), LineFault>
+        ensures known { OnOk result (flow < vec_len self.now.flows) }
+        ensures unknown { IfErr result (λ fault.
+            (fault ≡ LineFault.Kind TraceKind.UnknownFlow) × (vec_len self.now.flows ≤ flow)) }
+    {
+        if flow >= self.flows.len() {
             return Err(LineFault::Kind(TraceKind::UnknownFlow));
         }
         Ok(())
     }
-}
-
-/// Whether this word begins a line that sets up a flow or a service identifier.
-fn is_setup_word(word: &[u8]) -> bool {
-    word == b"flow".as_slice() || word == b"sid".as_slice()
 }
 
 impl TakeLine for Reading {
@@ -108,21 +147,22 @@ impl TakeLine for Reading {
     ghost stands_for = { λ said reading. HasRead said reading };
 
     fn take_line(&mut self, alloc: Global, field: &[u8], rest: &[u8]) -> Result<(), LineFault> {
-        if is_setup_word(field) && !self.trace.tags.is_empty() {
+        if self.is_late(field) {
             return Err(LineFault::Kind(TraceKind::SetupLate));
         }
-        match read_trace_line(alloc, self.ring, field, rest)? {
-            TraceLine::Flow(flow) => self.add_flow(flow),
-            TraceLine::Sid(row) => self.add_sid(row),
-            TraceLine::Input { channel, input } => self.add_input(channel, input),
-            TraceLine::Gap(decision) => self.add_decision(decision),
-        }
+        let line = read_trace_line(alloc, self.ring, field, rest)?;
+        self.add(line)
     }
 }
 
 /// The setup, the lists and the tags that a trace gives, with rings and mailboxes of these
 /// capacities, each at least 1. Otherwise it reports the first faulty line with the least kind of
 /// its faults, or that an allocation failed.
+///
+/// That an input is one trace or has one fault is stated by
+/// [`input_is_one_trace`](crate::laws::input_is_one_trace),
+/// [`trace_has_one_fault`](crate::laws::trace_has_one_fault) and
+/// [`faulty_input_is_no_trace`](crate::laws::faulty_input_is_no_trace).
 pub fn parse_trace(
     alloc: Global,
     input: &[u8],
@@ -134,7 +174,19 @@ pub fn parse_trace(
     ensures trace { IfOk result (IsTrace ring mailbox input.now) }
     ensures fault { IfErr result (IsTraceFault ring input.now) }
 {
-    let mut reading = Reading::new(alloc, ring, mailbox);
+    let mut reading = Reading::new(alloc, ring);
     take_lines(alloc, input, &mut reading)?;
-    Ok(reading.trace)
+    let Reading {
+        flows,
+        sids,
+        lists,
+        tags,
+        ..
+    } = reading;
+    let setup = Setup {
+        flows,
+        sids,
+        mailbox,
+    };
+    Ok(Trace { setup, lists, tags })
 }

@@ -1,7 +1,7 @@
 use Rattle.std.proofs.Common.{◌≡◌}
 use Rattle.std.specs.Prelude.{map}
-use Rattle.segrx.specs.declared.command.Command.TheVariants.{Join}
-use Rattle.segrx.specs.Command.{AsksToJoin}
+use Rattle.segrx.specs.declared.command.Command.TheVariants.{Join, Replay}
+use Rattle.segrx.specs.Command.{AsksToJoin, AsksToReplay}
 use Rattle.segrx.proofs.Obeying.{Obeys-performed}
 use Rattle.segrx.proofs.program.obey.Goals as goal
 
@@ -9,5 +9,6 @@ pub returns : goal.returns
 returns g c =
     let words = map g.S.AsStr.text c.args.words.now in
     let joins : AsksToJoin words → c.in_ok-command.command ≡ Join = λ asks. cc (c.in_ok-command.was, c.read_words.ensures.join asks) in
+    let replays : AsksToReplay words → c.in_ok-command.command ≡ Replay = λ asks. cc (c.in_ok-command.was, c.read_words.ensures.replay asks) in
     Obeys-performed g.R.Read.remaining g.W.Write.contents words c.in_ok-command.command c.args.reader.now c.perform.new.reader
-    c.args.out.now c.perform.new.out c.perform.result c.requires.reader c.requires.out c.in_ok-command.ensures.asked joins c.perform.ensures
+    c.args.out.now c.perform.new.out c.perform.result c.requires.reader c.requires.out c.in_ok-command.ensures.asked joins replays c.perform.ensures

@@ -36,3 +36,9 @@ returns-clause-cut g c = (SaysOfWords-run c.new-reader.ensures.inner c.run_words
 
 pub returns-clause-usage : goal.returns-clause-usage
 returns-clause-usage g c = (SaysOfWords-run c.new-reader.ensures.inner c.run_words-status.ensures).usage
+
+pub returns-clause-replay : goal.returns-clause-replay
+returns-clause-replay g c = (SaysOfWords-run c.new-reader.ensures.inner c.run_words-status.ensures).replay
+
+pub returns-clause-replay_is_known : goal.returns-clause-replay_is_known
+returns-clause-replay_is_known g c = (SaysOfWords-run c.new-reader.ensures.inner c.run_words-status.ensures).replay_is_known

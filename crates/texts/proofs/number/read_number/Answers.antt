@@ -6,18 +6,16 @@ pub returns-in_default-clause-none : goal.returns-in_default-clause-none
 returns-in_default-clause-none c none =
     IsNoNumber-byte c.args.field.now c.args.most c.loop-byte.byte-index c.from.result c.loop-byte-test.true c.from.ensures c.in_default.ensures.value
 
-pub returns-then-next-from-clause-none : goal.returns-then-next-from-clause-none
-returns-then-next-from-clause-none c none =
-    let i = c.loop-byte.invariant in
+pub returns-then-number-from-clause-none : goal.returns-then-number-from-clause-none
+returns-then-number-from-clause-none c none =
     let more =
-    ReadsDigit-more c.args.field.now c.loop-byte.byte-index c.from-in-loop-byte.result c.from.result c.in-Some.digit c.loop-byte-test.true i.digits
-    (c.from-in-loop-byte.ensures ∙ i.value) c.from.ensures c.in-Some.ensures.value in
+    ReadsDigit-more c.args.field.now c.loop-byte.byte-index c.loop-byte.number c.from.result c.from-in-loop-byte.result c.loop-byte-test.true c.loop-byte.invariant.digits
+    c.loop-byte.invariant.value c.from.ensures (c.in-Some.ensures.value.0, c.from-in-loop-byte.ensures ∙ c.in-Some.ensures.value.1) in
     IsNoNumber-past c.args.field.now c.args.most (c.loop-byte.byte-index + 1) _ more.value_is (omega arith)
 
 pub loop-byte-preserved : goal.loop-byte-preserved
 loop-byte-preserved c =
-    let i = c.loop-byte.invariant in
     let more =
-    ReadsDigit-more c.args.field.now c.loop-byte.byte-index c.from-in-loop-byte.result c.from.result c.in-Some.digit c.loop-byte-test.true i.digits
-    (c.from-in-loop-byte.ensures ∙ i.value) c.from.ensures c.in-Some.ensures.value in
+    ReadsDigit-more c.args.field.now c.loop-byte.byte-index c.loop-byte.number c.from.result c.from-in-loop-byte.result c.loop-byte-test.true c.loop-byte.invariant.digits
+    c.loop-byte.invariant.value c.from.ensures (c.in-Some.ensures.value.0, c.from-in-loop-byte.ensures ∙ c.in-Some.ensures.value.1) in
     record { digits = more.digits; value = more.value_is; within = omega arith }

@@ -1,0 +1,172 @@
+-- What the lines of a trace say passes the checks of a receiver's setup.
+use Rattle.std.proofs.Common.{◌≡◌, ℕ, ◌+◌, ◌<◌, ◌≤◌, inl, inr, ⊎_elim, Some, List, [], ◌∷◌, ◌++◌, length, sym, subst, arith, length-append}
+use Rattle.std.specs.Prelude.{slice_get}
+use Rattle.std.proofs.lemmas.Bool.{cases_lt}
+use Rattle.flow_core.specs.declared.record.FlowRecord.{FlowRecord}
+use Rattle.flow_core.specs.Setup.{flows_max, IsInRange, CanBeSetUp}
+use Rattle.uplink.specs.declared.row.SidRow.{SidRow}
+use Rattle.uplink.specs.Limits.{channel_limit, sid_limit}
+use Rattle.uplink.specs.Rows.{CanBeOpened}
+use Rattle.uplink.specs.declared.input.Input.{Input}
+use Rattle.uplink.specs.declared.setup.Decision.{Decision}
+use Rattle.texts.specs.declared.fault.TraceKind.{TraceKind}
+use Rattle.texts.specs.declared.fault.TraceKind.TheVariants.{UnknownFlow, TooManyFlows, SameFlow, SameSid}
+use Rattle.texts.specs.declared.trace.line.TraceLine.{TraceLine}
+use Rattle.texts.specs.declared.trace.line.TraceLine.TheVariants as line
+use Rattle.texts.specs.Format.{IsRead}
+use Rattle.texts.specs.Trace.Line.{flow_line, fields_after, AreFields, values_of, Carries}
+use Rattle.texts.specs.Trace.Place.{Said, nothing_said, with_line, HasFaultAmong, trace_format}
+use Rattle.texts.proofs.OneTraceLine.{sid_in_range}
+use Rattle.texts.proofs.TraceLines.{none_among}
+use Rattle.texts.proofs.Pushed.{EachAt, AreApart, EachAt-pushed, AreApart-pushed}
+use Rattle.texts.proofs.ReadKeeps.{Keeps, IsRead-keeps}
+
+-- ---- the flows
+
+-- two records have one service flow identifier
+abbrev SameSfid : FlowRecord → FlowRecord → Type 0
+SameSfid earlier flow_record = earlier.sfid ≡ flow_record.sfid
+
+-- records with their ranges, no two of which have one identifier, can be set up
+can_be_set_up : (records : List FlowRecord) → length records ≤ flows_max → EachAt IsInRange records → AreApart SameSfid records → CanBeSetUp records
+can_be_set_up records few each apart = record {
+  few = few;
+  in_range = λ k bad. bad.2 (each k bad.0 bad.1);
+  each = each;
+  apart = λ k repeated. apart repeated.0 k repeated.3 repeated.2 repeated.1 repeated.5 repeated.4 repeated.6;
+}
+
+-- one flow more can be set up
+CanBeSetUp-pushed : (records : List FlowRecord) (flow_record : FlowRecord) → CanBeSetUp records → length records < flows_max → IsInRange flow_record
+    → EachAt (λ earlier. ¬ (SameSfid earlier flow_record)) records → CanBeSetUp (records ++ flow_record ∷ [])
+CanBeSetUp-pushed records flow_record can few in_range new =
+    let longer = length-append records (flow_record ∷ []) in
+    can_be_set_up (records ++ flow_record ∷ []) (omega arith) (EachAt-pushed IsInRange records flow_record can.each in_range)
+    (AreApart-pushed SameSfid records flow_record (λ j k earlier x before at_j at_k same. can.apart k (j, before, x, earlier, at_k, at_j, same)) new)
+
+-- ---- the service identifiers
+
+-- the row lies in its ranges, and names one of so many flows
+record IsRowFor (flow_count : ℕ) (row : SidRow) : Type 0 where
+  channel : row.channel < channel_limit
+  sid : row.sid < sid_limit
+  flow : row.flow < flow_count
+
+-- two rows have one channel and one service identifier
+abbrev SameIdentifier : SidRow → SidRow → Type 0
+SameIdentifier earlier row = (earlier.channel ≡ row.channel) × (earlier.sid ≡ row.sid)
+
+-- such rows, no two of which have one identifier, can be opened
+can_be_opened : (rows : List SidRow) (flow_count : ℕ) → EachAt (IsRowFor flow_count) rows → AreApart SameIdentifier rows → CanBeOpened rows flow_count
+can_be_opened rows flow_count each apart = record {
+  in_range = λ k out. let fits = each k out.0 out.1 in ⊎_elim (λ high. let low = fits.channel in omega arith) (λ high. let low = fits.sid in omega arith) out.2;
+  apart = λ k repeated. apart repeated.0 k repeated.3 repeated.2 repeated.1 repeated.5 repeated.4 (repeated.6, repeated.7);
+  known = λ k lost. let low = (each k lost.0 lost.1).flow in let high = lost.2 in omega arith;
+}
+
+-- and each row that can be opened is such a one
+each_row : (rows : List SidRow) (flow_count : ℕ) → CanBeOpened rows flow_count → EachAt (IsRowFor flow_count) rows
+each_row rows flow_count can k row at = record {
+  channel = ⊎_elim (λ is. is) (λ high. absurd (can.in_range k (row, at, inl high))) (cases_lt row.channel channel_limit);
+  sid = ⊎_elim (λ is. is) (λ high. absurd (can.in_range k (row, at, inr high))) (cases_lt row.sid sid_limit);
+  flow = ⊎_elim (λ is. is) (λ high. absurd (can.known k (row, at, high))) (cases_lt row.flow flow_count);
+}
+
+-- no two of them have one identifier
+rows_apart : (rows : List SidRow) (flow_count : ℕ) → CanBeOpened rows flow_count → AreApart SameIdentifier rows
+rows_apart rows flow_count can j k earlier row before at_j at_k same = can.apart k (j, before, row, earlier, at_k, at_j, same.0, same.1)
+
+-- one row more can be opened
+CanBeOpened-pushed : (rows : List SidRow) (flow_count : ℕ) (row : SidRow) → CanBeOpened rows flow_count → IsRowFor flow_count row
+    → EachAt (λ earlier. ¬ (SameIdentifier earlier row)) rows → CanBeOpened (rows ++ row ∷ []) flow_count
+CanBeOpened-pushed rows flow_count row can fits new =
+    can_be_opened (rows ++ row ∷ []) flow_count (EachAt-pushed (IsRowFor flow_count) rows row (each_row rows flow_count can) fits)
+    (AreApart-pushed SameIdentifier rows row (rows_apart rows flow_count can) new)
+
+-- rows for some flows are rows for more
+CanBeOpened-more : (rows : List SidRow) (flow_count more : ℕ) → flow_count ≤ more → CanBeOpened rows flow_count → CanBeOpened rows more
+CanBeOpened-more rows flow_count more le can = record {
+  in_range = can.in_range;
+  apart = can.apart;
+  known = λ k lost. can.known k (lost.0, lost.1, (let high = lost.2 in omega arith));
+}
+
+-- ---- a line
+
+-- the numbers of a flow's line lie in their ranges
+abbrev HasFlowRanges : FlowRecord → Type 0
+HasFlowRanges r = (r.first ≤ 8191) × (1 ≤ r.window) × (r.window ≤ 4096) × (1 ≤ r.clusters) × (r.clusters ≤ 8)
+
+flow_in_range : (ring : ℕ) (fields : List (List ℕ)) (flow_record : FlowRecord) → Carries ring fields (line.Flow flow_record) → HasFlowRanges flow_record
+flow_in_range ring fields flow_record a = ranges a.after a.values where
+  ranges : (after : List (List ℕ)) → AreFields (fields_after flow_line) after (values_of (line.Flow flow_record)) → HasFlowRanges flow_record
+  ranges [] are = absurd are
+  ranges (sfid ∷ []) are = absurd are.1
+  ranges (sfid ∷ first ∷ []) are = absurd are.1.1
+  ranges (sfid ∷ first ∷ window ∷ []) are = absurd are.1.1.1
+  ranges (sfid ∷ first ∷ window ∷ clusters ∷ more) are = (are.1.0.0.within, are.1.1.0.1, are.1.1.0.0.within, are.1.1.1.0.1, are.1.1.1.0.0.within)
+
+-- what was said passes the checks
+pub record PassesChecks (said : Said) : Type 0 where
+  pub ring : 1 ≤ said.ring
+  pub flows : CanBeSetUp said.flows
+  pub sids : CanBeOpened said.sids (length said.flows)
+
+flow_passes : (said : Said) (fields : List (List ℕ)) (flow_record : FlowRecord) → Carries said.ring fields (line.Flow flow_record)
+    → ((kind : TraceKind) → ¬ (HasFaultAmong said (line.Flow flow_record) kind)) → PassesChecks said → PassesChecks (with_line said (line.Flow flow_record))
+flow_passes said fields flow_record carries faultless passes =
+    let few : length said.flows < flows_max = ⊎_elim (λ is. is) (λ many. absurd (faultless TooManyFlows many)) (cases_lt (length said.flows) flows_max) in
+    let ranges = flow_in_range said.ring fields flow_record carries in
+    let in_range : IsInRange flow_record = record {
+      first = (let within = ranges.0 in omega arith);
+      window_positive = ranges.1;
+      window_in_range = ranges.2;
+      clusters_positive = ranges.3;
+      clusters_in_range = ranges.4;
+      ring_positive = (let is = carries.ring_is in let positive = passes.ring in omega arith);
+    } in
+    let new : EachAt (λ earlier. ¬ (SameSfid earlier flow_record)) said.flows = λ k earlier at same.
+    faultless SameFlow (record { k = k; flow_record = earlier; above = at; sfid_is = same }) in
+    let longer = length-append said.flows (flow_record ∷ []) in
+    record {
+      ring = passes.ring;
+      flows = CanBeSetUp-pushed said.flows flow_record passes.flows few in_range new;
+      sids = CanBeOpened-more said.sids (length said.flows) (length (said.flows ++ flow_record ∷ [])) (omega arith) passes.sids;
+    }
+
+sid_passes : (said : Said) (fields : List (List ℕ)) (row : SidRow) → Carries said.ring fields (line.Sid row)
+    → ((kind : TraceKind) → ¬ (HasFaultAmong said (line.Sid row) kind)) → PassesChecks said → PassesChecks (with_line said (line.Sid row))
+sid_passes said fields row carries faultless passes =
+    let ranges = sid_in_range said.ring fields row carries in
+    let fits : IsRowFor (length said.flows) row = record {
+      channel = (let within = ranges.0 in omega arith);
+      sid = (let within = ranges.1 in omega arith);
+      flow = ⊎_elim (λ is. is) (λ high. absurd (faultless UnknownFlow high)) (cases_lt row.flow (length said.flows));
+    } in
+    let new : EachAt (λ earlier. ¬ (SameIdentifier earlier row)) said.sids = λ k earlier at same.
+    faultless SameSid (record { k = k; row = earlier; above = at; channel_is = same.0; sid_is = same.1 }) in
+    record { ring = passes.ring; flows = passes.flows; sids = CanBeOpened-pushed said.sids (length said.flows) row passes.sids fits new }
+
+passes_with : (said : Said) (fields : List (List ℕ)) (line : TraceLine) → Carries said.ring fields line → ((kind : TraceKind) → ¬ (HasFaultAmong said line kind))
+    → PassesChecks said → PassesChecks (with_line said line)
+passes_with said fields (line.Flow flow_record) carries faultless passes = flow_passes said fields flow_record carries faultless passes
+passes_with said fields (line.Sid row) carries faultless passes = sid_passes said fields row carries faultless passes
+passes_with said fields (line.Input channel input) carries faultless passes = record { ring = passes.ring; flows = passes.flows; sids = passes.sids }
+passes_with said fields (line.Gap decision) carries faultless passes = record { ring = passes.ring; flows = passes.flows; sids = passes.sids }
+
+line_passes : Keeps trace_format PassesChecks
+line_passes before fields after takes passes =
+    subst PassesChecks (sym takes.0.added)
+    (passes_with before fields takes.0.line takes.0.carries (none_among before fields takes.0.line takes.0.carries takes.1) passes)
+
+-- no lines say anything that fails the checks
+nothing_passes : (ring : ℕ) → 1 ≤ ring → PassesChecks (nothing_said ring)
+nothing_passes ring positive = record {
+  ring = positive;
+  flows = can_be_set_up [] (omega arith) (λ k x at. absurd cc) (λ j k earlier x before at_j at_k same. absurd cc);
+  sids = can_be_opened [] 0 (λ k x at. absurd cc) (λ j k earlier x before at_j at_k same. absurd cc);
+}
+
+-- what the lines of a trace say passes the checks
+pub read_passes : (ring : ℕ) (lines : List (List ℕ)) (said : Said) → 1 ≤ ring → IsRead trace_format (nothing_said ring) lines said → PassesChecks said
+read_passes ring lines said positive read = IsRead-keeps PassesChecks line_passes read (nothing_passes ring positive)

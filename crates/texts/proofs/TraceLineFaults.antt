@@ -1,0 +1,78 @@
+-- The least fault of a trace's line, from what its first faulty field is.
+use Rattle.std.proofs.Common.{◌≡◌, ◌≢◌, ℕ, List, ◌∷◌, length, get_or, refl, sym, ap, subst, arith}
+use Rattle.texts.specs.declared.fault.TraceKind.{TraceKind}
+use Rattle.texts.specs.declared.fault.TraceKind.TheVariants.{FieldCount, BadNumber, BadWord, NotHex}
+use Rattle.texts.specs.declared.fault.LineFault.{LineFault}
+use Rattle.texts.specs.declared.fault.LineFault.TheVariants as line_fault
+use Rattle.texts.specs.declared.field.FieldFault.{FieldFault}
+use Rattle.texts.specs.declared.field.FieldFault.TheVariants as field_fault
+use Rattle.texts.specs.Fault.{IsLineFault, line_fault_of_field}
+use Rattle.texts.specs.Field.{IsHex}
+use Rattle.texts.specs.Trace.Line.{hex_field, LineForm, flow_line, sid_line, grant_line, burst_line, gap_line, gap_to_line, word_of, fields_after, some_bytes, IsBadField, HasBadField, HasFaultByItself, IsLeastFaultByItself}
+use Rattle.texts.proofs.TraceFields.{IsFirstBad, least_bad, least_count}
+
+-- ---- a wrong number of fields
+
+-- the word begins lines of one form alone
+abbrev pub IsAlone : LineForm → Type 0
+IsAlone gap_line = ⊥
+IsAlone gap_to_line = ⊥
+IsAlone _ = Unit {0}
+
+one_count : (form other : LineForm) → IsAlone form → word_of form ≡ word_of other → length (fields_after other) ≡ length (fields_after form)
+one_count flow_line flow_line alone words = refl
+one_count sid_line sid_line alone words = refl
+one_count grant_line grant_line alone words = refl
+one_count burst_line burst_line alone words = refl
+one_count gap_line other alone words = absurd alone
+one_count gap_to_line other alone words = absurd alone
+one_count _ _ alone words = absurd (omega (arith, ap (λ word. get_or word 1 0) words))
+
+pub miscounted : (form : LineForm) (after : List (List ℕ)) → IsAlone form → length after ≢ length (fields_after form)
+    → IsLeastFaultByItself (word_of form ∷ after) FieldCount
+miscounted form after alone wrong =
+    let P : ℕ → Type 0 = λ count. length after ≢ count in
+    least_count form after (λ other words. subst P (sym (one_count form other alone words)) wrong)
+
+-- a gap has one field or two
+pub miscounted_gap : (after : List (List ℕ)) → length after ≢ 1 → length after ≢ 2 → IsLeastFaultByItself (word_of gap_line ∷ after) FieldCount
+miscounted_gap after one two = least_count gap_line after wrong where
+  wrong : (other : LineForm) → word_of gap_line ≡ word_of other → length after ≢ length (fields_after other)
+  wrong gap_line words = one
+  wrong gap_to_line words = two
+  wrong _ words = absurd (omega (arith, ap (λ word. get_or word 1 0) words))
+
+-- ---- a bad field
+
+-- the fields after the word, of which the first bad one has this fault
+first_fault : (form : LineForm) (after fields : List (List ℕ)) (kind : TraceKind) (fault : LineFault)
+    → (HasBadField (word_of form ∷ fields) kind → HasFaultByItself (word_of form ∷ fields) kind)
+    → after ≡ fields → length fields ≡ length (fields_after form) → fault ≡ line_fault.Kind kind → IsFirstBad (fields_after form) fields kind
+    → IsLineFault (IsLeastFaultByItself (word_of form ∷ after)) fault
+first_fault form after fields kind fault same are count is first =
+    let P : LineFault → Type 0 = IsLineFault (IsLeastFaultByItself (word_of form ∷ fields)) in
+    let Q : List (List ℕ) → Type 0 = λ after. IsLineFault (IsLeastFaultByItself (word_of form ∷ after)) fault in
+    subst Q (sym are) (subst P (sym is) (least_bad form fields kind count same first))
+
+-- where it is no number
+pub number_fault : (form : LineForm) (after fields : List (List ℕ)) (fault : LineFault) → after ≡ fields → length fields ≡ length (fields_after form)
+    → fault ≡ line_fault.Kind BadNumber → IsFirstBad (fields_after form) fields BadNumber → IsLineFault (IsLeastFaultByItself (word_of form ∷ after)) fault
+number_fault form after fields fault = first_fault form after fields BadNumber fault (λ bad. bad)
+
+-- no word for a check
+pub check_fault : (form : LineForm) (after fields : List (List ℕ)) (fault : LineFault) → after ≡ fields → length fields ≡ length (fields_after form)
+    → fault ≡ line_fault.Kind BadWord → IsFirstBad (fields_after form) fields BadWord → IsLineFault (IsLeastFaultByItself (word_of form ∷ after)) fault
+check_fault form after fields fault = first_fault form after fields BadWord fault (λ bad. bad)
+
+-- a field that spells no bytes is no hexadecimal field
+pub IsBadField-hex : (field : List ℕ) → ¬ (IsHex field) → IsBadField hex_field field
+IsBadField-hex field none (some_bytes bytes) spelled = none (bytes, spelled)
+IsBadField-hex field none _ spelled = absurd spelled
+
+-- not hexadecimal, or its bytes got no memory
+pub hex_fault : (form : LineForm) (after fields : List (List ℕ)) (fault : FieldFault) → after ≡ fields → length fields ≡ length (fields_after form)
+    → (fault ≡ field_fault.NotHex → IsFirstBad (fields_after form) fields NotHex)
+    → IsLineFault (IsLeastFaultByItself (word_of form ∷ after)) (line_fault_of_field fault)
+hex_fault form after fields field_fault.NotHex are count first =
+    first_fault form after fields NotHex (line_fault.Kind NotHex) (λ bad. bad) are count refl (first refl)
+hex_fault form after fields field_fault.OutOfMemory are count first = tt

@@ -1,0 +1,11 @@
+use Rattle.std.proofs.Common.{sym, subst}
+use Rattle.uplink.specs.Items.{incoming_of}
+use Rattle.uplink.specs.Order.{IsLawfulOrder}
+use Rattle.uplink.specs.Answer.{input_counts}
+use Rattle.texts.specs.Lines.{lines_of}
+use Rattle.texts.proofs.TraceTags.{read_of_channels, tags_are_lawful}
+use Rattle.texts.proofs.laws.tags_of_a_trace_are_lawful.Goals as goal
+
+pub returns : goal.returns
+returns c ring mailbox input trace is =
+    subst (IsLawfulOrder (input_counts (incoming_of trace.lists))) (sym is.given.tags) (tags_are_lawful mailbox is.said trace (read_of_channels ring (lines_of input) is.said is.read) is.given)

@@ -1,0 +1,33 @@
+use Rattle.std.proofs.Common.{inl, inr, refl}
+use Rattle.std.proofs.lemmas.Result.{err_from_is_err_and}
+use Rattle.texts.specs.Lines.{words_of}
+use Rattle.texts.specs.Trace.Line.{a_number, flow_line}
+use Rattle.texts.proofs.TraceLineFaults.{miscounted, number_fault}
+use Rattle.texts.proofs.trace.line.read_flow.Goals as goal
+
+pub returns-in_default-clause-fault : goal.returns-in_default-clause-fault
+returns-in_default-clause-fault c = miscounted flow_line (words_of c.args.rest.now) tt c.in_default.ensures
+
+pub returns-in_err-number_of-clause-fault : goal.returns-in_err-number_of-clause-fault
+returns-in_err-number_of-clause-fault c =
+    let p = err_from_is_err_and c.from_residual.result c.from_residual.ensures.1 in
+    rw (p.1, p.2) (number_fault flow_line _ _ _ c.in-Some.ensures refl c.in_err-number_of.ensures.kind
+    (inl (refl, c.in_err-number_of.ensures.bad)))
+
+pub returns-in_err-number_of-2-clause-fault : goal.returns-in_err-number_of-2-clause-fault
+returns-in_err-number_of-2-clause-fault c =
+    let p = err_from_is_err_and c.from_residual-in_err-number_of-2.result c.from_residual-in_err-number_of-2.ensures.1 in
+    rw (p.1, p.2) (number_fault flow_line _ _ _ c.in-Some.ensures refl c.in_err-number_of-2.ensures.kind
+    (inr (a_number _, c.in_ok-number_of.ensures.number, inl (refl, c.in_err-number_of-2.ensures.bad))))
+
+pub returns-in_err-number_between-clause-fault : goal.returns-in_err-number_between-clause-fault
+returns-in_err-number_between-clause-fault c =
+    let p = err_from_is_err_and c.from_residual-in_err-number_between.result c.from_residual-in_err-number_between.ensures.1 in
+    rw (p.1, p.2) (number_fault flow_line _ _ _ c.in-Some.ensures refl c.in_err-number_between.ensures.kind
+    (inr (a_number _, c.in_ok-number_of.ensures.number, inr (a_number _, c.in_ok-number_of-2.ensures.number, inl (refl, c.in_err-number_between.ensures.bad)))))
+
+pub returns-in_err-number_between-2-clause-fault : goal.returns-in_err-number_between-2-clause-fault
+returns-in_err-number_between-2-clause-fault c =
+    let p = err_from_is_err_and c.from_residual-in_err-number_between-2.result c.from_residual-in_err-number_between-2.ensures.1 in
+    rw (p.1, p.2) (number_fault flow_line _ _ _ c.in-Some.ensures refl c.in_err-number_between-2.ensures.kind
+    (inr (a_number _, c.in_ok-number_of.ensures.number, inr (a_number _, c.in_ok-number_of-2.ensures.number, inr (a_number _, c.in_ok-number_between.ensures.number, inl (refl, c.in_err-number_between-2.ensures.bad))))))

@@ -1,0 +1,27 @@
+use Rattle.std.proofs.Common.{inl, inr, refl}
+use Rattle.std.proofs.lemmas.Result.{err_from_is_err_and}
+use Rattle.texts.specs.Lines.{words_of}
+use Rattle.texts.specs.Trace.Line.{a_number, gap_line, gap_to_line}
+use Rattle.texts.proofs.TraceLineFaults.{miscounted_gap, number_fault}
+use Rattle.texts.proofs.trace.line.read_gap.Goals as goal
+
+pub returns-in_err-flow-clause-fault : goal.returns-in_err-flow-clause-fault
+returns-in_err-flow-clause-fault c =
+    let p = err_from_is_err_and c.from_residual.result c.from_residual.ensures.1 in
+    rw (p.1, p.2) (number_fault gap_line _ _ _ c.in-Some.ensures refl c.in_err-flow.ensures.kind
+    (inl (refl, c.in_err-flow.ensures.bad)))
+
+pub returns-in_default-only_two_words-clause-fault : goal.returns-in_default-only_two_words-clause-fault
+returns-in_default-only_two_words-clause-fault c = miscounted_gap (words_of c.args.rest.now) c.in_default.ensures c.in_default-only_two_words.ensures
+
+pub returns-in_err-flow-2-clause-fault : goal.returns-in_err-flow-2-clause-fault
+returns-in_err-flow-2-clause-fault c =
+    let p = err_from_is_err_and c.from_residual-in_err-flow-2.result c.from_residual-in_err-flow-2.ensures.1 in
+    rw (p.1, p.2) (number_fault gap_to_line _ _ _ c.in-Some-only_two_words.ensures refl c.in_err-flow-2.ensures.kind
+    (inl (refl, c.in_err-flow-2.ensures.bad)))
+
+pub returns-in_err-number_of-clause-fault : goal.returns-in_err-number_of-clause-fault
+returns-in_err-number_of-clause-fault c =
+    let p = err_from_is_err_and c.from_residual-in_err-number_of.result c.from_residual-in_err-number_of.ensures.1 in
+    rw (p.1, p.2) (number_fault gap_to_line _ _ _ c.in-Some-only_two_words.ensures refl c.in_err-number_of.ensures.kind
+    (inr (a_number _, c.in_ok-flow-2.ensures.number, inl (refl, c.in_err-number_of.ensures.bad))))

@@ -1,0 +1,21 @@
+use Rattle.std.proofs.Common.{◌<◌, ◌∙◌, length, refl, ap, arith}
+use Rattle.texts.specs.declared.trace.line.TraceLine.TheVariants as line
+use Rattle.texts.specs.Trace.Place.{decided, with_line}
+use Rattle.texts.proofs.Readings.{decision_without_fault, tags-pushed, AreListsOf-decision, seen-kept}
+use Rattle.texts.proofs.trace.reading.Reading.add_decision.Goals as goal
+
+pub returns : goal.returns
+returns c = λ said has.
+    let entry = decided c.args.decision in
+    let known : c.args.decision.flow < length said.flows = omega (arith, c.in_ok-find_flow.ensures.known, c.args.self.now.flows.ok.0, ap length has.flows) in
+    record {
+      faultless = decision_without_fault said c.args.decision known;
+      read = record {
+        ring = has.ring;
+        flows = has.flows;
+        sids = has.sids;
+        lists = AreListsOf-decision said.entries c.args.self.now.lists _ c.args.decision has.lists refl c.in_ok-push-2.ensures.items;
+        tags = c.in_ok-push.ensures.items ∙ tags-pushed c.args.self.now.tags.items said.entries entry has.tags;
+        seen = seen-kept said (with_line said (line.Gap c.args.decision)) c.args.self.now.seen refl has.seen;
+      };
+    }

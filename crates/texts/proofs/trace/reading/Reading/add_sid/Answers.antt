@@ -1,0 +1,23 @@
+use Rattle.std.proofs.Common.{◌≡◌, ◌<◌, ◌∙◌, ◌++◌, ◌∷◌, [], length, true, sym, ap, arith}
+use Rattle.texts.specs.Trace.Place.{IsSidAbove}
+use Rattle.texts.proofs.Readings.{sid_without_fault, seen-pushed}
+use Rattle.texts.proofs.trace.reading.Reading.add_sid.Goals as goal
+
+pub returns : goal.returns
+returns c = λ said has.
+    let row = c.args.row in
+    let known : row.flow < length said.flows = omega (arith, c.in_ok-find_flow.ensures.known, c.args.self.now.flows.ok.0, ap length has.flows) in
+    let new : IsSidAbove said row.channel row.sid → ⊥ = λ above.
+    let seen : c.contains.result ≡ true = c.contains.ensures.1 ((has.seen row.channel row.sid).1 above) in
+    cc (seen, c.if-contains.false) in
+    record {
+      faultless = sid_without_fault said row known new;
+      read = record {
+        ring = has.ring;
+        flows = has.flows;
+        sids = c.in_ok-push.ensures.items ∙ ap (λ sids. sids ++ row ∷ []) has.sids;
+        lists = has.lists;
+        tags = has.tags;
+        seen = seen-pushed said row c.args.self.now.seen c.insert.new.self has.seen c.insert.ensures.inserted;
+      };
+    }
