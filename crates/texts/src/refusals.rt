@@ -1,7 +1,7 @@
 //! An allocation that fails, at one place of each call. Each test takes running out of memory as
 //! lawful there, says so by the word `refused`, and calls again; where no allocation fails it says
 //! nothing.
-use crate::{TextFault, cut_lines, join_lines, replay_lines, report};
+use crate::{ParseFault, TextFault, cut_lines, join_lines, parse_trace, replay_lines, report};
 use docsis_wire::{Bytes, FillByte};
 use flow_core::FlowCounts;
 use std::alloc::{AllocError, Global};
@@ -43,6 +43,27 @@ fn cut_lines_is_refused(rt: HostRuntime) -> Result<(), Fail> {
         text = cut(rt.alloc());
     }
     assert_eq!(rt; text?.as_slice(), SEGMENTS.as_slice());
+    Ok(())
+}
+
+/// A flow with a row, a grant with its burst, and a decision.
+const SHORT_TRACE: &[u8; 74] =
+    b"flow 1 0 16 1\nsid 2 9 0\ngrant 2 4 9 8\nburst 2 4 ok 0102030405060708\ngap 0\n";
+
+#[test]
+fn parse_trace_is_refused(rt: HostRuntime) -> Result<(), Fail> {
+    let mut trace = parse_trace(rt.alloc(), SHORT_TRACE, 1, 1);
+    if let Err(ParseFault::OutOfMemory) = trace {
+        println!(rt; "refused")?;
+        trace = parse_trace(rt.alloc(), SHORT_TRACE, 1, 1);
+    }
+    let trace = trace?;
+    assert_eq!(rt; trace.setup.flows.len(), 1);
+    assert_eq!(rt; trace.setup.sids.len(), 1);
+    let [_, _, inputs, _] = &trace.lists.inputs;
+    assert_eq!(rt; inputs.len(), 2);
+    assert_eq!(rt; trace.lists.decisions.len(), 1);
+    assert_eq!(rt; trace.tags.as_slice(), [2, 2, 4].as_slice());
     Ok(())
 }
 

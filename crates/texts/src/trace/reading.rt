@@ -190,3 +190,6 @@ pub fn parse_trace(
     };
     Ok(Trace { setup, lists, tags })
 }
+
+#[cfg(test)]
+mod tests;
