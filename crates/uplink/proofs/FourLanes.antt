@@ -8,7 +8,6 @@ use Rattle.docsis_wire.specs.Limits.{sequence_modulus}
 use Rattle.flow_core.specs.declared.event.Event.{Event}
 use Rattle.uplink.specs.declared.setup.Decision.{Decision}
 use Rattle.uplink.specs.declared.setup.Setup.{Setup}
-use Rattle.uplink.specs.declared.setup.Lists.{Lists}
 use Rattle.uplink.specs.declared.received.Received.{Received}
 use Rattle.uplink.specs.declared.received.FourReceived.{FourReceived}
 use Rattle.uplink.specs.declared.merging.Merging.{Merging}
@@ -16,7 +15,7 @@ use Rattle.uplink.specs.declared.outcome.LaneReport.{LaneReport}
 use Rattle.uplink.specs.declared.outcome.Outcome.{Outcome}
 use Rattle.uplink.specs.Limits.{channel_limit}
 use Rattle.uplink.specs.Inputs.{AnsweredInput}
-use Rattle.uplink.specs.Items.{inputs_on, IsLaneOf, AreLanesOf, IsItem, items_of, are_items, gap_of, event_of_decision, names_a_flow, names_a_number}
+use Rattle.uplink.specs.Items.{Incoming, IsLaneOf, AreLanesOf, IsItem, items_of, are_items, gap_of, event_of_decision, names_a_flow, names_a_number}
 use Rattle.uplink.specs.Order.{senders, lengths_of, IsLawfulOrder, IsOrderFault, IsMergeOf}
 use Rattle.uplink.specs.Answer.{IsOutcome, HasBadOrder, AreOutcomesOfFlows, IsReportOf, requests_on, input_counts}
 use Rattle.uplink.specs.Report.{admitted_by, requests_of}
@@ -33,19 +32,19 @@ four P a b c d (suc (suc (suc zero))) below = d
 four P a b c d (suc (suc (suc (suc channel)))) below = absurd (omega arith)
 
 -- this is what the inputs of one channel gave
-pub record HasReceivedOn (setup : Setup) (lists : Lists) (channel : ℕ) (received : Received) : Type 0 where
+pub record HasReceivedOn (setup : Setup) (incoming : Incoming) (channel : ℕ) (received : Received) : Type 0 where
   pub answered : List AnsweredInput
-  pub lane : IsLaneOf setup lists channel answered
+  pub lane : IsLaneOf setup incoming channel answered
   pub has : HasReceived (length setup.flows.items) answered received
 
--- four channels' lists are those of all
-pub four-received : (setup : Setup) (lists : Lists) (received : FourReceived) → HasReceivedOn setup lists 0 received.r0 → HasReceivedOn setup lists 1 received.r1
-    → HasReceivedOn setup lists 2 received.r2 → HasReceivedOn setup lists 3 received.r3 → HaveReceived setup lists received
-four-received setup lists received h0 h1 h2 h3 =
+-- four channels' incoming are those of all
+pub four-received : (setup : Setup) (incoming : Incoming) (received : FourReceived) → HasReceivedOn setup incoming 0 received.r0 → HasReceivedOn setup incoming 1 received.r1
+    → HasReceivedOn setup incoming 2 received.r2 → HasReceivedOn setup incoming 3 received.r3 → HaveReceived setup incoming received
+four-received setup incoming received h0 h1 h2 h3 =
     let answered : ℕ → List AnsweredInput = λ channel. get_or (h0.answered ∷ h1.answered ∷ h2.answered ∷ h3.answered ∷ []) channel [] in
     record {
       answered = answered;
-      lanes = four (λ channel. IsLaneOf setup lists channel (answered channel)) h0.lane h1.lane h2.lane h3.lane;
+      lanes = four (λ channel. IsLaneOf setup incoming channel (answered channel)) h0.lane h1.lane h2.lane h3.lane;
       each = four (λ channel. HasReceived (length setup.flows.items) (answered channel) (received_on received channel)) h0.has h1.has h2.has h3.has;
     }
 
@@ -66,27 +65,27 @@ decided-are_items n decisions =
     (All-weaker (λ decision. names_a_flow n decision ≡ true) (λ decision. IsItem n (event_of_decision decision)) (decision-is_item n)
     (filter (names_a_flow n) decisions) (filter_passes (names_a_flow n) decisions))
 
-module _ (setup : Setup) (lists : Lists) (received : FourReceived) (have : HaveReceived setup lists received) where
+module _ (setup : Setup) (incoming : Incoming) (received : FourReceived) (have : HaveReceived setup incoming received) where
   -- an order of so many items is one of the items
   pub bad-order : (order : List ℕ) (n0 n1 n2 n3 n4 k : ℕ) → n0 ≡ length received.r0.items.items → n1 ≡ length received.r1.items.items
       → n2 ≡ length received.r2.items.items → n3 ≡ length received.r3.items.items
-      → n4 ≡ length (map event_of_decision (filter (names_a_flow (length setup.flows.items)) lists.decisions.items))
-      → IsOrderFault (n0 ∷ n1 ∷ n2 ∷ n3 ∷ n4 ∷ []) order k → HasBadOrder setup lists order k
+      → n4 ≡ length (map event_of_decision (filter (names_a_flow (length setup.flows.items)) incoming.decisions))
+      → IsOrderFault (n0 ∷ n1 ∷ n2 ∷ n3 ∷ n4 ∷ []) order k → HasBadOrder setup incoming order k
   bad-order order n0 n1 n2 n3 n4 k a0 a1 a2 a3 a4 fault =
       let b0 = ap length (have.each 0 (omega arith)).items in
       let b1 = ap length (have.each 1 (omega arith)).items in
       let b2 = ap length (have.each 2 (omega arith)).items in
       let b3 = ap length (have.each 3 (omega arith)).items in
-      let are : n0 ∷ n1 ∷ n2 ∷ n3 ∷ n4 ∷ [] ≡ lengths_of (items_of setup lists have.answered) = cc in
+      let are : n0 ∷ n1 ∷ n2 ∷ n3 ∷ n4 ∷ [] ≡ lengths_of (items_of setup incoming have.answered) = cc in
       record { answered = have.answered; lanes = have.lanes; fault = subst (λ l. IsOrderFault l order k) are fault }
 
   module _ (merging : Merging Event)
       (e0 : into_iter_items merging.l0 ≡ received.r0.items.items) (e1 : into_iter_items merging.l1 ≡ received.r1.items.items)
       (e2 : into_iter_items merging.l2 ≡ received.r2.items.items) (e3 : into_iter_items merging.l3 ≡ received.r3.items.items)
-      (e4 : into_iter_items merging.l4 ≡ map event_of_decision (filter (names_a_flow (length setup.flows.items)) lists.decisions.items)) where
+      (e4 : into_iter_items merging.l4 ≡ map event_of_decision (filter (names_a_flow (length setup.flows.items)) incoming.decisions)) where
     -- what is to be taken of each sender are its items
-    pub items-left : (s : ℕ) → s < senders → left_of merging s ≡ items_of setup lists have.answered s
-    items-left = five (λ s. left_of merging s ≡ items_of setup lists have.answered s)
+    pub items-left : (s : ℕ) → s < senders → left_of merging s ≡ items_of setup incoming have.answered s
+    items-left = five (λ s. left_of merging s ≡ items_of setup incoming have.answered s)
         (e0 ∙ (have.each 0 (omega arith)).items) (e1 ∙ (have.each 1 (omega arith)).items) (e2 ∙ (have.each 2 (omega arith)).items) (e3 ∙ (have.each 3 (omega arith)).items) e4
 
     -- and flows can take them
@@ -98,14 +97,14 @@ module _ (setup : Setup) (lists : Lists) (received : FourReceived) (have : HaveR
         (All-same (IsItem n) _ _ e1 (have.each 1 (omega arith)).each)
         (All-same (IsItem n) _ _ e2 (have.each 2 (omega arith)).each)
         (All-same (IsItem n) _ _ e3 (have.each 3 (omega arith)).each)
-        (All-same (IsItem n) _ _ e4 (decided-are_items n lists.decisions.items))
+        (All-same (IsItem n) _ _ e4 (decided-are_items n incoming.decisions))
 
     -- what the flows gave, with what the lanes gave, is the outcome
     pub outcome-is : (order : List ℕ) (check : List ℕ → Bool) (items : List Event) (outcome : Outcome) → IsMergeOf (left_of merging) order items
         → AreOutcomesOfFlows check setup.flows.items items outcome.flows.items
         → outcome.requests ≡ received.r0.requests ∷ received.r1.requests ∷ received.r2.requests ∷ received.r3.requests ∷ []
         → outcome.lanes ≡ received.r0.report ∷ received.r1.report ∷ received.r2.report ∷ received.r3.report ∷ []
-        → outcome.order.items ≡ order → IsOutcome check setup lists order outcome
+        → outcome.order.items ≡ order → IsOutcome check setup incoming order outcome
     outcome-is order check items outcome merged flows requests lanes order_is =
         let asked : (channel : ℕ) → requests_on outcome channel ≡ slice_index_or (map (λ r. r.items) (received.r0.requests ∷ received.r1.requests ∷ received.r2.requests ∷ received.r3.requests ∷ [])) channel [] =
         λ channel. ap (λ l. slice_index_or (map (λ r. r.items) l) channel []) requests in
@@ -116,7 +115,7 @@ module _ (setup : Setup) (lists : Lists) (received : FourReceived) (have : HaveR
           answered = have.answered;
           lanes = have.lanes;
           items = items;
-          merged = merge-same (left_of merging) (items_of setup lists have.answered) order items items-left merged;
+          merged = merge-same (left_of merging) (items_of setup incoming have.answered) order items items-left merged;
           flows = flows;
           requests = four (λ channel. requests_on outcome channel ≡ requests_of (have.answered channel))
               (asked 0 ∙ (have.each 0 (omega arith)).requests) (asked 1 ∙ (have.each 1 (omega arith)).requests)
@@ -131,20 +130,20 @@ module _ (setup : Setup) (lists : Lists) (received : FourReceived) (have : HaveR
           order_is = order_is;
         }
 
-module _ (setup : Setup) (lists : Lists) where
+module _ (setup : Setup) (incoming : Incoming) where
   -- each sender has as many flags as inputs or decisions
-  flags-counted : (answered : ℕ → List AnsweredInput) → AreLanesOf setup lists answered → (s : ℕ) → s < senders
-      → slice_index_or (input_counts lists) s 0 ≡ length (are_items setup lists answered s)
+  flags-counted : (answered : ℕ → List AnsweredInput) → AreLanesOf setup incoming answered → (s : ℕ) → s < senders
+      → slice_index_or (input_counts incoming) s 0 ≡ length (are_items setup incoming answered s)
   flags-counted answered lanes =
-      let of_channel : (channel : ℕ) → channel < channel_limit → length (inputs_on lists channel) ≡ length (map (λ one. is_some (admitted_by one.answer)) (answered channel)) =
+      let of_channel : (channel : ℕ) → channel < channel_limit → length (incoming.inputs channel) ≡ length (map (λ one. is_some (admitted_by one.answer)) (answered channel)) =
       λ channel below. ap length (sym (lanes channel below).inputs) ∙ length-map (answered channel) (λ one. one.input)
       ∙ sym (length-map (answered channel) (λ one. is_some (admitted_by one.answer))) in
-      five (λ s. slice_index_or (input_counts lists) s 0 ≡ length (are_items setup lists answered s))
+      five (λ s. slice_index_or (input_counts incoming) s 0 ≡ length (are_items setup incoming answered s))
       (of_channel 0 (omega arith)) (of_channel 1 (omega arith)) (of_channel 2 (omega arith)) (of_channel 3 (omega arith))
-      (sym (length-map lists.decisions.items (names_a_flow (length setup.flows.items))))
+      (sym (length-map incoming.decisions (names_a_flow (length setup.flows.items))))
 
   -- so an order of all inputs and decisions is one of the flags
-  pub flags-lawful : (flags : Merging Bool) (tags : List ℕ) → AreFlagsOf setup lists flags → IsLawfulOrder (input_counts lists) tags → IsLawfulOrder (lengths_of (left_of flags)) tags
+  pub flags-lawful : (flags : Merging Bool) (tags : List ℕ) → AreFlagsOf setup incoming flags → IsLawfulOrder (input_counts incoming) tags → IsLawfulOrder (lengths_of (left_of flags)) tags
   flags-lawful flags tags have lawful =
-      lawful-same (input_counts lists) (lengths_of (left_of flags)) tags
+      lawful-same (input_counts incoming) (lengths_of (left_of flags)) tags
       (λ s named. flags-counted have.answered have.lanes s named ∙ ap length (sym (have.are s named)) ∙ sym (length-of (left_of flags) s named)) lawful

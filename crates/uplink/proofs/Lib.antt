@@ -10,5 +10,6 @@ pub mod Assembling
 pub mod Finishing
 pub mod Gathered
 pub mod Merged
+pub mod OneOutcome
 pub mod Outstanding
 pub mod Answering

@@ -7,12 +7,11 @@ use Rattle.std.proofs.lemmas.List.Elements.{All-nil, All-cons, All-head, All-tai
 use Rattle.std.proofs.lemmas.List.Sums.{sum_by-cons, length-filter}
 use Rattle.flow_core.specs.declared.event.Event.{Event}
 use Rattle.uplink.specs.declared.setup.Setup.{Setup}
-use Rattle.uplink.specs.declared.setup.Lists.{Lists}
 use Rattle.uplink.specs.Limits.{channel_limit}
 use Rattle.uplink.specs.Inputs.{AnsweredInput}
 use Rattle.uplink.specs.Report.{admitted_by, admitted_of}
 use Rattle.uplink.specs.Order.{senders, times_of, lengths_of, picked, kept_places, IsLawfulOrder, IsOrderFault, IsMergeOf}
-use Rattle.uplink.specs.Items.{AreLanesOf, lane_setup, names_a_flow, event_of_admitted, event_of_decision, items_of, are_items}
+use Rattle.uplink.specs.Items.{Incoming, AreLanesOf, lane_setup, names_a_flow, event_of_admitted, event_of_decision, items_of, are_items}
 use Rattle.uplink.specs.Answer.{IsAdmittedOrder, CanReceive, HasBadOrder}
 use Rattle.uplink.proofs.OneAnswer.{one-list-of-answers}
 use Rattle.uplink.proofs.Places.{lawful-faultless}
@@ -159,16 +158,16 @@ count-given {X} {Y} give (x ∷ xs) =
     one-given None ys = omega arith
     one-given (Some y) ys = omega arith
 
-module _ (setup : Setup) (lists : Lists) where
+module _ (setup : Setup) (incoming : Incoming) where
   -- of a sender as many flags are set as it has items
   flags-of : Bool → List AnsweredInput → List Bool
   flags-of of_channel taken =
-      if of_channel then map (λ one. is_some (admitted_by one.answer)) taken else map (names_a_flow (length setup.flows.items)) lists.decisions.items
+      if of_channel then map (λ one. is_some (admitted_by one.answer)) taken else map (names_a_flow (length setup.flows.items)) incoming.decisions
 
   events-of : Bool → List AnsweredInput → List Event
   events-of of_channel taken =
       if of_channel then map event_of_admitted (admitted_of taken)
-      else map event_of_decision (filter (names_a_flow (length setup.flows.items)) lists.decisions.items)
+      else map event_of_decision (filter (names_a_flow (length setup.flows.items)) incoming.decisions)
 
   flags-or-events : (of_channel : Bool) (taken : List AnsweredInput) → set_count (flags-of of_channel taken) ≡ length (events-of of_channel taken)
   unfolding flags-of events-of
@@ -178,36 +177,36 @@ module _ (setup : Setup) (lists : Lists) where
       ∙ sym (length-map (admitted_of taken) event_of_admitted)
   flags-or-events false taken =
       let names = names_a_flow (length setup.flows.items) in
-      set_count-map names lists.decisions.items
-      ∙ sym (length-map (filter names lists.decisions.items) event_of_decision ∙ length-filter names lists.decisions.items)
+      set_count-map names incoming.decisions
+      ∙ sym (length-map (filter names incoming.decisions) event_of_decision ∙ length-filter names incoming.decisions)
 
   set-flags : (answered : ℕ → List AnsweredInput) (sender : ℕ)
-      → set_count (are_items setup lists answered sender) ≡ length (items_of setup lists answered sender)
+      → set_count (are_items setup incoming answered sender) ≡ length (items_of setup incoming answered sender)
   unfolding flags-of events-of
   set-flags answered sender = flags-or-events (nat_lt sender channel_limit) (answered sender)
 
   -- so the admitted order is lawful
-  pub admitted-lawful : (tags order : List ℕ) (is : IsAdmittedOrder setup lists tags order)
-      → IsLawfulOrder (lengths_of (items_of setup lists is.answered)) order
+  pub admitted-lawful : (tags order : List ℕ) (is : IsAdmittedOrder setup incoming tags order)
+      → IsLawfulOrder (lengths_of (items_of setup incoming is.answered)) order
   admitted-lawful tags order is =
-      subst (IsLawfulOrder (lengths_of (items_of setup lists is.answered))) (sym is.order_is)
+      subst (IsLawfulOrder (lengths_of (items_of setup incoming is.answered))) (sym is.order_is)
       (record {
         named = all-kept (λ tag. tag < senders) tags is.flags is.merged.named;
         whole = λ sender below.
             times-kept sender tags is.flags ∙ ap set_count (is.merged.lists_are sender below) ∙ set-flags is.answered sender
-            ∙ sym (length-of (items_of setup lists is.answered) sender below);
+            ∙ sym (length-of (items_of setup incoming is.answered) sender below);
       })
 
   -- there are as many items, whatever answers the inputs have
   module _ (can : CanReceive setup) (answered others : ℕ → List AnsweredInput) where
-    module _ (lanes : AreLanesOf setup lists answered) (also : AreLanesOf setup lists others) where
+    module _ (lanes : AreLanesOf setup incoming answered) (also : AreLanesOf setup incoming others) where
       pub one-lane : (channel : ℕ) → channel < channel_limit → answered channel ≡ others channel
       one-lane channel below =
           one-list-of-answers (lane_setup setup channel) can.lanes (answered channel) (others channel)
           (lanes channel below).answers (also channel below).answers
           ((lanes channel below).inputs ∙ sym (also channel below).inputs)
 
-      pub same-lengths : lengths_of (items_of setup lists answered) ≡ lengths_of (items_of setup lists others)
+      pub same-lengths : lengths_of (items_of setup incoming answered) ≡ lengths_of (items_of setup incoming others)
       same-lengths =
           let long : List AnsweredInput → ℕ = λ taken. length (map event_of_admitted (admitted_of taken)) in
           let l0 = ap long (one-lane 0 (lit< tt)) in
@@ -217,8 +216,8 @@ module _ (setup : Setup) (lists : Lists) where
           cc
 
   -- and so the order has no fault
-  pub admitted-faultless : (tags order : List ℕ) → CanReceive setup → IsAdmittedOrder setup lists tags order → (k : ℕ)
-      → ¬ (HasBadOrder setup lists order k)
+  pub admitted-faultless : (tags order : List ℕ) → CanReceive setup → IsAdmittedOrder setup incoming tags order → (k : ℕ)
+      → ¬ (HasBadOrder setup incoming order k)
   admitted-faultless tags order can is k bad =
-      lawful-faultless (lengths_of (items_of setup lists is.answered)) order (admitted-lawful tags order is) k
+      lawful-faultless (lengths_of (items_of setup incoming is.answered)) order (admitted-lawful tags order is) k
       (subst (λ lengths. IsOrderFault lengths order k) (same-lengths can bad.answered is.answered bad.lanes is.lanes) bad.fault)

@@ -11,7 +11,6 @@ use Rattle.uplink.specs.declared.outcome.FlowOutcome.{FlowOutcome}
 use Rattle.uplink.specs.declared.outcome.LaneReport.{LaneReport}
 use Rattle.uplink.specs.declared.outcome.Outcome.{Outcome}
 use Rattle.uplink.specs.declared.setup.Setup.{Setup}
-use Rattle.uplink.specs.declared.setup.Lists.{Lists}
 use Rattle.uplink.specs.declared.replaying.ReplayFault.{ReplayFault}
 use Rattle.uplink.specs.declared.replaying.ReplayFault.TheVariants as replay_fault
 use Rattle.flow_core.specs.Setup.{CanBeSetUp, IsSetupFault}
@@ -19,7 +18,7 @@ use Rattle.uplink.specs.Rows.{CanBeOpened, IsLaneFault}
 use Rattle.uplink.specs.Limits.{channel_limit}
 use Rattle.uplink.specs.Inputs.{AnsweredInput}
 use Rattle.uplink.specs.Report.{requests_of, admitted_count, refusal_numbers}
-use Rattle.uplink.specs.Items.{inputs_on, AreLanesOf, items_of, are_items, events_at}
+use Rattle.uplink.specs.Items.{Incoming, AreLanesOf, items_of, are_items, events_at}
 use Rattle.uplink.specs.Order.{IsMergeOf, IsOrderFault, lengths_of, kept_places}
 
 -- What a flow with this record gives after these events and its close: as many gaps as still change anything.
@@ -48,37 +47,37 @@ pub record IsReportOf (answered : List AnsweredInput) (report : LaneReport) : Ty
 abbrev pub requests_on : Outcome → ℕ → List Request
 requests_on outcome channel = slice_index_or (map (λ requests. requests.items) outcome.requests) channel []
 
--- The one-thread answer for these lists in this order: each input has its answer, and the items of the five senders, which are the segments that
+-- The one-thread answer for what comes in, in this order: each input has its answer, and the items of the five senders, which are the segments that
 -- each channel admits and the decisions that name a flow, are taken in this order. Each flow takes its events among them and is closed. Requests
 -- and reports are those of the lanes.
-pub record IsOutcome (check : List ℕ → Bool) (setup : Setup) (lists : Lists) (order : List ℕ) (outcome : Outcome) : Type 0 where
+pub record IsOutcome (check : List ℕ → Bool) (setup : Setup) (incoming : Incoming) (order : List ℕ) (outcome : Outcome) : Type 0 where
   pub answered : ℕ → List AnsweredInput
-  pub lanes : AreLanesOf setup lists answered
+  pub lanes : AreLanesOf setup incoming answered
   pub items : List Event
-  pub merged : IsMergeOf (items_of setup lists answered) order items
+  pub merged : IsMergeOf (items_of setup incoming answered) order items
   pub flows : AreOutcomesOfFlows check setup.flows.items items outcome.flows.items
   pub requests : (channel : ℕ) → channel < channel_limit → requests_on outcome channel ≡ requests_of (answered channel)
   pub reports : (channel : ℕ) (report : LaneReport) → channel < channel_limit → slice_get outcome.lanes channel ≡ Some report → IsReportOf (answered channel) report
   pub order_is : outcome.order.items ≡ order
 
 -- the order of the items has its fault at place k
-pub record HasBadOrder (setup : Setup) (lists : Lists) (order : List ℕ) (k : ℕ) : Type 0 where
+pub record HasBadOrder (setup : Setup) (incoming : Incoming) (order : List ℕ) (k : ℕ) : Type 0 where
   pub answered : ℕ → List AnsweredInput
-  pub lanes : AreLanesOf setup lists answered
-  pub fault : IsOrderFault (lengths_of (items_of setup lists answered)) order k
+  pub lanes : AreLanesOf setup incoming answered
+  pub fault : IsOrderFault (lengths_of (items_of setup incoming answered)) order k
 
 -- The admitted order: of tags that name the sender of each input and decision, those of admitted bursts and of decisions that name a flow.
-pub record IsAdmittedOrder (setup : Setup) (lists : Lists) (tags order : List ℕ) : Type 0 where
+pub record IsAdmittedOrder (setup : Setup) (incoming : Incoming) (tags order : List ℕ) : Type 0 where
   pub answered : ℕ → List AnsweredInput
-  pub lanes : AreLanesOf setup lists answered
+  pub lanes : AreLanesOf setup incoming answered
   pub flags : List Bool
-  pub merged : IsMergeOf (are_items setup lists answered) tags flags
+  pub merged : IsMergeOf (are_items setup incoming answered) tags flags
   pub order_is : order ≡ kept_places tags flags
 
 -- how many inputs each channel has, and how many decisions there are
-abbrev pub input_counts : Lists → List ℕ
-input_counts lists =
-    length (inputs_on lists 0) ∷ length (inputs_on lists 1) ∷ length (inputs_on lists 2) ∷ length (inputs_on lists 3) ∷ length lists.decisions.items ∷ []
+abbrev pub input_counts : Incoming → List ℕ
+input_counts incoming =
+    length (incoming.inputs 0) ∷ length (incoming.inputs 1) ∷ length (incoming.inputs 2) ∷ length (incoming.inputs 3) ∷ length incoming.decisions ∷ []
 
 -- neither the flows nor the lanes have a fault
 pub record CanReceive (setup : Setup) : Type 0 where
@@ -92,10 +91,10 @@ IsFirstFault setup IsBadOrder (replay_fault.Lane fault) = CanBeSetUp setup.flows
 IsFirstFault setup IsBadOrder (replay_fault.BadOrder k) = CanReceive setup × IsBadOrder k
 IsFirstFault setup IsBadOrder replay_fault.OutOfMemory = CanReceive setup
 
--- why these lists aren't replayed in this order
-abbrev pub IsReplayFault : Setup → Lists → List ℕ → ReplayFault → Type 0
-IsReplayFault setup lists order = IsFirstFault setup (HasBadOrder setup lists order)
+-- why this isn't replayed in this order
+abbrev pub IsReplayFault : Setup → Incoming → List ℕ → ReplayFault → Type 0
+IsReplayFault setup incoming order = IsFirstFault setup (HasBadOrder setup incoming order)
 
 -- why the tags of all inputs and decisions have no admitted order
-abbrev pub IsTagsFault : Setup → Lists → List ℕ → ReplayFault → Type 0
-IsTagsFault setup lists tags = IsFirstFault setup (IsOrderFault (input_counts lists) tags)
+abbrev pub IsTagsFault : Setup → Incoming → List ℕ → ReplayFault → Type 0
+IsTagsFault setup incoming tags = IsFirstFault setup (IsOrderFault (input_counts incoming) tags)

@@ -22,14 +22,23 @@ lane_setup setup channel = record { channel = channel; rows = setup.sids.items; 
 abbrev pub inputs_on : Lists → ℕ → List Input
 inputs_on lists channel = slice_index_or (map (λ inputs. inputs.items) lists.inputs) channel []
 
+-- all that comes in: the inputs of each channel, and the decisions
+pub record Incoming : Type 0 where
+  pub inputs : ℕ → List Input
+  pub decisions : List Decision
+
+-- and what these lists have of it
+abbrev pub incoming_of : Lists → Incoming
+incoming_of lists = record { inputs = inputs_on lists; decisions = lists.decisions.items }
+
 -- all inputs of a channel, each with its answer
-pub record IsLaneOf (setup : Setup) (lists : Lists) (channel : ℕ) (answered : List AnsweredInput) : Type 0 where
+pub record IsLaneOf (setup : Setup) (incoming : Incoming) (channel : ℕ) (answered : List AnsweredInput) : Type 0 where
   pub answers : AreAnswered (lane_setup setup channel) answered
-  pub inputs : inputs_of answered ≡ inputs_on lists channel
+  pub inputs : inputs_of answered ≡ incoming.inputs channel
 
 -- all inputs of the four channels, each with its answer
-abbrev pub AreLanesOf : Setup → Lists → (ℕ → List AnsweredInput) → Type 0
-AreLanesOf setup lists answered = (channel : ℕ) → channel < channel_limit → IsLaneOf setup lists channel (answered channel)
+abbrev pub AreLanesOf : Setup → Incoming → (ℕ → List AnsweredInput) → Type 0
+AreLanesOf setup incoming answered = (channel : ℕ) → channel < channel_limit → IsLaneOf setup incoming channel (answered channel)
 
 -- the decision names one of so many flows, and a sequence number if it names a number; any other is passed over
 abbrev pub names_a_number : Option ℕ → Bool
@@ -52,16 +61,16 @@ abbrev pub event_of_admitted : Admitted → Event
 event_of_admitted admitted = Arrive admitted.flow admitted.segment
 
 -- the items of a sender, in order: what was admitted on a channel, 0 to 3, or the decisions that name a flow, 4
-abbrev pub items_of : Setup → Lists → (ℕ → List AnsweredInput) → ℕ → List Event
-items_of setup lists answered sender =
+abbrev pub items_of : Setup → Incoming → (ℕ → List AnsweredInput) → ℕ → List Event
+items_of setup incoming answered sender =
     if nat_lt sender channel_limit then map event_of_admitted (admitted_of (answered sender))
-    else map event_of_decision (filter (names_a_flow (length setup.flows.items)) lists.decisions.items)
+    else map event_of_decision (filter (names_a_flow (length setup.flows.items)) incoming.decisions)
 
 -- of each input or decision of a sender, whether it gives an item
-abbrev pub are_items : Setup → Lists → (ℕ → List AnsweredInput) → ℕ → List Bool
-are_items setup lists answered sender =
+abbrev pub are_items : Setup → Incoming → (ℕ → List AnsweredInput) → ℕ → List Bool
+are_items setup incoming answered sender =
     if nat_lt sender channel_limit then map (λ one. is_some (admitted_by one.answer)) (answered sender)
-    else map (names_a_flow (length setup.flows.items)) lists.decisions.items
+    else map (names_a_flow (length setup.flows.items)) incoming.decisions
 
 -- an item that one of so many flows can take
 pub record IsItem (flow_count : ℕ) (event : Event) : Type 0 where

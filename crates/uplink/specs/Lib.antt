@@ -10,3 +10,4 @@ pub mod Items
 pub mod Answer
 pub mod Assembly
 pub mod Received
+pub mod SameOutcome

@@ -6,11 +6,10 @@ use Rattle.uplink.specs.declared.received.Received.{Received}
 use Rattle.uplink.specs.declared.received.FourReceived.{FourReceived}
 use Rattle.uplink.specs.declared.merging.Merging.{Merging}
 use Rattle.uplink.specs.declared.setup.Setup.{Setup}
-use Rattle.uplink.specs.declared.setup.Lists.{Lists}
 use Rattle.uplink.specs.Limits.{channel_limit}
 use Rattle.uplink.specs.Inputs.{Answer, AnsweredInput}
 use Rattle.uplink.specs.Report.{admitted_by, admitted_of, requests_of}
-use Rattle.uplink.specs.Items.{IsItem, AreLanesOf, event_of_admitted, are_items}
+use Rattle.uplink.specs.Items.{Incoming, IsItem, AreLanesOf, event_of_admitted, are_items}
 use Rattle.uplink.specs.Order.{senders}
 use Rattle.uplink.specs.Answer.{IsReportOf}
 
@@ -49,13 +48,13 @@ received_on received (suc (suc zero)) = received.r2
 received_on received _ = received.r3
 
 -- this is what the inputs of the four channels gave
-pub record HaveReceived (setup : Setup) (lists : Lists) (received : FourReceived) : Type 0 where
+pub record HaveReceived (setup : Setup) (incoming : Incoming) (received : FourReceived) : Type 0 where
   pub answered : ℕ → List AnsweredInput
-  pub lanes : AreLanesOf setup lists answered
+  pub lanes : AreLanesOf setup incoming answered
   pub each : (channel : ℕ) → channel < channel_limit → HasReceived (length setup.flows.items) (answered channel) (received_on received channel)
 
 -- these say of each input and decision whether it gives an item
-pub record AreFlagsOf (setup : Setup) (lists : Lists) (flags : Merging Bool) : Type 0 where
+pub record AreFlagsOf (setup : Setup) (incoming : Incoming) (flags : Merging Bool) : Type 0 where
   pub answered : ℕ → List AnsweredInput
-  pub lanes : AreLanesOf setup lists answered
-  pub are : (sender : ℕ) → sender < senders → left_of flags sender ≡ are_items setup lists answered sender
+  pub lanes : AreLanesOf setup incoming answered
+  pub are : (sender : ℕ) → sender < senders → left_of flags sender ≡ are_items setup incoming answered sender

@@ -1,9 +1,9 @@
 //! Laws about the definitions: each input of a lane has one answer, what is outstanding and what is
 //! admitted after one more input, rows have at most one first fault, lists have one merge in an
-//! order, and the admitted order is lawful.
+//! order, the admitted order is lawful, and a replay has one outcome or one fault.
 //!
 //! Each function states a law in its contract and does nothing.
-ghost use Rattle.std.specs.Prelude.{◌≡◌, ◌≢◌, ◌↔◌, ℕ, ◌+◌, IsTrue, Ok, None};
+ghost use Rattle.std.specs.Prelude.{◌≡◌, ◌≢◌, ◌↔◌, ℕ, ◌+◌, Bool, IsTrue, Ok, None};
 ghost use Rattle.std.specs.Prelude.{List, [], ◌∷◌, ◌++◌, length, map, All};
 ghost use Rattle.flow_core.specs.Counts.{counted};
 ghost use Rattle.uplink.specs.declared.input.Input.{Input};
@@ -12,11 +12,14 @@ ghost use Rattle.uplink.specs.declared.grant.OutstandingGrant.{OutstandingGrant}
 ghost use Rattle.uplink.specs.declared.row.LaneFault.{LaneFault};
 ghost use Rattle.uplink.specs.declared.row.SidRow.{SidRow};
 ghost use Rattle.uplink.specs.Rows.{CanBeOpened, IsLaneFault};
-ghost use Rattle.uplink.specs.declared.setup.Lists.{Lists};
 ghost use Rattle.uplink.specs.declared.setup.Setup.{Setup};
 ghost use Rattle.uplink.specs.Order.{IsLawfulOrder, IsOrderFault, IsMergeOf, lengths_of};
-ghost use Rattle.uplink.specs.Items.{IsItem, event_of_admitted, items_of};
+ghost use Rattle.uplink.specs.declared.outcome.Outcome.{Outcome};
+ghost use Rattle.uplink.specs.declared.replaying.ReplayFault.{ReplayFault};
+ghost use Rattle.uplink.specs.Items.{Incoming, IsItem, event_of_admitted, items_of};
 ghost use Rattle.uplink.specs.Answer.{IsAdmittedOrder, CanReceive, HasBadOrder};
+ghost use Rattle.uplink.specs.Answer.{IsOutcome, IsReplayFault, IsTagsFault};
+ghost use Rattle.uplink.specs.SameOutcome.{IsSameOutcome};
 ghost use Rattle.uplink.specs.Inputs.{LaneSetup, Answer, AnsweredInput, IsGrant, IsAnswer};
 ghost use Rattle.uplink.specs.Inputs.{AreAnswered, inputs_of, number_of, is_accepted};
 ghost use Rattle.uplink.specs.Inputs.{spends_its_grant, IsOutstanding, IsKnown};
@@ -147,10 +150,38 @@ pub fn lists_have_one_merge<T>()
 /// An admitted order is a lawful order of the items, and has no fault where flows and lanes can be
 /// set up.
 pub fn admitted_order_is_lawful()
-    ensures lawful { (setup : Setup) (lists : Lists) (tags order : List ℕ)
-        → (is : IsAdmittedOrder setup lists tags order)
-        → IsLawfulOrder (lengths_of (items_of setup lists is.answered)) order }
-    ensures faultless { (setup : Setup) (lists : Lists) (tags order : List ℕ) (k : ℕ)
-        → CanReceive setup → IsAdmittedOrder setup lists tags order
-        → ¬ (HasBadOrder setup lists order k) }
+    ensures lawful { (setup : Setup) (incoming : Incoming) (tags order : List ℕ)
+        → (is : IsAdmittedOrder setup incoming tags order)
+        → IsLawfulOrder (lengths_of (items_of setup incoming is.answered)) order }
+    ensures faultless { (setup : Setup) (incoming : Incoming) (tags order : List ℕ) (k : ℕ)
+        → CanReceive setup → IsAdmittedOrder setup incoming tags order
+        → ¬ (HasBadOrder setup incoming order k) }
+{}
+
+/// What is replayed in one order have one outcome. An order that has an outcome has no
+/// fault.
+pub fn replay_has_one_outcome()
+    ensures one { (check : List ℕ → Bool) (setup : Setup) (incoming : Incoming) (order : List ℕ)
+        (outcome other : Outcome)
+        → CanReceive setup → IsOutcome check setup incoming order outcome
+        → IsOutcome check setup incoming order other → IsSameOutcome outcome other }
+    ensures faultless { (check : List ℕ → Bool) (setup : Setup) (incoming : Incoming) (order : List ℕ)
+        (outcome : Outcome) (k : ℕ)
+        → CanReceive setup → IsOutcome check setup incoming order outcome
+        → ¬ (HasBadOrder setup incoming order k) }
+{
+    flow_core::laws::closed_flow_has_one_outcome();
+}
+
+/// Of the faults other than a failed allocation at most one is why nothing is replayed, or why
+/// there is no admitted order.
+pub fn replay_has_one_fault()
+    ensures replay { (setup : Setup) (incoming : Incoming) (order : List ℕ) (fault other : ReplayFault)
+        → fault ≢ ReplayFault.OutOfMemory → other ≢ ReplayFault.OutOfMemory
+        → IsReplayFault setup incoming order fault → IsReplayFault setup incoming order other
+        → fault ≡ other }
+    ensures tags { (setup : Setup) (incoming : Incoming) (tags : List ℕ) (fault other : ReplayFault)
+        → fault ≢ ReplayFault.OutOfMemory → other ≢ ReplayFault.OutOfMemory
+        → IsTagsFault setup incoming tags fault → IsTagsFault setup incoming tags other
+        → fault ≡ other }
 {}

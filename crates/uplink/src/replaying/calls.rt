@@ -3,7 +3,7 @@ ghost use Rattle.std.specs.Prelude.{◌≡◌, ◌↔◌, ◌<◌, ℕ, Bool, Li
 ghost use Rattle.flow_core.specs.declared.event.Event.{Event};
 ghost use Rattle.flow_core.specs.Setup.{CanBeSetUp};
 ghost use Rattle.uplink.specs.declared.replaying.ReplayFault.{ReplayFault};
-ghost use Rattle.uplink.specs.Items.{IsItem, event_of_decision, names_a_flow};
+ghost use Rattle.uplink.specs.Items.{incoming_of, IsItem, event_of_decision, names_a_flow};
 ghost use Rattle.uplink.specs.Order.{senders, lengths_of, kept_places, IsLawfulOrder, IsMergeOf};
 ghost use Rattle.uplink.specs.Answer.{IsOutcome, IsAdmittedOrder, CanReceive, input_counts, AreOutcomesOfFlows};
 ghost use Rattle.uplink.specs.Answer.{IsFirstFault, IsReplayFault, IsTagsFault};
@@ -34,7 +34,7 @@ fn check_setup(setup: &Setup) -> Result<(), ReplayFault>
 /// What the inputs of the channels 0 to 3 give.
 fn receive_all(alloc: Global, setup: &Setup, lists: &Lists) -> Result<FourReceived, AllocError>
     requires { CanReceive setup.now }
-    ensures { IfOk result (HaveReceived setup.now lists.now) }
+    ensures { IfOk result (HaveReceived setup.now (incoming_of lists.now)) }
 {
     let [i0, i1, i2, i3] = &lists.inputs;
     Ok(FourReceived {
@@ -54,9 +54,9 @@ pub fn admitted_order(
     tags: &[u8],
 ) -> Result<Vec<u8>, ReplayFault>
     ensures order { IfOk result (λ order.
-        IsAdmittedOrder setup.now lists.now tags.now order.items) }
+        IsAdmittedOrder setup.now (incoming_of lists.now) tags.now order.items) }
     ensures can_receive { IfOk result (λ _. CanReceive setup.now) }
-    ensures fault { IfErr result (IsTagsFault setup.now lists.now tags.now) }
+    ensures fault { IfErr result (IsTagsFault setup.now (incoming_of lists.now) tags.now) }
 {
     check_setup(setup)?;
     if let Err(place) = check_order(input_counts(lists), tags) {
@@ -68,7 +68,7 @@ pub fn admitted_order(
 
 /// How many inputs each channel has, and how many decisions there are.
 fn input_counts(lists: &Lists) -> [usize; 5]
-    ensures { result ≡ input_counts lists.now }
+    ensures { result ≡ input_counts (incoming_of lists.now) }
 {
     let [i0, i1, i2, i3] = &lists.inputs;
     [
@@ -83,7 +83,7 @@ fn input_counts(lists: &Lists) -> [usize; 5]
 /// Of each input and decision, whether it gives an item.
 fn flags_of(alloc: Global, setup: &Setup, lists: &Lists) -> Result<Merging<bool>, AllocError>
     requires { CanReceive setup.now }
-    ensures { IfOk result (AreFlagsOf setup.now lists.now) }
+    ensures { IfOk result (AreFlagsOf setup.now (incoming_of lists.now)) }
 {
     let FourReceived { r0, r1, r2, r3 } = receive_all(alloc, setup, lists)?;
     let decided = decision_flags(alloc, setup, lists)?;
@@ -150,9 +150,10 @@ pub fn replay<C: HeaderCheck + Drop>(
     order: &[u8],
     check: C,
 ) -> Result<Outcome, ReplayFault>
-    ensures outcome { IfOk result (IsOutcome (C.accepts check) setup.now lists.now order.now) }
+    ensures outcome { IfOk result (IsOutcome (C.accepts check) setup.now
+        (incoming_of lists.now) order.now) }
     ensures can_receive { IfOk result (λ _. CanReceive setup.now) }
-    ensures fault { IfErr result (IsReplayFault setup.now lists.now order.now) }
+    ensures fault { IfErr result (IsReplayFault setup.now (incoming_of lists.now) order.now) }
 {
     check_setup(setup)?;
     let FourReceived { r0, r1, r2, r3 } = receive_all(alloc, setup, lists)?;

@@ -5,4 +5,4 @@ pub returns-clause-lawful : goal.returns-clause-lawful
 returns-clause-lawful c = admitted-lawful
 
 pub returns-clause-faultless : goal.returns-clause-faultless
-returns-clause-faultless c = λ setup lists tags order k can is. admitted-faultless setup lists tags order can is k
+returns-clause-faultless c = λ setup incoming tags order k can is. admitted-faultless setup incoming tags order can is k

@@ -1,4 +1,5 @@
 use Rattle.std.proofs.Common.{refl, subst}
+use Rattle.uplink.specs.Items.{incoming_of}
 use Rattle.uplink.specs.Order.{IsLawfulOrder, IsOrderFault}
 use Rattle.uplink.proofs.FourLanes.{flags-lawful}
 use Rattle.uplink.proofs.replaying.calls.admitted_order.Goals as goal
@@ -9,5 +10,5 @@ returns-in-Err-clause-fault c =
 
 pub keep-requires : goal.keep-requires
 keep-requires c =
-    flags-lawful c.args.setup.now c.args.lists.now c.in_ok-flags.flags c.args.tags.now c.in_ok-flags.ensures
+    flags-lawful c.args.setup.now (incoming_of c.args.lists.now) c.in_ok-flags.flags c.args.tags.now c.in_ok-flags.ensures
     (subst (λ counts. IsLawfulOrder counts c.args.tags.now) c.input_counts.ensures (c.in_default.ensures.lawful.0 refl))

@@ -1,7 +1,7 @@
 use Rattle.std.proofs.Common.{◌≡◌, ◌<◌, ℕ, Vec, Global, [], length, get_or, sym, ◌∙◌, arith}
 use Rattle.std.proofs.lemmas.List.{get_or-map}
 use Rattle.uplink.specs.declared.input.Input.{Input}
-use Rattle.uplink.specs.Items.{inputs_on}
+use Rattle.uplink.specs.Items.{incoming_of, inputs_on}
 use Rattle.uplink.proofs.FourLanes.{four-received}
 use Rattle.uplink.proofs.replaying.calls.receive_all.Goals as goal
 
@@ -15,7 +15,7 @@ returns c =
     let a1 = c.in_ok-receive-2.ensures in
     let a2 = c.in_ok-receive-3.ensures in
     let a3 = c.in_ok-receive-4.ensures in
-    four-received c.args.setup.now c.args.lists.now _
+    four-received c.args.setup.now (incoming_of c.args.lists.now) _
     (record { answered = a0.0; lane = record { answers = a0.1; inputs = a0.2 ∙ c.deref.ensures.value ∙ at 0 c.index-lists-0.result (omega arith) }; has = a0.3 })
     (record { answered = a1.0; lane = record { answers = a1.1; inputs = a1.2 ∙ c.deref-2.ensures.value ∙ at 1 c.index-lists-1.result (omega arith) }; has = a1.3 })
     (record { answered = a2.0; lane = record { answers = a2.1; inputs = a2.2 ∙ c.deref-3.ensures.value ∙ at 2 c.index-lists-2.result (omega arith) }; has = a2.3 })

@@ -3,7 +3,7 @@ use Rattle.flow_core.specs.declared.event.Event.{Event}
 use Rattle.flow_core.specs.declared.record.FlowRecord.{FlowRecord}
 use Rattle.uplink.specs.declared.merging.Merging.{Merging}
 use Rattle.uplink.specs.declared.outcome.Outcome.{Outcome}
-use Rattle.uplink.specs.Items.{IsItem}
+use Rattle.uplink.specs.Items.{incoming_of, IsItem}
 use Rattle.uplink.specs.Order.{senders}
 use Rattle.uplink.specs.Answer.{AreOutcomesOfFlows}
 use Rattle.uplink.specs.Received.{left_of}
@@ -14,7 +14,7 @@ pub returns-in-Err-clause-fault : goal.returns-in-Err-clause-fault
 returns-in-Err-clause-fault g c =
     let received = c.in_ok-r0.field-0 in (
       c.in_ok-check_setup.ensures.ok.0 refl,
-      bad-order c.args.setup.now c.args.lists.now received c.in_ok-r0.ensures c.args.order.now
+      bad-order c.args.setup.now (incoming_of c.args.lists.now) received c.in_ok-r0.ensures c.args.order.now
           c.len.result c.len-2.result c.len-3.result c.len-4.result c.len-5.result c.in-Err.place
           (c.len.ensures ∙ received.r0.items.ok.0) (c.len-2.ensures ∙ received.r1.items.ok.0)
           (c.len-3.ensures ∙ received.r2.items.ok.0) (c.len-4.ensures ∙ received.r3.items.ok.0)
@@ -26,7 +26,7 @@ pub assemble-requires-clause-items : goal.assemble-requires-clause-items
 assemble-requires-clause-items g c =
     let merging : Merging Event = record { l0 = c.into_iter.result; l1 = c.into_iter-2.result; l2 = c.into_iter-3.result; l3 = c.into_iter-4.result; l4 = c.into_iter-5.result } in
     subst (λ (records : List FlowRecord). (s : ℕ) → s < senders → All (IsItem (length records)) (left_of merging s)) (sym c.deref.ensures.value)
-    (items-takable c.args.setup.now c.args.lists.now c.in_ok-r0.field-0 c.in_ok-r0.ensures merging c.into_iter.ensures.rest c.into_iter-2.ensures.rest
+    (items-takable c.args.setup.now (incoming_of c.args.lists.now) c.in_ok-r0.field-0 c.in_ok-r0.ensures merging c.into_iter.ensures.rest c.into_iter-2.ensures.rest
     c.into_iter-3.ensures.rest c.into_iter-4.ensures.rest (c.into_iter-5.ensures.rest ∙ c.in_ok-decided.ensures))
 
 pub returns-clause-outcome : goal.returns-clause-outcome
@@ -42,7 +42,7 @@ returns-clause-outcome g c =
       order = c.in_ok-from_slice.field-0;
     } in
     let gave = c.in_ok-flows.ensures in
-    outcome-is setup c.args.lists.now received c.in_ok-r0.ensures merging c.into_iter.ensures.rest c.into_iter-2.ensures.rest
+    outcome-is setup (incoming_of c.args.lists.now) received c.in_ok-r0.ensures merging c.into_iter.ensures.rest c.into_iter-2.ensures.rest
     c.into_iter-3.ensures.rest c.into_iter-4.ensures.rest (c.into_iter-5.ensures.rest ∙ c.in_ok-decided.ensures)
     c.args.order.now check gave.0 outcome gave.1 (subst (λ records. AreOutcomesOfFlows check records gave.0 c.in_ok-flows.flows.items) c.deref.ensures.value gave.2)
     refl refl c.in_ok-from_slice.ensures.items
