@@ -20,9 +20,10 @@ use Rattle.uplink.specs.declared.admitted.Admitted.{Admitted}
 use Rattle.uplink.specs.declared.admitted.Request.{Request}
 use Rattle.uplink.specs.declared.grant.SidFlow.{SidFlow}
 use Rattle.uplink.specs.declared.grant.OutstandingGrant.{OutstandingGrant}
+use Rattle.uplink.specs.Limits.{grant_max, outstanding_max}
 use Rattle.uplink.specs.Rows.{CanBeOpened}
 use Rattle.uplink.specs.Admission.{IsRequestIn, IsMadeOf}
-use Rattle.uplink.specs.Inputs.{LaneSetup, Answer, AnsweredInput, IsRowOf, IsUnknown, IsFlowOf, IsKnown, IsGrant, IsAnswerToGrant, IsAnswer, AreAnswered, HasBytes, inputs_of, outstanding_max, outstanding_count}
+use Rattle.uplink.specs.Inputs.{LaneSetup, Answer, AnsweredInput, IsRowOf, IsUnknown, IsFlowOf, IsKnown, IsGrant, IsAnswerToGrant, IsAnswer, AreAnswered, HasBytes, inputs_of, outstanding_count}
 use Rattle.uplink.proofs.Taking.{granted, answered-more, answers-burst}
 use Rattle.uplink.proofs.Outstanding.{all-counted}
 
@@ -200,7 +201,7 @@ module _ (setup : LaneSetup) (can : CanBeOpened setup.rows (length setup.records
     abbrev Answered : Input → Type 0
     Answered input = (answer : Answer) × IsAnswer setup taken input answer
 
-    grant-in-range : (number sid bytes : ℕ) → 8 ≤ bytes → bytes ≤ 65535 → Answered (Grant number sid bytes)
+    grant-in-range : (number sid bytes : ℕ) → 8 ≤ bytes → bytes ≤ grant_max → Answered (Grant number sid bytes)
     grant-in-range number sid bytes long fits =
         ⊎_elim
         (λ known. (Err GrantKnown, ((long, fits), known)))

@@ -11,6 +11,7 @@ use Rattle.uplink.specs.declared.refusal.Refusal.TheVariants.{GrantRange, GrantK
 use Rattle.uplink.specs.declared.admitted.Admitted.{Admitted}
 use Rattle.uplink.specs.declared.grant.SidFlow.{SidFlow}
 use Rattle.uplink.specs.declared.grant.OutstandingGrant.{OutstandingGrant}
+use Rattle.uplink.specs.Limits.{grant_max, outstanding_max}
 use Rattle.uplink.specs.Admission.{IsMadeOf}
 
 -- what a lane is opened with: its channel, the rows of all channels and the records of the flows
@@ -50,11 +51,7 @@ pub record IsFlowOf (setup : LaneSetup) (sid : ℕ) (flow : SidFlow) : Type 0 wh
 
 -- a grant has 8 to 65,535 bytes, the segment header included
 abbrev pub IsGrantSize : ℕ → Type 0
-IsGrantSize bytes = (header_length ≤ bytes) × (bytes ≤ 65535)
-
--- so many grants may be outstanding
-abbrev pub outstanding_max : ℕ
-outstanding_max = 65536
+IsGrantSize bytes = (header_length ≤ bytes) × (bytes ≤ grant_max)
 
 -- this is a grant that was accepted
 abbrev pub answer_accepts : Input → Answer → Bool

@@ -1,4 +1,4 @@
--- How many channels and service identifiers there are.
+-- How many channels, service identifiers, bytes of a grant and outstanding grants there are at most.
 use Rattle.std.specs.Prelude.{ℕ}
 
 -- there are four channels
@@ -8,3 +8,11 @@ channel_limit = 4
 -- a service identifier has 14 bits, and is below this
 abbrev pub sid_limit : ℕ
 sid_limit = 16384
+
+-- a grant has at most so many bytes, the segment header included
+abbrev pub grant_max : ℕ
+grant_max = 65535
+
+-- so many grants of a channel may be outstanding
+abbrev pub outstanding_max : ℕ
+outstanding_max = 65536

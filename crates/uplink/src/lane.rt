@@ -193,4 +193,6 @@ fn flows_of(
 }
 
 #[cfg(test)]
+mod refusals;
+#[cfg(test)]
 mod tests;

@@ -2,9 +2,10 @@
 use super::*;
 use crate::admitted::Request;
 use docsis_wire::Segment;
+use std::process::Abort;
 use std::test::Fail;
 
-const RECORD: FlowRecord = FlowRecord {
+pub(super) const RECORD: FlowRecord = FlowRecord {
     sfid: 0,
     first: 0,
     window: 16,
@@ -12,7 +13,7 @@ const RECORD: FlowRecord = FlowRecord {
     ring: 1,
 };
 
-const ROW: SidRow = SidRow {
+pub(super) const ROW: SidRow = SidRow {
     channel: 0,
     sid: 1,
     flow: 0,
@@ -21,13 +22,13 @@ const ROW: SidRow = SidRow {
 /// What is answered to an input: a grant is accepted, a burst is admitted with this request, or a
 /// refusal's number.
 #[derive(Clone, Copy, Debug, PartialEq, Eq)]
-enum Answer {
+pub(super) enum Answer {
     Accepted,
     Admitted(Option<Request>),
     Refused(u8),
 }
 
-fn answer_of(answer: Result<Option<Admitted>, Refusal>) -> Answer {
+pub(super) fn answer_of(answer: Result<Option<Admitted>, Refusal>) -> Answer {
     match answer {
         Ok(None) => Answer::Accepted,
         Ok(Some(admitted)) => Answer::Admitted(admitted.request),
@@ -35,17 +36,34 @@ fn answer_of(answer: Result<Option<Admitted>, Refusal>) -> Answer {
     }
 }
 
-fn grant(number: u32, sid: u16, bytes: u32) -> Input {
+pub(super) fn grant(number: u32, sid: u16, bytes: u32) -> Input {
     Input::Grant { number, sid, bytes }
 }
 
-fn burst(alloc: Global, grant: u32, hcs_ok: bool, bytes: &[u8]) -> Result<Input, AllocError> {
+pub(super) fn burst(
+    alloc: Global,
+    grant: u32,
+    hcs_ok: bool,
+    bytes: &[u8],
+) -> Result<Input, AllocError> {
     let bytes = Bytes::from(Vec::from_slice(alloc, bytes)?);
     Ok(Input::Burst {
         grant,
         hcs_ok,
         bytes,
     })
+}
+
+/// Takes inputs one after another, and compares the answers.
+fn expect_answers(
+    rt: &impl Abort,
+    alloc: Global,
+    lane: &mut Lane,
+    cases: &[(&str, Input, Answer)],
+) {
+    for (name, input, expected) in cases {
+        assert_eq!(rt; answer_of(lane.take(alloc, input)), *expected, "{name}");
+    }
 }
 
 #[test]
@@ -63,13 +81,7 @@ fn answers_grants(rt: HostRuntime) -> Result<(), Fail> {
         ("the same number again", grant(6, 1, 8), Answer::Refused(2)),
         ("the most bytes", grant(7, 1, 65_535), Answer::Accepted),
     ];
-    for (name, input, expected) in &cases {
-        assert_eq!(rt;
-            answer_of(lane.take(rt.alloc(), input)),
-            *expected,
-            "{name}"
-        );
-    }
+    expect_answers(&rt, rt.alloc(), &mut lane, &cases);
     Ok(())
 }
 
@@ -250,31 +262,57 @@ fn reports_faults_of_rows(rt: HostRuntime) -> Result<(), Fail> {
     Ok(())
 }
 
-/// Opens a lane and takes a grant and a burst, each once more where an allocation failed.
+/// A lane uses the rows of its own channel, and its requests name that channel.
 #[test]
-fn takes_again(rt: HostRuntime) -> Result<(), Fail> {
-    let received = burst(rt.alloc(), 1, true, &[0x80, 0, 0, 0, 0, 0, 0, 0, 0x11])?;
-    let mut opened = Lane::new(rt.alloc(), 0, &[ROW], &[RECORD]);
-    if let Err(fault) = opened {
-        assert_eq!(rt; fault, LaneFault::OutOfMemory);
-        opened = Lane::new(rt.alloc(), 0, &[ROW], &[RECORD]);
-    }
-    let mut lane = opened?;
-    let mut accepted = answer_of(lane.take(rt.alloc(), &grant(1, 1, 9)));
-    if accepted != Answer::Accepted {
-        assert_eq!(rt; accepted, Answer::Refused(5));
-        accepted = answer_of(lane.take(rt.alloc(), &grant(1, 1, 9)));
-    }
-    assert_eq!(rt; accepted, Answer::Accepted);
-    let mut admitted = answer_of(lane.take(rt.alloc(), &received));
-    if admitted != Answer::Admitted(None) {
-        assert_eq!(rt; admitted, Answer::Refused(11));
-        admitted = answer_of(lane.take(rt.alloc(), &received));
-    }
-    assert_eq!(rt; admitted, Answer::Admitted(None));
-    assert_eq!(rt;
-        answer_of(lane.take(rt.alloc(), &received)),
-        Answer::Refused(6)
-    );
+fn answers_on_the_last_channel(rt: HostRuntime) -> Result<(), Fail> {
+    let first = SidRow {
+        channel: 3,
+        sid: 2,
+        ..ROW
+    };
+    let second = SidRow {
+        channel: 3,
+        sid: 16_383,
+        flow: 1,
+    };
+    let record = FlowRecord {
+        sfid: 1,
+        clusters: 8,
+        ..RECORD
+    };
+    let mut lane = Lane::new(rt.alloc(), 3, &[ROW, first, second], &[RECORD, record])?;
+    let request = Request {
+        channel: 3,
+        flow: 1,
+        cluster: 7,
+        units: 65_535,
+        sequence: 8191,
+    };
+    let last: [u8; 8] = [0, 0, 0xff, 0xff, 0xff, 0xff, 0, 0];
+    let cases: [(&str, Input, Answer); 6] = [
+        (
+            "an identifier of channel 0",
+            grant(1, 1, 8),
+            Answer::Refused(3),
+        ),
+        ("the first flow", grant(1, 2, 8), Answer::Accepted),
+        ("the second flow", grant(2, 16_383, 8), Answer::Accepted),
+        (
+            "a request of the second flow",
+            burst(rt.alloc(), 2, true, &last)?,
+            Answer::Admitted(Some(request)),
+        ),
+        (
+            "a cluster that the first flow doesn't have",
+            burst(rt.alloc(), 1, true, &last)?,
+            Answer::Admitted(None),
+        ),
+        (
+            "a spent grant",
+            burst(rt.alloc(), 1, true, &last)?,
+            Answer::Refused(6),
+        ),
+    ];
+    expect_answers(&rt, rt.alloc(), &mut lane, &cases);
     Ok(())
 }
