@@ -21,10 +21,14 @@ mod outcome;
 mod received;
 mod receiving;
 mod refusal;
+#[cfg(test)]
+mod refusals;
 mod replaying;
 mod row;
 mod seen;
 mod setup;
+#[cfg(test)]
+mod traces;
 
 pub use admitted::{Admitted, Request};
 pub use input::Input;

@@ -36,3 +36,6 @@ impl From<AllocError> for ReplayFault {
         ReplayFault::OutOfMemory
     }
 }
+
+#[cfg(test)]
+mod tests;
