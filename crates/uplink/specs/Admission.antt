@@ -23,7 +23,7 @@ pub record IsAdmitted (channel : ℕ) (flow : SidFlow) (bytes : List ℕ) (admit
   pub spelled : segment_bytes admitted.segment ≡ bytes
   pub request : IsRequestIn channel flow admitted.segment.head admitted.request
 
--- The burst fits the grant: no refusal that spends_its_grant the grant applies.
+-- The burst fits the grant: no refusal that spends the grant applies.
 abbrev pub Fits : OutstandingGrant → Bool → List ℕ → Type 0
 Fits grant hcs_ok bytes = (length bytes ≤ grant.bytes) × IsTrue hcs_ok × (header_length ≤ length bytes) × ¬ (PointsPast bytes)
 
