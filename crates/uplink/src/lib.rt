@@ -1,12 +1,14 @@
-//! The upstream receiver: one lane for each channel.
+//! The upstream receiver: lanes, and all channels on one thread.
 //!
 //! [`Lane`] takes the grants and bursts of one channel, one after another, and admits the segments
 //! of those bursts that fit their grants, each with the request in its header. The contract of
-//! [`Lane::take`] says which whole list of inputs and answers a lane stands for. [`laws`] says that
-//! each input has at most one answer.
+//! [`Lane::take`] says which whole list of inputs and answers a lane stands for.
 //!
-//! [`check_order`] checks an order in which the items of the four channels and of the decisions are
-//! to be taken.
+//! [`replay`] plays recorded inputs of four channels and decisions in an order that is handed in,
+//! and gives what each flow and each lane gave: its contract is the one-thread answer of the
+//! definitions. [`admitted_order`] makes that order from the senders of all inputs and decisions,
+//! and [`check_order`] checks one. [`laws`] says what follows from the definitions, such as that
+//! each input has one answer and each replay one outcome.
 #![tactic(auto)]
 
 mod admitted;

@@ -19,6 +19,7 @@ pub struct SeenSids {
 impl SeenSids {
     ghost use Rattle.uplink.specs.Seen.{HasSeen};
 
+    /// None was seen yet.
     pub fn new() -> SeenSids
         ensures { (channel sid : ℕ) → ¬ (HasSeen result channel sid) }
     {
@@ -27,6 +28,7 @@ impl SeenSids {
         }
     }
 
+    /// Whether this service identifier, 0 to 16,383, of this channel, 0 to 3, was seen.
     pub fn contains(&self, channel: u8, sid: u16) -> bool
         requires channel { channel < channel_limit }
         requires sid { sid < sid_limit }
@@ -35,6 +37,7 @@ impl SeenSids {
         self.seen[usize::from(channel)][usize::from(sid)]
     }
 
+    /// This service identifier, 0 to 16,383, of this channel, 0 to 3, was seen.
     pub fn insert(&mut self, channel: u8, sid: u16)
         requires channel { channel < channel_limit }
         requires sid { sid < sid_limit }

@@ -14,7 +14,7 @@ const WINDOW_MAX: u16 = 4096;
 
 impl<C: HeaderCheck + Drop> Core<C> {
     /// Advances a flow until nothing is next, and appends the frames that it gives. Where an
-    /// allocation failed some steps may be done, and a frame may be lost.
+    /// allocation failed nothing is promised of this flow and of the list.
     pub fn drain(
         &mut self,
         alloc: Global,
@@ -41,8 +41,8 @@ impl<C: HeaderCheck + Drop> Core<C> {
     }
 
     /// Closes a drained flow: declares losses until one changes nothing, drains it after each, and
-    /// appends the frames that it gives. Where an allocation failed some of it may be done, and a
-    /// frame may be lost.
+    /// appends the frames that it gives. Where an allocation failed nothing is promised of this flow
+    /// and of the list.
     pub fn close(
         &mut self,
         alloc: Global,

@@ -1,5 +1,5 @@
 //! A refused drain or close has appended a front of the frames. It can't be made again on the same
-//! flow, of which a frame may be lost, so the second call is on a new one.
+//! flow, of which frames may be lost, so the second call is on a new one.
 ghost use Rattle.std.specs.Prelude.{IfOk};
 ghost use Rattle.flow_core.specs.Flows.{IsDrainedAt};
 ghost use Rattle.flow_core.specs.Giving.{IsRunning};

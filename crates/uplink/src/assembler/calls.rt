@@ -16,8 +16,8 @@ use docsis_wire::{Bytes, HeaderCheck};
 use flow_core::{Core, Event, FlowCounts, FlowRecord, laws};
 use std::alloc::{AllocError, Global};
 
-/// Takes an item, and appends the frames that its flow then gives. Where an allocation failed a
-/// frame may be lost.
+/// Takes an item, and appends the frames that its flow then gives. Where an allocation failed
+/// nothing is promised of the flow and of the list.
 pub fn take_item<C: HeaderCheck + Drop>(
     alloc: Global,
     core: &mut Core<C>,
@@ -35,7 +35,7 @@ pub fn take_item<C: HeaderCheck + Drop>(
 }
 
 /// Closes a drained flow, appends the frames that it then gives, and answers what was counted of
-/// it. Where an allocation failed a frame may be lost.
+/// it. Where an allocation failed nothing is promised of the flow and of the list.
 pub fn close_flow<C: HeaderCheck + Drop>(
     alloc: Global,
     core: &mut Core<C>,
@@ -80,7 +80,7 @@ impl<C: HeaderCheck + Drop> Assembler<C> {
     }
 
     /// Takes an item, and collects the frames that its flow then gives. Where an allocation failed
-    /// a frame may be lost.
+    /// nothing is promised any more.
     pub fn take(&mut self, alloc: Global, event: Event) -> Result<(), AllocError>
         requires item { IsItem (length self.old.core.flows.items) event }
         requires assembling { IsAssembling C.accepts self.old }
