@@ -4,7 +4,7 @@ use Rattle.std.proofs.lemmas.Bool.{cases_lt}
 use Rattle.texts.specs.declared.fault.TraceKind.{TraceKind}
 use Rattle.texts.specs.declared.fault.TraceKind.TheVariants.{UnknownLine, SetupLate, FieldCount, BadNumber, BadWord, NotHex, UnknownFlow, TooManyFlows, SameFlow, SameSid, TooShort, PointerPast}
 use Rattle.texts.specs.Kinds.{kind_number, IsLeastFault}
-use Rattle.texts.specs.Trace.Line.{word_of, form_of, HasFaultByItself}
+use Rattle.texts.specs.Trace.Line.{word_of, form_of}
 use Rattle.texts.specs.Trace.Place.{Said, with_line, AddsLine, SaysFaulty, HasLineFault, trace_format}
 use Rattle.texts.proofs.FirstField.{none_or_some}
 use Rattle.texts.proofs.OneReading.{IsDetermined}

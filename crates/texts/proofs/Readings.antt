@@ -1,5 +1,5 @@
 -- What a reading has once one more line was read.
-use Rattle.std.proofs.Common.{◌≡◌, ◌≢◌, ℕ, ◌+◌, ◌<◌, ◌≤◌, ◌⊎◌, ◌↔◌, zero, suc, inl, inr, ⊎_elim, Bool, true, false, Some, None, cond, List, [], ◌∷◌, ◌++◌, length, get_or, map, refl, sym, ap, ◌∙◌, subst, arith, length-set, append-nil, eq-eqb, ne_eqb}
+use Rattle.std.proofs.Common.{◌≡◌, ◌≢◌, ℕ, ◌<◌, ◌⊎◌, ◌↔◌, inl, inr, ⊎_elim, Bool, true, false, Some, None, cond, List, [], ◌∷◌, ◌++◌, length, get_or, map, refl, sym, ap, ◌∙◌, subst, arith, length-set, append-nil, eq-eqb, ne_eqb}
 use Rattle.std.specs.Prelude.{filter_map, Vec, slice_get, vec_len, Result, Ok, Err, MatchResult, OnOk, IfErr}
 use Rattle.std.specs.List.{cons_option}
 use Rattle.std.specs.declared.alloc.Global.{Global}
@@ -17,7 +17,7 @@ use Rattle.uplink.specs.Items.{inputs_on}
 use Rattle.uplink.specs.Limits.{channel_limit}
 use Rattle.uplink.specs.Seen.{HasSeen}
 use Rattle.texts.specs.declared.fault.TraceKind.{TraceKind}
-use Rattle.texts.specs.declared.fault.TraceKind.TheVariants.{UnknownFlow, TooManyFlows, SameFlow, SameSid}
+use Rattle.texts.specs.declared.fault.TraceKind.TheVariants.{UnknownFlow, SameSid}
 use Rattle.texts.specs.declared.fault.LineFault.{LineFault}
 use Rattle.texts.specs.declared.fault.LineFault.TheVariants as line_fault
 use Rattle.texts.specs.declared.trace.line.TraceLine.{TraceLine}

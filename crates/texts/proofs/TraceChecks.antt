@@ -1,14 +1,11 @@
 -- What the lines of a trace say passes the checks of a receiver's setup.
-use Rattle.std.proofs.Common.{◌≡◌, ℕ, ◌+◌, ◌<◌, ◌≤◌, inl, inr, ⊎_elim, Some, List, [], ◌∷◌, ◌++◌, length, sym, subst, arith, length-append}
-use Rattle.std.specs.Prelude.{slice_get}
+use Rattle.std.proofs.Common.{◌≡◌, ℕ, ◌<◌, ◌≤◌, inl, inr, ⊎_elim, List, [], ◌∷◌, ◌++◌, length, sym, subst, arith, length-append}
 use Rattle.std.proofs.lemmas.Bool.{cases_lt}
 use Rattle.flow_core.specs.declared.record.FlowRecord.{FlowRecord}
 use Rattle.flow_core.specs.Setup.{flows_max, IsInRange, CanBeSetUp}
 use Rattle.uplink.specs.declared.row.SidRow.{SidRow}
 use Rattle.uplink.specs.Limits.{channel_limit, sid_limit}
 use Rattle.uplink.specs.Rows.{CanBeOpened}
-use Rattle.uplink.specs.declared.input.Input.{Input}
-use Rattle.uplink.specs.declared.setup.Decision.{Decision}
 use Rattle.texts.specs.declared.fault.TraceKind.{TraceKind}
 use Rattle.texts.specs.declared.fault.TraceKind.TheVariants.{UnknownFlow, TooManyFlows, SameFlow, SameSid}
 use Rattle.texts.specs.declared.trace.line.TraceLine.{TraceLine}

@@ -1,4 +1,4 @@
-use Rattle.std.proofs.Common.{◌∙◌, sym, ap, subst}
+use Rattle.std.proofs.Common.{◌∙◌, sym, subst}
 use Rattle.texts.specs.Lines.{lines_of}
 use Rattle.texts.specs.Trace.{IsGivenBy}
 use Rattle.texts.specs.Trace.Place.{Said, nothing_said, trace_format}

@@ -1,4 +1,4 @@
-use Rattle.std.proofs.Common.{◌≡◌, ◌<◌, ◌∙◌, ◌++◌, ◌∷◌, [], length, true, sym, ap, arith}
+use Rattle.std.proofs.Common.{◌≡◌, ◌<◌, ◌∙◌, ◌++◌, ◌∷◌, [], length, true, ap, arith}
 use Rattle.texts.specs.Trace.Place.{IsSidAbove}
 use Rattle.texts.proofs.Readings.{sid_without_fault, seen-pushed}
 use Rattle.texts.proofs.trace.reading.Reading.add_sid.Goals as goal
