@@ -16,7 +16,10 @@ use Rattle.texts.proofs.OneTraceLine.{one_line}
 abbrev kind_at : ℕ → TraceKind
 kind_at number =
     get_or
-    (UnknownLine ∷ UnknownLine ∷ SetupLate ∷ FieldCount ∷ BadNumber ∷ BadWord ∷ NotHex ∷ UnknownFlow ∷ TooManyFlows ∷ SameFlow ∷ SameSid ∷ TooShort ∷ PointerPast ∷ [])
+    (
+    UnknownLine ∷ UnknownLine ∷ SetupLate ∷ FieldCount ∷ BadNumber ∷ BadWord ∷ NotHex ∷ UnknownFlow ∷ TooManyFlows ∷ SameFlow ∷ SameSid
+    ∷ TooShort ∷ PointerPast ∷ []
+    )
     number UnknownLine
 
 kind_at-number : (kind : TraceKind) → kind_at (kind_number kind) ≡ kind
@@ -49,8 +52,10 @@ one_least Has kind other a b =
 -- ---- one line
 
 -- a line makes one thing of what the lines above say
-one_state : (before : Said) (fields : List (List ℕ)) (after other : Said) → AddsLine before fields after → AddsLine before fields other → after ≡ other
-one_state before fields after other a b = a.added ∙ ap (with_line before) (one_line before.ring fields a.line b.line a.carries b.carries) ∙ sym b.added
+one_state : (before : Said) (fields : List (List ℕ)) (after other : Said) → AddsLine before fields after → AddsLine before fields other
+    → after ≡ other
+one_state before fields after other a b = a.added ∙ ap (with_line before) (one_line before.ring fields a.line b.line a.carries b.carries)
+    ∙ sym b.added
 
 -- no fields say anything
 no_fields_say : (before after : Said) → AddsLine before [] after → ⊥

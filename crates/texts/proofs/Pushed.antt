@@ -12,7 +12,8 @@ AreApart {T} Same xs = (j k : ℕ) (earlier x : T) → j < k → slice_get xs j 
 
 module _ {T : Type 0} where
   -- an element of the longer list is one of the list, or the last
-  pub slice_get-pushed : (xs : List T) (y : T) (k : ℕ) (x : T) → slice_get (xs ++ y ∷ []) k ≡ Some x → (slice_get xs k ≡ Some x) ⊎ ((k ≡ length xs) × (x ≡ y))
+  pub slice_get-pushed : (xs : List T) (y : T) (k : ℕ) (x : T) → slice_get (xs ++ y ∷ []) k ≡ Some x
+      → (slice_get xs k ≡ Some x) ⊎ ((k ≡ length xs) × (x ≡ y))
   slice_get-pushed [] y zero x is = inr (refl, sym (same_Some y x is))
   slice_get-pushed [] y (suc k) x is = absurd (none-some x is)
   slice_get-pushed (z ∷ xs) y zero x is = inl is
@@ -29,7 +30,8 @@ module _ {T : Type 0} where
   EachAt-pushed P xs y each last k x at = ⊎_elim (λ of. each k x of) (λ is. subst P (sym is.1) last) (slice_get-pushed xs y k x at)
 
   -- no two are related if none is related to the last
-  pub AreApart-pushed : (Same : T → T → Type 0) (xs : List T) (y : T) → AreApart Same xs → EachAt (λ x. ¬ (Same x y)) xs → AreApart Same (xs ++ y ∷ [])
+  pub AreApart-pushed : (Same : T → T → Type 0) (xs : List T) (y : T) → AreApart Same xs → EachAt (λ x. ¬ (Same x y)) xs
+      → AreApart Same (xs ++ y ∷ [])
   AreApart-pushed Same xs y apart new j k earlier x before at_j at_k same =
       ⊎_elim
       (λ of_j. ⊎_elim

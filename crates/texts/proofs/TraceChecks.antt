@@ -56,7 +56,9 @@ SameIdentifier earlier row = (earlier.channel ≡ row.channel) × (earlier.sid �
 -- such rows, no two of which have one identifier, can be opened
 can_be_opened : (rows : List SidRow) (flow_count : ℕ) → EachAt (IsRowFor flow_count) rows → AreApart SameIdentifier rows → CanBeOpened rows flow_count
 can_be_opened rows flow_count each apart = record {
-  in_range = λ k out. let fits = each k out.0 out.1 in ⊎_elim (λ high. let low = fits.channel in omega arith) (λ high. let low = fits.sid in omega arith) out.2;
+  in_range = λ k out.
+      let fits = each k out.0 out.1 in
+      ⊎_elim (λ high. let low = fits.channel in omega arith) (λ high. let low = fits.sid in omega arith) out.2;
   apart = λ k repeated. apart repeated.0 k repeated.3 repeated.2 repeated.1 repeated.5 repeated.4 (repeated.6, repeated.7);
   known = λ k lost. let low = (each k lost.0 lost.1).flow in let high = lost.2 in omega arith;
 }
@@ -94,7 +96,8 @@ CanBeOpened-more rows flow_count more le can = record {
 abbrev HasFlowRanges : FlowRecord → Type 0
 HasFlowRanges r = (r.first ≤ 8191) × (1 ≤ r.window) × (r.window ≤ 4096) × (1 ≤ r.clusters) × (r.clusters ≤ 8)
 
-flow_in_range : (ring : ℕ) (fields : List (List ℕ)) (flow_record : FlowRecord) → Carries ring fields (line.Flow flow_record) → HasFlowRanges flow_record
+flow_in_range : (ring : ℕ) (fields : List (List ℕ)) (flow_record : FlowRecord) → Carries ring fields (line.Flow flow_record)
+    → HasFlowRanges flow_record
 flow_in_range ring fields flow_record a = ranges a.after a.values where
   ranges : (after : List (List ℕ)) → AreFields (fields_after flow_line) after (values_of (line.Flow flow_record)) → HasFlowRanges flow_record
   ranges [] are = absurd are
@@ -110,9 +113,11 @@ pub record PassesChecks (said : Said) : Type 0 where
   pub sids : CanBeOpened said.sids (length said.flows)
 
 flow_passes : (said : Said) (fields : List (List ℕ)) (flow_record : FlowRecord) → Carries said.ring fields (line.Flow flow_record)
-    → ((kind : TraceKind) → ¬ (HasFaultAmong said (line.Flow flow_record) kind)) → PassesChecks said → PassesChecks (with_line said (line.Flow flow_record))
+    → ((kind : TraceKind) → ¬ (HasFaultAmong said (line.Flow flow_record) kind)) → PassesChecks said
+    → PassesChecks (with_line said (line.Flow flow_record))
 flow_passes said fields flow_record carries faultless passes =
-    let few : length said.flows < flows_max = ⊎_elim (λ is. is) (λ many. absurd (faultless TooManyFlows many)) (cases_lt (length said.flows) flows_max) in
+    let few : length said.flows < flows_max =
+    ⊎_elim (λ is. is) (λ many. absurd (faultless TooManyFlows many)) (cases_lt (length said.flows) flows_max) in
     let ranges = flow_in_range said.ring fields flow_record carries in
     let in_range : IsInRange flow_record = record {
       first = (let within = ranges.0 in omega arith);
@@ -144,7 +149,8 @@ sid_passes said fields row carries faultless passes =
     faultless SameSid (record { k = k; row = earlier; above = at; channel_is = same.0; sid_is = same.1 }) in
     record { ring = passes.ring; flows = passes.flows; sids = CanBeOpened-pushed said.sids (length said.flows) row passes.sids fits new }
 
-passes_with : (said : Said) (fields : List (List ℕ)) (line : TraceLine) → Carries said.ring fields line → ((kind : TraceKind) → ¬ (HasFaultAmong said line kind))
+passes_with : (said : Said) (fields : List (List ℕ)) (line : TraceLine) → Carries said.ring fields line
+    → ((kind : TraceKind) → ¬ (HasFaultAmong said line kind))
     → PassesChecks said → PassesChecks (with_line said line)
 passes_with said fields (line.Flow flow_record) carries faultless passes = flow_passes said fields flow_record carries faultless passes
 passes_with said fields (line.Sid row) carries faultless passes = sid_passes said fields row carries faultless passes

@@ -10,7 +10,8 @@ use Rattle.texts.proofs.FirstField.{one_word}
 use Rattle.texts.proofs.OneTraceLine.{one_line, carried_without_fault}
 
 -- what a line without faults says has none after the lines above
-pub none_among : (said : Said) (fields : List (List ℕ)) (line : TraceLine) → Carries said.ring fields line → ((kind : TraceKind) → ¬ (HasLineFault said fields kind))
+pub none_among : (said : Said) (fields : List (List ℕ)) (line : TraceLine) → Carries said.ring fields line
+    → ((kind : TraceKind) → ¬ (HasLineFault said fields kind))
     → (kind : TraceKind) → HasFaultAmong said line kind → ⊥
 none_among said fields line carries faultless UnknownFlow fault = faultless UnknownFlow (record { line = line; carries = carries; faulty = fault })
 none_among said fields line carries faultless TooManyFlows fault = faultless TooManyFlows (record { line = line; carries = carries; faulty = fault })
@@ -23,10 +24,13 @@ abbrev pub IsLate : Said → List (List ℕ) → Type 0
 IsLate said fields = IsSetupLine fields × (0 < length said.entries)
 
 -- a line is late if its first word sets up something and a line above is an input line
-pub late_by_word : (said : Said) (word : List ℕ) (after : List (List ℕ)) → (word ≡ word_of flow_line) ⊎ (word ≡ word_of sid_line) → 0 < length said.entries
+pub late_by_word : (said : Said) (word : List ℕ) (after : List (List ℕ)) → (word ≡ word_of flow_line) ⊎ (word ≡ word_of sid_line)
+    → 0 < length said.entries
     → IsLate said (word ∷ after)
-late_by_word said word after (inl is) some = (record { form = flow_line; after = after; are = ap (λ word. word ∷ after) is; sets_up = inl refl }, some)
-late_by_word said word after (inr is) some = (record { form = sid_line; after = after; are = ap (λ word. word ∷ after) is; sets_up = inr refl }, some)
+late_by_word said word after (inl is) some =
+    (record { form = flow_line; after = after; are = ap (λ word. word ∷ after) is; sets_up = inl refl }, some)
+late_by_word said word after (inr is) some =
+    (record { form = sid_line; after = after; are = ap (λ word. word ∷ after) is; sets_up = inr refl }, some)
 
 -- and only then
 pub word_of_late : (word : List ℕ) (after : List (List ℕ)) → IsSetupLine (word ∷ after) → (word ≡ word_of flow_line) ⊎ (word ≡ word_of sid_line)
@@ -39,12 +43,14 @@ module _ (said : Said) (fields : List (List ℕ)) where
   pub late_is_least : IsLate said fields → IsLeastFault (HasLineFault said fields) SetupLate
   late_is_least late = (late, lesser) where
     lesser : (other : TraceKind) → kind_number other < 2 → HasLineFault said fields other → ⊥
-    lesser UnknownLine less fault = fault.unknown late.0.form (one_word fields fault.word (word_of late.0.form) fault.after late.0.after fault.are late.0.are)
+    lesser UnknownLine less fault =
+        fault.unknown late.0.form (one_word fields fault.word (word_of late.0.form) fault.after late.0.after fault.are late.0.are)
     lesser _ less fault = omega (arith, less)
 
 module _ (said : Said) (fields : List (List ℕ)) (early : IsLate said fields → ⊥) where
   -- the least fault of a line by itself is its least fault
-  least_of_few : (kind : TraceKind) → kind_number kind ≤ 6 → IsLeastFaultByItself fields kind → (other : TraceKind) → kind_number other < kind_number kind → HasLineFault said fields other → ⊥
+  least_of_few : (kind : TraceKind) → kind_number kind ≤ 6 → IsLeastFaultByItself fields kind → (other : TraceKind)
+      → kind_number other < kind_number kind → HasLineFault said fields other → ⊥
   least_of_few kind few least UnknownLine less fault = least.1 UnknownLine less fault
   least_of_few kind few least SetupLate less fault = early fault
   least_of_few kind few least FieldCount less fault = least.1 FieldCount less fault
@@ -86,10 +92,13 @@ module _ (said : Said) (fields : List (List ℕ)) (early : IsLate said fields �
     pub faultless_in_place : ((kind : TraceKind) → ¬ (HasFaultAmong said line kind)) → (kind : TraceKind) → ¬ (HasLineFault said fields kind)
     faultless_in_place none kind = no_other (λ _. Unit {0}) (λ kind counts. none kind) kind tt
 
+    says_faulty : (kind : TraceKind) → HasFaultAmong said line kind → SaysFaulty said fields kind
+    says_faulty kind fault = record { line = line; carries = carries; faulty = fault }
+
     -- the least fault of what a line says is its least fault
     pub least_in_place : (kind : TraceKind) → IsLeastFault (HasFaultAmong said line) kind → IsLeastFault (HasLineFault said fields) kind
-    least_in_place UnknownFlow least = (record { line = line; carries = carries; faulty = least.0 }, no_other (λ other. kind_number other < 7) least.1)
-    least_in_place TooManyFlows least = (record { line = line; carries = carries; faulty = least.0 }, no_other (λ other. kind_number other < 8) least.1)
-    least_in_place SameFlow least = (record { line = line; carries = carries; faulty = least.0 }, no_other (λ other. kind_number other < 9) least.1)
-    least_in_place SameSid least = (record { line = line; carries = carries; faulty = least.0 }, no_other (λ other. kind_number other < 10) least.1)
+    least_in_place UnknownFlow least = (says_faulty UnknownFlow least.0, no_other (λ other. kind_number other < 7) least.1)
+    least_in_place TooManyFlows least = (says_faulty TooManyFlows least.0, no_other (λ other. kind_number other < 8) least.1)
+    least_in_place SameFlow least = (says_faulty SameFlow least.0, no_other (λ other. kind_number other < 9) least.1)
+    least_in_place SameSid least = (says_faulty SameSid least.0, no_other (λ other. kind_number other < 10) least.1)
     least_in_place _ least = absurd least.0

@@ -1,14 +1,11 @@
 -- The tags of a trace are a lawful order of its inputs and decisions.
-use Rattle.std.proofs.Common.{◌≡◌, ◌≢◌, ℕ, ◌+◌, ◌<◌, ◌≤◌, ◌==◌, zero, suc, ⊎_elim, Bool, true, false, cond, Some, None, List, [], ◌∷◌, ◌++◌, length, get_or, map, refl, sym, ap, subst, ◌∙◌, arith, ne_eqb}
+use Rattle.std.proofs.Common.{◌≡◌, ◌≢◌, ℕ, ◌+◌, ◌<◌, ◌≤◌, ◌==◌, zero, suc, ⊎_elim, Bool, true, false, cond, Some, None, List, [], ◌∷◌, length, map, refl, sym, ap, subst, ◌∙◌, arith, ne_eqb}
 use Rattle.std.specs.Prelude.{All, filter_map, slice_index_or}
 use Rattle.std.specs.List.{cons_option}
 use Rattle.std.proofs.lemmas.Bool.{cases_lt}
-use Rattle.std.proofs.lemmas.List.{length-map}
 use Rattle.std.proofs.lemmas.List.Sums.{sum_by-cons}
 use Rattle.std.proofs.lemmas.List.Elements.{All-nil, All-head, All-tail, All-push, All-map, All-weaker}
-use Rattle.std.proofs.Math.Seq.{get_or-append_seam}
 use Rattle.uplink.specs.Limits.{channel_limit}
-use Rattle.uplink.specs.declared.setup.Lists.{Lists}
 use Rattle.uplink.specs.Items.{Incoming, incoming_of}
 use Rattle.uplink.specs.Order.{senders, times_of, IsLawfulOrder}
 use Rattle.uplink.specs.Answer.{input_counts}
@@ -31,7 +28,8 @@ IsOfChannel (decided decision) = Unit {0}
 abbrev AreOfChannels : Said → Type 0
 AreOfChannels said = All IsOfChannel said.entries
 
-of_channels_with : (said : Said) (fields : List (List ℕ)) (line : TraceLine) → Carries said.ring fields line → AreOfChannels said → AreOfChannels (with_line said line)
+of_channels_with : (said : Said) (fields : List (List ℕ)) (line : TraceLine) → Carries said.ring fields line → AreOfChannels said
+    → AreOfChannels (with_line said line)
 of_channels_with said fields (line.Flow flow_record) carries each = each
 of_channels_with said fields (line.Sid row) carries each = each
 of_channels_with said fields (line.Input channel input) carries each =
@@ -39,15 +37,18 @@ of_channels_with said fields (line.Input channel input) carries each =
 of_channels_with said fields (line.Gap decision) carries each = All-push IsOfChannel said.entries (decided decision) each tt
 
 line_of_channel : Keeps trace_format AreOfChannels
-line_of_channel before fields after takes each = subst AreOfChannels (sym takes.0.added) (of_channels_with before fields takes.0.line takes.0.carries each)
+line_of_channel before fields after takes each =
+    subst AreOfChannels (sym takes.0.added) (of_channels_with before fields takes.0.line takes.0.carries each)
 
-pub read_of_channels : (ring : ℕ) (lines : List (List ℕ)) (said : Said) → IsRead trace_format (nothing_said ring) lines said → All IsOfChannel said.entries
+pub read_of_channels : (ring : ℕ) (lines : List (List ℕ)) (said : Said) → IsRead trace_format (nothing_said ring) lines said
+    → All IsOfChannel said.entries
 read_of_channels ring lines said read = IsRead-keeps AreOfChannels line_of_channel read (All-nil IsOfChannel)
 
 -- ---- how often a sender stands in the tags
 
 -- one more is counted, or is not
-count-some : {T : Type 0} (b : Bool) (n : ℕ) (x : T) (xs : List T) → n ≡ length xs → cond {A = ℕ} b 1 0 + n ≡ length (cons_option (cond b (Some x) None) xs)
+count-some : {T : Type 0} (b : Bool) (n : ℕ) (x : T) (xs : List T) → n ≡ length xs
+    → cond {A = ℕ} b 1 0 + n ≡ length (cons_option (cond b (Some x) None) xs)
 count-some true n x xs is = omega arith
 count-some false n x xs is = omega arith
 
@@ -62,11 +63,13 @@ times_of-other sender tag order other =
     omega (arith, none, times_of-cons sender tag order)
 
 -- a channel stands in the tags once for each of its inputs
-pub times_of-channel : (channel : ℕ) (entries : List Entry) → channel < channel_limit → times_of channel (map tag_of entries) ≡ length (filter_map (came_on channel) entries)
+pub times_of-channel : (channel : ℕ) (entries : List Entry) → channel < channel_limit
+    → times_of channel (map tag_of entries) ≡ length (filter_map (came_on channel) entries)
 times_of-channel channel [] below = refl
 times_of-channel channel (came other input ∷ entries) below =
     times_of-cons channel other (map tag_of entries)
-    ∙ count-some (other == channel) (times_of channel (map tag_of entries)) input (filter_map (came_on channel) entries) (times_of-channel channel entries below)
+    ∙ count-some (other == channel) (times_of channel (map tag_of entries)) input (filter_map (came_on channel) entries)
+    (times_of-channel channel entries below)
 times_of-channel channel (decided decision ∷ entries) below =
     times_of-other channel 4 (map tag_of entries) (omega arith) ∙ times_of-channel channel entries below
 
@@ -85,7 +88,8 @@ tag_below (came channel input) below = omega arith
 tag_below (decided decision) below = omega arith
 
 pub tags_name_senders : (entries : List Entry) → All IsOfChannel entries → All (λ tag. tag < senders) (map tag_of entries)
-tags_name_senders entries each = All-map (λ tag. tag < senders) tag_of entries (All-weaker IsOfChannel (λ entry. tag_of entry < senders) tag_below entries each)
+tags_name_senders entries each =
+    All-map (λ tag. tag < senders) tag_of entries (All-weaker IsOfChannel (λ entry. tag_of entry < senders) tag_below entries each)
 
 -- ---- how many inputs each channel has
 
@@ -105,7 +109,8 @@ tags_are_lawful mailbox said trace each given = record {
   named = tags_name_senders said.entries each;
   whole = λ sender below. ⊎_elim
       (λ (channel : sender < channel_limit).
-      times_of-channel sender said.entries channel ∙ ap length (sym (given.lists.inputs sender channel)) ∙ sym (count-channel (incoming_of trace.lists) sender channel))
+      times_of-channel sender said.entries channel ∙ ap length (sym (given.lists.inputs sender channel))
+      ∙ sym (count-channel (incoming_of trace.lists) sender channel))
       (λ (last : channel_limit ≤ sender).
       let is : sender ≡ 4 = omega arith in
       let decisions : times_of 4 (map tag_of said.entries) ≡ slice_index_or (input_counts (incoming_of trace.lists)) 4 0 =

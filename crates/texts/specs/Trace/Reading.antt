@@ -35,4 +35,5 @@ pub record HasReadMore (said : Said) (line : TraceLine) (reading : Reading) : Ty
 -- Whatever the reading has read: what a line says is read too, or the least of its faults is reported.
 abbrev pub ReadsLine : Reading → TraceLine → Result (Unit {0}) LineFault → Reading → Type 0
 ReadsLine reading line result after =
-    (said : Said) → HasRead said reading → MatchResult result (λ _. HasReadMore said line after) (IsLineFault (IsLeastFault (HasFaultAmong said line)))
+    (said : Said) → HasRead said reading
+    → MatchResult result (λ _. HasReadMore said line after) (IsLineFault (IsLeastFault (HasFaultAmong said line)))

@@ -55,8 +55,8 @@ impl Reading {
         }
     }
 
-    /// Whether a line that begins with this word is late: it sets up a flow or a service identifier,
-    /// and a line above says what came in.
+    /// Whether a line that begins with this word is late: it sets up a flow or a service
+    /// identifier, and a line above says what came in.
     fn is_late(&self, word: &[u8]) -> bool
         ensures { IsTrue result
             ↔ (((word.now ≡ word_of flow_line) ⊎ (word.now ≡ word_of sid_line))

@@ -9,7 +9,8 @@ use Rattle.texts.proofs.OneReading as lines
 use Rattle.texts.proofs.OneTrace.{trace_is_determined}
 use Rattle.texts.proofs.laws.faulty_input_is_no_trace.Goals as goal
 
-no_trace : (ring mailbox : ℕ) (input : List ℕ) (trace : Trace) (fault : ParseFault) → IsTrace ring mailbox input trace → IsTraceFault ring input fault → fault ≡ OutOfMemory
+no_trace : (ring mailbox : ℕ) (input : List ℕ) (trace : Trace) (fault : ParseFault) → IsTrace ring mailbox input trace
+    → IsTraceFault ring input fault → fault ≡ OutOfMemory
 no_trace ring mailbox input trace (Line fault) is faulty =
     absurd (lines.read_without_fault trace_format trace_is_determined (nothing_said ring) (lines_of input) is.said fault is.read faulty)
 no_trace ring mailbox input trace OutOfMemory is faulty = refl

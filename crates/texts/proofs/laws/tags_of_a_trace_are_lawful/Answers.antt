@@ -8,4 +8,5 @@ use Rattle.texts.proofs.laws.tags_of_a_trace_are_lawful.Goals as goal
 
 pub returns : goal.returns
 returns c ring mailbox input trace is =
-    subst (IsLawfulOrder (input_counts (incoming_of trace.lists))) (sym is.given.tags) (tags_are_lawful mailbox is.said trace (read_of_channels ring (lines_of input) is.said is.read) is.given)
+    let each = read_of_channels ring (lines_of input) is.said is.read in
+    subst (IsLawfulOrder (input_counts (incoming_of trace.lists))) (sym is.given.tags) (tags_are_lawful mailbox is.said trace each is.given)

@@ -8,8 +8,10 @@ use Rattle.texts.proofs.OneReading as lines
 use Rattle.texts.proofs.OneTrace.{trace_is_determined}
 use Rattle.texts.proofs.laws.trace_has_one_fault.Goals as goal
 
-one_fault : (ring : ℕ) (input : List ℕ) (fault other : ParseFault) → IsTraceFault ring input fault → fault ≢ OutOfMemory → IsTraceFault ring input other → other ≢ OutOfMemory → fault ≡ other
-one_fault ring input (Line fault) (Line other) a some b more = ap Line (lines.one_fault trace_format trace_is_determined (nothing_said ring) (lines_of input) fault other a b)
+one_fault : (ring : ℕ) (input : List ℕ) (fault other : ParseFault) → IsTraceFault ring input fault → fault ≢ OutOfMemory
+    → IsTraceFault ring input other → other ≢ OutOfMemory → fault ≡ other
+one_fault ring input (Line fault) (Line other) a some b more =
+    ap Line (lines.one_fault trace_format trace_is_determined (nothing_said ring) (lines_of input) fault other a b)
 one_fault ring input (Line fault) OutOfMemory a some b more = absurd (more refl)
 one_fault ring input OutOfMemory other a some b more = absurd (some refl)
 

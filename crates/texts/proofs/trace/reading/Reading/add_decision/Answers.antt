@@ -1,13 +1,13 @@
-use Rattle.std.proofs.Common.{◌<◌, ◌∙◌, length, refl, ap, arith}
+use Rattle.std.proofs.Common.{◌∙◌, refl}
 use Rattle.texts.specs.declared.trace.line.TraceLine.TheVariants as line
 use Rattle.texts.specs.Trace.Place.{decided, with_line}
-use Rattle.texts.proofs.Readings.{decision_without_fault, tags-pushed, AreListsOf-decision, seen-kept}
+use Rattle.texts.proofs.Readings.{flow_known, decision_without_fault, tags-pushed, AreListsOf-decision, seen-kept}
 use Rattle.texts.proofs.trace.reading.Reading.add_decision.Goals as goal
 
 pub returns : goal.returns
 returns c = λ said has.
     let entry = decided c.args.decision in
-    let known : c.args.decision.flow < length said.flows = omega (arith, c.in_ok-find_flow.ensures.known, c.args.self.now.flows.ok.0, ap length has.flows) in
+    let known = flow_known said c.args.self.now c.args.decision.flow has c.in_ok-find_flow.ensures.known in
     record {
       faultless = decision_without_fault said c.args.decision known;
       read = record {

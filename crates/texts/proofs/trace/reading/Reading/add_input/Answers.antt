@@ -13,7 +13,8 @@ returns c = λ said has.
         ring = has.ring;
         flows = has.flows;
         sids = has.sids;
-        lists = AreListsOf-input said.entries c.args.self.now.lists _ c.args.channel c.args.input c.from.result c.index-self-from.result _ has.lists c.requires c.from.ensures refl c.in_ok-push-2.ensures.items refl;
+        lists = AreListsOf-input said.entries c.args.self.now.lists _ c.args.channel c.args.input c.from.result c.index-self-from.result _
+            has.lists c.requires c.from.ensures refl c.in_ok-push-2.ensures.items refl;
         tags = c.in_ok-push.ensures.items ∙ tags-pushed c.args.self.now.tags.items said.entries entry has.tags;
         seen = seen-kept said (with_line said (line.Input c.args.channel c.args.input)) c.args.self.now.seen refl has.seen;
       };

@@ -1,12 +1,12 @@
-use Rattle.std.proofs.Common.{◌≡◌, ◌<◌, ◌∙◌, ◌++◌, ◌∷◌, [], length, true, ap, arith}
+use Rattle.std.proofs.Common.{◌≡◌, ◌∙◌, ◌++◌, ◌∷◌, [], true, ap}
 use Rattle.texts.specs.Trace.Place.{IsSidAbove}
-use Rattle.texts.proofs.Readings.{sid_without_fault, seen-pushed}
+use Rattle.texts.proofs.Readings.{flow_known, sid_without_fault, seen-pushed}
 use Rattle.texts.proofs.trace.reading.Reading.add_sid.Goals as goal
 
 pub returns : goal.returns
 returns c = λ said has.
     let row = c.args.row in
-    let known : row.flow < length said.flows = omega (arith, c.in_ok-find_flow.ensures.known, c.args.self.now.flows.ok.0, ap length has.flows) in
+    let known = flow_known said c.args.self.now row.flow has c.in_ok-find_flow.ensures.known in
     let new : IsSidAbove said row.channel row.sid → ⊥ = λ above.
     let seen : c.contains.result ≡ true = c.contains.ensures.1 ((has.seen row.channel row.sid).1 above) in
     cc (seen, c.if-contains.false) in

@@ -12,19 +12,26 @@ returns-then-is_late-clause-fault c = λ before has.
     late_is_least before (c.args.field.now ∷ words_of c.args.rest.now)
     (late_by_word before c.args.field.now (words_of c.args.rest.now) found.0 (omega (arith, count-tags before c.args.self.now has, some)))
 
+pub returns-in_err-line-clause-fault : goal.returns-in_err-line-clause-fault
+returns-in_err-line-clause-fault c = λ before has.
+    let word = c.args.field.now in
+    let words = words_of c.args.rest.now in
+    let early = not_late before c.args.self.now word words c.is_late.result has c.is_late.ensures.1 c.if-is_late.false in
+    let p = err_from_is_err_and c.from_residual.result c.from_residual.ensures.1 in
+    rw (p.1, p.2) (refused_by_itself before (word ∷ words) early c.in_err-line.field-0.0 c.in_err-line.ensures.fault)
+
 pub returns-clause-taken : goal.returns-clause-taken
 returns-clause-taken c = λ before has.
-    let fields = c.args.field.now ∷ words_of c.args.rest.now in
-    let carries = carried_as c.args.self.now.ring before.ring fields c.in_ok-line.line has.ring c.in_ok-line.ensures.carried in
-    taken_in_place before fields (not_late before c.args.self.now c.args.field.now (words_of c.args.rest.now) c.is_late.result has c.is_late.ensures.1 c.if-is_late.false) c.in_ok-line.line carries c.add.new.self c.add.result (c.add.ensures before has)
+    let word = c.args.field.now in
+    let words = words_of c.args.rest.now in
+    let early = not_late before c.args.self.now word words c.is_late.result has c.is_late.ensures.1 c.if-is_late.false in
+    let carries = carried_as c.args.self.now.ring before.ring (word ∷ words) c.in_ok-line.line has.ring c.in_ok-line.ensures.carried in
+    taken_in_place before (word ∷ words) early c.in_ok-line.line carries c.add.new.self c.add.result (c.add.ensures before has)
 
 pub returns-clause-fault : goal.returns-clause-fault
 returns-clause-fault c = λ before has.
-    let fields = c.args.field.now ∷ words_of c.args.rest.now in
-    let carries = carried_as c.args.self.now.ring before.ring fields c.in_ok-line.line has.ring c.in_ok-line.ensures.carried in
-    refused_in_place before fields (not_late before c.args.self.now c.args.field.now (words_of c.args.rest.now) c.is_late.result has c.is_late.ensures.1 c.if-is_late.false) c.in_ok-line.line carries c.add.new.self c.add.result (c.add.ensures before has)
-
-pub returns-in_err-line-clause-fault : goal.returns-in_err-line-clause-fault
-returns-in_err-line-clause-fault c = λ before has.
-    let p = err_from_is_err_and c.from_residual.result c.from_residual.ensures.1 in
-    rw (p.1, p.2) (refused_by_itself before (c.args.field.now ∷ words_of c.args.rest.now) (not_late before c.args.self.now c.args.field.now (words_of c.args.rest.now) c.is_late.result has c.is_late.ensures.1 c.if-is_late.false) c.in_err-line.field-0.0 c.in_err-line.ensures.fault)
+    let word = c.args.field.now in
+    let words = words_of c.args.rest.now in
+    let early = not_late before c.args.self.now word words c.is_late.result has c.is_late.ensures.1 c.if-is_late.false in
+    let carries = carried_as c.args.self.now.ring before.ring (word ∷ words) c.in_ok-line.line has.ring c.in_ok-line.ensures.carried in
+    refused_in_place before (word ∷ words) early c.in_ok-line.line carries c.add.new.self c.add.result (c.add.ensures before has)
