@@ -11,3 +11,5 @@ pub mod Answer
 pub mod Assembly
 pub mod Received
 pub mod SameOutcome
+pub mod Working
+pub mod Offering
