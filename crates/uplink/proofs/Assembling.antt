@@ -12,7 +12,7 @@ use Rattle.flow_core.specs.declared.flow.Flow.{Flow}
 use Rattle.flow_core.specs.declared.flows.Core.{Core}
 use Rattle.flow_core.specs.declared.event.Event.{Event}
 use Rattle.flow_core.specs.declared.event.Applied.{Applied}
-use Rattle.flow_core.specs.Setup.{CanBeSetUp, IsInRange}
+use Rattle.flow_core.specs.Setup.{CanBeSetUp}
 use Rattle.flow_core.specs.Events.{FlowEvent}
 use Rattle.flow_core.specs.Stands.{StandsFor, IsDrained}
 use Rattle.flow_core.specs.Flows.{flow_of, event_of, OthersStay, TakesEventAt, IsDrainedAt, IsNewCore}
@@ -36,34 +36,6 @@ module _ (items : List Event) (event : Event) where
   event_of_another : (k : ℕ) → k ≢ flow_of event → events_at k (items ++ event ∷ []) ≡ events_at k items
   event_of_another k apart = more_events k false (ne_eqb (flow_of event) k (λ same. apart (sym same))) ∙ append-nil (events_at k items)
 
--- a flow that is as it was has given what it had
-module _ {C : Type 0} (accepts : C → List ℕ → Bool) (core after : Core C) (check : after.check ≡ core.check) (j : ℕ)
-    (same : slice_get after.flows.items j ≡ slice_get core.flows.items j) where
-  pub still_drained : (accepted : List ℕ → Bool) (r : FlowRecord) (events : List FlowEvent) (given : List (List ℕ))
-      → HasDrained accepts core j accepted r events given → HasDrained accepts after j accepted r events given
-  still_drained accepted r events given has =
-      record {
-        has_given = record {
-          accepted_are = ap accepts check ∙ has.has_given.accepted_are;
-          flow = has.has_given.flow;
-          there = same ∙ has.has_given.there;
-          answers = has.has_given.answers;
-          y = has.has_given.y;
-          stands = has.has_given.stands;
-        };
-        drained = has.drained;
-      }
-
--- a flow that has drained runs, if its record is in range
-module _ {C : Type 0} (accepts : C → List ℕ → Bool) (core : Core C) (k : ℕ) (accepted : List ℕ → Bool) (r : FlowRecord) (events : List FlowEvent)
-    (given : List (List ℕ)) (has : HasDrained accepts core k accepted r events given) where
-  pub drained_at : IsDrainedAt core k
-  drained_at = record { flow = has.has_given.flow; there = has.has_given.there; drained = has.drained }
-
-  pub running_at : IsInRange r → IsRunning accepts core k
-  running_at in_range =
-      record { accepted = accepted; flow_record = r; events = events; given = given; in_range = in_range; has_given = has.has_given }
-
 module _ {C : Type 0} (accepts : C → List ℕ → Bool) (core after : Core C) (k : ℕ) (others : OthersStay core after k) where
   -- a flow takes an event
   pub event_given : (accepted : List ℕ → Bool) (r : FlowRecord) (events : List FlowEvent) (given : List (List ℕ))
@@ -85,7 +57,17 @@ module _ {C : Type 0} (accepts : C → List ℕ → Bool) (core after : Core C) 
   pub another_drained : (j : ℕ) (accepted : List ℕ → Bool) (r : FlowRecord) (events : List FlowEvent) (given : List (List ℕ))
       → j ≢ k → HasDrained accepts core j accepted r events given → HasDrained accepts after j accepted r events given
   another_drained j accepted r events given apart has =
-      still_drained accepts core after others.check j (others.others j apart) accepted r events given has
+      record {
+        has_given = record {
+          accepted_are = ap accepts others.check ∙ has.has_given.accepted_are;
+          flow = has.has_given.flow;
+          there = others.others j apart ∙ has.has_given.there;
+          answers = has.has_given.answers;
+          y = has.has_given.y;
+          stands = has.has_given.stands;
+        };
+        drained = has.drained;
+      }
 
 module _ {C : Type 0} (accepts : C → List ℕ → Bool) (core : Core C) (event : Event) where
   module _ (exists : flow_of event < length core.flows.items) (taking : IsTaking accepts core) where
@@ -97,8 +79,8 @@ module _ {C : Type 0} (accepts : C → List ℕ → Bool) (core : Core C) (event
     pub drained_before : IsDrainedAt core (flow_of event)
     drained_before =
         let its = its_record in
-        let n = flow_of event in
-        drained_at accepts core n taking.accepted its.0 (events_at n taking.items) (taking.given n) (taking.has_taken.each n its.0 its.1)
+        let has = taking.has_taken.each (flow_of event) its.0 its.1 in
+        record { flow = has.has_given.flow; there = has.has_given.there; drained = has.drained }
 
     -- and runs once it has taken the item
     pub running_with : (between : Core C) (answer : Applied) → OthersStay core between (flow_of event)

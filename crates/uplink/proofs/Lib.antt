@@ -8,16 +8,8 @@ pub mod Interleaving
 pub mod FourLanes
 pub mod Assembling
 pub mod Finishing
-pub mod Reported
 pub mod Gathered
-pub mod Served
 pub mod Merged
 pub mod OneOutcome
 pub mod Outstanding
-pub mod HasAnswers
-pub mod Kept
-pub mod Consumed
-pub mod Offering
-pub mod OfferingTheRest
-pub mod Collecting
-pub mod AssemblingAll
+pub mod Answering

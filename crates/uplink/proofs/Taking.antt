@@ -23,7 +23,7 @@ use Rattle.uplink.specs.Stands.{StandsFor, HasFlows}
 
 module _ {X : Type 0} where
   -- what stands in a list stands in one that it begins
-  pub stays-behind : (xs ys : List X) (k : ℕ) (x : X) → slice_get xs k ≡ Some x → slice_get (xs ++ ys) k ≡ Some x
+  stays-behind : (xs ys : List X) (k : ℕ) (x : X) → slice_get xs k ≡ Some x → slice_get (xs ++ ys) k ≡ Some x
   stays-behind [] ys k x is = absurd (cc)
   stays-behind (y ∷ xs) ys zero x is = is
   stays-behind (y ∷ xs) ys (suc k) x is = stays-behind xs ys k x is

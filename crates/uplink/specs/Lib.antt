@@ -11,5 +11,3 @@ pub mod Answer
 pub mod Assembly
 pub mod Received
 pub mod SameOutcome
-pub mod Working
-pub mod Offering

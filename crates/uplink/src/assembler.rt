@@ -2,7 +2,6 @@
 
 mod calls;
 
-pub use calls::{close_flow, take_item};
 use docsis_wire::Bytes;
 use flow_core::Core;
 

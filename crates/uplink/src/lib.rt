@@ -12,9 +12,7 @@
 #![tactic(auto)]
 
 mod admitted;
-mod answering;
 mod assembler;
-mod done;
 mod grant;
 mod input;
 mod lane;
@@ -29,11 +27,8 @@ mod refusal;
 mod refusals;
 mod replaying;
 mod row;
-mod running;
 mod seen;
 mod setup;
-mod source;
-mod tap;
 #[cfg(test)]
 mod traces;
 
@@ -45,8 +40,5 @@ pub use outcome::{FlowOutcome, LaneReport, Outcome};
 pub use refusal::Refusal;
 pub use replaying::{ReplayFault, admitted_order, replay};
 pub use row::{LaneFault, SidRow};
-pub use running::{RunFault, run};
 pub use seen::SeenSids;
 pub use setup::{Decision, Lists, Setup};
-pub use source::{Decisions, ListDecisions, ListSource, Source, Sources};
-pub use tap::{NoTap, Tap, Taps};

@@ -3,7 +3,6 @@
 mod calls;
 
 use crate::row::LaneFault;
-pub(crate) use calls::check_setup;
 pub use calls::{admitted_order, replay};
 use flow_core::SetupFault;
 use std::alloc::AllocError;

@@ -23,7 +23,7 @@ use flow_core::{Event, FlowRecord, check_records};
 use std::alloc::{AllocError, Global};
 
 /// Looks for the first fault of a setup. It takes no memory.
-pub(crate) fn check_setup(setup: &Setup) -> Result<(), ReplayFault>
+fn check_setup(setup: &Setup) -> Result<(), ReplayFault>
     ensures ok { (result ≡ Ok tt) ↔ CanReceive setup.now }
     ensures fault { IfErr result (IsFirstFault setup.now (λ k. ⊥)) }
 {
