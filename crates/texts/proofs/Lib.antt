@@ -26,3 +26,5 @@ pub mod TraceLineFaults
 pub mod TraceLines
 pub mod OneTrace
 pub mod Readings
+pub mod OneReport
+pub mod OnePlay

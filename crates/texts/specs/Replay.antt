@@ -1,6 +1,7 @@
 -- The text that stands for a trace.
-use Rattle.std.specs.Prelude.{◌≡◌, ℕ, List}
+use Rattle.std.specs.Prelude.{◌≡◌, ℕ, List, length}
 use Rattle.uplink.specs.declared.outcome.Outcome.{Outcome}
+use Rattle.uplink.specs.Limits.{channel_limit}
 use Rattle.uplink.specs.Items.{incoming_of}
 use Rattle.uplink.specs.Answer.{IsOutcome, IsAdmittedOrder}
 use Rattle.texts.specs.declared.fault.TextFault.{TextFault}
@@ -17,11 +18,14 @@ use Rattle.texts.specs.Trace.Place.{nothing_said, trace_format}
 abbrev pub default_capacity : ℕ
 default_capacity = 16
 
--- what a trace gives: the one-thread answer, in the order in which its lines say that what was admitted came
+-- What a trace gives: the one-thread answer, in the order in which its lines say that what was admitted came. It has requests and a report of
+-- each of the four channels.
 pub record IsPlayed (trace : TraceValue) (outcome : Outcome) : Type 0 where
   pub order : List ℕ
   pub admitted : IsAdmittedOrder trace.setup (incoming_of trace.lists) trace.tags.items order
   pub answered : IsOutcome any_header trace.setup (incoming_of trace.lists) order outcome
+  pub requests : length outcome.requests ≡ channel_limit
+  pub lanes : length outcome.lanes ≡ channel_limit
 
 -- the text that stands for an input: the report of what its trace gives
 pub record IsReplayed (input text : List ℕ) : Type 0 where

@@ -1,6 +1,6 @@
-//! The definitions of `join`, of `cut` and of traces determine their answers: an input has at most
-//! one text, or is at most one trace, has at most one first fault, and never both. A trace passes
-//! the checks of a receiver.
+//! The definitions of `join`, of `cut`, of `replay` and of traces determine their answers: an input
+//! has at most one text, or is at most one trace, has at most one first fault, and never both. A
+//! trace passes the checks of a receiver.
 //!
 //! Each function states a law in its contract and does nothing.
 ghost use Rattle.std.specs.Prelude.{◌≡◌, ◌≢◌, ◌≤◌, ℕ, List, length, flat_map};
@@ -15,6 +15,7 @@ ghost use Rattle.texts.specs.declared.fault.TextFault.{TextFault};
 ghost use Rattle.texts.specs.declared.trace.Trace.{Trace};
 ghost use Rattle.texts.specs.Join.{IsJoined, IsJoinFault};
 ghost use Rattle.texts.specs.Cut.{IsCutInto, IsCutText, IsCutFault, segment_line, cut_text_length};
+ghost use Rattle.texts.specs.Replay.{IsReplayed, IsReplayFault};
 ghost use Rattle.texts.specs.Trace.{IsTrace, IsTraceFault, AreSameTraces};
 
 /// At most one text stands for an input of `join`.
@@ -113,3 +114,32 @@ pub fn tags_of_a_trace_are_lawful()
         → IsTrace ring mailbox input trace
         → IsLawfulOrder (input_counts (incoming_of trace.lists)) trace.tags.items }
 {}
+
+/// At most one text stands for an input of `replay`.
+pub fn replay_has_one_text()
+    ensures { (input text other : List ℕ)
+        → IsReplayed input text → IsReplayed input other → text ≡ other }
+{
+    uplink::laws::lane_has_at_most_one_answer_to_each_input();
+    uplink::laws::lists_have_one_merge::<bool>();
+    uplink::laws::replay_has_one_outcome();
+    input_is_one_trace();
+    trace_passes_the_checks();
+}
+
+/// An input of `replay` has at most one first fault.
+pub fn replay_has_one_fault()
+    ensures { (input : List ℕ) (fault other : TextFault)
+        → IsReplayFault input fault → fault ≢ TextFault.OutOfMemory
+        → IsReplayFault input other → other ≢ TextFault.OutOfMemory → fault ≡ other }
+{
+    trace_has_one_fault();
+}
+
+/// No text stands for an input of `replay` that has a fault.
+pub fn faulty_input_of_replay_has_no_text()
+    ensures { (input text : List ℕ) (fault : TextFault)
+        → IsReplayed input text → IsReplayFault input fault → fault ≡ TextFault.OutOfMemory }
+{
+    faulty_input_is_no_trace();
+}

@@ -54,7 +54,10 @@ fn play(alloc: Global, trace: Trace) -> Result<Outcome, AllocError>
 
 /// The report of a trace: its grants, bursts and decisions are taken in the order of their lines.
 ///
-/// Otherwise it reports the first faulty line, or that an allocation failed.
+/// Otherwise it reports the first faulty line, or that an allocation failed. That an input has one
+/// text or one fault is stated by [`replay_has_one_text`](crate::laws::replay_has_one_text),
+/// [`replay_has_one_fault`](crate::laws::replay_has_one_fault) and
+/// [`faulty_input_of_replay_has_no_text`](crate::laws::faulty_input_of_replay_has_no_text).
 pub fn replay_lines(alloc: Global, input: Vec<u8>) -> Result<Vec<u8>, TextFault>
     ensures text { IfOk result (λ text. IsReplayed input.items text.items) }
     ensures fault { IfErr result (IsReplayFault input.items) }
