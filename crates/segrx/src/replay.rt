@@ -24,8 +24,8 @@ impl Engine for ReplayEngine {
     }
 }
 
-/// Replays the trace that a reader gives, in the order of its lines, and writes the report of it. It
-/// reads all, at most 268,435,456 bytes, then makes the whole text, and then writes it.
+/// Replays the trace that a reader gives, in the order of its lines, and writes the report of it.
+/// It reads all, at most 268,435,456 bytes, then makes the whole text, and then writes it.
 ///
 /// `Read`: the reader failed or gave more. `Trace`: the first faulty line, any kind but `TooShort`
 /// and `PointerPast`. `OutOfMemory`: an allocation failed. Up to here nothing was written. `Write`:

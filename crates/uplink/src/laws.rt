@@ -1,6 +1,6 @@
 //! Laws about the definitions: each input of a lane has one answer, what is outstanding and what is
-//! admitted after one more input, rows have at most one first fault, lists have at most one merge in
-//! an order, the admitted order is lawful, and a replay has one outcome or one fault.
+//! admitted after one more input, rows have at most one first fault, lists have at most one merge
+//! in an order, the admitted order is lawful, and a replay has one outcome or one fault.
 //!
 //! Each function states a law in its contract and does nothing.
 ghost use Rattle.std.specs.Prelude.{◌≡◌, ◌≢◌, ◌↔◌, ℕ, ◌+◌, Bool, IsTrue, Ok, None};

@@ -41,8 +41,8 @@ impl<C: HeaderCheck + Drop> Core<C> {
     }
 
     /// Closes a drained flow: declares losses until one changes nothing, drains it after each, and
-    /// appends the frames that it gives. Where an allocation failed nothing is promised of this flow
-    /// and of the list.
+    /// appends the frames that it gives. Where an allocation failed nothing is promised of this
+    /// flow and of the list.
     pub fn close(
         &mut self,
         alloc: Global,

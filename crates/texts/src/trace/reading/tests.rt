@@ -5,7 +5,7 @@ use std::test::Fail;
 
 /// Two channels of one flow, and segments that come in another order.
 const TRACE: &str = "\
-# row 5, the second segment first
+# the second segment first
 flow 100 0 16 2
 sid 0 1 0
 sid 1 2 0
