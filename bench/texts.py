@@ -1,6 +1,8 @@
 """Frames and segments for the texts that the benches give to the program, and the program's speed and memory on them."""
 
+import itertools
 import os
+import random
 import statistics
 import subprocess
 import sys
@@ -11,6 +13,7 @@ import time
 BUILT = os.path.join(os.path.dirname(os.path.abspath(__file__)), "..", "crates", "segrx", "out", "segrx")
 PROGRAM = os.environ.get("SEGRX", BUILT)
 MIB = 1 << 20
+CHANNELS, FLOWS = 4, 64
 
 
 def frame(length, rng):
@@ -57,6 +60,35 @@ def longest(rng):
         yield one
 
 
+def flow_lines(count, window):
+    """Flows, of which each has one SID on each channel, its index."""
+    for flow in range(count):
+        yield b"flow %d 0 %d 1\n" % (flow, window)
+    for channel, flow in itertools.product(range(CHANNELS), range(count)):
+        yield b"sid %d %d %d\n" % (channel, flow, flow)
+
+
+def grant(channel, number, sid, segment):
+    return b"grant %d %d %d %d\n" % (channel, number, sid, len(segment))
+
+
+def burst(channel, number, segment):
+    return b"burst %d %d ok %s\n" % (channel, number, segment.hex().encode())
+
+
+def ordinary_lines(flows, window=16):
+    """Each flow in turn sends four segments at once, one on each channel, which come in any order."""
+    rng = random.Random(20)
+    yield from flow_lines(flows, window)
+    sent = [segments(ordinary(rng), 1500) for _ in range(flows)]
+    for number in itertools.count():
+        sid = number % flows
+        at_once = list(enumerate(itertools.islice(sent[sid], CHANNELS)))
+        yield from (grant(channel, number, sid, segment) for channel, segment in at_once)
+        rng.shuffle(at_once)
+        yield from (burst(channel, number, segment) for channel, segment in at_once)
+
+
 def write_up_to(size, path, lines):
     """Appends lines until the text has so many bytes."""
     with open(path, "ab") as out:
@@ -65,21 +97,23 @@ def write_up_to(size, path, lines):
             written += out.write(next(lines))
 
 
-def once(command, path):
+def once(words, path, cores=None):
+    """The seconds that the program takes with these words, on these cores or all, and what the system says of it."""
     with open(path, "rb") as given, open(os.devnull, "wb") as taken:
         began = time.monotonic()
-        child = subprocess.Popen([PROGRAM, command], stdin=given, stdout=taken)
+        bound = [] if cores is None else ["taskset", "-c", cores]
+        child = subprocess.Popen([*bound, PROGRAM, *words], stdin=given, stdout=taken)
         _, status, usage = os.wait4(child.pid, 0)
         seconds = time.monotonic() - began
     if status != 0:
         sys.exit(f"segrx ended with {status}")
-    return seconds, usage.ru_maxrss * 1024
+    return seconds, usage
 
 
 def measure(command, path, runs):
     """The median of the seconds, and the greatest memory."""
-    made = [once(command, path) for _ in range(runs)]
-    return statistics.median(seconds for seconds, _ in made), max(memory for _, memory in made)
+    made = [once([command], path) for _ in range(runs)]
+    return statistics.median(seconds for seconds, _ in made), max(usage.ru_maxrss * 1024 for _, usage in made)
 
 
 def show(name, command, lines, size, runs):

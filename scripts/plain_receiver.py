@@ -1,6 +1,7 @@
 """A plain, slow reading of what `segrx replay` answers: of traces, of what a channel admits, and of reports.
 
-The joining of segments and what becomes of a flow's segments are in plain_reading.py.
+The joining of segments and what becomes of a flow's segments are in plain_reading.py, and what `segrx run` may answer in
+plain_orders.py.
 """
 
 import collections
@@ -191,8 +192,18 @@ class Lane:
         return [answer for _, answer, _ in self.answers if answer not in (self.ACCEPTED, self.ADMITTED)]
 
 
+def report_of_lanes(lanes):
+    """The lines of a report behind those of the flows."""
+    for lane in lanes:
+        for request in lane.requests():
+            yield f"request {lane.channel} {' '.join(map(str, request))}"
+    for lane in lanes:
+        admitted = sum(item is not None for item in lane.admitted())
+        yield f"lane {lane.channel} admitted {admitted} refused {' '.join(map(str, lane.refused())) or '-'}"
+
+
 class FlowOutcome:
-    """A flow with the events of its items in the order of the trace and then its close."""
+    """A flow with the events of its items in some order and then its close."""
 
     def __init__(self, record):
         self.sfid, first, window, _ = record
@@ -201,11 +212,12 @@ class FlowOutcome:
         self.gaps = [0, 0]  # how many decisions declared nothing, and how many declared something
         self.frames, self.skipped = [], 0
 
-    def arrive(self, segment):
-        self.verdicts[self.flow.arrive(segment)] += 1
-
-    def gap(self, number):
-        self.gaps[self.flow.gap(number)] += 1
+    def take(self, sender, what):
+        """Takes an item: a segment from a channel, or the number up to which a decision is meant."""
+        if sender == DECISION:
+            self.gaps[self.flow.gap(what)] += 1
+        else:
+            self.verdicts[self.flow.arrive(what)] += 1
 
     def close(self):
         while self.flow.gap():
@@ -219,9 +231,14 @@ class FlowOutcome:
         counts |= {"frames": len(self.frames), "skipped": self.skipped}
         return " ".join(f"{name} {count}" for name, count in counts.items())
 
+    def report(self, index):
+        yield f"flow {index} {self.sfid} {self.counts()}"
+        for frame in self.frames:
+            yield f"frame {index} {frame.hex()}"
+
 
 class Outcome:
-    """What comes of a trace."""
+    """What comes of a trace whose lines are taken in their order."""
 
     def __init__(self, trace):
         self.lanes = [Lane(channel, trace) for channel in range(CHANNELS)]
@@ -229,24 +246,19 @@ class Outcome:
         items = [lane.admitted() for lane in self.lanes] + [iter(trace.decisions)]
         for tag in trace.tags:
             item = next(items[tag])
-            if tag == DECISION:
-                self.flows[item[0]].gap(item[1])
-            elif item is not None:
-                self.flows[item[0]].arrive(item[1])
+            if item is not None:
+                self.flows[item[0]].take(tag, item[1])
         for flow in self.flows:
             flow.close()
 
     def report(self):
         for index, flow in enumerate(self.flows):
-            yield f"flow {index} {flow.sfid} {flow.counts()}"
-            for frame in flow.frames:
-                yield f"frame {index} {frame.hex()}"
-        for lane in self.lanes:
-            for request in lane.requests():
-                yield f"request {lane.channel} {' '.join(map(str, request))}"
-        for lane in self.lanes:
-            admitted = sum(item is not None for item in lane.admitted())
-            yield f"lane {lane.channel} admitted {admitted} refused {' '.join(map(str, lane.refused())) or '-'}"
+            yield from flow.report(index)
+        yield from report_of_lanes(self.lanes)
+
+
+def text_of(lines):
+    return "".join(line + "\n" for line in lines).encode()
 
 
 def replay(text):
@@ -256,4 +268,4 @@ def replay(text):
         outcome = Outcome(read_trace(text))
     except LineFault as fault:
         return b"", f"segrx: {fault}\n".encode(), 1, fault
-    return "".join(line + "\n" for line in outcome.report()).encode(), b"", 0, outcome
+    return text_of(outcome.report()), b"", 0, outcome

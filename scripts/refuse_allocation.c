@@ -1,8 +1,11 @@
-/* Loaded before the C library, refuses one request for memory: the one whose number REFUSE_ALLOCATION gives, counted from 1.
- * Where REFUSE_LATER is set, to anything but nothing, it refuses all later ones too. When it refuses one it makes the
- * file that REFUSE_MET names. */
+/* Loaded before the C library, refuses one request for memory or for the start of a thread: the one whose number
+ * REFUSE_ALLOCATION gives, counted from 1. Where REFUSE_LATER is set, to anything but nothing, it refuses all later ones
+ * too. When it refuses one it makes the file that REFUSE_MET names. */
+#define _GNU_SOURCE
+#include <dlfcn.h>
 #include <errno.h>
 #include <fcntl.h>
+#include <pthread.h>
 #include <stddef.h>
 #include <stdlib.h>
 #include <unistd.h>
@@ -12,7 +15,12 @@ extern void *__libc_calloc(size_t, size_t);
 extern void *__libc_realloc(void *, size_t);
 extern void *__libc_memalign(size_t, size_t);
 
+typedef int start_thread(pthread_t *, const pthread_attr_t *, void *(*)(void *), void *);
+
 static long asked;
+static start_thread *start;
+
+__attribute__((constructor)) static void find_start(void) { start = (start_thread *)dlsym(RTLD_NEXT, "pthread_create"); }
 
 static int refused(void)
 {
@@ -45,4 +53,9 @@ int posix_memalign(void **to, size_t align, size_t size)
         return ENOMEM;
     *to = made;
     return 0;
+}
+
+int pthread_create(pthread_t *thread, const pthread_attr_t *how, void *(*run)(void *), void *with)
+{
+    return refused() ? EAGAIN : start(thread, how, run, with);
 }

@@ -1,4 +1,4 @@
-"""Generated traces for `segrx replay`: lawful ones, the same in another dress, and faulty ones."""
+"""Generated traces for `segrx replay` and `segrx run`: lawful ones, the same in another dress, and faulty ones."""
 
 from plain_reading import AHEAD, MODULUS, Cut, some_frame
 from plain_receiver import CHANNELS, CHECK, FORMS, HEX, MOST_FLOWS, MOST_GRANTS
@@ -21,14 +21,15 @@ def header_of(words):
 
 
 class SentFlow:
-    """A flow whose segments are sent: those of a cut, some of them spoiled or not, or any segments."""
+    """A flow whose segments are sent: those of a cut, some of them spoiled or not, or any segments. One that is calm sends
+    each segment once at most, and they fit into its window."""
 
-    def __init__(self, rng, index):
-        self.rng, self.index = rng, index
+    def __init__(self, rng, index, calm=False):
+        self.rng, self.index, self.calm = rng, index, calm
         self.first = rng.choice([0, 0, 8190, 8191, 8180, 4095, rng.randrange(MODULUS)])
-        self.window = rng.choice([1, 2, 3, 5, 16, 16, 16, 100, 4096])
-        self.kind = rng.choice(["cut", "cut", "spoiled", "any"])
-        self.cut = None if self.kind == "any" else Cut(rng, self.first, rng.randrange(1, 40))
+        self.window = rng.choice([400, 4096] if calm else [1, 2, 3, 5, 16, 16, 16, 100, 4096])
+        self.kind = rng.choice(["any"] if calm and rng.random() < 0.7 else ["cut", "cut", "spoiled", "any"])
+        self.cut = None if self.kind == "any" else Cut(rng, self.first, 60 if calm else rng.randrange(1, 40))
         self.next = 0
 
     def number(self, index):
@@ -36,7 +37,8 @@ class SentFlow:
 
     def some_index(self):
         """The next index, or one before it again, or one after it with some skipped, or one far off."""
-        skip = self.rng.choice([0] * 24 + [1, 1, 2, -1, -1, -2, self.window, -self.window, AHEAD - 1, AHEAD, -AHEAD])
+        far = [] if self.calm else [-1, -1, -2, self.window, -self.window, AHEAD - 1, AHEAD, -AHEAD]
+        skip = self.rng.choice([0] * 24 + [1, 1, 2, *far])
         if 0 <= skip <= 2:
             self.next += skip + 1
             return self.next - 1
@@ -61,12 +63,13 @@ class SentFlow:
 
 
 class Uplink:
-    """Flows, SIDs and what comes in on the channels, as the words of lines."""
+    """Flows, SIDs and what comes in on the channels, as the words of lines. In a calm one there are no decisions, and
+    each flow is calm or comes on one channel alone."""
 
-    def __init__(self, rng, crowded=0.01):
-        self.rng = rng
+    def __init__(self, rng, crowded=0.01, calm=False):
+        self.rng, self.calm = rng, calm
         count = MOST_FLOWS if rng.random() < crowded else rng.choice([0, *[1] * 12, 2, 2, 2, 2, 3, 5])
-        self.flows = [SentFlow(rng, index) for index in range(count)]
+        self.flows = [SentFlow(rng, index, calm and rng.random() < 0.7) for index in range(count)]
         self.sids = [{} for _ in range(CHANNELS)]  # the flow of each SID of a channel
         self.granted = [{} for _ in range(CHANNELS)]  # the flow, the size and what is to come of each outstanding grant
         self.lines = []
@@ -77,7 +80,8 @@ class Uplink:
         sfids = rng.sample(NUMBERS if count < 6 and rng.random() < 0.5 else range(1 << 32), count)
         for flow, sfid in zip(self.flows, sfids):
             self.lines.append(["flow", sfid, flow.first, flow.window, rng.randrange(1, 9)])
-            for channel in rng.sample(range(CHANNELS), rng.choice([1, 2, 4]) if count < 6 else 1):
+            alone = count >= 6 or (self.calm and not flow.calm)
+            for channel in rng.sample(range(CHANNELS), 1 if alone else rng.choice([1, 2, 4])):
                 for sid in rng.sample([0, 1, 2, 16383, rng.randrange(3, 16383)], rng.choice([1, 1, 2])):
                     if sid not in self.sids[channel]:
                         self.sids[channel][sid] = flow
@@ -145,8 +149,9 @@ class Uplink:
 
     def add_inputs(self, count):
         steps = [self.some_grant, self.some_burst, self.some_gap, self.unfit_grant, self.unfit_burst]
+        weights = [39, 43, 0 if self.calm else 8, 5, 5]
         for _ in range(count):
-            self.rng.choices(steps, [39, 43, 8, 5, 5])[0]()
+            self.rng.choices(steps, weights)[0]()
 
 
 def plain_word(value):
@@ -248,6 +253,31 @@ def some_trace(rng):
     if kind == "edited":
         return edited_text(rng, text), []
     return text, uplink.flows
+
+
+def some_small_trace(rng):
+    """A lawful text of few items."""
+    uplink = Uplink(rng, 0)
+    uplink.add_inputs(rng.choice([4, 10, 16, 24, 32]))
+    return plain_text(uplink.lines)
+
+
+def some_calm_trace(rng):
+    """A lawful text whose items may come in any order of the senders, most likely."""
+    uplink = Uplink(rng, 0.05, calm=True)
+    uplink.add_inputs(rng.choice([20, 60, 100, 300]))
+    return plain_text(uplink.lines)
+
+
+def a_window_of_all_numbers(rng):
+    """As many segments as a window holds, in any order, on all channels, each with a frame and most with a request."""
+    lines = [["flow", 7, 8190, AHEAD, 8], *(["sid", channel, 5, 0] for channel in range(CHANNELS))]
+    for at, index in enumerate(rng.sample(range(AHEAD), AHEAD)):
+        words = [0x8000, (8190 + index) % MODULUS << 3 | at % 8, at % 5, 0]
+        segment = header_of(words) + some_frame(rng)
+        channel = rng.randrange(CHANNELS)
+        lines += [["grant", channel, at, 5, len(segment)], ["burst", channel, at, "ok", segment]]
+    return plain_text(lines)
 
 
 def numbers_that_go_round(rng):

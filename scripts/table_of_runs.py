@@ -1,5 +1,6 @@
 """Reads the table of runs in runs/. runs/README.md says how a run is written."""
 
+import copy
 import glob
 import os
 import re
@@ -11,7 +12,8 @@ RUNS = os.path.join(os.path.dirname(os.path.abspath(__file__)), "..", "runs")
 class Run:
     def __init__(self, file, name):
         self.file, self.name = file, name
-        self.command, self.status, self.times = None, 0, 1
+        self.commands, self.status, self.times = [], 0, 1
+        self.command = None  # in what read_table answers, the one of these that is to be run
         self.input, self.output, self.parts, self.error = b"", b"", [], b""
 
 
@@ -23,7 +25,7 @@ def text_of(written):
 
 def add_line(run, mark, rest):
     if mark == "$":
-        run.command = rest
+        run.commands.append(rest)
     elif mark == "<":
         run.input += text_of(rest) + b"\n"
     elif mark == "<.":
@@ -54,6 +56,14 @@ def read_runs(path):
     return runs
 
 
+def of_command(run, command):
+    """A run of several commands as a run of this one."""
+    one = copy.copy(run)
+    one.command = command
+    return one
+
+
 def read_table():
-    """All runs."""
-    return [run for path in sorted(glob.glob(os.path.join(RUNS, "*.txt"))) for run in read_runs(path)]
+    """All runs, each of one command."""
+    runs = [run for path in sorted(glob.glob(os.path.join(RUNS, "*.txt"))) for run in read_runs(path)]
+    return [of_command(run, command) for run in runs for command in run.commands]

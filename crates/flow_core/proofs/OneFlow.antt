@@ -49,13 +49,13 @@ err-follows P Q f (Ok x) holds = tt
 err-follows P Q f (Err e) holds = f holds
 
 -- what was written is there
-written : {T : Type 0} (list : List T) (k : ℕ) (x : T) → k < length list → slice_get (slice_set list k x) k ≡ Some x
+pub written : {T : Type 0} (list : List T) (k : ℕ) (x : T) → k < length list → slice_get (slice_set list k x) k ≡ Some x
 written [] k x within = absurd (omega arith)
 written (y ∷ ys) zero x within = refl
 written (y ∷ ys) (suc k) x within = written ys k x (omega arith)
 
 -- and everything else is as it was
-written_other : {T : Type 0} (list : List T) (k j : ℕ) (x : T) → j ≢ k → slice_get (slice_set list k x) j ≡ slice_get list j
+pub written_other : {T : Type 0} (list : List T) (k j : ℕ) (x : T) → j ≢ k → slice_get (slice_set list k x) j ≡ slice_get list j
 written_other [] k j x differ = refl
 written_other (y ∷ ys) zero zero x differ = absurd (differ refl)
 written_other (y ∷ ys) zero (suc j) x differ = refl

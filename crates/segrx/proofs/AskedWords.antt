@@ -3,8 +3,8 @@ use Rattle.std.proofs.Common.{◌≡◌, ℕ, zero, suc, ◌+◌, ◌<◌, ◌�
 use Rattle.std.proofs.lemmas.Bool.{cases_lt}
 use Rattle.std.proofs.lemmas.List.{length-map, length-take}
 use Rattle.std.proofs.lemmas.Option.{same_Some, slice_get_within}
-use Rattle.std.specs.Prelude.{map, codes, ◌↔◌}
-use Rattle.segrx.specs.Command.{IsCommandAlone, AsksToCut, IsHelpWord, HasNoHelpWord, StandsBeforeHelp}
+use Rattle.std.specs.Prelude.{map, ◌↔◌}
+use Rattle.segrx.specs.Command.{IsCommandAlone, IsCommand, IsHelpWord, HasNoHelpWord, StandsBeforeHelp}
 
 -- of two words the second is a command's alone
 pub IsCommandAlone-two : {X : Type 0} (command : List ℕ) (text : X → List ℕ) (words : List X) (word : X) → 2 ≤ length words → length words < 3 → word ≡ get_or words 1 word
@@ -14,12 +14,12 @@ IsCommandAlone-two command text (name ∷ []) word some few is = absurd (omega a
 IsCommandAlone-two command text (name ∷ second ∷ []) word some few is = (λ e. ap text (sym is) ∙ e, λ e. ap text is ∙ e)
 IsCommandAlone-two command text (name ∷ second ∷ third ∷ more) word some few is = absurd (omega arith)
 
--- words ask to cut where the second is the command's
-pub AsksToCut-second : {X : Type 0} (text : X → List ℕ) (words : List X) (word : X) → 2 ≤ length words → word ≡ get_or words 1 word
-    → (text word ≡ codes "cut") ↔ AsksToCut (map text words)
-AsksToCut-second text [] word some is = absurd (omega arith)
-AsksToCut-second text (name ∷ []) word some is = absurd (omega arith)
-AsksToCut-second text (name ∷ second ∷ more) word some is = (λ e. ap text (sym is) ∙ e, λ e. ap text is ∙ e)
+-- words begin with a command where the second is the command's
+pub IsCommand-second : {X : Type 0} (command : List ℕ) (text : X → List ℕ) (words : List X) (word : X) → 2 ≤ length words → word ≡ get_or words 1 word
+    → (text word ≡ command) ↔ IsCommand command (map text words)
+IsCommand-second command text [] word some is = absurd (omega arith)
+IsCommand-second command text (name ∷ []) word some is = absurd (omega arith)
+IsCommand-second command text (name ∷ second ∷ more) word some is = (λ e. ap text (sym is) ∙ e, λ e. ap text is ∙ e)
 
 -- none of the words after the name and before this place asks for help
 abbrev pub HasNoneBefore : List (List ℕ) → ℕ → Type 0

@@ -1,4 +1,5 @@
 pub mod KnownBytes
 pub mod Statuses
+pub mod Written
 pub mod Obeying
 pub mod AskedWords

@@ -8,12 +8,13 @@ use Rattle.texts.specs.declared.fault.TextFault.{TextFault}
 use Rattle.texts.specs.declared.fault.TextFault.TheVariants as text_fault
 use Rattle.texts.specs.Join.{IsJoined, IsJoinFault}
 use Rattle.texts.specs.Cut.{IsCutText, IsCutFault}
-use Rattle.texts.specs.Replay.{IsReplayed, IsReplayFault}
+use Rattle.texts.specs.Replay.{IsReplayed, IsReplayFault, IsReportFault}
+use Rattle.texts.specs.Run.{IsRunText}
 use Rattle.segrx.specs.Device.{inner_of}
 use Rattle.segrx.specs.Fault.{status_of, exit_status_of}
 use Rattle.segrx.specs.Command.{AsksToJoin, AsksToReplay}
 use Rattle.segrx.specs.Engine.{engine_fault, WritesText, IsFaultOfKnown, HasCause, RunsEngine}
-use Rattle.segrx.specs.Program.{AsksToCutOnly, AsksForNothing, IsRefused, Obeys, RunsWords, IsStatus, HasJoinedText, HasCutText, HasReport, SaysOf}
+use Rattle.segrx.specs.Program.{AsksToCutOnly, AsksToRunOnly, AsksForNothing, IsRefused, Obeys, RunsWords, IsStatus, HasJoinedText, HasCutText, HasReport, HasRunReport, HasRunFault, SaysOf}
 
 -- a status other than 0 and 1 says nothing
 says_nothing : (HasText : List ℕ → Type 0) (IsFault : List ℕ → TextFault → Type 0) (status : ℕ) (input : List ℕ) → 1 < status → SaysOf HasText IsFault status input
@@ -61,6 +62,14 @@ SaysOf-engine remaining contents HasText IsText IsFault reader reader' writer wr
 SaysOf-engine remaining contents HasText IsText IsFault reader reader' writer writer' (Err fault) has ran =
     SaysOf-known HasText IsFault (remaining (inner_of reader)) reader' writer' fault ran.cause
 
+-- what the status says of a fault holds of any that follows from it
+SaysOf-weaker : (HasText : List ℕ → Type 0) (IsFault IsOther : List ℕ → TextFault → Type 0) (known : Option (List ℕ)) (status : ℕ)
+    → ((input : List ℕ) (fault : TextFault) → IsFault input fault → IsOther input fault) → IfSome known (SaysOf HasText IsFault status)
+    → IfSome known (SaysOf HasText IsOther status)
+SaysOf-weaker HasText IsFault IsOther None status follows says = tt
+SaysOf-weaker HasText IsFault IsOther (Some input) status follows says =
+    record { done = says.done; faulty = λ e. let is = says.faulty e in (is.0, is.1, follows input is.0 is.2) }
+
 -- where the words were refused the status is 2 or 3
 refused_status : {R W : Type 0} (reader reader' : Device R) (writer writer' : Device W) (result : Result (Unit {0}) EngineFault) → IsRefused reader reader' writer writer' result
     → (exit_status_of result ≡ 2) ⊎ (exit_status_of result ≡ 3)
@@ -101,6 +110,7 @@ pub record SaysOfWords {R : Type 0} (remaining : R → Option (List ℕ)) (words
   pub cut : AsksToCutOnly words → IfSome (remaining reader) (SaysOf HasCutText IsCutFault n)
   pub replay : AsksToReplay words → IfSome (remaining reader) (SaysOf HasReport IsReplayFault n)
   pub replay_is_known : AsksToReplay words → n ≢ 2
+  pub run : AsksToRunOnly words → IfSome (remaining reader) (SaysOf HasRunReport HasRunFault n)
   pub usage : AsksForNothing words → (n ≡ 2) ⊎ (n ≡ 3)
 
 -- so does that of what came of them
@@ -122,6 +132,14 @@ SaysOfWords-outcome remaining contents words reader reader' writer writer' resul
   replay = λ asks.
       SaysOf-engine remaining contents HasReport IsReplayed IsReplayFault reader reader' writer writer' result (λ input text is. (text, is)) (obeyed.replay asks);
   replay_is_known = λ asks. known_status remaining contents IsReplayed IsReplayFault reader reader' writer writer' result (obeyed.replay asks);
+  run = λ asks.
+      elim (obeyed.run asks) [
+        | inl ran ↦
+            SaysOf-weaker HasRunReport (IsReportFault ran.1) HasRunFault (remaining (inner_of reader)) (exit_status_of result) (λ input fault is. (ran.1, ran.3, is))
+            (SaysOf-engine remaining contents HasRunReport (IsRunText ran.1 ran.0) (IsReportFault ran.1) reader reader' writer writer' result
+            (λ input text is. (ran.0, ran.1, text, ran.2, ran.3, is)) ran.4)
+        | inr refused ↦ SaysOf-above HasRunReport HasRunFault (remaining (inner_of reader)) (exit_status_of result) (refused_status reader reader' writer writer' result refused)
+      ];
   usage = λ asks. refused_status reader reader' writer writer' result (obeyed.nothing asks);
 }
 

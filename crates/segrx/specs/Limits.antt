@@ -8,3 +8,7 @@ input_limit = 268435456
 -- the greatest number of a segment
 abbrev pub sequence_max : ℕ
 sequence_max = 8191
+
+-- the greatest capacity of a mailbox and of a ring
+abbrev pub capacity_max : ℕ
+capacity_max = 65535

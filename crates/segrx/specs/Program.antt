@@ -1,5 +1,5 @@
 -- What the program does with its arguments, and what its exit status says of its input.
-use Rattle.std.specs.Prelude.{◌≡◌, ◌≢◌, ◌⊎◌, ◌<◌, ℕ, List, [], Option, Result, Ok, Err, true, false, IfErr, OnOk, OnErr, string_bytes}
+use Rattle.std.specs.Prelude.{◌≡◌, ◌≢◌, ◌⊎◌, ◌<◌, ◌≤◌, ℕ, List, [], Option, Result, Ok, Err, true, false, IfErr, OnOk, OnErr, string_bytes}
 use Rattle.std.specs.Io.KnownBytes.{Appends}
 use Rattle.docsis_wire.specs.declared.pieces.FillByte.{FillByte}
 use Rattle.docsis_wire.specs.Limits.{sequence_modulus}
@@ -9,23 +9,28 @@ use Rattle.segrx.specs.declared.fault.EngineFault.{EngineFault}
 use Rattle.segrx.specs.declared.fault.EngineFault.TheVariants.{OutOfMemory, Read, Write, Usage}
 use Rattle.texts.specs.declared.fault.TextFault.{TextFault}
 use Rattle.segrx.specs.declared.command.Command.{Command}
-use Rattle.segrx.specs.declared.command.Command.TheVariants.{Join, Cut, Replay, Help}
+use Rattle.segrx.specs.declared.command.Command.TheVariants.{Join, Cut, Replay, Run, Help}
 use Rattle.segrx.specs.Device.{inner_of, has_failed, is_flushed, IsFresh}
 use Rattle.segrx.specs.Transfer.{AppendsFront, IsLeftFlushed, IsReadFault, IsRead}
 use Rattle.segrx.specs.Fault.{status_of, exit_status_of, fault_line}
 use Rattle.segrx.specs.Engine.{engine_fault, RunsEngine}
-use Rattle.segrx.specs.Command.{AsksToJoin, AsksToCut, AsksToReplay, AsksForHelp, HasNoHelpWord}
+use Rattle.segrx.specs.Command.{AsksToJoin, AsksToCut, AsksToReplay, AsksToRun, AsksForAnEngine, AsksForHelp, HasNoHelpWord}
 use Rattle.texts.specs.Join.{IsJoined, IsJoinFault}
 use Rattle.texts.specs.Cut.{IsCutText, IsCutFault}
-use Rattle.texts.specs.Replay.{IsReplayed, IsReplayFault}
+use Rattle.texts.specs.Replay.{IsReplayed, IsReplayFault, IsReportFault}
+use Rattle.texts.specs.Run.{IsRunText}
 
 -- the words ask to cut and not for help
 abbrev pub AsksToCutOnly : List (List ℕ) → Type 0
 AsksToCutOnly words = AsksToCut words × ¬ AsksForHelp words
 
+-- the words ask to run and not for help
+abbrev pub AsksToRunOnly : List (List ℕ) → Type 0
+AsksToRunOnly words = AsksToRun words × ¬ AsksForHelp words
+
 -- the words ask for nothing
 abbrev pub AsksForNothing : List (List ℕ) → Type 0
-AsksForNothing words = ¬ AsksToJoin words × ¬ AsksToCut words × ¬ AsksToReplay words × ¬ AsksForHelp words
+AsksForNothing words = ¬ AsksForAnEngine words × ¬ AsksForHelp words
 
 -- the words were not obeyed, and neither device was used
 pub record IsRefused {R W : Type 0} (reader reader' : Device R) (writer writer' : Device W) (result : Result (Unit {0}) EngineFault) : Type 0 where
@@ -53,6 +58,8 @@ abbrev pub Performs : {R W : Type 0} → (R → Option (List ℕ)) → (W → Op
 Performs remaining contents Join reader reader' writer writer' result = RunsEngine remaining contents IsJoined IsJoinFault reader reader' writer writer' result
 Performs remaining contents (Cut first fill) reader reader' writer writer' result = RunsEngine remaining contents (IsCutText first fill) IsCutFault reader reader' writer writer' result
 Performs remaining contents Replay reader reader' writer writer' result = RunsEngine remaining contents IsReplayed IsReplayFault reader reader' writer writer' result
+Performs remaining contents (Run mailbox ring) reader reader' writer writer' result =
+    RunsEngine remaining contents (IsRunText ring mailbox) (IsReportFault ring) reader reader' writer writer' result
 Performs remaining contents (Help text) reader reader' writer writer' result = WritesHelp contents (string_bytes text) reader reader' writer writer' result
 
 -- some text of help was written
@@ -64,6 +71,12 @@ abbrev pub RunsCut : {R W : Type 0} → (R → Option (List ℕ)) → (W → Opt
 RunsCut remaining contents reader reader' writer writer' result =
     (first : ℕ) × (fill : FillByte) × (first < sequence_modulus) × RunsEngine remaining contents (IsCutText first fill) IsCutFault reader reader' writer writer' result
 
+-- the engine of `run` ran, with room in its mailboxes and rings
+abbrev pub RunsRun : {R W : Type 0} → (R → Option (List ℕ)) → (W → Option (List ℕ)) → Device R → Device R → Device W → Device W → Result (Unit {0}) EngineFault → Type 0
+RunsRun remaining contents reader reader' writer writer' result =
+    (mailbox ring : ℕ) × (1 ≤ mailbox) × (1 ≤ ring)
+    × RunsEngine remaining contents (IsRunText ring mailbox) (IsReportFault ring) reader reader' writer writer' result
+
 -- what comes of words, the program's name first, over a fresh reader and a fresh writer: `remaining` are the bytes that a reader is known
 -- to have left, `contents` those that a writer is known to hold
 pub record Obeys {R W : Type 0} (remaining : R → Option (List ℕ)) (contents : W → Option (List ℕ)) (words : List (List ℕ))
@@ -72,6 +85,7 @@ pub record Obeys {R W : Type 0} (remaining : R → Option (List ℕ)) (contents 
   pub join : AsksToJoin words → RunsEngine remaining contents IsJoined IsJoinFault reader reader' writer writer' result
   pub cut : AsksToCutOnly words → RunsCut remaining contents reader reader' writer writer' result ⊎ IsRefused reader reader' writer writer' result
   pub replay : AsksToReplay words → RunsEngine remaining contents IsReplayed IsReplayFault reader reader' writer writer' result
+  pub run : AsksToRunOnly words → RunsRun remaining contents reader reader' writer writer' result ⊎ IsRefused reader reader' writer writer' result
   pub nothing : AsksForNothing words → IsRefused reader reader' writer writer' result
   pub help : ¬ AsksToJoin words → ¬ HasNoHelpWord words → Helps contents reader reader' writer writer' result ⊎ IsRefused reader reader' writer writer' result
   -- where the work was done all that was written is flushed
@@ -128,6 +142,14 @@ HasCutText input = (first : ℕ) × (fill : FillByte) × (text : List ℕ) × (f
 -- some text stands for an input of `replay`
 abbrev pub HasReport : List ℕ → Type 0
 HasReport input = (text : List ℕ) × IsReplayed input text
+
+-- some text may stand for an input of `run`
+abbrev pub HasRunReport : List ℕ → Type 0
+HasRunReport input = (mailbox ring : ℕ) × (text : List ℕ) × (1 ≤ mailbox) × (1 ≤ ring) × IsRunText ring mailbox input text
+
+-- an input of `run` has this fault
+abbrev pub HasRunFault : List ℕ → TextFault → Type 0
+HasRunFault input fault = (ring : ℕ) × (1 ≤ ring) × IsReportFault ring input fault
 
 -- what a status says of an input: with 0 it has a text, with 1 a fault of that status
 pub record SaysOf (HasText : List ℕ → Type 0) (IsFault : List ℕ → TextFault → Type 0) (status : ℕ) (input : List ℕ) : Type 0 where

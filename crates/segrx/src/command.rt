@@ -2,8 +2,9 @@
 ghost use Rattle.std.specs.Prelude.{◌≡◌, ◌<◌, ◌↔◌, map, codes, IsTrue, IfOk, MatchOption};
 ghost use Rattle.segrx.specs.declared.command.UsageFault.TheVariants.{OutOfMemory};
 ghost use Rattle.docsis_wire.specs.Limits.{sequence_modulus};
-ghost use Rattle.segrx.specs.Command.{IsCommandAlone, AsksToJoin, AsksToCut, AsksToReplay};
-ghost use Rattle.segrx.specs.Command.{IsHelpWord, HasNoHelpWord, StandsBeforeHelp, Asks, ReadsOptions};
+ghost use Rattle.segrx.specs.Command.{IsCommandAlone, IsCommand, AsksToJoin, AsksToReplay};
+ghost use Rattle.segrx.specs.Command.{IsHelpWord, HasNoHelpWord, StandsBeforeHelp, Asks};
+ghost use Rattle.segrx.specs.Command.{AsksWithOptions, ReadsOptions, ReadsCapacity, ReadsCapacities};
 ghost use Rattle.clap.specs.Matches.{found_of, first_value};
 
 use crate::command_line::command_line;
@@ -30,6 +31,14 @@ pub enum Command {
     },
     /// To replay a trace, and report what a receiver gives for it.
     Replay,
+    /// To receive a trace on threads, and report what that gave.
+    Run {
+        /// How many entries each of the two mailboxes has room for, end marks included: 1 to
+        /// 65,535.
+        mailbox: u16,
+        /// How many frames the ring of each flow has room for, its end mark included: 1 to 65,535.
+        ring: u16,
+    },
     /// To print this text, which says how the program is used.
     Help(String),
 }
@@ -74,6 +83,12 @@ impl From<clap::Error> for UsageFault {
 /// The greatest number of a segment.
 const FIRST_MAX: u32 = 8191;
 
+/// The greatest capacity of a mailbox or a ring.
+const CAPACITY_MAX: u32 = 65_535;
+
+/// The capacity where none is asked for.
+const DEFAULT_CAPACITY: u16 = 16;
+
 /// Whether the words are the program's name and this command's word.
 fn is_command_alone<S: AsStr>(words: &[S], command: &str) -> bool
     ensures { IsTrue result ↔ IsCommandAlone command.now (map S.text words.now) }
@@ -101,12 +116,12 @@ fn asks_to_replay<S: AsStr>(words: &[S]) -> bool
     is_command_alone(words, "replay")
 }
 
-/// Whether the words, the program's name first, begin with the command `cut`.
-fn asks_to_cut<S: AsStr>(words: &[S]) -> bool
-    ensures { IsTrue result ↔ AsksToCut (map S.text words.now) }
+/// Whether the words, the program's name first, begin with this command.
+fn is_command<S: AsStr>(words: &[S], command: &str) -> bool
+    ensures { IsTrue result ↔ IsCommand command.now (map S.text words.now) }
 {
     match words {
-        [_, word, ..] => word.as_str() == "cut",
+        [_, word, ..] => word.as_str() == command,
         _ => false,
     }
 }
@@ -160,22 +175,48 @@ fn read_cut(options: &ArgMatches<'_>) -> Result<(u16, FillByte), UsageFault>
     Ok((first as u16, fill))
 }
 
-/// The first number and the fill of words that ask to cut and of which none asks for help.
-fn read_cut_words<'a, S: AsStr>(
-    alloc: Global,
-    words: &'a [S],
-) -> Result<(u16, FillByte), UsageFault>
-    ensures { IfOk result
-        (λ options. AsksToCut (map S.text words.now) × (options.0 < sequence_modulus)) }
+/// The capacity that an option of `run` asks for.
+fn read_capacity(options: &ArgMatches<'_>, name: &str) -> Result<u16, UsageFault>
+    ensures { ReadsCapacity (first_value (found_of options.now) name.now) result }
 {
-    if !asks_to_cut(words) || ends_options(words) {
+    let Some(text) = options.get_str(name) else {
+        return Ok(DEFAULT_CAPACITY);
+    };
+    match read_number(text.as_bytes(), CAPACITY_MAX) {
+        Some(capacity) if capacity > 0 => Ok(capacity as u16),
+        _ => Err(UsageFault::Usage),
+    }
+}
+
+/// The capacities of the mailboxes and of the rings that the options of `run` ask for.
+fn read_run(options: &ArgMatches<'_>) -> Result<(u16, u16), UsageFault>
+    ensures { ReadsCapacities (first_value (found_of options.now) (codes "mailbox"))
+        (first_value (found_of options.now) (codes "ring")) result }
+{
+    let mailbox = read_capacity(options, "mailbox")?;
+    let ring = read_capacity(options, "ring")?;
+    Ok((mailbox, ring))
+}
+
+/// What words ask for that begin with a command which has options, and of which none asks for help.
+fn read_with_options<'a, S: AsStr>(alloc: Global, words: &'a [S]) -> Result<Command, UsageFault>
+    ensures { IfOk result (AsksWithOptions (map S.text words.now)) }
+{
+    let cuts = is_command(words, "cut");
+    let runs = is_command(words, "run");
+    if !cuts && !runs || ends_options(words) {
         return Err(UsageFault::Usage);
     }
     let matches = command_line(alloc)?.try_get_matches_from(words)?;
-    match matches.subcommand_matches("cut") {
-        Some(options) => read_cut(options),
-        None => Err(UsageFault::Usage),
+    if cuts && let Some(options) = matches.subcommand_matches("cut") {
+        let (first, fill) = read_cut(options)?;
+        return Ok(Command::Cut { first, fill });
     }
+    if runs && let Some(options) = matches.subcommand_matches("run") {
+        let (mailbox, ring) = read_run(options)?;
+        return Ok(Command::Run { mailbox, ring });
+    }
+    Err(UsageFault::Usage)
 }
 
 /// The text that says how the program is used, for words of which one asks for it.
@@ -207,11 +248,10 @@ pub fn read_words<'a, S: AsStr>(alloc: Global, words: &'a [S]) -> Result<Command
         return Ok(Command::Replay);
     }
     let Some(before) = before_help(words) else {
-        let (first, fill) = read_cut_words(alloc, words)?;
-        return Ok(Command::Cut { first, fill });
+        return read_with_options(alloc, words);
     };
     if !asks_to_join(before) && !asks_to_replay(before) {
-        read_cut_words(alloc, before)?;
+        read_with_options(alloc, before)?;
     }
     Ok(Command::Help(help_text(alloc, words)?))
 }

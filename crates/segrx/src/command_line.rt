@@ -11,7 +11,7 @@ Lines of cut:
   frame FRAME      one whole frame; frames are cut in their order
   piece DATA FILL  one segment with DATA bytes of frames and FILL of fill,
                    0 to 65535 each; segments are made in their order
-Lines of replay, a trace of what came in on the channels:
+Lines of replay and run, a trace of what came in on the channels:
   flow SFID FIRST WINDOW CLUSTERS
                    a service flow: the number of its first segment, its window
                    of 1 to 4096 segments, and its 1 to 8 SID clusters; FLOW
@@ -29,9 +29,11 @@ Bytes are written as hexadecimal digits, two a byte, or as - for no bytes. Words
 are separated by spaces, tabs or carriage returns. A line without words, or that
 begins with #, is skipped. At most 268435456 bytes are read.
 
-join prints one frame a line, and cut one segment a line. replay prints a report
-of each flow with its frames, of the requests and of the channels. Nothing is
-printed before the whole input was read and is without fault.
+join prints one frame a line, and cut one segment a line. replay and run print a
+report of each flow with its frames, of the requests and of the channels. replay
+takes what came in in the order of its lines; run gives each channel a thread,
+and takes it in the order in which it happens to come. Nothing is printed before
+the whole input was read and is without fault.
 
 Exit status:
   0  done
@@ -61,6 +63,26 @@ fn cut_command<'a>(alloc: Global) -> Result<Command<'a>, AllocError> {
         .arg(fill)
 }
 
+/// The options of the command `run`.
+fn run_command<'a>(alloc: Global) -> Result<Command<'a>, AllocError> {
+    let mailbox = Arg::new(alloc, "mailbox")
+        .long("mailbox")
+        .value_name("N")
+        .action(ArgAction::Set)
+        .help("Entries that a mailbox holds, 1 to 65535 [default: 16]");
+    let ring = Arg::new(alloc, "ring")
+        .long("ring")
+        .value_name("N")
+        .action(ArgAction::Set)
+        .help("Frames that a ring holds, 1 to 65535 [default: 16]");
+    Command::new(alloc, "run")
+        .about("Receives a trace on threads, and prints what each flow gave")
+        .override_usage("segrx run [--mailbox N] [--ring N] < TRACE > REPORT")
+        .after_help(FORMATS)
+        .arg(mailbox)?
+        .arg(ring)
+}
+
 /// The commands of the program.
 pub fn command_line<'a>(alloc: Global) -> Result<Command<'a>, AllocError> {
     let join = Command::new(alloc, "join")
@@ -76,11 +98,13 @@ pub fn command_line<'a>(alloc: Global) -> Result<Command<'a>, AllocError> {
         .override_usage(
             "segrx [join] < SEGMENTS > FRAMES
        segrx cut [--first N] [--fill zero|ones] < FRAMES_AND_PIECES > SEGMENTS
-       segrx replay < TRACE > REPORT",
+       segrx replay < TRACE > REPORT
+       segrx run [--mailbox N] [--ring N] < TRACE > REPORT",
         )
         .after_help(FORMATS)
         .disable_help_subcommand(true)
         .subcommand(join)?
         .subcommand(cut_command(alloc)?)?
-        .subcommand(replay)
+        .subcommand(replay)?
+        .subcommand(run_command(alloc)?)
 }

@@ -1,4 +1,5 @@
-//! One shell for every engine: it reads its whole input, makes its whole text, and then writes it.
+//! One shell for every engine but that of `run`: it reads its whole input, makes its whole text,
+//! and then writes it.
 //!
 //! An engine itself knows neither reader nor writer. It is a value that turns an input's bytes into
 //! the text that stands for them, or into a fault; `run_engine` puts it between two devices.

@@ -21,7 +21,7 @@ pub enum EngineFault {
     /// Frames cannot be cut into their pieces. Out of memory is reported as `OutOfMemory`.
     #[error(transparent)]
     Cut(CutFault),
-    /// An allocation failed.
+    /// An allocation failed, or a thread of `run` could not be started.
     #[error("out of memory")]
     OutOfMemory,
     /// The reader failed, or gave more than 268,435,456 bytes.

@@ -2,9 +2,10 @@
 //! program.
 //!
 //! `replay` reads a trace of what came in on the channels and prints the report of what each flow
-//! gave. `join` reads one segment in hexadecimal a line and prints one frame a line. `cut` reads
-//! frames and pieces, one a line, and prints one segment a line. What matters most: `replay_text`,
-//! `join_text` and `cut_text` write exactly the text that stands for the lines they read, or report
+//! gave; `run` does so too, with a thread for each channel. `join` reads one segment in hexadecimal
+//! a line and prints one frame a line. `cut` reads frames and pieces, one a line, and prints one
+//! segment a line. What matters most: `replay_text`, `join_text` and `cut_text` write exactly the
+//! text that stands for the lines they read, and `run_text` one of those that may; or they report
 //! the first faulty line and its least kind of fault, and then write nothing. Where no line is at
 //! fault, `cut_text` reports the first fault of the frames and pieces.
 #![tactic(auto)]
@@ -19,6 +20,7 @@ pub mod fault_line;
 pub mod join;
 pub mod program;
 pub mod replay;
+pub mod run;
 #[cfg(test)]
 mod tests;
 pub mod transfer;
@@ -37,7 +39,14 @@ fn words_of(rt: &HostRuntime) -> Result<Vec<String>, UsageFault> {
 
 fn main(rt: HostRuntime) -> ExitCode {
     let status = match words_of(&rt) {
-        Ok(words) => program(rt.alloc(), &words, rt.stdin(), rt.stdout(), rt.stderr()),
+        Ok(words) => program(
+            rt.alloc(),
+            rt,
+            &words,
+            rt.stdin(),
+            rt.stdout(),
+            rt.stderr(),
+        ),
         Err(fault) => {
             let mut err = Device::new(rt.stderr());
             let status = report(&Err(fault.into()), &mut err);

@@ -16,6 +16,7 @@ pub mod Numbers
 pub mod FirstBytes
 pub mod NumberedLines
 pub mod OutOfMemoryAlone
+pub mod Receiving
 pub mod TraceFields
 pub mod OneTraceLine
 pub mod Pushed

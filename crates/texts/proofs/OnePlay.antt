@@ -68,7 +68,9 @@ module _ (setup other : Setup) (incoming more : Incoming) (flows : setup.flows.i
         merge_moved (items_of setup incoming is.answered) (items_of other more is.answered) order is.items
         (λ sender _. items_moved is.answered sender) is.merged;
     flows = subst (λ records. AreOutcomesOfFlows check records is.items outcome.flows.items) flows is.flows;
+    request_lists = is.request_lists;
     requests = is.requests;
+    report_count = is.report_count;
     reports = is.reports;
     order_is = is.order_is;
   }

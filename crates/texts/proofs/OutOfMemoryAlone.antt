@@ -14,7 +14,7 @@ use Rattle.uplink.specs.Rows.{IsLaneFault, CanBeOpened}
 use Rattle.uplink.specs.Answer.{CanReceive, IsFirstFault}
 
 -- records that can be set up have no fault
-no_setup_fault : (records : List FlowRecord) (fault : SetupFault) → CanBeSetUp records → IsSetupFault records fault → ⊥
+pub no_setup_fault : (records : List FlowRecord) (fault : SetupFault) → CanBeSetUp records → IsSetupFault records fault → ⊥
 no_setup_fault records TooManyFlows can fault = omega (arith, can.few, fault)
 no_setup_fault records (BadFlow k) can fault = can.in_range k fault.1.0
 no_setup_fault records (SameSfid k) can fault = can.apart k fault.2.0

@@ -10,3 +10,4 @@ pub mod Cut
 pub mod Trace
 pub mod Report
 pub mod Replay
+pub mod Run

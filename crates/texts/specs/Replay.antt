@@ -1,7 +1,6 @@
 -- The text that stands for a trace.
-use Rattle.std.specs.Prelude.{◌≡◌, ℕ, List, length}
+use Rattle.std.specs.Prelude.{◌≡◌, ℕ, List}
 use Rattle.uplink.specs.declared.outcome.Outcome.{Outcome}
-use Rattle.uplink.specs.Limits.{channel_limit}
 use Rattle.uplink.specs.Items.{incoming_of}
 use Rattle.uplink.specs.Answer.{IsOutcome, IsAdmittedOrder}
 use Rattle.texts.specs.declared.fault.TextFault.{TextFault}
@@ -18,14 +17,11 @@ use Rattle.texts.specs.Trace.Place.{nothing_said, trace_format}
 abbrev pub default_capacity : ℕ
 default_capacity = 16
 
--- What a trace gives: the one-thread answer, in the order in which its lines say that what was admitted came. It has requests and a report of
--- each of the four channels.
+-- what a trace gives: the one-thread answer, in the order in which its lines say that what was admitted came
 pub record IsPlayed (trace : TraceValue) (outcome : Outcome) : Type 0 where
   pub order : List ℕ
   pub admitted : IsAdmittedOrder trace.setup (incoming_of trace.lists) trace.tags.items order
   pub answered : IsOutcome any_header trace.setup (incoming_of trace.lists) order outcome
-  pub requests : length outcome.requests ≡ channel_limit
-  pub lanes : length outcome.lanes ≡ channel_limit
 
 -- the text that stands for an input: the report of what its trace gives
 pub record IsReplayed (input text : List ℕ) : Type 0 where
@@ -35,8 +31,12 @@ pub record IsReplayed (input text : List ℕ) : Type 0 where
   pub played : IsPlayed trace outcome
   pub printed : text ≡ report_text outcome
 
--- why an input was not replayed: its first faulty line, or a failed allocation
+-- why an input has no report, with rings of this capacity: its first faulty line, or a failed allocation
+abbrev pub IsReportFault : ℕ → List ℕ → TextFault → Type 0
+IsReportFault ring input (Trace fault) = IsFirstFaultyLine trace_format (nothing_said ring) (lines_of input) fault
+IsReportFault ring input (Cut fault) = ⊥
+IsReportFault ring input OutOfMemory = Unit {0}
+
+-- why an input was not replayed
 abbrev pub IsReplayFault : List ℕ → TextFault → Type 0
-IsReplayFault input (Trace fault) = IsFirstFaultyLine trace_format (nothing_said default_capacity) (lines_of input) fault
-IsReplayFault input (Cut fault) = ⊥
-IsReplayFault input OutOfMemory = Unit {0}
+IsReplayFault = IsReportFault default_capacity

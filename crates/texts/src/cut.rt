@@ -117,8 +117,8 @@ fn segment_lines(alloc: Global, cutter: Cutter<'_>, room: usize) -> Result<Vec<u
 /// `first`, 0 to 8191.
 ///
 /// Otherwise it reports the first faulty line, or, where no line is faulty, the first fault of the
-/// frames and pieces, or that an allocation failed. That an input has one text or one fault is
-/// stated by [`cut_has_one_text`](crate::laws::cut_has_one_text),
+/// frames and pieces, or that an allocation failed. That an input has at most one text or
+/// one fault, and never both, is stated by [`cut_has_one_text`](crate::laws::cut_has_one_text),
 /// [`cut_has_one_fault`](crate::laws::cut_has_one_fault) and
 /// [`faulty_input_of_cut_has_no_text`](crate::laws::faulty_input_of_cut_has_no_text).
 pub fn cut_lines(

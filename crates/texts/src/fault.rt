@@ -95,7 +95,7 @@ pub enum TextFault {
     /// The frames cannot be cut into their pieces. It is never `CutFault::OutOfMemory`.
     #[error(transparent)]
     Cut(CutFault),
-    /// An allocation failed.
+    /// An allocation failed, or a thread of `run` could not be started.
     #[error("out of memory")]
     OutOfMemory,
 }

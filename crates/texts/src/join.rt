@@ -55,8 +55,9 @@ impl TakeLine for Joining {
 /// as lower-case digits. The segments are taken in order, none of them lost, whatever their
 /// numbers.
 ///
-/// Otherwise it reports the first faulty line, or that an allocation failed. That an input has one
-/// text or one fault is stated by [`join_has_one_text`](crate::laws::join_has_one_text),
+/// Otherwise it reports the first faulty line, or that an allocation failed. That an input has at
+/// most one text or one fault, and never both, is stated by
+/// [`join_has_one_text`](crate::laws::join_has_one_text),
 /// [`join_has_one_fault`](crate::laws::join_has_one_fault) and
 /// [`faulty_input_of_join_has_no_text`](crate::laws::faulty_input_of_join_has_no_text).
 pub fn join_lines(alloc: Global, input: &[u8]) -> Result<Vec<u8>, TextFault>

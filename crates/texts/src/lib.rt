@@ -3,6 +3,8 @@
 //! [`join_lines`] gives exactly the text of the frames that an input's segments join to, and
 //! [`cut_lines`] exactly the text of the segments that its frames are cut into; otherwise they
 //! report the first faulty line with the least kind of fault, or the first fault of the cut.
+//! [`replay_lines`] and [`run_lines`] give the report of a trace, at the order of its lines or at
+//! one of the lawful orders.
 //! [`laws`] states that each input has one answer.
 #![tactic(auto)]
 
@@ -17,6 +19,7 @@ mod number;
 mod refusals;
 mod replayed;
 mod reporting;
+mod running;
 mod trace;
 mod words;
 
@@ -26,4 +29,5 @@ pub use join::join_lines;
 pub use number::read_number;
 pub use replayed::replay_lines;
 pub use reporting::report;
+pub use running::run_lines;
 pub use trace::{Trace, parse_trace};

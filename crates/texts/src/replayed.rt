@@ -1,5 +1,5 @@
 //! The text of `replay`: the report of a trace.
-ghost use Rattle.std.specs.Prelude.{◌≡◌, Ok, IfOk, IfErr};
+ghost use Rattle.std.specs.Prelude.{◌≡◌, ◌≤◌, Ok, IfOk, IfErr};
 ghost use Rattle.uplink.specs.Items.{incoming_of};
 ghost use Rattle.uplink.specs.Answer.{CanReceive, input_counts};
 ghost use Rattle.uplink.specs.Order.{IsLawfulOrder};
@@ -17,12 +17,20 @@ use uplink::{Outcome, ReplayFault, admitted_order, replay};
 /// How many entries the rings and mailboxes have room for where none is asked for.
 const CAPACITY: u16 = 16;
 
-/// The trace of an input, which is freed.
-fn read_trace(alloc: Global, input: Vec<u8>) -> Result<Trace, ParseFault>
-    ensures trace { IfOk result (IsTrace default_capacity default_capacity input.items) }
-    ensures fault { IfErr result (IsTraceFault default_capacity input.items) }
+/// The trace of an input, which is freed, with rings and mailboxes of these capacities, each at
+/// least 1.
+pub fn read_trace(
+    alloc: Global,
+    input: Vec<u8>,
+    ring: u16,
+    mailbox: u16,
+) -> Result<Trace, ParseFault>
+    requires ring { 1 ≤ ring }
+    requires mailbox { 1 ≤ mailbox }
+    ensures trace { IfOk result (IsTrace ring mailbox input.items) }
+    ensures fault { IfErr result (IsTraceFault ring input.items) }
 {
-    parse_trace(alloc, &input, CAPACITY, CAPACITY)
+    parse_trace(alloc, &input, ring, mailbox)
 }
 
 /// An answer that has no other fault than that an allocation failed.
@@ -54,8 +62,9 @@ fn play(alloc: Global, trace: Trace) -> Result<Outcome, AllocError>
 
 /// The report of a trace: its grants, bursts and decisions are taken in the order of their lines.
 ///
-/// Otherwise it reports the first faulty line, or that an allocation failed. That an input has one
-/// text or one fault is stated by [`replay_has_one_text`](crate::laws::replay_has_one_text),
+/// Otherwise it reports the first faulty line, or that an allocation failed. That an input has at
+/// most one text or one fault, and never both, is stated by
+/// [`replay_has_one_text`](crate::laws::replay_has_one_text),
 /// [`replay_has_one_fault`](crate::laws::replay_has_one_fault) and
 /// [`faulty_input_of_replay_has_no_text`](crate::laws::faulty_input_of_replay_has_no_text).
 pub fn replay_lines(alloc: Global, input: Vec<u8>) -> Result<Vec<u8>, TextFault>
@@ -64,7 +73,7 @@ pub fn replay_lines(alloc: Global, input: Vec<u8>) -> Result<Vec<u8>, TextFault>
 {
     crate::laws::trace_passes_the_checks();
     crate::laws::tags_of_a_trace_are_lawful();
-    let trace = read_trace(alloc, input)?;
+    let trace = read_trace(alloc, input, CAPACITY, CAPACITY)?;
     let outcome = play(alloc, trace)?;
     Ok(report(alloc, &outcome)?)
 }

@@ -12,14 +12,14 @@ use Rattle.flow_core.specs.declared.flow.Flow.{Flow}
 use Rattle.flow_core.specs.declared.flows.Core.{Core}
 use Rattle.flow_core.specs.declared.event.Event.{Event}
 use Rattle.flow_core.specs.declared.event.Applied.{Applied}
-use Rattle.flow_core.specs.Setup.{CanBeSetUp}
+use Rattle.flow_core.specs.Setup.{CanBeSetUp, IsInRange}
 use Rattle.flow_core.specs.Events.{FlowEvent}
 use Rattle.flow_core.specs.Stands.{StandsFor, IsDrained}
 use Rattle.flow_core.specs.Flows.{flow_of, event_of, OthersStay, TakesEventAt, IsDrainedAt, IsNewCore}
 use Rattle.flow_core.specs.Giving.{HasGiven, HasDrained, IsRunning, Drains}
 use Rattle.uplink.specs.Items.{events_at}
 use Rattle.uplink.specs.declared.assembler.Assembler.{Assembler}
-use Rattle.uplink.specs.Assembly.{IsTaking, TakesItem, HasAssembled, collected}
+use Rattle.uplink.specs.Assembly.{HasTaken, IsTaking, TakesItem, HasAssembled, collected}
 
 -- the events of one item: it is one of its flow, and none of any other
 module _ (items : List Event) (event : Event) where
@@ -35,6 +35,34 @@ module _ (items : List Event) (event : Event) where
 
   event_of_another : (k : ℕ) → k ≢ flow_of event → events_at k (items ++ event ∷ []) ≡ events_at k items
   event_of_another k apart = more_events k false (ne_eqb (flow_of event) k (λ same. apart (sym same))) ∙ append-nil (events_at k items)
+
+-- a flow that is as it was has given what it had
+module _ {C : Type 0} (accepts : C → List ℕ → Bool) (core after : Core C) (check : after.check ≡ core.check) (j : ℕ)
+    (same : slice_get after.flows.items j ≡ slice_get core.flows.items j) where
+  pub still_drained : (accepted : List ℕ → Bool) (r : FlowRecord) (events : List FlowEvent) (given : List (List ℕ))
+      → HasDrained accepts core j accepted r events given → HasDrained accepts after j accepted r events given
+  still_drained accepted r events given has =
+      record {
+        has_given = record {
+          accepted_are = ap accepts check ∙ has.has_given.accepted_are;
+          flow = has.has_given.flow;
+          there = same ∙ has.has_given.there;
+          answers = has.has_given.answers;
+          y = has.has_given.y;
+          stands = has.has_given.stands;
+        };
+        drained = has.drained;
+      }
+
+-- a flow that has drained runs, if its record is in range
+module _ {C : Type 0} (accepts : C → List ℕ → Bool) (core : Core C) (k : ℕ) (accepted : List ℕ → Bool) (r : FlowRecord) (events : List FlowEvent)
+    (given : List (List ℕ)) (has : HasDrained accepts core k accepted r events given) where
+  pub drained_at : IsDrainedAt core k
+  drained_at = record { flow = has.has_given.flow; there = has.has_given.there; drained = has.drained }
+
+  pub running_at : IsInRange r → IsRunning accepts core k
+  running_at in_range =
+      record { accepted = accepted; flow_record = r; events = events; given = given; in_range = in_range; has_given = has.has_given }
 
 module _ {C : Type 0} (accepts : C → List ℕ → Bool) (core after : Core C) (k : ℕ) (others : OthersStay core after k) where
   -- a flow takes an event
@@ -57,17 +85,7 @@ module _ {C : Type 0} (accepts : C → List ℕ → Bool) (core after : Core C) 
   pub another_drained : (j : ℕ) (accepted : List ℕ → Bool) (r : FlowRecord) (events : List FlowEvent) (given : List (List ℕ))
       → j ≢ k → HasDrained accepts core j accepted r events given → HasDrained accepts after j accepted r events given
   another_drained j accepted r events given apart has =
-      record {
-        has_given = record {
-          accepted_are = ap accepts others.check ∙ has.has_given.accepted_are;
-          flow = has.has_given.flow;
-          there = others.others j apart ∙ has.has_given.there;
-          answers = has.has_given.answers;
-          y = has.has_given.y;
-          stands = has.has_given.stands;
-        };
-        drained = has.drained;
-      }
+      still_drained accepts core after others.check j (others.others j apart) accepted r events given has
 
 module _ {C : Type 0} (accepts : C → List ℕ → Bool) (core : Core C) (event : Event) where
   module _ (exists : flow_of event < length core.flows.items) (taking : IsTaking accepts core) where
@@ -79,8 +97,8 @@ module _ {C : Type 0} (accepts : C → List ℕ → Bool) (core : Core C) (event
     pub drained_before : IsDrainedAt core (flow_of event)
     drained_before =
         let its = its_record in
-        let has = taking.has_taken.each (flow_of event) its.0 its.1 in
-        record { flow = has.has_given.flow; there = has.has_given.there; drained = has.drained }
+        let n = flow_of event in
+        drained_at accepts core n taking.accepted its.0 (events_at n taking.items) (taking.given n) (taking.has_taken.each n its.0 its.1)
 
     -- and runs once it has taken the item
     pub running_with : (between : Core C) (answer : Applied) → OthersStay core between (flow_of event)
@@ -167,6 +185,30 @@ module _ {C : Type 0} (accepts : C → List ℕ → Bool) (assembler after : Ass
         count = ap length written ∙ length-set lists n grown ∙ has.count;
       }
 
+-- a core of new flows has taken nothing, and given nothing
+module _ {C : Type 0} (accepts : C → List ℕ → Bool) (check : C) (records : List FlowRecord) where
+  pub nothing_taken : (core : Core C) (given : ℕ → List (List ℕ)) → CanBeSetUp records → IsNewCore check records core
+      → ((k : ℕ) → given k ≡ []) → HasTaken accepts core (accepts check) records [] given
+  nothing_taken core given set_up is_new none = record {
+    set_up = set_up;
+    count = is_new.count;
+    each = λ k r of_flow.
+        let its = is_new.each k r of_flow in
+        let drained = is_new.drained k (slice_get_within records k r of_flow) in
+        let same = same_Some drained.flow its.0 (sym drained.there ∙ its.1) in
+        record {
+          has_given = record {
+            accepted_are = ap accepts is_new.check_is;
+            flow = its.0;
+            there = its.1;
+            answers = [];
+            y = 0;
+            stands = subst (λ gave. StandsFor (accepts check) r its.0 [] [] 0 gave) (sym (none k)) (its.2 (accepts check));
+          };
+          drained = subst (λ (f : Flow). IsDrained f) same drained.drained;
+        };
+  }
+
 -- an assembler of new flows has collected nothing
 module _ {C : Type 0} (accepts : C → List ℕ → Bool) (check : C) (records : List FlowRecord) (assembler : Assembler C) where
   nothing_at : (n k : ℕ) → slice_index_or {A = List (List ℕ)} (replicate n []) k [] ≡ []
@@ -178,25 +220,7 @@ module _ {C : Type 0} (accepts : C → List ℕ → Bool) (check : C) (records :
       → map (λ (one : Vec Bytes Global). one.items) assembler.frames.items ≡ replicate (length records) []
       → HasAssembled accepts assembler (accepts check) records []
   nothing_assembled set_up is_new empty = record {
-    has_taken = record {
-      set_up = set_up;
-      count = is_new.count;
-      each = λ k r of_flow.
-          let its = is_new.each k r of_flow in
-          let drained = is_new.drained k (slice_get_within records k r of_flow) in
-          let same = same_Some drained.flow its.0 (sym drained.there ∙ its.1) in
-          let none : collected assembler k ≡ [] = ap (λ l. slice_index_or l k []) empty ∙ nothing_at (length records) k in
-          record {
-            has_given = record {
-              accepted_are = ap accepts is_new.check_is;
-              flow = its.0;
-              there = its.1;
-              answers = [];
-              y = 0;
-              stands = subst (λ gave. StandsFor (accepts check) r its.0 [] [] 0 gave) (sym none) (its.2 (accepts check));
-            };
-            drained = subst (λ (f : Flow). IsDrained f) same drained.drained;
-          };
-    };
+    has_taken = nothing_taken accepts check records assembler.core (collected assembler) set_up is_new
+        (λ k. ap (λ l. slice_index_or l k []) empty ∙ nothing_at (length records) k);
     count = sym (length-map assembler.frames.items _) ∙ ap length empty ∙ length-replicate (length records) [];
   }

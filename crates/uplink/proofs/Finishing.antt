@@ -16,7 +16,7 @@ use Rattle.uplink.specs.declared.outcome.FlowOutcome.{FlowOutcome}
 use Rattle.uplink.specs.Items.{events_at}
 use Rattle.uplink.specs.Answer.{GivesAtItsClose, IsOutcomeOfFlow, AreOutcomesOfFlows}
 use Rattle.uplink.specs.Assembly.{GivesTheRest, HasAssembled, collected}
-use Rattle.uplink.proofs.Assembling.{another_drained}
+use Rattle.uplink.proofs.Assembling.{another_drained, drained_at, running_at}
 
 -- the first of what is left of a list after its first k
 pub first_left : {X : Type 0} (xs : List X) (k : ℕ) (x : X) (rest : List X) → drop k xs ≡ x ∷ rest
@@ -67,19 +67,12 @@ module _ {C : Type 0} (accepts : C → List ℕ → Bool) (assembler : Assembler
 
     -- the next flow is drained
     pub next_is_drained : IsDrainedAt core next
-    next_is_drained = let is = next_drained in record { flow = is.has_given.flow; there = is.has_given.there; drained = is.drained }
+    next_is_drained = drained_at accepts core next accepted r (events_at next items) (collected assembler next) next_drained
 
     -- and runs
     pub next_is_running : IsRunning accepts core next
     next_is_running =
-        record {
-          accepted = accepted;
-          flow_record = r;
-          events = events_at next items;
-          given = collected assembler next;
-          in_range = has.has_taken.set_up.each next r of_flow;
-          has_given = next_drained.has_given;
-        }
+        running_at accepts core next accepted r (events_at next items) (collected assembler next) next_drained (has.has_taken.set_up.each next r of_flow)
 
     -- it is closed
     pub one_more_closed : (after : Core C) (frames : Vec Bytes Global) (flow : FlowOutcome)

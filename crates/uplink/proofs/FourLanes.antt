@@ -117,9 +117,11 @@ module _ (setup : Setup) (incoming : Incoming) (received : FourReceived) (have :
           items = items;
           merged = merge-same (left_of merging) (items_of setup incoming have.answered) order items items-left merged;
           flows = flows;
+          request_lists = ap length requests;
           requests = four (λ channel. requests_on outcome channel ≡ requests_of (have.answered channel))
               (asked 0 ∙ (have.each 0 (omega arith)).requests) (asked 1 ∙ (have.each 1 (omega arith)).requests)
               (asked 2 ∙ (have.each 2 (omega arith)).requests) (asked 3 ∙ (have.each 3 (omega arith)).requests);
+          report_count = ap length lanes;
           reports = λ channel report below at.
               four (λ channel. slice_get (received.r0.report ∷ received.r1.report ∷ received.r2.report ∷ received.r3.report ∷ []) channel ≡ Some report → IsReportOf (have.answered channel) report)
               (λ is. let same : received.r0.report ≡ report = cc in subst (IsReportOf (have.answered 0)) same (have.each 0 (omega arith)).report)

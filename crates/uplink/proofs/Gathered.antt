@@ -1,11 +1,10 @@
 -- What lists of inputs give one after the other, and what one more adds to what was received.
-use Rattle.std.proofs.Common.{◌≡◌, ◌≢◌, ℕ, ◌+◌, ◌<◌, Bool, true, false, Option, Some, None, Ok, Err, All, List, [], ◌∷◌, ◌++◌, length, get_or, slice_get, slice_index_or, map, take, filter_map, is_some, sym, ap, subst, ◌∙◌, refl, arith}
+use Rattle.std.proofs.Common.{◌≡◌, ℕ, ◌+◌, ◌<◌, Bool, true, false, Option, Some, None, Ok, Err, All, List, [], ◌∷◌, ◌++◌, length, get_or, slice_get, slice_index_or, map, take, filter_map, is_some, sym, ap, subst, ◌∙◌, refl, arith}
 use Rattle.std.specs.List.{cons_option}
-use Rattle.std.proofs.lemmas.List.{map-append, length-append, append-nil, take_more}
-use Rattle.std.proofs.lemmas.List.Elements.{filter_map-append, All-nil, All-cons, All-head, All-tail, All-same, All-append}
+use Rattle.std.proofs.lemmas.List.{map-append, append-nil, take_more}
+use Rattle.std.proofs.lemmas.List.Elements.{All-nil, All-cons, All-head, All-tail, All-same, All-append}
 use Rattle.std.proofs.lemmas.Option.{slice_get_within, slice_get-get_or}
 use Rattle.flow_core.specs.declared.record.FlowRecord.{FlowRecord}
-use Rattle.flow_core.specs.Counts.{counted}
 use Rattle.docsis_wire.specs.Limits.{sequence_modulus}
 use Rattle.uplink.specs.Admission.{IsRequestIn}
 use Rattle.uplink.specs.declared.admitted.Request.{Request}
@@ -14,17 +13,16 @@ use Rattle.uplink.specs.declared.admitted.Admitted.{Admitted}
 use Rattle.uplink.specs.declared.input.Input.{Input}
 use Rattle.uplink.specs.declared.input.Input.TheVariants.{Grant, Burst}
 use Rattle.uplink.specs.declared.lane.Lane.{Lane}
-use Rattle.uplink.specs.declared.refusal.Refusal.{Refusal}
-use Rattle.uplink.specs.declared.refusal.Refusal.TheVariants.{GrantOutOfMemory, BurstOutOfMemory}
 use Rattle.uplink.specs.declared.received.Received.{Received}
 use Rattle.uplink.specs.declared.row.SidRow.{SidRow}
 use Rattle.uplink.specs.declared.setup.Setup.{Setup}
 use Rattle.uplink.specs.Inputs.{LaneSetup, Answer, AnsweredInput, IsFlowOf, IsAnswer, AreAnswered, inputs_of}
-use Rattle.uplink.specs.Report.{refusal_number, admitted_by, refused_by, admitted_of, requests_of, refusal_numbers, admitted_count, IsLaneRequest}
+use Rattle.uplink.specs.Report.{admitted_by, admitted_of, requests_of, IsLaneRequest}
 use Rattle.uplink.specs.Items.{IsItem, event_of_admitted, lane_setup}
-use Rattle.uplink.specs.Stands.{StandsFor, IsOutOfMemory, TakesInput}
-use Rattle.uplink.specs.Received.{HasReceived, AdmitsWithin, NotesAnswer}
+use Rattle.uplink.specs.Stands.{StandsFor, TakesInput}
+use Rattle.uplink.specs.Received.{Reports, HasReceived, AdmitsWithin, NotesAnswer}
 use Rattle.uplink.proofs.Taking.{answered-last}
+use Rattle.uplink.proofs.Reported.{admitted_of-append, requests_of-append}
 
 -- the lane and what was received are those of the first n inputs
 pub record IsReceiving (setup : Setup) (channel : ℕ) (inputs : List Input) (n : ℕ) (lane : Lane) (received : Received) : Type 0 where
@@ -32,24 +30,6 @@ pub record IsReceiving (setup : Setup) (channel : ℕ) (inputs : List Input) (n 
   pub inputs_are : inputs_of answered ≡ take n inputs
   pub stands : StandsFor (lane_setup setup channel) lane answered
   pub has_received : HasReceived (length setup.flows.items) answered received
-
-module _ (taken others : List AnsweredInput) where
-  -- what lists of inputs give, one after the other
-  pub admitted_of-append : admitted_of (taken ++ others) ≡ admitted_of taken ++ admitted_of others
-  admitted_of-append = filter_map-append (λ (one : AnsweredInput). admitted_by one.answer) taken others
-
-  pub requests_of-append : requests_of (taken ++ others) ≡ requests_of taken ++ requests_of others
-  requests_of-append =
-      ap (filter_map (λ (one : Admitted). one.request)) admitted_of-append
-      ∙ filter_map-append (λ (one : Admitted). one.request) (admitted_of taken) (admitted_of others)
-
-  pub refusal_numbers-append : refusal_numbers (taken ++ others) ≡ refusal_numbers taken ++ refusal_numbers others
-  refusal_numbers-append = filter_map-append (λ (one : AnsweredInput). refused_by one.answer) taken others
-
-  pub admitted_count-append : admitted_count (taken ++ others) ≡ counted (admitted_count taken + admitted_count others)
-  admitted_count-append =
-      let long = ap length admitted_of-append ∙ length-append (admitted_of taken) (admitted_of others) in
-      omega arith
 
 -- what is admitted of an input is of a flow that has a record
 pub admits-within : (setup : LaneSetup) (taken : List AnsweredInput) (input : Input) (answer : Answer) → IsAnswer setup taken input answer
@@ -139,14 +119,10 @@ notes : (before after : Received) (answer : Answer)
     → after.items.items ≡ before.items.items ++ map event_of_admitted (filter_map admitted_by (answer ∷ []))
     → after.are_items.items ≡ before.are_items.items ++ is_some (admitted_by answer) ∷ []
     → after.requests.items ≡ before.requests.items ++ filter_map (λ (one : Admitted). one.request) (filter_map admitted_by (answer ∷ []))
-    → after.report.admitted ≡ counted (before.report.admitted + length (filter_map admitted_by (answer ∷ [])))
-    → after.report.refused.items ≡ before.report.refused.items ++ filter_map refused_by (answer ∷ [])
-    → NotesAnswer before answer after
-notes before after answer items are_items requests admitted refused flow_count answered input within has =
+    → Reports before.report answer after.report → NotesAnswer before answer after
+notes before after answer items are_items requests reports flow_count answered input within has =
     let last : List AnsweredInput = record { input = input; answer = answer } ∷ [] in
     let is_item : AnsweredInput → Bool = λ one. is_some (admitted_by one.answer) in
-    let count : before.report.admitted ≡ admitted_count answered = has.report.admitted in
-    let all : admitted_count (answered ++ last) ≡ counted (admitted_count answered + admitted_count last) = admitted_count-append answered last in
     record {
       items =
           items ∙ ap (λ t. t ++ map event_of_admitted (admitted_of last)) has.items
@@ -154,10 +130,7 @@ notes before after answer items are_items requests admitted refused flow_count a
           ∙ map-append event_of_admitted (admitted_of answered) (admitted_of last));
       are_items = are_items ∙ ap (λ t. t ++ map is_item last) has.are_items ∙ sym (map-append is_item answered last);
       requests = requests ∙ ap (λ t. t ++ requests_of last) has.requests ∙ sym (requests_of-append answered last);
-      report = record {
-        admitted = omega arith;
-        refused = refused ∙ ap (λ t. t ++ refusal_numbers last) has.report.refused ∙ sym (refusal_numbers-append answered last);
-      };
+      report = reports answered input has.report;
       each = All-same (IsItem flow_count) after.items.items (before.items.items ++ map event_of_admitted (admitted_of last)) items
           (All-append (IsItem flow_count) before.items.items (map event_of_admitted (admitted_of last)) has.each
           (admits-items flow_count answer within));
@@ -165,52 +138,32 @@ notes before after answer items are_items requests admitted refused flow_count a
 
 module _ (before after : Received) (answer : Answer) where
   -- a segment is admitted
-  pub notes-admitted : (admitted : Admitted) → answer ≡ Ok (Some admitted)
+  pub notes-admitted : (admitted : Admitted) → admitted_by answer ≡ Some admitted
       → after.items.items ≡ before.items.items ++ event_of_admitted admitted ∷ []
       → after.are_items.items ≡ before.are_items.items ++ true ∷ []
       → after.requests.items ≡ before.requests.items ++ cons_option admitted.request []
-      → after.report.admitted ≡ counted (before.report.admitted + 1)
-      → after.report.refused.items ≡ before.report.refused.items
-      → NotesAnswer before answer after
-  notes-admitted admitted is items are_items requests count refused =
-      subst (λ a. NotesAnswer before a after) (sym is)
-      (notes before after (Ok (Some admitted)) items are_items requests count
-      (refused ∙ sym (append-nil before.report.refused.items)))
+      → Reports before.report answer after.report → NotesAnswer before answer after
+  notes-admitted admitted is items are_items requests reports =
+      let one : filter_map admitted_by (answer ∷ []) ≡ admitted ∷ [] = ap (λ o. cons_option o []) is in
+      notes before after answer
+      (items ∙ sym (ap (λ l. before.items.items ++ map event_of_admitted l) one))
+      (are_items ∙ ap (λ o. before.are_items.items ++ is_some o ∷ []) (sym is))
+      (requests ∙ sym (ap (λ l. before.requests.items ++ filter_map (λ (one : Admitted). one.request) l) one))
+      reports
 
-  -- nothing is admitted and nothing refused
-  pub notes-nothing : answer ≡ Ok None
+  -- none is
+  pub notes-nothing : admitted_by answer ≡ None
       → after.items.items ≡ before.items.items
       → after.are_items.items ≡ before.are_items.items ++ false ∷ []
       → after.requests.items ≡ before.requests.items
-      → after.report.admitted ≡ before.report.admitted
-      → after.report.refused.items ≡ before.report.refused.items
-      → NotesAnswer before answer after
-  notes-nothing is items are_items requests count refused =
-      subst (λ a. NotesAnswer before a after) (sym is)
-      (λ flow_count answered input within has.
-      notes before after (Ok None)
-      (items ∙ sym (append-nil before.items.items)) are_items (requests ∙ sym (append-nil before.requests.items))
-      (let was = has.report.admitted in omega arith) (refused ∙ sym (append-nil before.report.refused.items)) flow_count answered input within has)
-
-  -- the input is refused
-  pub notes-refusal : (refusal : Refusal) → answer ≡ Err refusal
-      → after.items.items ≡ before.items.items
-      → after.are_items.items ≡ before.are_items.items ++ false ∷ []
-      → after.requests.items ≡ before.requests.items
-      → after.report.admitted ≡ before.report.admitted
-      → after.report.refused.items ≡ before.report.refused.items ++ refusal_number refusal ∷ []
-      → NotesAnswer before answer after
-  notes-refusal refusal is items are_items requests count refused =
-      subst (λ a. NotesAnswer before a after) (sym is)
-      (λ flow_count answered input within has.
-      notes before after (Err refusal)
-      (items ∙ sym (append-nil before.items.items)) are_items (requests ∙ sym (append-nil before.requests.items))
-      (let was = has.report.admitted in omega arith) refused flow_count answered input within has)
-
--- neither a grant nor a burst is answered that an allocation failed
-pub not-memory : (input : Input) (answer : Answer) → answer ≢ Err GrantOutOfMemory → answer ≢ Err BurstOutOfMemory → ¬ (IsOutOfMemory input answer)
-not-memory (Grant number sid bytes) answer not_grant not_burst = not_grant
-not-memory (Burst number hcs_ok bytes) answer not_grant not_burst = not_burst
+      → Reports before.report answer after.report → NotesAnswer before answer after
+  notes-nothing none items are_items requests reports =
+      let nothing : filter_map admitted_by (answer ∷ []) ≡ [] = ap (λ o. cons_option o []) none in
+      notes before after answer
+      (items ∙ sym (ap (λ l. before.items.items ++ map event_of_admitted l) nothing ∙ append-nil before.items.items))
+      (are_items ∙ ap (λ o. before.are_items.items ++ is_some o ∷ []) (sym none))
+      (requests ∙ sym (ap (λ l. before.requests.items ++ filter_map (λ (one : Admitted). one.request) l) nothing ∙ append-nil before.requests.items))
+      reports
 
 module _ (setup : Setup) (channel : ℕ) where
   -- a lane that was opened stands for no inputs

@@ -23,13 +23,13 @@ use Rattle.uplink.specs.Stands.{StandsFor, HasFlows}
 
 module _ {X : Type 0} where
   -- what stands in a list stands in one that it begins
-  stays-behind : (xs ys : List X) (k : ℕ) (x : X) → slice_get xs k ≡ Some x → slice_get (xs ++ ys) k ≡ Some x
+  pub stays-behind : (xs ys : List X) (k : ℕ) (x : X) → slice_get xs k ≡ Some x → slice_get (xs ++ ys) k ≡ Some x
   stays-behind [] ys k x is = absurd (cc)
   stays-behind (y ∷ xs) ys zero x is = is
   stays-behind (y ∷ xs) ys (suc k) x is = stays-behind xs ys k x is
 
   -- what stands in a list with one more is of the list, or is the one more
-  from-pushed : (xs : List X) (y : X) (k : ℕ) (x : X) → slice_get (xs ++ y ∷ []) k ≡ Some x
+  pub from-pushed : (xs : List X) (y : X) (k : ℕ) (x : X) → slice_get (xs ++ y ∷ []) k ≡ Some x
       → (slice_get xs k ≡ Some x) ⊎ ((k ≡ length xs) × (x ≡ y))
   from-pushed [] y zero x is = inr (refl, sym (same_Some _ _ is))
   from-pushed [] y (suc k) x is = absurd (cc)

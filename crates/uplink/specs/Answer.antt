@@ -13,6 +13,8 @@ use Rattle.uplink.specs.declared.outcome.Outcome.{Outcome}
 use Rattle.uplink.specs.declared.setup.Setup.{Setup}
 use Rattle.uplink.specs.declared.replaying.ReplayFault.{ReplayFault}
 use Rattle.uplink.specs.declared.replaying.ReplayFault.TheVariants as replay_fault
+use Rattle.uplink.specs.declared.running.RunFault.{RunFault}
+use Rattle.uplink.specs.declared.running.RunFault.TheVariants as run_fault
 use Rattle.flow_core.specs.Setup.{CanBeSetUp, IsSetupFault}
 use Rattle.uplink.specs.Rows.{CanBeOpened, IsLaneFault}
 use Rattle.uplink.specs.Limits.{channel_limit}
@@ -49,14 +51,16 @@ requests_on outcome channel = slice_index_or (map (λ requests. requests.items) 
 
 -- The one-thread answer for what comes in, in this order: each input has its answer, and the items of the five senders, which are the segments that
 -- each channel admits and the decisions that name a flow, are taken in this order. Each flow takes its events among them and is closed. Requests
--- and reports are those of the lanes.
+-- and reports are those of the four lanes.
 pub record IsOutcome (check : List ℕ → Bool) (setup : Setup) (incoming : Incoming) (order : List ℕ) (outcome : Outcome) : Type 0 where
   pub answered : ℕ → List AnsweredInput
   pub lanes : AreLanesOf setup incoming answered
   pub items : List Event
   pub merged : IsMergeOf (items_of setup incoming answered) order items
   pub flows : AreOutcomesOfFlows check setup.flows.items items outcome.flows.items
+  pub request_lists : length outcome.requests ≡ channel_limit
   pub requests : (channel : ℕ) → channel < channel_limit → requests_on outcome channel ≡ requests_of (answered channel)
+  pub report_count : length outcome.lanes ≡ channel_limit
   pub reports : (channel : ℕ) (report : LaneReport) → channel < channel_limit → slice_get outcome.lanes channel ≡ Some report → IsReportOf (answered channel) report
   pub order_is : outcome.order.items ≡ order
 
@@ -98,3 +102,15 @@ IsReplayFault setup incoming order = IsFirstFault setup (HasBadOrder setup incom
 -- why the tags of all inputs and decisions have no admitted order
 abbrev pub IsTagsFault : Setup → Incoming → List ℕ → ReplayFault → Type 0
 IsTagsFault setup incoming tags = IsFirstFault setup (IsOrderFault (input_counts incoming) tags)
+
+-- a setup that can be run: it has no fault, and its mailboxes have room for an entry
+pub record CanRun (setup : Setup) : Type 0 where
+  pub can_receive : CanReceive setup
+  pub capacity : 0 < setup.mailbox
+
+-- why this setup isn't run: each fault comes only where those before it don't apply
+abbrev pub IsRunFault : Setup → RunFault → Type 0
+IsRunFault setup (run_fault.Setup fault) = IsSetupFault setup.flows.items fault
+IsRunFault setup (run_fault.Lane fault) = CanBeSetUp setup.flows.items × IsLaneFault setup.sids.items (length setup.flows.items) fault
+IsRunFault setup run_fault.NoCapacity = CanReceive setup × (setup.mailbox ≡ 0)
+IsRunFault setup run_fault.OutOfMemory = CanRun setup

@@ -31,6 +31,10 @@ pub record Incoming : Type 0 where
 abbrev pub incoming_of : Lists → Incoming
 incoming_of lists = record { inputs = inputs_on lists; decisions = lists.decisions.items }
 
+-- what the sources of the four channels give, and the decisions
+abbrev pub incoming_from : List (List Input) → List Decision → Incoming
+incoming_from inputs decisions = record { inputs = λ channel. slice_index_or inputs channel []; decisions = decisions }
+
 -- all inputs of a channel, each with its answer
 pub record IsLaneOf (setup : Setup) (incoming : Incoming) (channel : ℕ) (answered : List AnsweredInput) : Type 0 where
   pub answers : AreAnswered (lane_setup setup channel) answered

@@ -11,3 +11,7 @@ pub mod Answer
 pub mod Assembly
 pub mod Received
 pub mod SameOutcome
+pub mod Working
+pub mod Offering
+pub mod Running
+pub mod Headline

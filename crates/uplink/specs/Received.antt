@@ -2,6 +2,7 @@
 use Rattle.std.specs.Prelude.{◌≡◌, ℕ, ◌<◌, zero, suc, All, MatchOption, Bool, List, [], ◌∷◌, ◌++◌, map, length, is_some}
 use Rattle.std.specs.Vec.Iter.{into_iter_items}
 use Rattle.uplink.specs.declared.input.Input.{Input}
+use Rattle.uplink.specs.declared.outcome.LaneReport.{LaneReport}
 use Rattle.uplink.specs.declared.received.Received.{Received}
 use Rattle.uplink.specs.declared.received.FourReceived.{FourReceived}
 use Rattle.uplink.specs.declared.merging.Merging.{Merging}
@@ -24,6 +25,12 @@ pub record HasReceived (flow_count : ℕ) (answered : List AnsweredInput) (recei
 -- an answer admits nothing, or a segment of one of so many flows
 abbrev pub AdmitsWithin : ℕ → Answer → Type 0
 AdmitsWithin flow_count answer = MatchOption (admitted_by answer) (Unit {0}) (λ admitted. admitted.flow < flow_count)
+
+-- Whatever inputs a report was of, with one more at the end that has this answer they have the report after it.
+abbrev pub Reports : LaneReport → Answer → LaneReport → Type 0
+Reports report answer after =
+    (answered : List AnsweredInput) (input : Input)
+    → IsReportOf answered report → IsReportOf (answered ++ record { input = input; answer = answer } ∷ []) after
 
 -- Whatever inputs gave what was received, with one more at the end that has this answer they give what is received after it.
 abbrev pub NotesAnswer : Received → Answer → Received → Type 0

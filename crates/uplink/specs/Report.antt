@@ -1,5 +1,5 @@
 -- What a lane admits, asks for and reports, of the whole list of its inputs with their answers.
-use Rattle.std.specs.Prelude.{◌≡◌, ℕ, ◌<◌, Option, Some, None, Ok, Err, List, length, filter_map, slice_get}
+use Rattle.std.specs.Prelude.{◌≡◌, ℕ, ◌<◌, Option, Some, None, Ok, Err, List, [], ◌∷◌, length, filter_map, slice_get}
 use Rattle.docsis_wire.specs.Limits.{sequence_modulus}
 use Rattle.flow_core.specs.Counts.{counted}
 use Rattle.flow_core.specs.declared.record.FlowRecord.{FlowRecord}
@@ -31,6 +31,13 @@ admitted_by (Err refusal) = None
 abbrev pub refused_by : Answer → Option ℕ
 refused_by (Ok admitted) = None
 refused_by (Err refusal) = Some (refusal_number refusal)
+
+-- the same as a list, and its request
+abbrev pub admitted_in : Answer → List Admitted
+admitted_in answer = filter_map admitted_by (answer ∷ [])
+
+abbrev pub requests_in : Answer → List Request
+requests_in answer = filter_map (λ one. one.request) (admitted_in answer)
 
 -- what was admitted, in order
 abbrev pub admitted_of : List AnsweredInput → List Admitted

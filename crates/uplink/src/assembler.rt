@@ -2,6 +2,7 @@
 
 mod calls;
 
+pub use calls::{close_flow, take_item};
 use docsis_wire::Bytes;
 use flow_core::Core;
 

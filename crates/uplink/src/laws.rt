@@ -1,11 +1,30 @@
 //! Laws about the definitions: each input of a lane has one answer, what is outstanding and what is
 //! admitted after one more input, rows have at most one first fault, lists have at most one merge
-//! in an order, the admitted order is lawful, and a replay has one outcome or one fault.
+//! in an order, the admitted order is lawful, a replay has one outcome or one fault, and what
+//! consumers take is the delivery sequence.
 //!
 //! Each function states a law in its contract and does nothing.
-ghost use Rattle.std.specs.Prelude.{◌≡◌, ◌≢◌, ◌↔◌, ℕ, ◌+◌, Bool, IsTrue, Ok, None};
-ghost use Rattle.std.specs.Prelude.{List, [], ◌∷◌, ◌++◌, length, map, All};
+ghost use Rattle.std.specs.Prelude.{◌≡◌, ◌≢◌, ◌↔◌, ℕ, ◌+◌, ◌<◌, Bool, IsTrue, Ok, None, Some};
+ghost use Rattle.std.specs.Prelude.{List, [], ◌∷◌, ◌++◌, length, map, All, slice_get};
+ghost use Rattle.docsis_wire.specs.declared.segment.Segment.{Segment};
+ghost use Rattle.docsis_wire.specs.Cut.{IsLawfulCut};
+ghost use Rattle.delivery.specs.declared.feeder.ClosedFeeder.{ClosedFeeder};
+ghost use Rattle.delivery.specs.declared.taker.Taker.{Taker};
+ghost use Rattle.delivery.specs.Feeders.{closed_offered};
+ghost use Rattle.delivery.specs.Left.{IsLeft};
+ghost use Rattle.delivery.specs.Takers.{taken};
+ghost use Rattle.flow_core.specs.declared.counts.FlowCounts.{FlowCounts};
+ghost use Rattle.flow_core.specs.declared.event.Applied.{Applied};
+ghost use Rattle.flow_core.specs.declared.record.FlowRecord.{FlowRecord};
 ghost use Rattle.flow_core.specs.Counts.{counted};
+ghost use Rattle.flow_core.specs.Delivery.{IsDeliverySequence};
+ghost use Rattle.flow_core.specs.Events.{FlowEvent, IsAfter};
+ghost use Rattle.flow_core.specs.Fates.{Fates};
+ghost use Rattle.flow_core.specs.Near.{AreNear};
+ghost use Rattle.flow_core.specs.Outcome.{IsFlowOutcome};
+ghost use Rattle.uplink.specs.declared.outcome.FlowOutcome.{FlowOutcome};
+ghost use Rattle.uplink.specs.Headline.{TookTheDeliverySequence};
+ghost use Rattle.uplink.specs.Limits.{channel_limit};
 ghost use Rattle.uplink.specs.declared.input.Input.{Input};
 ghost use Rattle.uplink.specs.declared.lane.Lane.{Lane};
 ghost use Rattle.uplink.specs.declared.grant.OutstandingGrant.{OutstandingGrant};
@@ -16,9 +35,9 @@ ghost use Rattle.uplink.specs.declared.setup.Setup.{Setup};
 ghost use Rattle.uplink.specs.Order.{IsLawfulOrder, IsOrderFault, IsMergeOf, lengths_of};
 ghost use Rattle.uplink.specs.declared.outcome.Outcome.{Outcome};
 ghost use Rattle.uplink.specs.declared.replaying.ReplayFault.{ReplayFault};
-ghost use Rattle.uplink.specs.Items.{Incoming, IsItem, event_of_admitted, items_of};
+ghost use Rattle.uplink.specs.Items.{Incoming, IsItem, event_of_admitted, items_of, events_at};
 ghost use Rattle.uplink.specs.Answer.{IsAdmittedOrder, CanReceive, HasBadOrder};
-ghost use Rattle.uplink.specs.Answer.{IsOutcome, IsReplayFault, IsTagsFault};
+ghost use Rattle.uplink.specs.Answer.{IsOutcome, IsReplayFault, IsTagsFault, requests_on};
 ghost use Rattle.uplink.specs.SameOutcome.{IsSameOutcome};
 ghost use Rattle.uplink.specs.Inputs.{LaneSetup, Answer, AnsweredInput, IsGrant, IsAnswer};
 ghost use Rattle.uplink.specs.Inputs.{AreAnswered, inputs_of, number_of, is_accepted};
@@ -27,6 +46,7 @@ ghost use Rattle.uplink.specs.Inputs.{AreOutstanding, outstanding_count, HasByte
 ghost use Rattle.uplink.specs.Report.{admitted_of, requests_of, refusal_numbers, admitted_count};
 ghost use Rattle.uplink.specs.Report.{IsLaneRequest};
 ghost use Rattle.uplink.specs.Stands.{StandsFor, TakesInput};
+
 
 /// The same inputs have at most one list of answers.
 pub fn lane_has_at_most_one_answer_to_each_input()
@@ -165,8 +185,8 @@ pub fn replay_has_one_outcome()
         (outcome other : Outcome)
         → CanReceive setup → IsOutcome check setup incoming order outcome
         → IsOutcome check setup incoming order other → IsSameOutcome outcome other }
-    ensures faultless { (check : List ℕ → Bool) (setup : Setup) (incoming : Incoming) (order : List ℕ)
-        (outcome : Outcome) (k : ℕ)
+    ensures faultless { (check : List ℕ → Bool) (setup : Setup) (incoming : Incoming)
+        (order : List ℕ) (outcome : Outcome) (k : ℕ)
         → CanReceive setup → IsOutcome check setup incoming order outcome
         → ¬ (HasBadOrder setup incoming order k) }
 {
@@ -176,7 +196,8 @@ pub fn replay_has_one_outcome()
 /// Of the faults other than a failed allocation at most one is why nothing is replayed, or why
 /// there is no admitted order.
 pub fn replay_has_one_fault()
-    ensures replay { (setup : Setup) (incoming : Incoming) (order : List ℕ) (fault other : ReplayFault)
+    ensures replay { (setup : Setup) (incoming : Incoming) (order : List ℕ)
+        (fault other : ReplayFault)
         → fault ≢ ReplayFault.OutOfMemory → other ≢ ReplayFault.OutOfMemory
         → IsReplayFault setup incoming order fault → IsReplayFault setup incoming order other
         → fault ≡ other }
@@ -185,3 +206,51 @@ pub fn replay_has_one_fault()
         → IsTagsFault setup incoming tags fault → IsTagsFault setup incoming tags other
         → fault ≡ other }
 {}
+
+/// **The headline.** Whatever the four channels interleave, delay or lose and whenever gaps are
+/// declared: for the outcome of a receiver, from [`run`](crate::run) or from
+/// [`replay`](crate::replay), what each flow's consumer took is the flow's delivery sequence, if
+/// the segments of the flow are those of one lawful cut of a modem's frames and its events, in the
+/// order in which the receiver took the items, are near. At an earlier moment it is a prefix:
+/// where what a flow gave for the events so far was offered to a feeder that is then closed, what
+/// its taker has taken is a prefix of the delivery sequence after those events and any more. The
+/// order is a lawful one of all that is admitted and all decisions that name a flow, and the
+/// scheduler gets the request of each admitted segment once, in its channel's order. That events
+/// stay near with the gaps of a close is
+/// [`gaps_after_keep_events_near`](flow_core::laws::gaps_after_keep_events_near).
+pub fn consumers_take_the_delivery_sequence()
+    ensures whole { (check : List ℕ → Bool) (setup : Setup) (incoming : Incoming)
+        (order : List ℕ) (outcome : Outcome) (k fill : ℕ) (flow_record : FlowRecord)
+        (flow : FlowOutcome) (frames chunks : List (List ℕ)) (segments : List Segment)
+        → (is : IsOutcome check setup incoming order outcome)
+        → slice_get setup.flows.items k ≡ Some flow_record
+        → slice_get outcome.flows.items k ≡ Some flow
+        → IsLawfulCut check frames flow_record.first fill chunks segments
+        → AreNear flow_record.first flow_record.window segments (events_at k is.items)
+        → TookTheDeliverySequence frames chunks flow_record (events_at k is.items)
+            flow.frames.items }
+    ensures prefix { (check : List ℕ → Bool) (fill : ℕ) (flow_record : FlowRecord)
+        (frames chunks given later : List (List ℕ)) (segments : List Segment)
+        (events more : List FlowEvent) (counts : FlowCounts) (answers : List Applied)
+        (fates : Fates) (feeder : ClosedFeeder) (taker : Taker) (left : ℕ)
+        → IsLawfulCut check frames flow_record.first fill chunks segments
+        → AreNear flow_record.first flow_record.window segments events
+        → IsFlowOutcome check flow_record events given counts → closed_offered feeder ≡ given
+        → IsLeft (closed_offered feeder) (taken taker) left
+        → IsAfter flow_record.first flow_record.window (events ++ more) answers fates
+        → IsDeliverySequence frames chunks fates later
+        → (rest : List (List ℕ)) × (later ≡ taken taker ++ rest) }
+    ensures order { (check : List ℕ → Bool) (setup : Setup) (incoming : Incoming)
+        (order : List ℕ) (outcome : Outcome)
+        → (is : IsOutcome check setup incoming order outcome)
+        → IsLawfulOrder (lengths_of (items_of setup incoming is.answered)) outcome.order.items }
+    ensures requests { (check : List ℕ → Bool) (setup : Setup) (incoming : Incoming)
+        (order : List ℕ) (outcome : Outcome) (channel : ℕ)
+        → (is : IsOutcome check setup incoming order outcome) → channel < channel_limit
+        → requests_on outcome channel ≡ requests_of (is.answered channel) }
+{
+    flow_core::laws::closed_flow_gives_the_frames_that_were_all_kept();
+    flow_core::laws::closed_flow_has_come_past_all_kept();
+    flow_core::laws::outcome_of_near_events_is_the_delivery_sequence();
+    flow_core::laws::delivery_sequence_only_grows();
+}

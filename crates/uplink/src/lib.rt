@@ -1,4 +1,4 @@
-//! The upstream receiver: lanes, and all channels on one thread.
+//! The upstream receiver: lanes, and all channels on one thread or on eight.
 //!
 //! [`Lane`] takes the grants and bursts of one channel, one after another, and admits the segments
 //! of those bursts that fit their grants, each with the request in its header. The contract of
@@ -9,10 +9,15 @@
 //! definitions. [`admitted_order`] makes that order from the senders of all inputs and decisions,
 //! and [`check_order`] checks one. [`laws`] says what follows from the definitions, such as that
 //! each input has one answer and each replay one outcome.
+//!
+//! [`run`] receives what four sources and decisions give, on threads. Its clause `headline` is the
+//! sentence that the whole project serves.
 #![tactic(auto)]
 
 mod admitted;
+mod answering;
 mod assembler;
+mod done;
 mod grant;
 mod input;
 mod lane;
@@ -27,8 +32,11 @@ mod refusal;
 mod refusals;
 mod replaying;
 mod row;
+mod running;
 mod seen;
 mod setup;
+mod source;
+mod tap;
 #[cfg(test)]
 mod traces;
 
@@ -40,5 +48,8 @@ pub use outcome::{FlowOutcome, LaneReport, Outcome};
 pub use refusal::Refusal;
 pub use replaying::{ReplayFault, admitted_order, replay};
 pub use row::{LaneFault, SidRow};
+pub use running::{RunFault, run};
 pub use seen::SeenSids;
 pub use setup::{Decision, Lists, Setup};
+pub use source::{Decisions, ListDecisions, ListSource, Source, Sources};
+pub use tap::{NoTap, Tap, Taps};

@@ -1,7 +1,11 @@
 //! What a receiver gives for a whole list of inputs on each channel.
+ghost use Rattle.std.specs.Prelude.{[]};
+ghost use Rattle.uplink.specs.Answer.{IsReportOf};
+
 use crate::admitted::Request;
 use docsis_wire::Bytes;
 use flow_core::FlowCounts;
+use std::alloc::Global;
 
 /// What a flow gave, once it is closed.
 #[derive(Debug, Drop)]
@@ -22,6 +26,18 @@ pub struct LaneReport {
     /// The numbers of the refusals, in the order of the inputs:
     /// [`Refusal::number`](crate::Refusal::number).
     pub refused: Vec<u8>,
+}
+
+impl LaneReport {
+    /// No input came yet.
+    pub(crate) fn none(alloc: Global) -> LaneReport
+        ensures { IsReportOf [] result }
+    {
+        LaneReport {
+            admitted: 0,
+            refused: Vec::new(alloc),
+        }
+    }
 }
 
 /// What a receiver gave.

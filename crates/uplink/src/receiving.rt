@@ -6,11 +6,11 @@ ghost use Rattle.uplink.specs.Items.{lane_setup};
 ghost use Rattle.uplink.specs.Received.{HasReceived, NotesAnswer};
 
 use crate::admitted::Admitted;
+use crate::answering::{Answer, admitted};
 use crate::input::Input;
 use crate::lane::Lane;
 use crate::outcome::LaneReport;
 use crate::received::Received;
-use crate::refusal::Refusal;
 use crate::setup::Setup;
 use flow_core::Event;
 use std::alloc::{AllocError, Global};
@@ -24,34 +24,29 @@ impl Received {
             items: Vec::new(alloc),
             are_items: Vec::new(alloc),
             requests: Vec::new(alloc),
-            report: LaneReport {
-                admitted: 0,
-                refused: Vec::new(alloc),
-            },
+            report: LaneReport::none(alloc),
         }
     }
 
     /// Notes what became of one input.
-    fn note(&mut self, answer: Result<Option<Admitted>, Refusal>) -> Result<(), AllocError>
+    fn note(&mut self, answer: Answer) -> Result<(), AllocError>
         ensures { IfOk result (λ _. NotesAnswer self.old answer self.new) }
     {
-        match answer {
-            Ok(Some(admitted)) => {
-                self.are_items.push(true)?;
-                self.report.admitted = self.report.admitted.saturating_add(1);
-                if let Some(request) = admitted.request {
-                    self.requests.push(request)?;
-                }
-                let flow = admitted.flow;
-                let segment = admitted.segment;
-                self.items.push(Event::Arrive { flow, segment })?;
-            }
-            Ok(None) => self.are_items.push(false)?,
-            Err(refusal) => {
-                self.are_items.push(false)?;
-                self.report.refused.push(refusal.number())?;
-            }
+        self.report.note(&answer)?;
+        let Some(admitted) = admitted(answer) else {
+            self.are_items.push(false)?;
+            return Ok(());
+        };
+        self.are_items.push(true)?;
+        let Admitted {
+            flow,
+            segment,
+            request,
+        } = admitted;
+        if let Some(request) = request {
+            self.requests.push(request)?;
         }
+        self.items.push(Event::Arrive { flow, segment })?;
         Ok(())
     }
 }
@@ -72,12 +67,7 @@ pub fn receive(
     let mut lane = Lane::open(alloc, channel, &setup.sids, &setup.flows)?;
     let mut received = Received::none(alloc);
     for input in inputs {
-        let answer = lane.take(alloc, input);
-        if let Err(refusal) = &answer
-            && refusal.is_out_of_memory()
-        {
-            return Err(AllocError);
-        }
+        let answer = lane.answer(alloc, input)?;
         received.note(answer)?;
     }
     Ok(received)

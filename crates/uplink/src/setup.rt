@@ -10,8 +10,8 @@ pub struct Setup {
     pub flows: Vec<FlowRecord>,
     /// The service identifiers of all channels.
     pub sids: Vec<SidRow>,
-    /// How many entries a mailbox between threads has room for, at least 1. A replay doesn't look
-    /// at it.
+    /// How many entries each of the two mailboxes has room for, of all senders together and with
+    /// their end marks: 1 to 65,535. A replay doesn't look at it.
     pub mailbox: u16,
 }
 

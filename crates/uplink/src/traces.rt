@@ -1,4 +1,6 @@
 //! Traces that tests replay, and what comes of one of them.
+ghost use Rattle.std.specs.Prelude.{◌<◌, length};
+
 use crate::admitted::Request;
 use crate::input::Input;
 use crate::outcome::Outcome;
@@ -86,6 +88,31 @@ pub struct Expected {
     pub order: &'static [u8],
 }
 
+/// The first of the three segments doesn't come.
+pub const FIRST_LOST: [Line; 4] = [
+    Line::Grant(0, 2, 1, 13),
+    Line::Grant(1, 1, 2, 15),
+    Line::Burst(1, 1, SECOND),
+    Line::Burst(0, 2, THIRD),
+];
+
+pub const ONLY_EXTENDED: FlowCounts = FlowCounts {
+    kept: 2,
+    lost: 1,
+    frames: 1,
+    skipped: 3,
+    ..NO_COUNTS
+};
+
+/// What comes of a flow without its first segment.
+pub const SECOND_FRAME: Expected = Expected {
+    frames: &[EXTENDED],
+    counts: ONLY_EXTENDED,
+    requests: [&[]; 4],
+    lanes: [(1, &[]), (1, &[]), (0, &[]), (0, &[])],
+    order: &[1, 0],
+};
+
 /// What comes of the second segment first.
 pub const BOTH_FRAMES: Expected = Expected {
     frames: &[PLAIN, EXTENDED],
@@ -130,6 +157,29 @@ fn inputs_of(alloc: Global, lines: &[Line], channel: u8) -> Result<Vec<Input>, A
     Ok(inputs)
 }
 
+/// A grant to this service identifier of as many bytes as the segment has, and then its burst.
+pub fn push_segment(
+    alloc: Global,
+    inputs: &mut Vec<Input>,
+    number: u32,
+    sid: u16,
+    segment: &[u8],
+) -> Result<(), AllocError>
+    requires { length segment.now < 65536 }
+{
+    inputs.push(Input::Grant {
+        number,
+        sid,
+        bytes: segment.len() as u32,
+    })?;
+    inputs.push(Input::Burst {
+        grant: number,
+        hcs_ok: true,
+        bytes: Bytes::from(Vec::from_slice(alloc, segment)?),
+    })?;
+    Ok(())
+}
+
 /// The inputs of all channels and the decisions.
 pub fn lists_of(alloc: Global, lines: &[Line]) -> Result<Lists, AllocError> {
     let mut decisions = Vec::new(alloc);
@@ -163,6 +213,34 @@ pub fn tags_of(alloc: Global, lines: &[Line]) -> Result<Vec<u8>, AllocError> {
 
 /// Compares what came of a trace of the one flow.
 pub fn expect_outcome(rt: &impl Abort, name: &str, outcome: &Outcome, expected: &Expected) {
+    expect_all_but_order(rt, name, outcome, expected);
+    assert_eq!(rt; outcome.order.as_slice(), expected.order, "{name}");
+}
+
+/// How many items of an order came from each sender, 4 the decisions.
+pub fn senders_of(order: &[u8]) -> [usize; 5] {
+    let mut counts = [0; 5];
+    for (sender, count) in counts.iter_mut().enumerate() {
+        *count = order
+            .iter()
+            .filter(|from| usize::from(**from) == sender)
+            .count();
+    }
+    counts
+}
+
+/// Compares what came of a trace of the one flow whose items may come in any order.
+pub fn expect_in_any_order(rt: &impl Abort, name: &str, outcome: &Outcome, expected: &Expected) {
+    expect_all_but_order(rt, name, outcome, expected);
+    assert_eq!(rt; outcome.order.len(), expected.order.len(), "{name}");
+    assert_eq!(rt;
+        senders_of(&outcome.order),
+        senders_of(expected.order),
+        "{name}"
+    );
+}
+
+fn expect_all_but_order(rt: &impl Abort, name: &str, outcome: &Outcome, expected: &Expected) {
     assert_eq!(rt; outcome.flows.len(), 1, "{name}");
     let flow = &outcome.flows[0];
     assert_eq!(rt; flow.sfid, FLOW.sfid, "{name}");
@@ -178,5 +256,4 @@ pub fn expect_outcome(rt: &impl Abort, name: &str, outcome: &Outcome, expected: 
         assert_eq!(rt; lane.admitted, *admitted, "{name}");
         assert_eq!(rt; lane.refused.as_slice(), *refused, "{name}");
     }
-    assert_eq!(rt; outcome.order.as_slice(), expected.order, "{name}");
 }

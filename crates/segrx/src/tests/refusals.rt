@@ -1,7 +1,7 @@
-//! An allocation that fails, at one place of each call. Each test takes out of memory as lawful
-//! there, says so by the word `refused`, and calls again; with no failed allocation it says
-//! nothing.
-use super::{FRAMES, FRAMES_AND_PIECES, REPORT, SEGMENTS, TRACE};
+//! An allocation that fails, or a thread that can't be started, at one place of each call. Each
+//! test takes out of memory as lawful there, says so by the word `refused`, and calls again; where
+//! nothing failed it says nothing.
+use super::{FRAMES, FRAMES_AND_PIECES, LOST_REPORT, LOST_TRACE, REPORT, SEGMENTS, TRACE};
 use crate::command::{Command, UsageFault, read_words};
 use crate::cut::cut_text;
 use crate::device::Device;
@@ -9,10 +9,14 @@ use crate::fault::EngineFault;
 use crate::join::join_text;
 use crate::program::program;
 use crate::replay::replay_text;
+use crate::run::run_text;
 use docsis_wire::FillByte;
 use std::alloc::Global;
 use std::process::Abort;
+use std::sync::Wait;
 use std::test::Fail;
+use std::thread::Threads;
+use uplink::{NoTap, Taps};
 
 /// Joins the segments into an array that is just large enough for their frames.
 fn join(alloc: Global, text: &mut [u8]) -> Result<(), EngineFault> {
@@ -86,6 +90,37 @@ fn replay_text_is_refused(rt: HostRuntime) -> Result<(), Fail> {
     Ok(())
 }
 
+/// Receives the trace on threads into an array that is just large enough for its report.
+fn receive<T>(alloc: Global, rt: T, text: &mut [u8]) -> Result<(), EngineFault>
+where
+    T: Threads + Wait + Copy + Send + 'static,
+{
+    let mut reader = Device::new(LOST_TRACE.as_bytes());
+    let mut writer = Device::new(text);
+    let taps = Taps {
+        frames: NoTap,
+        requests: NoTap,
+    };
+    let done = run_text(alloc, rt, 1, 1, taps, &mut reader, &mut writer);
+    reader.into_inner();
+    writer.into_inner();
+    done
+}
+
+#[test]
+fn run_text_is_refused(rt: HostRuntime) -> Result<(), Fail> {
+    let mut text = [0u8; 208];
+    let mut done = receive(rt.alloc(), rt, &mut text);
+    if done == Err(EngineFault::OutOfMemory) {
+        println!(rt; "refused")?;
+        assert_eq!(rt; text.as_slice(), [0u8; 208].as_slice());
+        done = receive(rt.alloc(), rt, &mut text);
+    }
+    assert_eq!(rt; done, Ok(()));
+    assert_eq!(rt; text.as_slice(), LOST_REPORT.as_bytes());
+    Ok(())
+}
+
 #[test]
 fn read_words_is_refused(rt: HostRuntime) -> Result<(), Fail> {
     let words = ["segrx", "--help"];
@@ -121,8 +156,8 @@ fn words_of_cut_are_refused(rt: HostRuntime) -> Result<(), Fail> {
 
 /// Runs the program on an input, again where an allocation fails, and looks at what it writes into
 /// an array that is just large enough for the text.
-fn run(
-    rt: &(impl Abort + AllocGlobal + Print),
+fn run<T: Abort + AllocGlobal + Print + Threads + Wait + Copy + Send + 'static>(
+    rt: T,
     command: &str,
     input: &str,
     text: &str,
@@ -132,6 +167,7 @@ fn run(
     let mut err = [0u8; 21];
     let mut status = program(
         rt.alloc(),
+        rt,
         &words,
         input.as_bytes(),
         &mut *out,
@@ -144,6 +180,7 @@ fn run(
         err = [0; 21];
         status = program(
             rt.alloc(),
+            rt,
             &words,
             input.as_bytes(),
             &mut *out,
@@ -158,10 +195,15 @@ fn run(
 
 #[test]
 fn program_is_refused(rt: HostRuntime) -> Result<(), Fail> {
-    run(&rt, "join", SEGMENTS, FRAMES, &mut [0u8; 36])
+    run(rt, "join", SEGMENTS, FRAMES, &mut [0u8; 36])
 }
 
 #[test]
 fn replaying_program_is_refused(rt: HostRuntime) -> Result<(), Fail> {
-    run(&rt, "replay", TRACE, REPORT, &mut [0u8; 233])
+    run(rt, "replay", TRACE, REPORT, &mut [0u8; 233])
+}
+
+#[test]
+fn running_program_is_refused(rt: HostRuntime) -> Result<(), Fail> {
+    run(rt, "run", TRACE, REPORT, &mut [0u8; 233])
 }

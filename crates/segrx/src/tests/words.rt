@@ -9,6 +9,7 @@ enum Asked {
     Join,
     Cut(u16, FillByte),
     Replay,
+    Run(u16, u16),
     Help,
     Fault(UsageFault),
 }
@@ -18,6 +19,7 @@ fn what_is_asked(alloc: Global, words: &[&str]) -> Asked {
         Ok(Command::Join) => Asked::Join,
         Ok(Command::Cut { first, fill }) => Asked::Cut(first, fill),
         Ok(Command::Replay) => Asked::Replay,
+        Ok(Command::Run { mailbox, ring }) => Asked::Run(mailbox, ring),
         Ok(Command::Help(_)) => Asked::Help,
         Err(fault) => Asked::Fault(fault),
     }
@@ -26,7 +28,7 @@ fn what_is_asked(alloc: Global, words: &[&str]) -> Asked {
 #[test]
 fn reads_words(rt: HostRuntime) {
     let usage = Asked::Fault(UsageFault::Usage);
-    let table: [(&str, &[&str], Asked); 16] = [
+    let table: [(&str, &[&str], Asked); 20] = [
         ("no words at all", &[], Asked::Join),
         ("no command", &["segrx"], Asked::Join),
         ("join", &["segrx", "join"], Asked::Join),
@@ -50,7 +52,23 @@ fn reads_words(rt: HostRuntime) {
         ),
         ("the end of options", &["segrx", "replay", "--"], usage),
         ("an unknown word", &["segrx", "frob"], usage),
-        ("run", &["segrx", "run"], usage),
+        ("run", &["segrx", "run"], Asked::Run(16, 16)),
+        (
+            "the options of run",
+            &["segrx", "run", "--ring=1", "--mailbox", "065535"],
+            Asked::Run(65_535, 1),
+        ),
+        ("no room", &["segrx", "run", "--ring=0"], usage),
+        (
+            "a capacity too great",
+            &["segrx", "run", "--mailbox=65536"],
+            usage,
+        ),
+        (
+            "an option of cut",
+            &["segrx", "run", "--first=1"],
+            usage,
+        ),
         ("help", &["segrx", "cut", "-h", "frob"], Asked::Help),
         ("help of replay", &["segrx", "replay", "-h"], Asked::Help),
         ("help too late", &["segrx", "replay", "x", "-h"], usage),
@@ -72,7 +90,7 @@ fn help_of(alloc: Global, words: &[&str]) -> String {
 
 #[test]
 fn help_suffices_alone(rt: HostRuntime) {
-    let table: [(&[&str], &[&str]); 4] = [
+    let table: [(&[&str], &[&str]); 5] = [
         (
             &["segrx", "-h"],
             &[
@@ -80,11 +98,17 @@ fn help_suffices_alone(rt: HostRuntime) {
                 "segrx cut [",
                 "segrx replay < ",
                 "  cut   ",
+                "segrx run [",
                 "  replay  ",
+                "  run   ",
             ],
         ),
         (&["segrx", "join", "-h"], &["Usage: segrx join < "]),
         (&["segrx", "replay", "-h"], &["Usage: segrx replay < "]),
+        (
+            &["segrx", "run", "-h"],
+            &["Usage: segrx run [", "--mailbox <N>", "--ring <N>"],
+        ),
         (
             &["segrx", "cut", "-h"],
             &["Usage: segrx cut [", "--first <N>", "--fill <zero|ones>"],

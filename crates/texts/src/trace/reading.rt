@@ -159,7 +159,7 @@ impl TakeLine for Reading {
 /// capacities, each at least 1. Otherwise it reports the first faulty line with the least kind of
 /// its faults, or that an allocation failed.
 ///
-/// That an input is one trace or has one fault is stated by
+/// That an input is at most one trace or has at most one fault, and never both, is stated by
 /// [`input_is_one_trace`](crate::laws::input_is_one_trace),
 /// [`trace_has_one_fault`](crate::laws::trace_has_one_fault) and
 /// [`faulty_input_is_no_trace`](crate::laws::faulty_input_is_no_trace).

@@ -1,11 +1,10 @@
 //! Traces whose one-thread answers were worked out by hand.
 use super::*;
 use crate::admitted::Request;
-use crate::input::Input;
 use crate::row::SidRow;
 use crate::setup::{Decision, Lists};
 use crate::traces::*;
-use docsis_wire::{Bytes, NoCheck};
+use docsis_wire::NoCheck;
 use flow_core::{FlowCounts, FlowRecord};
 use std::test::Fail;
 
@@ -16,14 +15,6 @@ struct Case {
     lines: &'static [Line],
     expected: Expected,
 }
-
-const ONLY_EXTENDED: FlowCounts = FlowCounts {
-    kept: 2,
-    lost: 1,
-    frames: 1,
-    skipped: 3,
-    ..NO_COUNTS
-};
 
 /// A request of the second SID cluster in the segment with number 1.
 const SEVEN_UNITS: Request = Request {
@@ -58,19 +49,8 @@ const CASES: [Case; 6] = [
     },
     Case {
         name: "a close without the first segment",
-        lines: &[
-            Line::Grant(0, 2, 1, 13),
-            Line::Grant(1, 1, 2, 15),
-            Line::Burst(1, 1, SECOND),
-            Line::Burst(0, 2, THIRD),
-        ],
-        expected: Expected {
-            frames: &[EXTENDED],
-            counts: ONLY_EXTENDED,
-            requests: [&[]; 4],
-            lanes: [(1, &[]), (1, &[]), (0, &[]), (0, &[])],
-            order: &[1, 0],
-        },
+        lines: &FIRST_LOST,
+        expected: SECOND_FRAME,
     },
     Case {
         name: "decisions that name no flow before one that does",
@@ -233,17 +213,10 @@ fn replays_long_lists(rt: HostRuntime) -> Result<(), Fail> {
     let mut inputs = Vec::new(rt.alloc());
     let mut decisions = Vec::new(rt.alloc());
     let mut tags = Vec::new(rt.alloc());
-    for number in 0..70_000 {
-        let sid = 1;
-        let bytes = 8;
-        inputs.push(Input::Grant { number, sid, bytes })?;
+    for number in 0_u32..70_000 {
         let [_, _, high, low] = (number % 8192 << 3).to_be_bytes();
-        let header = Vec::from_slice(rt.alloc(), &[0, 0, high, low, 0, 0, 0, 0])?;
-        inputs.push(Input::Burst {
-            grant: number,
-            hcs_ok: true,
-            bytes: Bytes::from(header),
-        })?;
+        let header = [0, 0, high, low, 0, 0, 0, 0];
+        push_segment(rt.alloc(), &mut inputs, number, 1, &header)?;
         decisions.push(Decision {
             flow: 0,
             upto: None,

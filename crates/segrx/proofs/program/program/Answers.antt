@@ -42,3 +42,6 @@ returns-clause-replay g c = (SaysOfWords-run c.new-reader.ensures.inner c.run_wo
 
 pub returns-clause-replay_is_known : goal.returns-clause-replay_is_known
 returns-clause-replay_is_known g c = (SaysOfWords-run c.new-reader.ensures.inner c.run_words-status.ensures).replay_is_known
+
+pub returns-clause-run : goal.returns-clause-run
+returns-clause-run g c = (SaysOfWords-run c.new-reader.ensures.inner c.run_words-status.ensures).run

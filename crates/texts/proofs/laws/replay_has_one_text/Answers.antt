@@ -35,4 +35,5 @@ returns c input text other a b =
     subst (λ (order : List ℕ). IsOutcome any_header setup incoming order b.outcome) (sym order) answered
     in
     let outcome = c.replay_has_one_outcome.ensures.one any_header setup incoming a.played.order a.outcome b.outcome can a.played.answered also in
-    a.printed ∙ report_text_same a.outcome b.outcome a.played.requests b.played.requests a.played.lanes b.played.lanes outcome ∙ sym b.printed
+    a.printed ∙ report_text_same a.outcome b.outcome a.played.answered.request_lists b.played.answered.request_lists a.played.answered.report_count
+    b.played.answered.report_count outcome ∙ sym b.printed

@@ -1,4 +1,4 @@
-use Rattle.uplink.proofs.Answering.{answer-to, answers-to-all}
+use Rattle.uplink.proofs.HasAnswers.{answer-to, answers-to-all}
 use Rattle.uplink.proofs.laws.each_input_has_an_answer.Goals as goal
 
 pub returns-clause-next : goal.returns-clause-next

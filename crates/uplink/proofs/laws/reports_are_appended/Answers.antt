@@ -1,4 +1,4 @@
-use Rattle.uplink.proofs.Gathered.{admitted_of-append, requests_of-append, refusal_numbers-append, admitted_count-append}
+use Rattle.uplink.proofs.Reported.{admitted_of-append, requests_of-append, refusal_numbers-append, admitted_count-append}
 use Rattle.uplink.proofs.laws.reports_are_appended.Goals as goal
 
 pub returns-clause-admitted : goal.returns-clause-admitted

@@ -1,17 +1,25 @@
 -- What is appended is what the answer gives.
-use Rattle.std.proofs.Common.{rules}
-use Rattle.uplink.proofs.Gathered.{notes-admitted, notes-nothing, notes-refusal}
+use Rattle.std.proofs.Common.{◌≡◌, [], ◌++◌, rules, ap, sym, subst, ◌∙◌}
+use Rattle.std.specs.List.{cons_option}
+use Rattle.uplink.specs.Received.{Reports}
+use Rattle.uplink.proofs.Gathered.{notes-admitted, notes-nothing}
 use Rattle.uplink.proofs.received.Received.note.Goals as goal
+use Rattle.uplink.proofs.received.Received.note.Goals.{in-Some-request+in_ok-push-3, in_default-request}
 
-pub returns-in_ok-push-in-Ok-Some-3 : goal.returns-in_ok-push-in-Ok-Some-3
-returns-in_ok-push-in-Ok-Some-3 c =
-    notes-admitted c.args.self.now _ c.args.answer c.in-Ok-Some.admitted (cc)
-    (search rules) (search rules) (search rules) (search rules) (search rules)
+pub returns-in_default : goal.returns-in_default
+returns-in_default c =
+    notes-nothing c.args.self.now _ c.args.answer (sym c.admitted.ensures ∙ c.in_default.is)
+    (search rules) (search rules) (search rules) c.in_ok-note.ensures
 
-pub returns-in_ok-push-in-Ok-None : goal.returns-in_ok-push-in-Ok-None
-returns-in_ok-push-in-Ok-None c =
-    notes-nothing c.args.self.now _ c.args.answer (cc) (search rules) (search rules) (search rules) (search rules) (search rules)
-
-pub returns-in_ok-push-in-Err-2 : goal.returns-in_ok-push-in-Err-2
-returns-in_ok-push-in-Err-2 c =
-    notes-refusal c.args.self.now _ c.args.answer c.in-Err.refusal (cc) (search rules) (search rules) (search rules) (search rules) (search rules)
+pub returns : goal.returns
+returns c =
+    let requests : c.match-request.self.requests.items ≡ c.args.self.now.requests.items ++ cons_option c.in-Some.admitted.request [] =
+    elim c.match-request.branch [ in-Some-request+in_ok-push-3 w ↦ search rules | in_default-request w ↦ search rules ] in
+    let report : c.match-request.self.report ≡ c.note.new.self =
+    elim c.match-request.branch [
+      | in-Some-request+in_ok-push-3 w ↦ ap (λ s. s.report) w.self-is
+      | in_default-request w ↦ ap (λ s. s.report) w.self-is
+    ] in
+    notes-admitted c.args.self.now _ c.args.answer c.in-Some.admitted (sym c.admitted.ensures ∙ c.in-Some.is)
+    (search rules) (search rules) requests
+    (subst (Reports c.args.self.now.report c.args.answer) (sym report) c.in_ok-note.ensures)

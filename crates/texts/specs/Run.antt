@@ -1,0 +1,21 @@
+-- The text of a trace that is received on threads.
+use Rattle.std.specs.Prelude.{◌≡◌, ℕ, List}
+use Rattle.uplink.specs.declared.outcome.Outcome.{Outcome}
+use Rattle.uplink.specs.Items.{incoming_of}
+use Rattle.uplink.specs.Answer.{IsOutcome}
+use Rattle.texts.specs.declared.trace.Trace.{Trace as TraceValue}
+use Rattle.texts.specs.AnyHeader.{any_header}
+use Rattle.texts.specs.Report.{report_text}
+use Rattle.texts.specs.Trace.{IsTrace}
+
+-- what a trace may give on threads: the one-thread answer in the order that the outcome states, which is a lawful one of all that its lines admit
+abbrev pub IsReceived : TraceValue → Outcome → Type 0
+IsReceived trace outcome = IsOutcome any_header trace.setup (incoming_of trace.lists) outcome.order.items outcome
+
+-- a text that an input may have on threads: the report of what its trace may give
+pub record IsRunText (ring mailbox : ℕ) (input text : List ℕ) : Type 0 where
+  pub trace : TraceValue
+  pub is_trace : IsTrace ring mailbox input trace
+  pub outcome : Outcome
+  pub received : IsReceived trace outcome
+  pub printed : text ≡ report_text outcome

@@ -1,0 +1,159 @@
+//! Running a receiver.
+ghost use Rattle.std.specs.Prelude.{◌≡◌, ◌↔◌, ◌∷◌, [], IfOk, IfErr, Ok};
+ghost use Rattle.uplink.specs.Answer.{IsOutcome, CanRun, IsRunFault};
+ghost use Rattle.uplink.specs.Headline.{KeepsTheHeadline};
+ghost use Rattle.uplink.specs.Items.{incoming_from};
+ghost use Rattle.uplink.specs.Running.{CanStart, HasEnded};
+
+use super::RunFault;
+use super::assembling::assemble;
+use super::decider::DecidingWork;
+use super::lane_worker::LaneWork;
+use super::opening::{Opened, open_all};
+use super::posting::close;
+use super::settling::{Ended, conclude};
+use super::team::{Work, start_team};
+use crate::admitted::Request;
+use crate::done::AssembledAll;
+use crate::outcome::Outcome;
+use crate::row::check_rows;
+use crate::setup::Setup;
+use crate::source::{Decisions, Source, Sources};
+use crate::tap::{Tap, Taps};
+use docsis_wire::{Bytes, HeaderCheck};
+use flow_core::check_records;
+use std::alloc::{AllocError, Global};
+use std::sync::Wait;
+use std::thread::Threads;
+
+/// Looks for the first fault of a setup. It takes no memory.
+fn check_setup(setup: &Setup) -> Result<(), RunFault>
+    ensures ok { (result ≡ Ok tt) ↔ CanRun setup.now }
+    ensures fault { IfErr result (IsRunFault setup.now) }
+{
+    check_records(&setup.flows).map_err(RunFault::Setup)?;
+    check_rows(&setup.sids, setup.flows.len()).map_err(RunFault::Lane)?;
+    if setup.mailbox == 0 {
+        return Err(RunFault::NoCapacity);
+    }
+    Ok(())
+}
+
+/// Runs a receiver on seven threads beside the caller's, until all sources and decisions are used
+/// up, and then closes each flow. It takes the items of the four channels and the decisions that
+/// name a flow in the order in which they come, which the outcome states.
+///
+/// **The headline is its contract** (`headline`): that order is a lawful one, the requests of each
+/// channel are those of its admitted segments, each once and in order, and what each flow's
+/// consumer took is the flow's whole delivery sequence, if the flow's segments are those of one
+/// lawful cut of a modem's frames and its events are near.
+///
+/// `Setup` and `Lane`: the first fault of the setup. `NoCapacity`: it has none, and the capacity of
+/// the mailboxes is 0. Up to here no source is asked, and no thread started. `OutOfMemory`: an
+/// allocation failed, in whichever thread, or a thread could not be started. Where an allocation
+/// failed all threads go on to their end, and nothing of the outcome is given. What is handed in
+/// doesn't come back, on any answer. The check is used by the caller's thread alone. The call waits
+/// for its threads, and they for the sources: it returns only if these end.
+pub fn run<S0, S1, S2, S3, D, F, Q, C, R>(
+    alloc: Global,
+    rt: R,
+    setup: Setup,
+    sources: Sources<S0, S1, S2, S3>,
+    decisions: D,
+    taps: Taps<F, Q>,
+    check: C,
+) -> Result<Outcome, RunFault>
+where
+    S0: Source + Drop + Send + 'static,
+    S1: Source + Drop + Send + 'static,
+    S2: Source + Drop + Send + 'static,
+    S3: Source + Drop + Send + 'static,
+    D: Decisions + Drop + Send + 'static,
+    F: Tap<Bytes> + Drop + Send + 'static,
+    Q: Tap<Request> + Drop + Send + 'static,
+    C: HeaderCheck + Drop,
+    R: Threads + Wait + Copy + Send + 'static,
+    ensures outcome { IfOk result (λ outcome. IsOutcome (C.accepts check) setup
+        (incoming_from (S0.gives sources.s0 ∷ S1.gives sources.s1 ∷ S2.gives sources.s2
+        ∷ S3.gives sources.s3 ∷ []) (D.decides decisions))
+        outcome.order.items outcome) }
+    ensures headline { IfOk result (KeepsTheHeadline (C.accepts check) setup
+        (incoming_from (S0.gives sources.s0 ∷ S1.gives sources.s1 ∷ S2.gives sources.s2
+        ∷ S3.gives sources.s3 ∷ []) (D.decides decisions))) }
+    ensures can_run { IfOk result (λ _. CanRun setup) }
+    ensures fault { IfErr result (IsRunFault setup) }
+{
+    crate::laws::consumers_take_the_delivery_sequence();
+    check_setup(&setup)?;
+    let opened = open_all(alloc, &setup, check)?;
+    let flow_count = setup.flows.len();
+    let end = run_opened(alloc, &rt, flow_count, opened, sources, decisions, taps)?;
+    Ok(conclude(&rt, alloc, &setup.flows, end)?)
+}
+
+/// Runs what was opened until all threads have returned.
+fn run_opened<S0, S1, S2, S3, D, F, Q, C, R>(
+    alloc: Global,
+    rt: &R,
+    flow_count: usize,
+    opened: Opened<C>,
+    sources: Sources<S0, S1, S2, S3>,
+    decisions: D,
+    taps: Taps<F, Q>,
+) -> Result<Ended, AllocError>
+where
+    S0: Source + Drop + Send + 'static,
+    S1: Source + Drop + Send + 'static,
+    S2: Source + Drop + Send + 'static,
+    S3: Source + Drop + Send + 'static,
+    D: Decisions + Drop + Send + 'static,
+    F: Tap<Bytes> + Drop + Send + 'static,
+    Q: Tap<Request> + Drop + Send + 'static,
+    C: HeaderCheck + Drop,
+    R: Threads + Wait + Copy + Send + 'static,
+    requires opened { CanStart C.accepts opened }
+    ensures { IfOk result (HasEnded C.accepts flow_count
+        (incoming_from (S0.gives sources.s0 ∷ S1.gives sources.s1 ∷ S2.gives sources.s2
+        ∷ S3.gives sources.s3 ∷ []) (D.decides decisions)) opened) }
+{
+    let Opened {
+        lanes,
+        core,
+        rings,
+        closed,
+        arrivals,
+        requests,
+    } = opened;
+    let unused_port = close(rt, requests.ports.p4);
+    let work = Work {
+        l0: LaneWork::new(lanes.l0, arrivals.ports.p0, requests.ports.p0, sources.s0),
+        l1: LaneWork::new(lanes.l1, arrivals.ports.p1, requests.ports.p1, sources.s1),
+        l2: LaneWork::new(lanes.l2, arrivals.ports.p2, requests.ports.p2, sources.s2),
+        l3: LaneWork::new(lanes.l3, arrivals.ports.p3, requests.ports.p3, sources.s3),
+        decisions: DecidingWork {
+            flow_count,
+            arrivals: arrivals.ports.p4,
+            decisions,
+        },
+        requests: requests.mouth,
+        takers: rings.takers,
+        taps,
+    };
+    let team = start_team(alloc, rt, work)?;
+    let AssembledAll {
+        mouth,
+        feeders,
+        done: assembled,
+    } = assemble(rt, alloc, core, arrivals.mouth, rings.feeders, closed);
+    let done = team.join(rt);
+    let (Some(done), Some(assembled)) = (done, assembled) else {
+        return Err(AllocError);
+    };
+    Ok(Ended {
+        done,
+        unused_port,
+        mouth,
+        feeders,
+        assembled,
+    })
+}
