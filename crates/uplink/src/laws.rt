@@ -47,7 +47,6 @@ ghost use Rattle.uplink.specs.Report.{admitted_of, requests_of, refusal_numbers,
 ghost use Rattle.uplink.specs.Report.{IsLaneRequest};
 ghost use Rattle.uplink.specs.Stands.{StandsFor, TakesInput};
 
-
 /// The same inputs have at most one list of answers.
 pub fn lane_has_at_most_one_answer_to_each_input()
     ensures { (setup : LaneSetup) (taken others : List AnsweredInput)
@@ -228,7 +227,7 @@ pub fn consumers_take_the_delivery_sequence()
         → IsLawfulCut check frames flow_record.first fill chunks segments
         → AreNear flow_record.first flow_record.window segments (events_at k is.items)
         → TookTheDeliverySequence frames chunks flow_record (events_at k is.items)
-            flow.frames.items }
+        flow.frames.items }
     ensures prefix { (check : List ℕ → Bool) (fill : ℕ) (flow_record : FlowRecord)
         (frames chunks given later : List (List ℕ)) (segments : List Segment)
         (events more : List FlowEvent) (counts : FlowCounts) (answers : List Applied)
