@@ -14,7 +14,7 @@ use docsis_wire::FillByte;
 use std::alloc::{AllocError, Global};
 use std::convert::AsStr;
 use std::io;
-use texts::read_number;
+use texts::{DEFAULT_CAPACITY, read_number};
 use thiserror::Error;
 
 /// What the program is asked to do.
@@ -85,9 +85,6 @@ const FIRST_MAX: u32 = 8191;
 
 /// The greatest capacity of a mailbox or a ring.
 const CAPACITY_MAX: u32 = 65_535;
-
-/// The capacity where none is asked for.
-const DEFAULT_CAPACITY: u16 = 16;
 
 /// Whether the words are the program's name and this command's word.
 fn is_command_alone<S: AsStr>(words: &[S], command: &str) -> bool

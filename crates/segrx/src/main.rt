@@ -39,14 +39,7 @@ fn words_of(rt: &HostRuntime) -> Result<Vec<String>, UsageFault> {
 
 fn main(rt: HostRuntime) -> ExitCode {
     let status = match words_of(&rt) {
-        Ok(words) => program(
-            rt.alloc(),
-            rt,
-            &words,
-            rt.stdin(),
-            rt.stdout(),
-            rt.stderr(),
-        ),
+        Ok(words) => program(rt.alloc(), rt, &words, rt.stdin(), rt.stdout(), rt.stderr()),
         Err(fault) => {
             let mut err = Device::new(rt.stderr());
             let status = report(&Err(fault.into()), &mut err);

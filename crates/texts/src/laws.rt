@@ -1,6 +1,7 @@
 //! The definitions of `join`, of `cut`, of `replay` and of traces determine their answers: an input
-//! has at most one text, or is at most one trace, has at most one first fault, and never both. A
-//! trace passes the checks of a receiver.
+//! has at most one text, or is at most one trace, has at most one first fault, and never both. So
+//! do those of `run`, but for the text, which may be one of several. A trace passes the checks of a
+//! receiver.
 //!
 //! Each function states a law in its contract and does nothing.
 ghost use Rattle.std.specs.Prelude.{◌≡◌, ◌≢◌, ◌≤◌, ℕ, List, length, flat_map};
@@ -15,7 +16,8 @@ ghost use Rattle.texts.specs.declared.fault.TextFault.{TextFault};
 ghost use Rattle.texts.specs.declared.trace.Trace.{Trace};
 ghost use Rattle.texts.specs.Join.{IsJoined, IsJoinFault};
 ghost use Rattle.texts.specs.Cut.{IsCutInto, IsCutText, IsCutFault, segment_line, cut_text_length};
-ghost use Rattle.texts.specs.Replay.{IsReplayed, IsReplayFault};
+ghost use Rattle.texts.specs.Replay.{IsReplayed, IsReplayFault, IsReportFault};
+ghost use Rattle.texts.specs.Run.{IsRunText};
 ghost use Rattle.texts.specs.Trace.{IsTrace, IsTraceFault, AreSameTraces};
 
 /// At most one text stands for an input of `join`.
@@ -127,19 +129,22 @@ pub fn replay_has_one_text()
     trace_passes_the_checks();
 }
 
-/// An input of `replay` has at most one first fault.
-pub fn replay_has_one_fault()
-    ensures { (input : List ℕ) (fault other : TextFault)
-        → IsReplayFault input fault → fault ≢ TextFault.OutOfMemory
-        → IsReplayFault input other → other ≢ TextFault.OutOfMemory → fault ≡ other }
+/// An input of `replay` or `run` has at most one first fault.
+pub fn report_has_one_fault()
+    ensures { (ring : ℕ) (input : List ℕ) (fault other : TextFault)
+        → IsReportFault ring input fault → fault ≢ TextFault.OutOfMemory
+        → IsReportFault ring input other → other ≢ TextFault.OutOfMemory → fault ≡ other }
 {
     trace_has_one_fault();
 }
 
-/// No text stands for an input of `replay` that has a fault.
-pub fn faulty_input_of_replay_has_no_text()
-    ensures { (input text : List ℕ) (fault : TextFault)
+/// No text stands for an input of `replay` or `run` that has a fault.
+pub fn faulty_input_has_no_report()
+    ensures replay { (input text : List ℕ) (fault : TextFault)
         → IsReplayed input text → IsReplayFault input fault → fault ≡ TextFault.OutOfMemory }
+    ensures run { (ring mailbox : ℕ) (input text : List ℕ) (fault : TextFault)
+        → IsRunText ring mailbox input text → IsReportFault ring input fault
+        → fault ≡ TextFault.OutOfMemory }
 {
     faulty_input_is_no_trace();
 }

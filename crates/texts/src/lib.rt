@@ -27,7 +27,7 @@ pub use cut::cut_lines;
 pub use fault::{ParseFault, TextFault, TraceFault, TraceKind};
 pub use join::join_lines;
 pub use number::read_number;
-pub use replayed::replay_lines;
+pub use replayed::{DEFAULT_CAPACITY, replay_lines};
 pub use reporting::report;
 pub use running::run_lines;
 pub use trace::{Trace, parse_trace};

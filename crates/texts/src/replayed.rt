@@ -15,7 +15,7 @@ use std::alloc::{AllocError, Global};
 use uplink::{Outcome, ReplayFault, admitted_order, replay};
 
 /// How many entries the rings and mailboxes have room for where none is asked for.
-const CAPACITY: u16 = 16;
+pub const DEFAULT_CAPACITY: u16 = 16;
 
 /// The trace of an input, which is freed, with rings and mailboxes of these capacities, each at
 /// least 1.
@@ -65,15 +65,15 @@ fn play(alloc: Global, trace: Trace) -> Result<Outcome, AllocError>
 /// Otherwise it reports the first faulty line, or that an allocation failed. That an input has at
 /// most one text or one fault, and never both, is stated by
 /// [`replay_has_one_text`](crate::laws::replay_has_one_text),
-/// [`replay_has_one_fault`](crate::laws::replay_has_one_fault) and
-/// [`faulty_input_of_replay_has_no_text`](crate::laws::faulty_input_of_replay_has_no_text).
+/// [`report_has_one_fault`](crate::laws::report_has_one_fault) and
+/// [`faulty_input_has_no_report`](crate::laws::faulty_input_has_no_report).
 pub fn replay_lines(alloc: Global, input: Vec<u8>) -> Result<Vec<u8>, TextFault>
     ensures text { IfOk result (λ text. IsReplayed input.items text.items) }
     ensures fault { IfErr result (IsReplayFault input.items) }
 {
     crate::laws::trace_passes_the_checks();
     crate::laws::tags_of_a_trace_are_lawful();
-    let trace = read_trace(alloc, input, CAPACITY, CAPACITY)?;
+    let trace = read_trace(alloc, input, DEFAULT_CAPACITY, DEFAULT_CAPACITY)?;
     let outcome = play(alloc, trace)?;
     Ok(report(alloc, &outcome)?)
 }

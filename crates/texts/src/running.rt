@@ -13,8 +13,9 @@ use docsis_wire::{Bytes, NoCheck};
 use std::alloc::{AllocError, Global};
 use std::sync::Wait;
 use std::thread::Threads;
-use uplink::{ListDecisions, ListSource, Lists, Outcome, Request, RunFault};
-use uplink::{Sources, Tap, Taps, run};
+use uplink::{
+    ListDecisions, ListSource, Lists, Outcome, Request, RunFault, Sources, Tap, Taps, run,
+};
 
 /// An answer that has no other fault than that an allocation failed.
 fn unless_out_of_memory(answer: Result<Outcome, RunFault>) -> Result<Outcome, AllocError>
@@ -62,7 +63,8 @@ where
 /// the capacities of each flow's ring and of each of the two mailboxes, at least 1.
 ///
 /// Otherwise it reports the first faulty line, or that an allocation failed or a thread could not
-/// be started.
+/// be started. That an input never has both a text and a faulty line is stated by
+/// [`faulty_input_has_no_report`](crate::laws::faulty_input_has_no_report).
 pub fn run_lines<F, Q, R>(
     alloc: Global,
     rt: R,

@@ -30,13 +30,13 @@ pub record TookTheDeliverySequence (frames chunks : List (List ℕ)) (flow_recor
   pub sequence : IsDeliverySequence frames chunks fates taken
   pub all_kept : FiltersTo (IsAllKept frames chunks fates) frames taken
 
--- The headline, of what a receiver gave for what came in. It is the one-thread answer in the order that it states; that order is a lawful one of all
--- that each channel admits and all decisions that name a flow. What each flow's consumer took is the flow's whole delivery sequence, if the flow's
--- segments are those of one lawful cut of a modem's frames and its events in that order are near. And the requests of each channel are those of its
--- admitted segments, each once and in their order.
-pub record KeepsTheHeadline (check : List ℕ → Bool) (setup : Setup) (incoming : Incoming) (outcome : Outcome) : Type 0 where
-  pub answer : IsOutcome check setup incoming outcome.order.items outcome
-  pub lawful : IsLawfulOrder (lengths_of (items_of setup incoming answer.answered)) outcome.order.items
+-- The headline, of what a receiver gave for what came in, in this order. It is the one-thread answer in that order, which is a lawful one of all that
+-- each channel admits and all decisions that name a flow. What each flow's consumer took is the flow's whole delivery sequence, if the flow's segments
+-- are those of one lawful cut of a modem's frames and its events in that order are near. And the requests of each channel are those of its admitted
+-- segments, each once and in their order.
+pub record KeepsTheHeadline (check : List ℕ → Bool) (setup : Setup) (incoming : Incoming) (order : List ℕ) (outcome : Outcome) : Type 0 where
+  pub answer : IsOutcome check setup incoming order outcome
+  pub lawful : IsLawfulOrder (lengths_of (items_of setup incoming answer.answered)) order
   pub delivered : (k fill : ℕ) (flow_record : FlowRecord) (flow : FlowOutcome) (frames chunks : List (List ℕ)) (segments : List Segment)
       → slice_get setup.flows.items k ≡ Some flow_record → slice_get outcome.flows.items k ≡ Some flow
       → IsLawfulCut check frames flow_record.first fill chunks segments

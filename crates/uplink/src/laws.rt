@@ -4,8 +4,8 @@
 //! consumers take is the delivery sequence.
 //!
 //! Each function states a law in its contract and does nothing.
-ghost use Rattle.std.specs.Prelude.{◌≡◌, ◌≢◌, ◌↔◌, ℕ, ◌+◌, ◌<◌, Bool, IsTrue, Ok, None, Some};
-ghost use Rattle.std.specs.Prelude.{List, [], ◌∷◌, ◌++◌, length, map, All, slice_get};
+ghost use Rattle.std.specs.Prelude.{◌≡◌, ◌≢◌, ◌↔◌, ℕ, ◌+◌, ◌<◌, Bool, IsTrue, Ok, None};
+ghost use Rattle.std.specs.Prelude.{List, [], ◌∷◌, ◌++◌, length, map, All};
 ghost use Rattle.docsis_wire.specs.declared.segment.Segment.{Segment};
 ghost use Rattle.docsis_wire.specs.Cut.{IsLawfulCut};
 ghost use Rattle.delivery.specs.declared.feeder.ClosedFeeder.{ClosedFeeder};
@@ -22,9 +22,7 @@ ghost use Rattle.flow_core.specs.Events.{FlowEvent, IsAfter};
 ghost use Rattle.flow_core.specs.Fates.{Fates};
 ghost use Rattle.flow_core.specs.Near.{AreNear};
 ghost use Rattle.flow_core.specs.Outcome.{IsFlowOutcome};
-ghost use Rattle.uplink.specs.declared.outcome.FlowOutcome.{FlowOutcome};
-ghost use Rattle.uplink.specs.Headline.{TookTheDeliverySequence};
-ghost use Rattle.uplink.specs.Limits.{channel_limit};
+ghost use Rattle.uplink.specs.Headline.{KeepsTheHeadline};
 ghost use Rattle.uplink.specs.declared.input.Input.{Input};
 ghost use Rattle.uplink.specs.declared.lane.Lane.{Lane};
 ghost use Rattle.uplink.specs.declared.grant.OutstandingGrant.{OutstandingGrant};
@@ -35,9 +33,9 @@ ghost use Rattle.uplink.specs.declared.setup.Setup.{Setup};
 ghost use Rattle.uplink.specs.Order.{IsLawfulOrder, IsOrderFault, IsMergeOf, lengths_of};
 ghost use Rattle.uplink.specs.declared.outcome.Outcome.{Outcome};
 ghost use Rattle.uplink.specs.declared.replaying.ReplayFault.{ReplayFault};
-ghost use Rattle.uplink.specs.Items.{Incoming, IsItem, event_of_admitted, items_of, events_at};
+ghost use Rattle.uplink.specs.Items.{Incoming, IsItem, event_of_admitted, items_of};
 ghost use Rattle.uplink.specs.Answer.{IsAdmittedOrder, CanReceive, HasBadOrder};
-ghost use Rattle.uplink.specs.Answer.{IsOutcome, IsReplayFault, IsTagsFault, requests_on};
+ghost use Rattle.uplink.specs.Answer.{IsOutcome, IsReplayFault, IsTagsFault};
 ghost use Rattle.uplink.specs.SameOutcome.{IsSameOutcome};
 ghost use Rattle.uplink.specs.Inputs.{LaneSetup, Answer, AnsweredInput, IsGrant, IsAnswer};
 ghost use Rattle.uplink.specs.Inputs.{AreAnswered, inputs_of, number_of, is_accepted};
@@ -218,16 +216,10 @@ pub fn replay_has_one_fault()
 /// stay near with the gaps of a close is
 /// [`gaps_after_keep_events_near`](flow_core::laws::gaps_after_keep_events_near).
 pub fn consumers_take_the_delivery_sequence()
-    ensures whole { (check : List ℕ → Bool) (setup : Setup) (incoming : Incoming)
-        (order : List ℕ) (outcome : Outcome) (k fill : ℕ) (flow_record : FlowRecord)
-        (flow : FlowOutcome) (frames chunks : List (List ℕ)) (segments : List Segment)
-        → (is : IsOutcome check setup incoming order outcome)
-        → slice_get setup.flows.items k ≡ Some flow_record
-        → slice_get outcome.flows.items k ≡ Some flow
-        → IsLawfulCut check frames flow_record.first fill chunks segments
-        → AreNear flow_record.first flow_record.window segments (events_at k is.items)
-        → TookTheDeliverySequence frames chunks flow_record (events_at k is.items)
-        flow.frames.items }
+    ensures headline { (check : List ℕ → Bool) (setup : Setup) (incoming : Incoming)
+        (order : List ℕ) (outcome : Outcome)
+        → IsOutcome check setup incoming order outcome
+        → KeepsTheHeadline check setup incoming order outcome }
     ensures prefix { (check : List ℕ → Bool) (fill : ℕ) (flow_record : FlowRecord)
         (frames chunks given later : List (List ℕ)) (segments : List Segment)
         (events more : List FlowEvent) (counts : FlowCounts) (answers : List Applied)
@@ -239,14 +231,6 @@ pub fn consumers_take_the_delivery_sequence()
         → IsAfter flow_record.first flow_record.window (events ++ more) answers fates
         → IsDeliverySequence frames chunks fates later
         → (rest : List (List ℕ)) × (later ≡ taken taker ++ rest) }
-    ensures order { (check : List ℕ → Bool) (setup : Setup) (incoming : Incoming)
-        (order : List ℕ) (outcome : Outcome)
-        → (is : IsOutcome check setup incoming order outcome)
-        → IsLawfulOrder (lengths_of (items_of setup incoming is.answered)) outcome.order.items }
-    ensures requests { (check : List ℕ → Bool) (setup : Setup) (incoming : Incoming)
-        (order : List ℕ) (outcome : Outcome) (channel : ℕ)
-        → (is : IsOutcome check setup incoming order outcome) → channel < channel_limit
-        → requests_on outcome channel ≡ requests_of (is.answered channel) }
 {
     flow_core::laws::closed_flow_gives_the_frames_that_were_all_kept();
     flow_core::laws::closed_flow_has_come_past_all_kept();

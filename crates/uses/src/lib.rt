@@ -10,4 +10,5 @@ pub mod five_senders;
 pub mod flow;
 pub mod header_check;
 pub mod one_flow;
+pub mod receiver;
 pub mod window;

@@ -223,7 +223,10 @@ fn exits_with_4_on_failing_devices(rt: HostRuntime) {
     let mut err = Vec::new(rt.alloc());
     let reader = FitfulReader::new(SEGMENTS.as_bytes(), Some(ErrorKind::WouldBlock));
     let words = ["segrx"];
-    assert_eq!(rt; program(rt.alloc(), rt, &words, reader, &mut out, &mut err), 4);
+    assert_eq!(rt;
+        program(rt.alloc(), rt, &words, reader, &mut out, &mut err),
+        4
+    );
     assert_eq!(rt; err.as_slice(), b"segrx: read failed\n".as_slice());
     assert_eq!(rt; out.len(), 0);
 
@@ -239,5 +242,8 @@ fn exits_with_4_on_failing_devices(rt: HostRuntime) {
     let closed = FitfulWriter::new(&mut out, 0, Full::Fails(ErrorKind::BrokenPipe));
     let mut nothing = Vec::new(rt.alloc());
     let mute = FitfulWriter::new(&mut nothing, 0, Full::Fails(ErrorKind::BrokenPipe));
-    assert_eq!(rt; program(rt.alloc(), rt, &help, io::empty(), closed, mute), 4);
+    assert_eq!(rt;
+        program(rt.alloc(), rt, &help, io::empty(), closed, mute),
+        4
+    );
 }

@@ -64,11 +64,7 @@ fn reads_words(rt: HostRuntime) {
             &["segrx", "run", "--mailbox=65536"],
             usage,
         ),
-        (
-            "an option of cut",
-            &["segrx", "run", "--first=1"],
-            usage,
-        ),
+        ("an option of cut", &["segrx", "run", "--first=1"], usage),
         ("help", &["segrx", "cut", "-h", "frob"], Asked::Help),
         ("help of replay", &["segrx", "replay", "-h"], Asked::Help),
         ("help too late", &["segrx", "replay", "x", "-h"], usage),

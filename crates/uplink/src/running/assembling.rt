@@ -24,8 +24,8 @@ use std::thread;
 /// Then it closes all flows, and the feeders. Once an allocation failed it drops what it takes.
 /// `closed` has room for a closed feeder of each flow.
 pub fn assemble<C: HeaderCheck + Drop, R: Wait>(
-    rt: &R,
     alloc: Global,
+    rt: &R,
     core: Core<C>,
     mouth: Mouth<Event>,
     feeders: Vec<Feeder>,
@@ -45,7 +45,7 @@ pub fn assemble<C: HeaderCheck + Drop, R: Wait>(
     let mut mouth = mouth;
     let mut feeders = feeders;
     let all_feeders = feeders.as_mut_slice();
-    let taking = take_all(rt, alloc, core, &mut mouth, all_feeders);
+    let taking = take_all(alloc, rt, core, &mut mouth, all_feeders);
     let done = close_flows(alloc, taking, all_feeders);
     let feeders = close_feeders(rt, feeders, closed);
     AssembledAll {
@@ -58,8 +58,8 @@ pub fn assemble<C: HeaderCheck + Drop, R: Wait>(
 /// Takes until all senders have ended, and offers the frames that each flow gives to its feeder.
 /// Nothing where an allocation failed; what comes after that is dropped.
 fn take_all<C: HeaderCheck + Drop, R: Wait>(
-    rt: &R,
     alloc: Global,
+    rt: &R,
     core: Core<C>,
     mouth: &mut Mouth<Event>,
     feeders: &mut [Feeder],

@@ -1,6 +1,6 @@
 //! Running a receiver.
 ghost use Rattle.std.specs.Prelude.{◌≡◌, ◌↔◌, ◌∷◌, [], IfOk, IfErr, Ok};
-ghost use Rattle.uplink.specs.Answer.{IsOutcome, CanRun, IsRunFault};
+ghost use Rattle.uplink.specs.Answer.{CanRun, IsRunFault};
 ghost use Rattle.uplink.specs.Headline.{KeepsTheHeadline};
 ghost use Rattle.uplink.specs.Items.{incoming_from};
 ghost use Rattle.uplink.specs.Running.{CanStart, HasEnded};
@@ -73,13 +73,10 @@ where
     Q: Tap<Request> + Drop + Send + 'static,
     C: HeaderCheck + Drop,
     R: Threads + Wait + Copy + Send + 'static,
-    ensures outcome { IfOk result (λ outcome. IsOutcome (C.accepts check) setup
+    ensures headline { IfOk result (λ outcome. KeepsTheHeadline (C.accepts check) setup
         (incoming_from (S0.gives sources.s0 ∷ S1.gives sources.s1 ∷ S2.gives sources.s2
         ∷ S3.gives sources.s3 ∷ []) (D.decides decisions))
         outcome.order.items outcome) }
-    ensures headline { IfOk result (KeepsTheHeadline (C.accepts check) setup
-        (incoming_from (S0.gives sources.s0 ∷ S1.gives sources.s1 ∷ S2.gives sources.s2
-        ∷ S3.gives sources.s3 ∷ []) (D.decides decisions))) }
     ensures can_run { IfOk result (λ _. CanRun setup) }
     ensures fault { IfErr result (IsRunFault setup) }
 {
@@ -88,7 +85,7 @@ where
     let opened = open_all(alloc, &setup, check)?;
     let flow_count = setup.flows.len();
     let end = run_opened(alloc, &rt, flow_count, opened, sources, decisions, taps)?;
-    Ok(conclude(&rt, alloc, &setup.flows, end)?)
+    Ok(conclude(alloc, &rt, &setup.flows, end)?)
 }
 
 /// Runs what was opened until all threads have returned.
@@ -144,7 +141,7 @@ where
         mouth,
         feeders,
         done: assembled,
-    } = assemble(rt, alloc, core, arrivals.mouth, rings.feeders, closed);
+    } = assemble(alloc, rt, core, arrivals.mouth, rings.feeders, closed);
     let done = team.join(rt);
     let (Some(done), Some(assembled)) = (done, assembled) else {
         return Err(AllocError);

@@ -29,8 +29,8 @@ pub type Consumers = PromisedHandle<Option<Vec<Consumed>>, ConsumersPromise>;
 
 /// Starts the consumers' worker.
 pub fn start<F, R>(
-    rt: &R,
     alloc: Global,
+    rt: &R,
     start: &StartWord,
     takers: Vec<Taker>,
     tap: F,
@@ -45,7 +45,7 @@ where
     let all = begin(alloc, takers)?;
     let theirs = *rt;
     Ok(thread::spawn_with(rt, promise, move || {
-        serve(&theirs, alloc, &start, all, tap)
+        serve(alloc, &theirs, &start, all, tap)
     })?)
 }
 
@@ -64,8 +64,8 @@ fn begin(alloc: Global, takers: Vec<Taker>) -> Result<Vec<Consuming>, AllocError
 /// told to stop, or if an allocation failed; then it goes on taking, and drops what that taker
 /// gives.
 fn serve<F: Tap<Bytes> + Drop, R: Wait>(
-    rt: &R,
     alloc: Global,
+    rt: &R,
     start: &StartWord,
     all: Vec<Consuming>,
     tap: F,

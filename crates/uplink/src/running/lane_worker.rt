@@ -58,8 +58,8 @@ pub type LaneWorker<S> = PromisedHandle<Option<LaneDone>, LanePromise<S>>;
 
 /// Starts the worker of a channel.
 pub fn start<S, R>(
-    rt: &R,
     alloc: Global,
+    rt: &R,
     start: &StartWord,
     work: LaneWork<S>,
 ) -> Result<LaneWorker<S>, AllocError>
@@ -71,14 +71,14 @@ where
     let start = start.share()?;
     let promise = LanePromise(Snapshot::of(&work));
     let theirs = *rt;
-    Ok(thread::spawn_with(rt, promise, move || { serve(&theirs, alloc, &start, work) })?)
+    Ok(thread::spawn_with(rt, promise, move || { serve(alloc, &theirs, &start, work) })?)
 }
 
 /// Takes all inputs of the source once it is told to go, and then closes both ports. It answers
 /// nothing if it is told to stop, or if an allocation failed; then it takes no more inputs.
 fn serve<S: Source + Drop, R: Wait>(
-    rt: &R,
     alloc: Global,
+    rt: &R,
     start: &StartWord,
     work: LaneWork<S>,
 ) -> Option<LaneDone>
@@ -89,7 +89,7 @@ fn serve<S: Source + Drop, R: Wait>(
         return None;
     }
     let mut work = work;
-    let report = take_all(rt, alloc, &mut work);
+    let report = take_all(alloc, rt, &mut work);
     let LaneWork {
         lane: _,
         arrivals,
@@ -109,8 +109,8 @@ fn serve<S: Source + Drop, R: Wait>(
 /// Takes all inputs of the source, and posts what each admits before it takes the next. If an
 /// allocation failed it takes no more.
 fn take_all<S: Source, R: Wait>(
-    rt: &R,
     alloc: Global,
+    rt: &R,
     work: &mut LaneWork<S>,
 ) -> Result<LaneReport, AllocError>
     ensures { IfOk result (HasServedAll (S.gives work.old.source) work.old work.new) }

@@ -25,8 +25,8 @@ pub type Scheduler = PromisedHandle<Option<Scheduled>, SchedulingPromise>;
 
 /// Starts the scheduler's worker.
 pub fn start<Q, R>(
-    rt: &R,
     alloc: Global,
+    rt: &R,
     start: &StartWord,
     mouth: Mouth<Request>,
     tap: Q,
@@ -40,7 +40,7 @@ where
     let promise = SchedulingPromise(Snapshot::of(&mouth));
     let theirs = *rt;
     Ok(thread::spawn_with(rt, promise, move || {
-        serve(&theirs, alloc, &start, mouth, tap)
+        serve(alloc, &theirs, &start, mouth, tap)
     })?)
 }
 
@@ -48,8 +48,8 @@ where
 /// told to stop, or if an allocation failed; then it goes on taking, and drops what it takes. A
 /// request of a sender that is no channel is passed over: there is none.
 fn serve<Q: Tap<Request> + Drop, R: Wait>(
-    rt: &R,
     alloc: Global,
+    rt: &R,
     start: &StartWord,
     mouth: Mouth<Request>,
     tap: Q,

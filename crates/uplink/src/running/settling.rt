@@ -29,45 +29,34 @@ pub struct Ended {
 
 /// The outcome. Both mailboxes and all rings are settled, and nothing is left in them.
 pub fn conclude<R: Wait>(
-    rt: &R,
     alloc: Global,
+    rt: &R,
     records: &[FlowRecord],
     end: Ended,
 ) -> Result<Outcome, AllocError>
     requires { CanSettle (length records.now) end }
     ensures { IfOk result (HasConcluded records.now end) }
 {
-    let Ended {
-        done,
-        unused_port,
-        mouth,
-        mut feeders,
-        assembled,
-    } = end;
-    let Done {
-        l0,
-        l1,
-        l2,
-        l3,
-        decided,
-        scheduled,
-        mut consumed,
-    } = done;
+    let done = end.done;
+    let (l0, l1, l2, l3) = (done.l0, done.l1, done.l2, done.l3);
+    let (scheduled, assembled) = (done.scheduled, end.assembled);
     let arrivals = ClosedPorts {
         p0: l0.arrivals,
         p1: l1.arrivals,
         p2: l2.arrivals,
         p3: l3.arrivals,
-        p4: decided,
+        p4: done.decided,
     };
     let requests = ClosedPorts {
         p0: l0.requests,
         p1: l1.requests,
         p2: l2.requests,
         p3: l3.requests,
-        p4: unused_port,
+        p4: end.unused_port,
     };
-    settle(rt, arrivals, mouth);
+    let mut feeders = end.feeders;
+    let mut consumed = done.consumed;
+    settle(rt, arrivals, end.mouth);
     settle(rt, requests, scheduled.mouth);
     settle_rings(&mut feeders, &mut consumed);
     Ok(Outcome {

@@ -81,27 +81,14 @@ where
     ensures consumers { IfOk result (λ team. team.consumers.promise.0.value ≡ work.takers) }
 {
     let start = StartWord::new(alloc)?;
-    let Work {
-        l0,
-        l1,
-        l2,
-        l3,
-        decisions,
-        requests,
-        takers,
-        taps,
-    } = work;
-    let Taps {
-        frames: frame_tap,
-        requests: request_tap,
-    } = taps;
-    let l0 = lane_worker::start(rt, alloc, &start, l0);
-    let l1 = lane_worker::start(rt, alloc, &start, l1);
-    let l2 = lane_worker::start(rt, alloc, &start, l2);
-    let l3 = lane_worker::start(rt, alloc, &start, l3);
-    let decider = decider::start(rt, &start, decisions);
-    let scheduler = scheduler::start(rt, alloc, &start, requests, request_tap);
-    let consumers = consumers::start(rt, alloc, &start, takers, frame_tap);
+    let l0 = lane_worker::start(alloc, rt, &start, work.l0);
+    let l1 = lane_worker::start(alloc, rt, &start, work.l1);
+    let l2 = lane_worker::start(alloc, rt, &start, work.l2);
+    let l3 = lane_worker::start(alloc, rt, &start, work.l3);
+    let decider = decider::start(rt, &start, work.decisions);
+    let taps = work.taps;
+    let scheduler = scheduler::start(alloc, rt, &start, work.requests, taps.requests);
+    let consumers = consumers::start(alloc, rt, &start, work.takers, taps.frames);
     match (l0, l1, l2, l3, decider, scheduler, consumers) {
         (Ok(l0), Ok(l1), Ok(l2), Ok(l3), Ok(decider), Ok(scheduler), Ok(consumers)) => {
             start.go();

@@ -1,7 +1,7 @@
 use Rattle.std.proofs.Common.{◌≡◌, ◌∷◌, [], ◌∙◌, length, arith}
 use Rattle.std.specs.Vec.Iter.{into_iter_items}
 use Rattle.uplink.specs.Items.{Incoming, incoming_from, inputs_on}
-use Rattle.uplink.specs.Answer.{IsOutcome}
+use Rattle.uplink.specs.Headline.{KeepsTheHeadline}
 use Rattle.texts.specs.AnyHeader.{any_header}
 use Rattle.texts.specs.Run.{IsReceived}
 use Rattle.texts.proofs.Receiving.{received, inputs_at, out_of_memory_alone, value_kept}
@@ -23,9 +23,9 @@ returns g c =
     incoming_from (into_iter_items c.new.result.rest ∷ into_iter_items c.new-2.result.rest ∷ into_iter_items c.new-3.result.rest ∷ into_iter_items c.new-4.result.rest ∷ [])
     (into_iter_items c.new-decisions.result.rest)
     in
-    value_kept c.run-answer.result c.unless_out_of_memory.result (λ outcome. IsOutcome any_header c.args.trace.setup from outcome.order.items outcome)
+    value_kept c.run-answer.result c.unless_out_of_memory.result (λ outcome. KeepsTheHeadline any_header c.args.trace.setup from outcome.order.items outcome)
     (IsReceived c.args.trace)
     (λ outcome is.
     received any_header c.args.trace.setup lists (into_iter_items c.new.result.rest) (into_iter_items c.new-2.result.rest) (into_iter_items c.new-3.result.rest)
-    (into_iter_items c.new-4.result.rest) (into_iter_items c.new-decisions.result.rest) outcome.order.items outcome e0 e1 e2 e3 c.new-decisions.ensures is)
-    c.unless_out_of_memory.ensures c.run-answer.ensures.outcome
+    (into_iter_items c.new-4.result.rest) (into_iter_items c.new-decisions.result.rest) outcome.order.items outcome e0 e1 e2 e3 c.new-decisions.ensures is.answer)
+    c.unless_out_of_memory.ensures c.run-answer.ensures.headline

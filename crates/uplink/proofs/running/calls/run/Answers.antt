@@ -28,33 +28,15 @@ conclude-requires g c =
     subst (λ records. CanSettle (length records) c.in_ok-end.end) (sym c.deref.ensures.value)
     (can-settle accepts (accepts c.args.check) c.args.setup c.in_ok-opened.opened c.in_ok-opened.ensures (incoming g c) c.in_ok-end.end (ended g c))
 
-pub returns-clause-outcome : goal.returns-clause-outcome
-returns-clause-outcome g c =
-    let accepts = g.C.HeaderCheck.accepts in
-    let before = (goal.at.returns-clause-outcome g c).After-deref in
-    let outcome = c.in_ok-conclude.field-0 in
-    outcome-of-run accepts (accepts c.args.check) c.args.setup c.in_ok-opened.opened c.in_ok-opened.ensures (incoming g before) c.in_ok-end.end
-    (ended g before) outcome
-    (subst (λ records. HasConcluded records c.in_ok-end.end outcome) c.deref.ensures.value c.in_ok-conclude.ensures)
-
 pub returns-clause-headline : goal.returns-clause-headline
 returns-clause-headline g c =
     let accepts = g.C.HeaderCheck.accepts in
     let check = accepts c.args.check in
     let setup = c.args.setup in
     let before = (goal.at.returns-clause-headline g c).After-deref in
-    let came = incoming g before in
     let outcome = c.in_ok-conclude.field-0 in
-    let order = outcome.order.items in
-    let law = c.consumers_take_the_delivery_sequence.ensures in
-    let answer : IsOutcome check setup came order outcome =
-    outcome-of-run accepts check setup c.in_ok-opened.opened c.in_ok-opened.ensures came c.in_ok-end.end (ended g before) outcome
+    let answer : IsOutcome check setup (incoming g before) outcome.order.items outcome =
+    outcome-of-run accepts check setup c.in_ok-opened.opened c.in_ok-opened.ensures (incoming g before) c.in_ok-end.end (ended g before) outcome
     (subst (λ records. HasConcluded records c.in_ok-end.end outcome) c.deref.ensures.value c.in_ok-conclude.ensures)
     in
-    record {
-      answer = answer;
-      lawful = law.order check setup came order outcome answer;
-      delivered = λ k fill flow_record flow frames chunks segments at given cut near.
-          law.whole check setup came order outcome k fill flow_record flow frames chunks segments answer at given cut near;
-      requested = λ channel below. law.requests check setup came order outcome channel answer below;
-    }
+    c.consumers_take_the_delivery_sequence.ensures.headline check setup (incoming g before) outcome.order.items outcome answer

@@ -1,0 +1,30 @@
+use Rattle.std.proofs.Common.{◌≡◌, ℕ, List, refl}
+use Rattle.texts.specs.declared.fault.TextFault.{TextFault}
+use Rattle.texts.specs.declared.fault.TextFault.TheVariants.{Trace, Cut, OutOfMemory}
+use Rattle.texts.specs.declared.fault.ParseFault.{ParseFault}
+use Rattle.texts.specs.declared.fault.ParseFault.TheVariants as parse
+use Rattle.texts.specs.declared.trace.Trace.{Trace as TraceValue}
+use Rattle.texts.specs.Trace.{IsTrace, IsTraceFault}
+use Rattle.texts.specs.Replay.{default_capacity, IsReportFault}
+use Rattle.texts.proofs.laws.faulty_input_has_no_report.Goals as goal
+
+-- a faulty input is no trace
+abbrev FaultyAreNone : Type 0
+FaultyAreNone =
+    (ring mailbox : ℕ) (input : List ℕ) (trace : TraceValue) (fault : ParseFault) → IsTrace ring mailbox input trace → IsTraceFault ring input fault
+    → fault ≡ parse.OutOfMemory
+
+no_report : FaultyAreNone → (ring mailbox : ℕ) (input : List ℕ) (trace : TraceValue) → IsTrace ring mailbox input trace
+    → (fault : TextFault) → IsReportFault ring input fault → fault ≡ OutOfMemory
+no_report none ring mailbox input trace is (Trace fault) h =
+    let e = none ring mailbox input trace (parse.Line fault) is h in absurd cc
+no_report none ring mailbox input trace is (Cut fault) h = absurd h
+no_report none ring mailbox input trace is OutOfMemory h = refl
+
+pub returns-clause-replay : goal.returns-clause-replay
+returns-clause-replay c = λ input text fault is h.
+    no_report c.faulty_input_is_no_trace.ensures default_capacity default_capacity input is.trace is.is_trace fault h
+
+pub returns-clause-run : goal.returns-clause-run
+returns-clause-run c = λ ring mailbox input text fault is h.
+    no_report c.faulty_input_is_no_trace.ensures ring mailbox input is.trace is.is_trace fault h
