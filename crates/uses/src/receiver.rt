@@ -1,26 +1,25 @@
-//! A running receiver with one flow: which of a modem's frames its consumer took.
-ghost use Rattle.std.specs.Prelude.{◌≡◌, ◌∷◌, [], IfOk, IfErr};
+//! A running receiver: which of a modem's frames the consumer of each flow took.
+ghost use Rattle.std.specs.Prelude.{◌∷◌, [], IfOk, IfErr};
 ghost use Rattle.uplink.specs.Answer.{IsRunFault};
 ghost use Rattle.uplink.specs.Items.{incoming_from};
-ghost use Rattle.uses.specs.Receiver.{TookOfTheFlow};
+ghost use Rattle.uses.specs.Receiver.{TookOfEachFlow};
 
-use docsis_wire::{Bytes, HeaderCheck};
-use flow_core::FlowRecord;
+use docsis_wire::HeaderCheck;
 use std::alloc::Global;
 use std::sync::Wait;
 use std::thread::Threads;
-use uplink::{Decisions, NoTap, RunFault, Setup, Source, Sources, Taps, run};
+use uplink::{Decisions, FlowOutcome, NoTap, RunFault, Setup, Source, Sources, Taps, run};
 
-/// Receives on four channels until all sources are used up, and answers the frames of the only
-/// flow, or the fault of the setup.
-pub fn receive_flow<S0, S1, S2, S3, D, C, R>(
+/// Receives on four channels until all sources are used up, and answers what each flow gave, or the
+/// fault of the setup.
+pub fn receive<S0, S1, S2, S3, D, C, R>(
     alloc: Global,
     rt: R,
     setup: Setup,
     sources: Sources<S0, S1, S2, S3>,
     decisions: D,
     check: C,
-) -> Result<Vec<Bytes>, RunFault>
+) -> Result<Vec<FlowOutcome>, RunFault>
 where
     S0: Source + Drop + Send + 'static,
     S1: Source + Drop + Send + 'static,
@@ -29,11 +28,9 @@ where
     D: Decisions + Drop + Send + 'static,
     C: HeaderCheck + Drop,
     R: Threads + Wait + Copy + Send + 'static,
-    requires one_flow { (flow_record : FlowRecord) × (setup.flows.items ≡ flow_record ∷ []) }
-    ensures taken { (flow_record : FlowRecord) → setup.flows.items ≡ flow_record ∷ []
-        → IfOk result (λ taken. TookOfTheFlow (C.accepts check) setup
+    ensures taken { IfOk result (λ flows. TookOfEachFlow (C.accepts check) setup
         (incoming_from (S0.gives sources.s0 ∷ S1.gives sources.s1 ∷ S2.gives sources.s2
-        ∷ S3.gives sources.s3 ∷ []) (D.decides decisions)) flow_record taken.items) }
+        ∷ S3.gives sources.s3 ∷ []) (D.decides decisions)) flows.items) }
     ensures fault { IfErr result (IsRunFault setup) }
 {
     let taps = Taps {
@@ -41,17 +38,14 @@ where
         requests: NoTap,
     };
     let outcome = run(alloc, rt, setup, sources, decisions, taps, check)?;
-    let mut flows = outcome.flows;
-    match flows.pop() {
-        Some(flow) => Ok(flow.frames),
-        None => unreachable!(),
-    }
+    Ok(outcome.flows)
 }
 
 #[cfg(test)]
 mod tests {
     use super::*;
-    use docsis_wire::NoCheck;
+    use docsis_wire::{Bytes, NoCheck};
+    use flow_core::FlowRecord;
     use std::test::Fail;
     use uplink::{Input, ListDecisions, ListSource, SidRow};
 
@@ -108,9 +102,10 @@ mod tests {
             s3: ListSource::new(Vec::new(alloc)),
         };
         let decisions = ListDecisions::new(Vec::new(alloc));
-        let frames = receive_flow(alloc, rt, setup, sources, decisions, NoCheck)?;
-        assert_eq!(rt; frames.len(), 1);
-        assert_eq!(rt; frames[0].as_slice(), FRAME);
+        let flows = receive(alloc, rt, setup, sources, decisions, NoCheck)?;
+        assert_eq!(rt; flows.len(), 1);
+        assert_eq!(rt; flows[0].frames.len(), 1);
+        assert_eq!(rt; flows[0].frames[0].as_slice(), FRAME);
         Ok(())
     }
 }

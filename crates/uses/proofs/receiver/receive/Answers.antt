@@ -1,0 +1,17 @@
+-- What was taken is the delivery sequence of each flow, by the headline.
+use Rattle.uses.proofs.receiver.receive.Goals as goal
+
+pub returns-clause-taken : goal.returns-clause-taken
+returns-clause-taken g c =
+    let headline = c.in_ok-outcome.ensures.headline in
+    record {
+      answered = headline.answer.answered;
+      lanes = headline.answer.lanes;
+      order = c.in_ok-outcome.outcome.order.items;
+      items = headline.answer.items;
+      merged = headline.answer.merged;
+      flow_count = headline.answer.flows.count;
+      frames_taken = λ k fill flow_record flow frames chunks segments at given cut near.
+          let took = headline.delivered k fill flow_record flow frames chunks segments at given cut near in
+          record { fates = took.fates; kept = took.all_kept };
+    }
