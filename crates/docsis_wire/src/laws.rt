@@ -1,7 +1,7 @@
 //! A header and its eight bytes determine each other, and the pieces determine the cut, or its
 //! first fault.
 //!
-//! Each function states a law in its contract and does nothing.
+//! Each function states a law in its contract; its body is empty or only calls other laws.
 ghost use Rattle.std.specs.Prelude.{◌≡◌, ◌≢◌, ◌<◌, ◌≤◌, ◌↔◌, ℕ, Bool, true, Option, Some, IsSome, IfSome, All, List, [], ◌∷◌, ◌++◌, length, take};
 ghost use Rattle.docsis_wire.specs.declared.header.SegmentHeader.{SegmentHeader};
 ghost use Rattle.docsis_wire.specs.declared.header_check.NoCheck.{NoCheck};

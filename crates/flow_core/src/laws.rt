@@ -1,7 +1,7 @@
 //! Laws about the definitions: events have one outcome, what a flow gives is the delivery sequence,
 //! and the delivery sequence only grows.
 //!
-//! Each function states a law in its contract and does nothing.
+//! Each function states a law in its contract; its body is empty or only calls other laws.
 ghost use Rattle.std.specs.Prelude.{◌≡◌, ◌↔◌, ◌+◌, ◌<◌, ◌≤◌, ℕ, Bool, Option, List, IsTrue, [], ◌++◌, length, count_by, replicate};
 ghost use Rattle.std.specs.List.{AllByRecursion};
 ghost use Rattle.docsis_wire.specs.declared.segment.Segment.{Segment};

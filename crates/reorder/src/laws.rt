@@ -1,6 +1,6 @@
 //! What follows from the definitions that the window's contracts cite.
 //!
-//! Each function states a law in its contract and does nothing.
+//! Each function states a law in its contract; its body is empty or only calls other laws.
 ghost use Rattle.std.specs.Prelude.{◌≡◌, ℕ, ◌+◌, ◌<◌, ◌≤◌, ◌⊎◌, List, Some};
 ghost use Rattle.std.specs.FinMap as map;
 ghost use Rattle.reorder.specs.Number.{number_ahead};

@@ -3,7 +3,7 @@
 //! do those of `run`, but for the text, which may be one of several. A trace passes the checks of a
 //! receiver.
 //!
-//! Each function states a law in its contract and does nothing.
+//! Each function states a law in its contract; its body is empty or only calls other laws.
 ghost use Rattle.std.specs.Prelude.{◌≡◌, ◌≢◌, ◌≤◌, ℕ, List, length, flat_map};
 ghost use Rattle.docsis_wire.specs.declared.pieces.FillByte.{FillByte};
 ghost use Rattle.docsis_wire.specs.declared.pieces.Piece.{Piece};

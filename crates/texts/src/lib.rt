@@ -5,7 +5,8 @@
 //! report the first faulty line with the least kind of fault, or the first fault of the cut.
 //! [`replay_lines`] and [`run_lines`] give the report of a trace, at the order of its lines or at
 //! one of the lawful orders.
-//! [`laws`] states that each input has one answer.
+//! [`laws`] states that an input has at most one text, but for `run`, or at most one fault, and
+//! never both.
 #![tactic(auto)]
 
 mod cut;

@@ -3,7 +3,7 @@ ghost use Rattle.std.specs.Prelude.{◌≡◌, IfSome};
 ghost use Rattle.texts.specs.Number.{IsNumber, IsNoNumber, IsNumberIn, IsNoNumberIn};
 
 /// The number that a field spells in decimal digits, leading zeros or not, if it is at most `most`.
-/// A field without digits, with any other byte, as a sign, or with a greater number is none.
+/// A field without digits, with any other byte, such as a sign, or with a greater number is none.
 pub fn read_number(field: &[u8], most: u32) -> Option<u32>
     ensures number { IfSome result (IsNumber field.now most) }
     ensures none { result ≡ None → IsNoNumber field.now most }

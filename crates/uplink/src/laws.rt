@@ -1,9 +1,9 @@
 //! Laws about the definitions: each input of a lane has one answer, what is outstanding and what is
 //! admitted after one more input, rows have at most one first fault, lists have at most one merge
-//! in an order, the admitted order is lawful, a replay has one outcome or one fault, and what
-//! consumers take is the delivery sequence.
+//! in an order, the admitted order is lawful, a replay has at most one outcome and one fault, and
+//! what consumers take is the delivery sequence.
 //!
-//! Each function states a law in its contract and does nothing.
+//! Each function states a law in its contract; its body is empty or only calls other laws.
 ghost use Rattle.std.specs.Prelude.{◌≡◌, ◌≢◌, ◌↔◌, ℕ, ◌+◌, ◌<◌, Bool, IsTrue, Ok, None};
 ghost use Rattle.std.specs.Prelude.{List, [], ◌∷◌, ◌++◌, length, map, All};
 ghost use Rattle.docsis_wire.specs.declared.segment.Segment.{Segment};
@@ -175,8 +175,7 @@ pub fn admitted_order_is_lawful()
         → ¬ (HasBadOrder setup incoming order k) }
 {}
 
-/// What is replayed in one order have one outcome. An order that has an outcome has no
-/// fault.
+/// A replay in one order has at most one outcome. An order that has an outcome has no fault.
 pub fn replay_has_one_outcome()
     ensures one { (check : List ℕ → Bool) (setup : Setup) (incoming : Incoming) (order : List ℕ)
         (outcome other : Outcome)

@@ -11,7 +11,8 @@
 //! each input has one answer and each replay one outcome.
 //!
 //! [`run`] receives what four sources and decisions give, on threads. Its clause `headline` is the
-//! sentence that the whole project serves.
+//! sentence that the whole project serves, at the end of a run; what was taken earlier is a law,
+//! [`consumers_take_the_delivery_sequence`](laws::consumers_take_the_delivery_sequence).
 #![tactic(auto)]
 
 mod admitted;

@@ -2,25 +2,19 @@
 use Rattle.std.specs.Prelude.{◌≡◌, ℕ, Bool, Some, List, length, slice_get}
 use Rattle.docsis_wire.specs.declared.segment.Segment.{Segment}
 use Rattle.docsis_wire.specs.Cut.{IsLawfulCut}
-use Rattle.ccf.specs.Filter.{FiltersTo}
 use Rattle.flow_core.specs.declared.event.Event.{Event}
 use Rattle.flow_core.specs.declared.record.FlowRecord.{FlowRecord}
-use Rattle.flow_core.specs.Closing.{IsAllKept}
-use Rattle.flow_core.specs.Fates.{Fates}
 use Rattle.flow_core.specs.Near.{AreNear}
 use Rattle.uplink.specs.declared.outcome.FlowOutcome.{FlowOutcome}
 use Rattle.uplink.specs.declared.setup.Setup.{Setup}
+use Rattle.uplink.specs.Headline.{TookTheDeliverySequence}
 use Rattle.uplink.specs.Inputs.{AnsweredInput}
 use Rattle.uplink.specs.Items.{Incoming, AreLanesOf, items_of, events_at}
 use Rattle.uplink.specs.Order.{IsMergeOf}
 
--- just the modem's frames whose segments were all kept, in the modem's order
-pub record TookWhatWasKept (frames chunks taken : List (List ℕ)) : Type 0 where
-  pub fates : Fates
-  pub kept : FiltersTo (IsAllKept frames chunks fates) frames taken
-
 -- What was taken of each flow of a receiver. The segments that each channel admits and the decisions that name a flow came in some order. If those of a
--- flow come near in it, and its segments are those of one lawful cut of a modem's frames, what was taken is just the frames whose segments were all kept.
+-- flow come near in it, and its segments are those of one lawful cut of a modem's frames, what was taken is the flow's delivery sequence: just the frames
+-- whose segments were all kept.
 pub record TookOfEachFlow (check : List ℕ → Bool) (setup : Setup) (incoming : Incoming) (flows : List FlowOutcome) : Type 0 where
   pub answered : ℕ → List AnsweredInput
   pub lanes : AreLanesOf setup incoming answered
@@ -31,4 +25,4 @@ pub record TookOfEachFlow (check : List ℕ → Bool) (setup : Setup) (incoming 
   pub frames_taken : (k fill : ℕ) (flow_record : FlowRecord) (flow : FlowOutcome) (frames chunks : List (List ℕ)) (segments : List Segment)
       → slice_get setup.flows.items k ≡ Some flow_record → slice_get flows k ≡ Some flow
       → IsLawfulCut check frames flow_record.first fill chunks segments → AreNear flow_record.first flow_record.window segments (events_at k items)
-      → TookWhatWasKept frames chunks flow.frames.items
+      → TookTheDeliverySequence frames chunks flow_record (events_at k items) flow.frames.items

@@ -33,7 +33,7 @@ fn join_all<C: HeaderCheck>(
 }
 
 /// Cuts frames and joins the segments again: exactly the frames come back that lie wholly in the
-/// bytes that the pieces take.
+/// bytes that the pieces take. `first` is 0 to 8191. The faults are those of a cut.
 pub fn cut_and_join<C: HeaderCheck>(
     alloc: Global,
     frames: &[Bytes],

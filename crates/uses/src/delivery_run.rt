@@ -28,7 +28,8 @@ impl Promise<Option<Served>> for ConsumerPromise {
 }
 
 /// Hands the frames through a ring of this capacity to a thread that takes them, and answers what
-/// that thread took.
+/// that thread took. `NoCapacity`: the capacity is 0. `OutOfMemory`: an allocation failed, or the
+/// thread could not be started.
 pub fn deliver<R>(
     rt: R,
     alloc: Global,

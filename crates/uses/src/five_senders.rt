@@ -30,7 +30,8 @@ pub struct Lists<T> {
 }
 
 /// Posts each list from a thread of its own into one mailbox with room for `capacity` entries, and
-/// takes the items in the order in which they come.
+/// takes the items in the order in which they come. `NoCapacity`: the capacity is 0. `OutOfMemory`:
+/// an allocation failed, or a thread could not be started.
 pub fn gather<T, R>(
     rt: R,
     alloc: Global,

@@ -7,8 +7,8 @@ use docsis_wire::{Bytes, HeaderCheck, Segment};
 use flow_core::{Core, Event, FlowRecord, SetupFault, laws};
 use std::alloc::Global;
 
-/// Plays one flow to its end: these segments arrive, and then the flow is closed. Answers the
-/// frames, or the fault of the record.
+/// Plays one flow to its end: these segments, each of which is ready, arrive, and then the flow is
+/// closed. Answers the frames, or the fault of the record, or `OutOfMemory`: an allocation failed.
 pub fn play<C: HeaderCheck + Drop>(
     alloc: Global,
     flow_record: FlowRecord,

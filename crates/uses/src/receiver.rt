@@ -10,8 +10,9 @@ use std::sync::Wait;
 use std::thread::Threads;
 use uplink::{Decisions, FlowOutcome, NoTap, RunFault, Setup, Source, Sources, Taps, run};
 
-/// Receives on four channels until all sources are used up, and answers what each flow gave, or the
-/// fault of the setup.
+/// Receives on four channels until all sources and decisions are used up, and answers what each
+/// flow gave; or the first fault of the setup (`Setup`, `Lane`, `NoCapacity`), or `OutOfMemory`: an
+/// allocation failed, or a thread could not be started.
 pub fn receive<S0, S1, S2, S3, D, C, R>(
     alloc: Global,
     rt: R,

@@ -47,6 +47,10 @@ fn receive_all(alloc: Global, setup: &Setup, lists: &Lists) -> Result<FourReceiv
 
 /// The admitted order: of tags that name the sender of each input and decision, 0 to 3 for the
 /// channels and 4 for decisions, those of admitted bursts and of decisions that name a flow.
+///
+/// `Setup` and `Lane`: the first fault of the setup. `BadOrder`: it has none, and this place of the
+/// tags is their fault, as [`check_order`](crate::check_order) says of the numbers of inputs and
+/// decisions. `OutOfMemory`: an allocation failed.
 pub fn admitted_order(
     alloc: Global,
     setup: &Setup,
@@ -143,6 +147,11 @@ fn decisions_of(alloc: Global, setup: &Setup, lists: &Lists) -> Result<Vec<Event
 /// Replays the inputs of all channels and the decisions on the caller's thread: it takes the
 /// segments that each channel admits and the decisions that name a flow in this order, 0 to 3 for
 /// the channels and 4 for decisions, drains a flow after each, and then closes each flow.
+///
+/// `Setup` and `Lane`: the first fault of the setup. `BadOrder`: it has none, and this place of the
+/// order is its fault, as [`check_order`](crate::check_order) says of what the channels admit and
+/// the decisions that name a flow. `OutOfMemory`: an allocation failed. The capacity of the
+/// mailboxes isn't looked at.
 pub fn replay<C: HeaderCheck + Drop>(
     alloc: Global,
     setup: &Setup,

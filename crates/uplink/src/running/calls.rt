@@ -49,10 +49,10 @@ fn check_setup(setup: &Setup) -> Result<(), RunFault>
 /// lawful cut of a modem's frames and its events are near.
 ///
 /// `Setup` and `Lane`: the first fault of the setup. `NoCapacity`: it has none, and the capacity of
-/// the mailboxes is 0. Up to here no source is asked, and no thread started. `OutOfMemory`: an
-/// allocation failed, in whichever thread, or a thread could not be started. Where an allocation
-/// failed all threads go on to their end, and nothing of the outcome is given. What is handed in
-/// doesn't come back, on any answer. The check is used by the caller's thread alone. The call waits
+/// the mailboxes is 0. `OutOfMemory`: an allocation failed, in whichever thread, or a thread could
+/// not be started. Before all threads are started no source is asked. Later the worker of a channel
+/// whose allocation failed asks its source for nothing more, all others go on to their end, and
+/// nothing of the outcome is given. What is handed in doesn't come back, on any answer. The check is used by the caller's thread alone. The call waits
 /// for its threads, and they for the sources: it returns only if these end.
 pub fn run<S0, S1, S2, S3, D, F, Q, C, R>(
     alloc: Global,

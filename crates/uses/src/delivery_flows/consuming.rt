@@ -9,7 +9,7 @@ use std::alloc::{AllocError, Global};
 use std::sync::Wait;
 use std::thread;
 
-/// Makes each taker ready to be served.
+/// Makes each taker, from which nothing was taken yet, ready to be served.
 pub fn begin(alloc: Global, takers: Vec<Taker>) -> Result<Vec<Consumed>, AllocError>
     requires { All (λ taker. taken taker ≡ []) takers.items }
     ensures { IfOk result (λ all. served_rings all.items ≡ rings takers.items) }

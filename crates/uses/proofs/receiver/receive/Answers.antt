@@ -11,7 +11,5 @@ returns-clause-taken g c =
       items = headline.answer.items;
       merged = headline.answer.merged;
       flow_count = headline.answer.flows.count;
-      frames_taken = λ k fill flow_record flow frames chunks segments at given cut near.
-          let took = headline.delivered k fill flow_record flow frames chunks segments at given cut near in
-          record { fates = took.fates; kept = took.all_kept };
+      frames_taken = headline.delivered;
     }
