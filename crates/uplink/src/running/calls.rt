@@ -52,8 +52,9 @@ fn check_setup(setup: &Setup) -> Result<(), RunFault>
 /// the mailboxes is 0. `OutOfMemory`: an allocation failed, in whichever thread, or a thread could
 /// not be started. Before all threads are started no source is asked. Later the worker of a channel
 /// whose allocation failed asks its source for nothing more, all others go on to their end, and
-/// nothing of the outcome is given. What is handed in doesn't come back, on any answer. The check is used by the caller's thread alone. The call waits
-/// for its threads, and they for the sources: it returns only if these end.
+/// nothing of the outcome is given. What is handed in doesn't come back, on any answer. The check is
+/// used by the caller's thread alone. The call waits for its threads, and they for the sources: it
+/// returns only if these end.
 pub fn run<S0, S1, S2, S3, D, F, Q, C, R>(
     alloc: Global,
     rt: R,
