@@ -14,7 +14,7 @@ use Rattle.texts.specs.Replay.{IsReplayed, IsReplayFault, IsReportFault}
 use Rattle.texts.specs.Run.{IsRunText}
 use Rattle.segrx.specs.Device.{inner_of, IsFresh}
 use Rattle.segrx.specs.Engine.{HasCause, RunsEngine}
-use Rattle.segrx.specs.Command.{IsCommand, AsksToJoin, AsksToCut, AsksToReplay, AsksToRun, IsHelpWord, HasNoHelpWord, Asks}
+use Rattle.segrx.specs.Command.{IsCommand, AsksToJoin, AsksToCut, AsksToReplay, AsksToRun, HasNoHelpWord, Asks}
 use Rattle.segrx.specs.Program.{AsksToCutOnly, AsksToRunOnly, AsksForNothing, RunsCut, RunsRun, WritesHelp, Performs, Obeys}
 
 -- no words ask both to join and for a command whose word is another

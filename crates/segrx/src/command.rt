@@ -1,7 +1,6 @@
 //! What the program's arguments ask for.
 ghost use Rattle.std.specs.Prelude.{◌≡◌, ◌<◌, ◌↔◌, map, codes, IsTrue, IfOk, MatchOption};
 ghost use Rattle.segrx.specs.declared.command.UsageFault.TheVariants.{OutOfMemory};
-ghost use Rattle.docsis_wire.specs.Limits.{sequence_modulus};
 ghost use Rattle.segrx.specs.Command.{IsCommandAlone, IsCommand, AsksToJoin, AsksToReplay};
 ghost use Rattle.segrx.specs.Command.{IsHelpWord, HasNoHelpWord, StandsBeforeHelp, Asks};
 ghost use Rattle.segrx.specs.Command.{AsksWithOptions, ReadsOptions, ReadsCapacity, ReadsCapacities};

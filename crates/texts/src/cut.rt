@@ -1,5 +1,5 @@
 //! The text of `cut`: the segments that an input's frames are cut into, one a line.
-ghost use Rattle.std.specs.Prelude.{◌≡◌, ◌≢◌, ◌<◌, ◌++◌, min, false, flat_map, IfOk, IfErr, IfSome, OnOk};
+ghost use Rattle.std.specs.Prelude.{◌≡◌, ◌<◌, ◌++◌, min, IfOk, IfErr, OnOk};
 ghost use Rattle.docsis_wire.specs.Limits.{sequence_modulus};
 ghost use Rattle.docsis_wire.specs.Pieces.{IsCuttable};
 ghost use Rattle.texts.specs.AnyHeader.{any_header};

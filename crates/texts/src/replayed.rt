@@ -5,7 +5,7 @@ ghost use Rattle.uplink.specs.Answer.{CanReceive, input_counts};
 ghost use Rattle.uplink.specs.Order.{IsLawfulOrder};
 ghost use Rattle.uplink.specs.declared.replaying.ReplayFault.TheVariants as replay_fault;
 ghost use Rattle.texts.specs.Trace.{IsTrace, IsTraceFault};
-ghost use Rattle.texts.specs.Replay.{default_capacity, IsPlayed, IsReplayed, IsReplayFault};
+ghost use Rattle.texts.specs.Replay.{IsPlayed, IsReplayed, IsReplayFault};
 
 use crate::fault::{ParseFault, TextFault};
 use crate::reporting::report;

@@ -26,6 +26,7 @@ use Rattle.uplink.specs.Limits.{channel_limit}
 use Rattle.uplink.specs.Inputs.{LaneSetup, AnsweredInput, AreAnswered, inputs_of}
 use Rattle.uplink.specs.Report.{admitted_of, requests_of}
 use Rattle.uplink.specs.Items.{names_a_flow, event_of_admitted, event_of_decision}
+use Rattle.uplink.specs.Order.{senders}
 use Rattle.uplink.specs.Answer.{IsReportOf}
 use Rattle.uplink.specs.Stands.{StandsFor}
 
@@ -80,7 +81,7 @@ pub record HasKept (before now : ℕ → List Request) (requests : List (Vec Req
 -- the scheduler's worker took until all had ended, and has the requests that it took of each channel
 pub record DidSchedule (mouth : Mouth Request) (done : Scheduled) : Type 0 where
   pub places_are : places done.mouth ≡ places mouth
-  pub ended_all : (sender : ℕ) → sender < 5 → ended done.mouth sender ≡ true
+  pub ended_all : (sender : ℕ) → sender < senders → ended done.mouth sender ≡ true
   pub requests_are : HasKept (taken mouth) (taken done.mouth) done.requests
 
 -- the taker was taken from since, and these are the frames that it gave, unless an allocation failed

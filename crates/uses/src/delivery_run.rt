@@ -2,7 +2,7 @@
 ghost use Rattle.std.specs.Prelude.{◌≡◌, ◌↔◌, ◌++◌, IfSome, IfOk, OnOk};
 ghost use Rattle.delivery.specs.Frames.{frames_in};
 ghost use Rattle.delivery.specs.Feeders.{feeder_ring, offered, closed_ring, closed_offered};
-ghost use Rattle.delivery.specs.Takers.{taker_ring, taken, is_closed};
+ghost use Rattle.delivery.specs.Takers.{taken};
 ghost use Rattle.uses.specs.DeliveryRun.{IsServed, Appends};
 
 use delivery::{ClosedFeeder, Feeder, OpenFault, Refused, Taker, Took, ring, settle};

@@ -1,5 +1,5 @@
 //! What a run gave, once all threads have returned.
-ghost use Rattle.std.specs.Prelude.{◌≡◌, ℕ, true, Some, [], All, IfOk, length, map, slice_get};
+ghost use Rattle.std.specs.Prelude.{◌≡◌, ℕ, true, Some, All, IfOk, length, map, slice_get};
 ghost use Rattle.delivery.specs.Feeders.{closed_ring, closed_offered};
 ghost use Rattle.delivery.specs.Takers.{taker_ring, taken, is_closed};
 ghost use Rattle.delivery.specs.declared.feeder.ClosedFeeder.{ClosedFeeder};

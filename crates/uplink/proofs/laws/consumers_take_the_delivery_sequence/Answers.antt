@@ -1,8 +1,7 @@
-use Rattle.std.proofs.Common.{◌≡◌, ◌++◌, List, ℕ, replicate, append_assoc, sym, subst, ap, ◌∙◌}
+use Rattle.std.proofs.Common.{◌≡◌, ◌++◌, append_assoc, sym, subst, ap, ◌∙◌}
 use Rattle.std.proofs.lemmas.Option.{same_Some}
 use Rattle.delivery.specs.Takers.{taken}
 use Rattle.flow_core.specs.Closing.{IsAllKept}
-use Rattle.flow_core.specs.Events.{gap}
 use Rattle.ccf.specs.Filter.{FiltersTo}
 use Rattle.uplink.specs.Answer.{IsOutcomeOfFlow}
 use Rattle.uplink.specs.Items.{events_at, items_of}
