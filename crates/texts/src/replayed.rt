@@ -1,9 +1,10 @@
 //! The text of `replay`: the report of a trace.
 ghost use Rattle.std.specs.Prelude.{◌≡◌, ◌≤◌, Ok, IfOk, IfErr};
-ghost use Rattle.uplink.specs.Items.{incoming_of};
-ghost use Rattle.uplink.specs.Answer.{CanReceive, input_counts};
-ghost use Rattle.uplink.specs.Order.{IsLawfulOrder};
-ghost use Rattle.uplink.specs.declared.replaying.ReplayFault.TheVariants as replay_fault;
+ghost use Rattle.receiver.specs.Items.{incoming_of};
+ghost use Rattle.receiver.specs.Faults.{CanReceive};
+ghost use Rattle.receiver.specs.AdmittedOrder.{input_counts};
+ghost use Rattle.receiver.specs.Order.{IsLawfulOrder};
+ghost use Rattle.receiver.specs.declared.one_thread.ReplayFault.TheVariants as replay_fault;
 ghost use Rattle.texts.specs.Trace.{IsTrace, IsTraceFault};
 ghost use Rattle.texts.specs.Replay.{IsPlayed, IsReplayed, IsReplayFault};
 

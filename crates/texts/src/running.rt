@@ -1,7 +1,7 @@
 //! The text of `run`: the report of a trace that is received on threads.
 ghost use Rattle.std.specs.Prelude.{◌≡◌, ◌≤◌, Ok, IfOk, IfErr};
-ghost use Rattle.uplink.specs.Answer.{CanRun};
-ghost use Rattle.uplink.specs.declared.running.RunFault.TheVariants as run_fault;
+ghost use Rattle.uplink.specs.Faults.{CanRun};
+ghost use Rattle.uplink.specs.declared.eight_threads.RunFault.TheVariants as run_fault;
 ghost use Rattle.texts.specs.Replay.{IsReportFault};
 ghost use Rattle.texts.specs.Run.{IsReceived, IsRunText};
 

@@ -10,14 +10,15 @@ use Rattle.flow_core.specs.Delivery.{IsDeliverySequence}
 use Rattle.flow_core.specs.Events.{FlowEvent, gap, IsAfter}
 use Rattle.flow_core.specs.Fates.{Fates}
 use Rattle.flow_core.specs.Near.{AreNear}
-use Rattle.uplink.specs.declared.outcome.FlowOutcome.{FlowOutcome}
-use Rattle.uplink.specs.declared.outcome.Outcome.{Outcome}
-use Rattle.uplink.specs.declared.setup.Setup.{Setup}
-use Rattle.uplink.specs.Answer.{IsOutcome, requests_on}
-use Rattle.uplink.specs.Items.{Incoming, items_of, events_at}
-use Rattle.uplink.specs.Limits.{channel_limit}
-use Rattle.uplink.specs.Order.{IsLawfulOrder, lengths_of}
-use Rattle.uplink.specs.Report.{requests_of}
+use Rattle.receiver.specs.declared.outcome.FlowOutcome.{FlowOutcome}
+use Rattle.receiver.specs.declared.outcome.Outcome.{Outcome}
+use Rattle.receiver.specs.declared.setup.Setup.{Setup}
+use Rattle.receiver.specs.Intake.{IsIntake}
+use Rattle.receiver.specs.Outcome.{requests_on}
+use Rattle.receiver.specs.Items.{Incoming, items_of, events_at}
+use Rattle.lane.specs.Limits.{channel_limit}
+use Rattle.receiver.specs.Order.{IsLawfulOrder, lengths_of}
+use Rattle.lane.specs.Report.{requests_of}
 
 -- What was taken is the flow's whole delivery sequence: once these events and the flow's close have decided what was kept and what is lost, exactly
 -- the modem's frames whose segments were all kept, in the modem's order.
@@ -30,16 +31,15 @@ pub record TookTheDeliverySequence (frames chunks : List (List ℕ)) (flow_recor
   pub sequence : IsDeliverySequence frames chunks fates taken
   pub all_kept : FiltersTo (IsAllKept frames chunks fates) frames taken
 
--- The headline, of what a receiver gave for what came in, in this order. It is the one-thread answer in that order, which is a lawful one of all that
--- each channel admits and all decisions that name a flow. What each flow's consumer took is the flow's whole delivery sequence, if the flow's segments
--- are those of one lawful cut of a modem's frames and its events in that order are near. And the requests of each channel are those of its admitted
--- segments, each once and in their order.
+-- The headline, of what a receiver gave for what came in, in this order. The order is a lawful one of all that each channel admits and all decisions that
+-- name a flow. What each flow's consumer took is the flow's whole delivery sequence, if the flow's segments are those of one lawful cut of a modem's frames
+-- and its events in that order are near. And the requests of each channel are those of its admitted segments, each once and in their order.
 pub record KeepsTheHeadline (check : List ℕ → Bool) (setup : Setup) (incoming : Incoming) (order : List ℕ) (outcome : Outcome) : Type 0 where
-  pub answer : IsOutcome check setup incoming order outcome
-  pub lawful : IsLawfulOrder (lengths_of (items_of setup incoming answer.answered)) order
+  pub intake : IsIntake setup incoming order
+  pub lawful : IsLawfulOrder (lengths_of (items_of setup incoming intake.answered)) order
   pub delivered : (k fill : ℕ) (flow_record : FlowRecord) (flow : FlowOutcome) (frames chunks : List (List ℕ)) (segments : List Segment)
       → slice_get setup.flows.items k ≡ Some flow_record → slice_get outcome.flows.items k ≡ Some flow
       → IsLawfulCut check frames flow_record.first fill chunks segments
-      → AreNear flow_record.first flow_record.window segments (events_at k answer.items)
-      → TookTheDeliverySequence frames chunks flow_record (events_at k answer.items) flow.frames.items
-  pub requested : (channel : ℕ) → channel < channel_limit → requests_on outcome channel ≡ requests_of (answer.answered channel)
+      → AreNear flow_record.first flow_record.window segments (events_at k intake.items)
+      → TookTheDeliverySequence frames chunks flow_record (events_at k intake.items) flow.frames.items
+  pub requested : (channel : ℕ) → channel < channel_limit → requests_on outcome channel ≡ requests_of (intake.answered channel)

@@ -1,16 +1,4 @@
-pub mod Limits
-pub mod Seen
-pub mod Rows
-pub mod Admission
-pub mod Inputs
-pub mod Report
-pub mod Stands
-pub mod Order
-pub mod Items
-pub mod Answer
-pub mod Assembly
-pub mod Received
-pub mod SameOutcome
+pub mod Faults
 pub mod Working
 pub mod Offering
 pub mod Running

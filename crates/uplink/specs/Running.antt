@@ -14,22 +14,22 @@ use Rattle.delivery.specs.declared.feeder.ClosedFeeder.{ClosedFeeder}
 use Rattle.flow_core.specs.declared.counts.FlowCounts.{FlowCounts}
 use Rattle.flow_core.specs.declared.event.Event.{Event}
 use Rattle.flow_core.specs.declared.record.FlowRecord.{FlowRecord}
-use Rattle.uplink.specs.declared.admitted.Request.{Request}
-use Rattle.uplink.specs.declared.done.Consumed.{Consumed}
-use Rattle.uplink.specs.declared.outcome.FlowOutcome.{FlowOutcome}
-use Rattle.uplink.specs.declared.outcome.Outcome.{Outcome}
-use Rattle.uplink.specs.declared.running.opening.Lanes.{Lanes}
-use Rattle.uplink.specs.declared.running.opening.OpenMailbox.{OpenMailbox}
-use Rattle.uplink.specs.declared.running.opening.Opened.{Opened}
-use Rattle.uplink.specs.declared.running.opening.Rings.{Rings}
-use Rattle.uplink.specs.declared.running.settling.Ended.{Ended}
-use Rattle.uplink.specs.declared.setup.Setup.{Setup}
-use Rattle.uplink.specs.Assembly.{HasTaken, IsTaking}
-use Rattle.uplink.specs.Items.{Incoming, lane_setup}
-use Rattle.uplink.specs.Limits.{channel_limit}
+use Rattle.lane.specs.declared.admitted.Request.{Request}
+use Rattle.uplink.specs.declared.frame_worker.Consumed.{Consumed}
+use Rattle.receiver.specs.declared.outcome.FlowOutcome.{FlowOutcome}
+use Rattle.receiver.specs.declared.outcome.Outcome.{Outcome}
+use Rattle.uplink.specs.declared.open.Lanes.{Lanes}
+use Rattle.uplink.specs.declared.open.OpenMailbox.{OpenMailbox}
+use Rattle.uplink.specs.declared.open.Opened.{Opened}
+use Rattle.uplink.specs.declared.open.Rings.{Rings}
+use Rattle.uplink.specs.declared.finish.Ended.{Ended}
+use Rattle.receiver.specs.declared.setup.Setup.{Setup}
+use Rattle.receiver.specs.Assembly.{HasTaken, IsTaking}
+use Rattle.receiver.specs.Items.{Incoming, lane_setup}
+use Rattle.lane.specs.Limits.{channel_limit}
 use Rattle.uplink.specs.Offering.{HasCollected, HasAssembledAll}
-use Rattle.uplink.specs.Order.{senders}
-use Rattle.uplink.specs.Stands.{StandsFor}
+use Rattle.receiver.specs.Order.{senders}
+use Rattle.lane.specs.Stands.{StandsFor}
 use Rattle.uplink.specs.Working.{HasPosted, DidLane, DidDecide, DidSchedule, DidConsumeAll}
 
 -- the four lanes stand for no inputs

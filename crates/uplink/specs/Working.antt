@@ -12,23 +12,23 @@ use Rattle.delivery.specs.Takers as takers
 use Rattle.delivery.specs.declared.taker.Taker.{Taker}
 use Rattle.flow_core.specs.declared.event.Event.{Event}
 use Rattle.docsis_wire.specs.declared.buffer.Bytes.{Bytes}
-use Rattle.uplink.specs.declared.admitted.Request.{Request}
-use Rattle.uplink.specs.declared.input.Input.{Input}
-use Rattle.uplink.specs.declared.setup.Decision.{Decision}
-use Rattle.uplink.specs.declared.lane.Lane.{Lane}
-use Rattle.uplink.specs.declared.done.LaneDone.{LaneDone}
-use Rattle.uplink.specs.declared.done.Scheduled.{Scheduled}
-use Rattle.uplink.specs.declared.done.Consumed.{Consumed}
-use Rattle.uplink.specs.declared.outcome.LaneReport.{LaneReport}
-use Rattle.uplink.specs.declared.running.consuming.Consuming.{Consuming}
-use Rattle.uplink.specs.declared.running.lane_worker.LaneWork.{LaneWork}
-use Rattle.uplink.specs.Limits.{channel_limit}
-use Rattle.uplink.specs.Inputs.{LaneSetup, AnsweredInput, AreAnswered, inputs_of}
-use Rattle.uplink.specs.Report.{admitted_of, requests_of}
-use Rattle.uplink.specs.Items.{names_a_flow, event_of_admitted, event_of_decision}
-use Rattle.uplink.specs.Order.{senders}
-use Rattle.uplink.specs.Answer.{IsReportOf}
-use Rattle.uplink.specs.Stands.{StandsFor}
+use Rattle.lane.specs.declared.admitted.Request.{Request}
+use Rattle.lane.specs.declared.input.Input.{Input}
+use Rattle.receiver.specs.declared.setup.Decision.{Decision}
+use Rattle.lane.specs.declared.lane.Lane.{Lane}
+use Rattle.uplink.specs.declared.lane_worker.LaneDone.{LaneDone}
+use Rattle.uplink.specs.declared.request_worker.Scheduled.{Scheduled}
+use Rattle.uplink.specs.declared.frame_worker.Consumed.{Consumed}
+use Rattle.lane.specs.declared.report.LaneReport.{LaneReport}
+use Rattle.uplink.specs.declared.frame_worker.Consuming.{Consuming}
+use Rattle.uplink.specs.declared.lane_worker.LaneWork.{LaneWork}
+use Rattle.lane.specs.Limits.{channel_limit}
+use Rattle.lane.specs.Inputs.{LaneSetup, AnsweredInput, AreAnswered, inputs_of}
+use Rattle.lane.specs.Report.{admitted_of, requests_of}
+use Rattle.receiver.specs.Items.{names_a_flow, event_of_admitted, event_of_decision}
+use Rattle.receiver.specs.Order.{senders}
+use Rattle.lane.specs.Report.{IsReportOf}
+use Rattle.lane.specs.Stands.{StandsFor}
 
 -- the port posted these items more, and is closed
 pub record HasPosted {T : Type 0} (port : Port T) (items : List T) (closed : ClosedPort T) : Type 0 where

@@ -1,14 +1,294 @@
-//! The assembler: all flows, and the frames that each gave.
+//! The assembler, which is the caller of a running receiver.
+ghost use Rattle.std.specs.Prelude.{◌≡◌, ◌↔◌, ◌<◌, ◌≤◌, ◌++◌, ◌∷◌, [], ℕ, List, Some, true, IsTrue, IfSome, IfOk, OnOk, length, map};
+ghost use Rattle.mailbox.specs.Mouths.{places, taken, ended};
+ghost use Rattle.delivery.specs.Feeders.{feeder_ring, offered, closed_ring, closed_offered};
+ghost use Rattle.flow_core.specs.declared.event.Event.{Event};
+ghost use Rattle.flow_core.specs.Flows.{IsDrainedAt, OthersStay};
+ghost use Rattle.flow_core.specs.Giving.{IsRunning};
+ghost use Rattle.receiver.specs.Items.{IsItem};
+ghost use Rattle.receiver.specs.Order.{senders};
+ghost use Rattle.receiver.specs.Assembly.{IsTaking, GivesTheRest};
+ghost use Rattle.uplink.specs.Offering.{HasCollected, HasAssembledSoFar, OffersItem, OffersTheRest, HasAssembledAll};
 
-mod calls;
+use delivery::{ClosedFeeder, Feeder};
+use docsis_wire::{Bytes, HeaderCheck, ready};
+use flow_core::{Core, Event, FlowCounts};
+use mailbox::{Mouth, Taken};
+use receiver::{close_flow, take_item};
+use std::alloc::{AllocError, Global};
+use std::sync::Wait;
+use std::thread;
 
-pub use calls::{close_flow, take_item};
-use docsis_wire::Bytes;
-use flow_core::Core;
-
-/// All flows, each drained, and the frames that each has given so far.
+/// All flows, and the order of the items that were taken so far.
 #[derive(Drop)]
-pub struct Assembler<C> {
+pub struct Taking<C> {
+    pub core: Core<C>,
+    pub order: Vec<u8>,
+}
+
+/// The order of all items, and what was counted of each flow.
+#[derive(Drop)]
+pub struct Assembled {
+    pub order: Vec<u8>,
+    pub counts: Vec<FlowCounts>,
+}
+
+/// What the assembler hands on once all senders have ended: the mouth, the closed feeders, and,
+/// unless an allocation failed, what it assembled.
+#[derive(Drop)]
+pub struct AssembledAll {
+    pub mouth: Mouth<Event>,
+    pub feeders: Vec<ClosedFeeder>,
+    pub done: Option<Assembled>,
+}
+
+/// Takes until all senders have ended, and offers the frames that each flow gives to its feeder.
+/// Then it closes all flows, and the feeders. Once an allocation failed it drops what it takes.
+/// `closed` has room for a closed feeder of each flow.
+pub fn assemble<C: HeaderCheck + Drop, R: Wait>(
+    alloc: Global,
+    rt: &R,
     core: Core<C>,
-    frames: Vec<Vec<Bytes>>,
+    mouth: Mouth<Event>,
+    feeders: Vec<Feeder>,
+    closed: Vec<ClosedFeeder>,
+) -> AssembledAll
+    requires taking { IsTaking C.accepts core }
+    requires flows { length core.flows.items ≡ length feeders.items }
+    requires room { (closed.items ≡ []) × (length feeders.items ≤ closed.cap) }
+    ensures places { places result.mouth ≡ places mouth }
+    ensures ended { (sender : ℕ) → sender < senders → ended result.mouth sender ≡ true }
+    ensures rings { map closed_ring result.feeders.items ≡ map feeder_ring feeders.items }
+    ensures done { IfSome result.done (λ done. (items : List Event)
+        × HasCollected (taken mouth) (taken result.mouth) done.order.items items
+        × HasAssembledAll C.accepts core items feeders.items result.feeders.items
+        done.counts.items) }
+{
+    let mut mouth = mouth;
+    let mut feeders = feeders;
+    let all_feeders = feeders.as_mut_slice();
+    let taking = take_items(alloc, rt, core, &mut mouth, all_feeders);
+    let done = close_flows(alloc, taking, all_feeders);
+    let feeders = close_feeders(rt, feeders, closed);
+    AssembledAll {
+        mouth,
+        feeders,
+        done,
+    }
+}
+
+/// Takes until all senders have ended, and offers the frames that each flow gives to its feeder.
+/// Nothing where an allocation failed; what comes after that is dropped.
+fn take_items<C: HeaderCheck + Drop, R: Wait>(
+    alloc: Global,
+    rt: &R,
+    core: Core<C>,
+    mouth: &mut Mouth<Event>,
+    feeders: &mut [Feeder],
+) -> Option<Taking<C>>
+    requires taking { IsTaking C.accepts core }
+    requires flows { length core.flows.items ≡ length feeders.old }
+    ensures places { places mouth.new ≡ places mouth.old }
+    ensures ended { (sender : ℕ) → sender < senders → ended mouth.new sender ≡ true }
+    ensures rings { map feeder_ring feeders.new ≡ map feeder_ring feeders.old }
+    ensures so_far { IfSome result (λ made. HasAssembledSoFar C.accepts core feeders.old
+        (taken mouth.old) (taken mouth.new) feeders.new made) }
+{
+    let mut taking = Some(Taking {
+        core,
+        order: Vec::new(alloc),
+    });
+    for _ in rt.forever() {
+        if mouth.all_ended() {
+            break;
+        }
+        match mouth.next(rt) {
+            Taken::Item { from, item } => {
+                taking = with_item(alloc, taking, feeders, from, item);
+            }
+            Taken::End { .. } => {}
+            Taken::Empty => {
+                flush_all(feeders);
+                thread::yield_now();
+            }
+        }
+    }
+    taking
+}
+
+/// With one item more, whose flow's frames were offered. Nothing where there was nothing, or where
+/// an allocation failed.
+fn with_item<C: HeaderCheck + Drop>(
+    alloc: Global,
+    taking: Option<Taking<C>>,
+    feeders: &mut [Feeder],
+    from: u8,
+    item: Event,
+) -> Option<Taking<C>>
+    requires taking { IfSome taking (λ t. IsTaking C.accepts t.core) }
+    requires flows { IfSome taking (λ t. length t.core.flows.items ≡ length feeders.old) }
+    ensures rings { map feeder_ring feeders.new ≡ map feeder_ring feeders.old }
+    ensures order { IfSome result (λ now. (was : _) × (taking ≡ Some was)
+        × (now.order.items ≡ was.order.items ++ from ∷ [])
+        × OffersItem C.accepts was.core feeders.old item now.core feeders.new) }
+{
+    let Taking {
+        mut core,
+        mut order,
+    } = taking?;
+    order.push(from).ok()?;
+    offer_item(alloc, &mut core, feeders, item).ok()?;
+    Some(Taking { core, order })
+}
+
+/// Takes an item that a flow can take, and offers the frames that the flow then gives. Any other is
+/// passed over.
+fn offer_item<C: HeaderCheck + Drop>(
+    alloc: Global,
+    core: &mut Core<C>,
+    feeders: &mut [Feeder],
+    item: Event,
+) -> Result<(), AllocError>
+    requires taking { IsTaking C.accepts core.old }
+    requires flows { length core.old.flows.items ≡ length feeders.old }
+    ensures rings { map feeder_ring feeders.new ≡ map feeder_ring feeders.old }
+    ensures offers { OnOk result
+        (OffersItem C.accepts core.old feeders.old item core.new feeders.new) }
+{
+    if !is_item(&item, core.flow_count()) {
+        return Ok(());
+    }
+    let flow = item.flow();
+    let mut frames = Vec::new(alloc);
+    take_item(alloc, core, item, &mut frames)?;
+    offer_all(&mut feeders[flow], frames)
+}
+
+/// Whether one of so many flows can take the item. All items that are posted are such.
+fn is_item(item: &Event, flow_count: usize) -> bool
+    ensures { IsTrue result ↔ IsItem flow_count item.now }
+{
+    item.flow() < flow_count
+        && match item {
+            Event::Arrive { segment, .. } => ready(segment),
+            Event::Gap { .. } => true,
+            Event::GapTo { number, .. } => *number < 8192,
+        }
+}
+
+/// Offers frames to a feeder, in order.
+fn offer_all(feeder: &mut Feeder, frames: Vec<Bytes>) -> Result<(), AllocError>
+    ensures ring { feeder_ring feeder.new ≡ feeder_ring feeder.old }
+    ensures offered { OnOk result (offered feeder.new ≡ offered feeder.old ++ frames.items) }
+{
+    for frame in frames {
+        let Ok(()) = feeder.offer(frame.into_vec()) else {
+            return Err(AllocError);
+        };
+    }
+    Ok(())
+}
+
+/// Moves what the backlogs hold into the rings for as long as they have room.
+fn flush_all(feeders: &mut [Feeder])
+    ensures rings { map feeder_ring feeders.new ≡ map feeder_ring feeders.old }
+    ensures offered { map offered feeders.new ≡ map offered feeders.old }
+{
+    for feeder in feeders.iter_mut() {
+        feeder.flush();
+    }
+}
+
+/// Closes all flows, and offers the frames that this gives. Answers the order of the items and what
+/// was counted of each flow.
+fn close_flows<C: HeaderCheck + Drop>(
+    alloc: Global,
+    taking: Option<Taking<C>>,
+    feeders: &mut [Feeder],
+) -> Option<Assembled>
+    requires taking { IfSome taking (λ t. IsTaking C.accepts t.core) }
+    requires flows { IfSome taking (λ t. length t.core.flows.items ≡ length feeders.old) }
+    ensures rings { map feeder_ring feeders.new ≡ map feeder_ring feeders.old }
+    ensures counts { IfSome result (λ done. length done.counts.items ≡ length feeders.old) }
+    ensures closed { IfSome result (λ done. (was : _) × (taking ≡ Some was)
+        × (done.order ≡ was.order)
+        × OffersTheRest C.accepts was.core feeders.old feeders.new done.counts.items) }
+{
+    let Taking { mut core, order } = taking?;
+    let counts = offer_the_rest(alloc, &mut core, feeders).ok()?;
+    Some(Assembled { order, counts })
+}
+
+/// Closes all flows, offers the frames that each then gives, and answers what was counted of each.
+fn offer_the_rest<C: HeaderCheck + Drop>(
+    alloc: Global,
+    core: &mut Core<C>,
+    feeders: &mut [Feeder],
+) -> Result<Vec<FlowCounts>, AllocError>
+    requires taking { IsTaking C.accepts core.old }
+    requires flows { length core.old.flows.items ≡ length feeders.old }
+    ensures rings { map feeder_ring feeders.new ≡ map feeder_ring feeders.old }
+    ensures counts { IfOk result (λ counts. length counts.items ≡ length feeders.old) }
+    ensures offers { IfOk result (λ counts.
+        OffersTheRest C.accepts core.old feeders.old feeders.new counts.items) }
+{
+    let mut counts = Vec::with_capacity(alloc, feeders.len())?;
+    for flow in 0..feeders.len() {
+        let count = offer_rest(alloc, core, flow, &mut feeders[flow])?;
+        counts.push_reserved(count);
+    }
+    Ok(counts)
+}
+
+/// Closes a drained flow, offers the frames that it then gives, and answers what was counted of it.
+fn offer_rest<C: HeaderCheck + Drop>(
+    alloc: Global,
+    core: &mut Core<C>,
+    flow: usize,
+    feeder: &mut Feeder,
+) -> Result<FlowCounts, AllocError>
+    requires running { IsRunning C.accepts core.old flow }
+    requires drained { IsDrainedAt core.old flow }
+    ensures ring { feeder_ring feeder.new ≡ feeder_ring feeder.old }
+    ensures gives { IfOk result (λ counts. GivesTheRest C.accepts core.old flow
+        (offered feeder.old) (offered feeder.new) counts) }
+    ensures others { OthersStay core.old core.new flow }
+{
+    let mut frames = Vec::new(alloc);
+    let counts = close_flow(alloc, core, flow, &mut frames)?;
+    offer_all(feeder, frames)?;
+    Ok(counts)
+}
+
+/// Closes all feeders, and waits for each until it has room for its end mark.
+fn close_feeders<R: Wait>(
+    rt: &R,
+    feeders: Vec<Feeder>,
+    closed: Vec<ClosedFeeder>,
+) -> Vec<ClosedFeeder>
+    requires room { (closed.items ≡ []) × (length feeders.items ≤ closed.cap) }
+    ensures rings { map closed_ring result.items ≡ map feeder_ring feeders.items }
+    ensures offered { map closed_offered result.items ≡ map offered feeders.items }
+{
+    let mut closed = closed;
+    for feeder in feeders {
+        closed.push_reserved(wait_to_close(rt, feeder));
+    }
+    closed
+}
+
+/// Closes a feeder, and tries again until it is closed.
+fn wait_to_close<R: Wait>(rt: &R, feeder: Feeder) -> ClosedFeeder
+    ensures ring { closed_ring result ≡ feeder_ring feeder }
+    ensures offered { closed_offered result ≡ offered feeder }
+{
+    let mut feeder = feeder;
+    for _ in rt.forever() {
+        match feeder.close() {
+            Ok(closed) => return closed,
+            Err(back) => feeder = back,
+        }
+        thread::yield_now();
+    }
+    unreachable!()
 }

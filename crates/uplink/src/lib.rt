@@ -1,56 +1,44 @@
-//! The upstream receiver: lanes, and all channels on one thread or on eight.
+//! The receiver on threads, and all that it stands on: an upstream of four channels.
 //!
-//! [`Lane`] takes the grants and bursts of one channel, one after another, and admits the segments
-//! of those bursts that fit their grants, each with the request in its header. The contract of
-//! [`Lane::take`] says which whole list of inputs and answers a lane stands for.
-//!
-//! [`replay`] plays recorded inputs of four channels and decisions in an order that is handed in,
-//! and gives what each flow and each lane gave: its contract is the one-thread answer of the
-//! definitions. [`admitted_order`] makes that order from the senders of all inputs and decisions,
-//! and [`check_order`] checks one. [`laws`] says what follows from the definitions, such as that
-//! each input has one answer and each replay one outcome.
-//!
-//! [`run`] receives what four sources and decisions give, on threads. Its clause `headline` is the
-//! sentence that the whole project serves, at the end of a run; what was taken earlier is a law,
+//! [`run`] receives what four [`Source`]s and [`Decisions`] give: four lane workers, one for the
+//! decisions, one that takes requests for the scheduler and one that takes frames for the
+//! consumers, beside the caller, which is the assembler. Its clause `headline` is the sentence that
+//! the whole project serves, at the end of a run; what was taken earlier is a law,
 //! [`consumers_take_the_delivery_sequence`](laws::consumers_take_the_delivery_sequence).
+//!
+//! The calls, in the order of use:
+//!
+//! 1. A [`Setup`] says which flows and service identifiers there are; [`Sources`] and [`Taps`] are
+//!    what comes in and who looks on.
+//! 2. [`run`] gives the [`Outcome`], or says why there is none ([`RunFault`]).
+//!
+//! `receive` in the crate `uses` is a caller that is proved from this contract alone. The lanes of
+//! the crate `lane` and the receiver on one thread of the crate `receiver` are re-exported:
+//! [`Lane`], [`replay`], [`admitted_order`] and their types.
 #![tactic(auto)]
 
-mod admitted;
-mod answering;
 mod assembler;
-mod done;
-mod grant;
-mod input;
-mod lane;
+mod decision_worker;
+mod eight_threads;
+mod finish;
+mod frame_worker;
+mod lane_worker;
 pub mod laws;
-mod merging;
-mod order;
-mod outcome;
-mod received;
-mod receiving;
-mod refusal;
-#[cfg(test)]
-mod refusals;
-mod replaying;
-mod row;
-mod running;
-mod seen;
-mod setup;
+mod open;
+mod request_worker;
+mod retry;
 mod source;
+mod start_word;
 mod tap;
-#[cfg(test)]
-mod traces;
+mod threads;
 
-pub use admitted::{Admitted, Request};
-pub use input::Input;
-pub use lane::Lane;
-pub use order::check_order;
-pub use outcome::{FlowOutcome, LaneReport, Outcome};
-pub use refusal::Refusal;
-pub use replaying::{ReplayFault, admitted_order, replay};
-pub use row::{LaneFault, SidRow};
-pub use running::{RunFault, run};
-pub use seen::SeenSids;
-pub use setup::{Decision, Lists, Setup};
+pub use eight_threads::{RunFault, run};
+pub use lane::{
+    Admitted, Answer, Input, Lane, LaneFault, LaneReport, Refusal, Request, SeenSids, SidRow,
+};
+pub use receiver::{
+    BadSetup, Decision, FlowOutcome, Lists, Outcome, ReplayFault, Setup, admitted_order,
+    check_order, replay,
+};
 pub use source::{Decisions, ListDecisions, ListSource, Source, Sources};
 pub use tap::{NoTap, Tap, Taps};

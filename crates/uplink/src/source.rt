@@ -1,11 +1,11 @@
 //! Where a running receiver's inputs and decisions come from.
 ghost use Rattle.std.specs.Prelude.{◌≡◌, ◌∷◌, [], List, MatchOption};
 ghost use Rattle.std.specs.Vec.Iter.{into_iter_items};
-ghost use Rattle.uplink.specs.declared.input.Input.{Input};
-ghost use Rattle.uplink.specs.declared.setup.Decision.{Decision};
+ghost use Rattle.lane.specs.declared.input.Input.{Input};
+ghost use Rattle.receiver.specs.declared.setup.Decision.{Decision};
 
-use crate::input::Input;
-use crate::setup::Decision;
+use lane::Input;
+use receiver::Decision;
 use std::vec::IntoIter;
 
 /// The inputs of one channel. A source is finite: once it has answered `None` it has nothing more
@@ -91,6 +91,3 @@ impl Decisions for ListDecisions {
         self.rest.next()
     }
 }
-
-#[cfg(test)]
-mod tests;

@@ -5,12 +5,12 @@ use Rattle.docsis_wire.specs.Cut.{IsLawfulCut}
 use Rattle.flow_core.specs.declared.event.Event.{Event}
 use Rattle.flow_core.specs.declared.record.FlowRecord.{FlowRecord}
 use Rattle.flow_core.specs.Near.{AreNear}
-use Rattle.uplink.specs.declared.outcome.FlowOutcome.{FlowOutcome}
-use Rattle.uplink.specs.declared.setup.Setup.{Setup}
+use Rattle.receiver.specs.declared.outcome.FlowOutcome.{FlowOutcome}
+use Rattle.receiver.specs.declared.setup.Setup.{Setup}
 use Rattle.uplink.specs.Headline.{TookTheDeliverySequence}
-use Rattle.uplink.specs.Inputs.{AnsweredInput}
-use Rattle.uplink.specs.Items.{Incoming, AreLanesOf, items_of, events_at}
-use Rattle.uplink.specs.Order.{IsMergeOf}
+use Rattle.lane.specs.Inputs.{AnsweredInput}
+use Rattle.receiver.specs.Items.{Incoming, AreLanesOf, items_of, events_at}
+use Rattle.receiver.specs.Order.{IsMergeOf}
 
 -- What was taken of each flow of a receiver. The segments that each channel admits and the decisions that name a flow came in some order. If those of a
 -- flow come near in it, and its segments are those of one lawful cut of a modem's frames, what was taken is the flow's delivery sequence: just the frames

@@ -1,7 +1,7 @@
 //! A running receiver: which of a modem's frames the consumer of each flow took.
 ghost use Rattle.std.specs.Prelude.{◌∷◌, [], IfOk, IfErr};
-ghost use Rattle.uplink.specs.Answer.{IsRunFault};
-ghost use Rattle.uplink.specs.Items.{incoming_from};
+ghost use Rattle.uplink.specs.Faults.{IsRunFault};
+ghost use Rattle.receiver.specs.Items.{incoming_from};
 ghost use Rattle.uses.specs.Receiver.{TookOfEachFlow};
 
 use docsis_wire::HeaderCheck;

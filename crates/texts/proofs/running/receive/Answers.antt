@@ -1,6 +1,6 @@
 use Rattle.std.proofs.Common.{◌≡◌, ◌∷◌, [], ◌∙◌, length, arith}
 use Rattle.std.specs.Vec.Iter.{into_iter_items}
-use Rattle.uplink.specs.Items.{Incoming, incoming_from, inputs_on}
+use Rattle.receiver.specs.Items.{Incoming, incoming_from, inputs_on}
 use Rattle.uplink.specs.Headline.{KeepsTheHeadline}
 use Rattle.texts.specs.AnyHeader.{any_header}
 use Rattle.texts.specs.Run.{IsReceived}

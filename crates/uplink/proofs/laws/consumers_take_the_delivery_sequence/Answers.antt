@@ -1,20 +1,22 @@
-use Rattle.std.proofs.Common.{◌≡◌, ◌++◌, append_assoc, sym, subst, ap, ◌∙◌}
+use Rattle.std.proofs.Common.{◌≡◌, ◌++◌, List, [], append_assoc, sym, subst, ap, ◌∙◌}
+use Rattle.std.proofs.lemmas.List.{append-nil}
 use Rattle.std.proofs.lemmas.Option.{same_Some}
+use Rattle.delivery.specs.Feeders.{closed_offered}
 use Rattle.delivery.specs.Takers.{taken}
 use Rattle.flow_core.specs.Closing.{IsAllKept}
 use Rattle.ccf.specs.Filter.{FiltersTo}
-use Rattle.uplink.specs.Answer.{IsOutcomeOfFlow}
-use Rattle.uplink.specs.Items.{events_at, items_of}
-use Rattle.uplink.proofs.Merged.{merge-lawful}
+use Rattle.receiver.specs.Outcome.{IsOutcomeOfFlow}
+use Rattle.receiver.specs.Items.{events_at, items_of}
+use Rattle.receiver.proofs.MergedLists.{merge-lawful}
 use Rattle.uplink.proofs.laws.consumers_take_the_delivery_sequence.Goals as goal
 
 pub returns-clause-headline : goal.returns-clause-headline
 returns-clause-headline c = λ check setup incoming order outcome is.
     record {
-      answer = is;
-      lawful = merge-lawful (items_of setup incoming is.answered) order is.items is.merged;
+      intake = is.intake;
+      lawful = merge-lawful (items_of setup incoming is.intake.answered) order is.intake.items is.intake.merged;
       delivered = λ k fill flow_record flow frames chunks segments at given cut near.
-          let events = events_at k is.items in
+          let events = events_at k is.intake.items in
           let found = is.flows.each k flow_record at in
           let same : found.0 ≡ flow = same_Some found.0 flow (sym found.1 ∙ given) in
           let gave : IsOutcomeOfFlow check flow_record events flow = subst (IsOutcomeOfFlow check flow_record events) same found.2 in
@@ -35,10 +37,30 @@ returns-clause-headline c = λ check setup incoming order outcome is.
       requested = λ channel below. is.requests channel below;
     }
 
+-- what was taken is a prefix of what was offered, that of what the flow gave, that of the delivery sequence so far, and that of a later one
+taken-prefix : {X : Type 0} (later now given offered taken more ahead unoffered rest : List X) → later ≡ now ++ more → now ≡ given ++ ahead
+    → given ≡ offered ++ unoffered → offered ≡ taken ++ rest → later ≡ taken ++ (rest ++ (unoffered ++ (ahead ++ more)))
+taken-prefix later now given offered taken more ahead unoffered rest grown given_ahead offered_part whole =
+    grown ∙ ap (λ l. l ++ more) given_ahead ∙ append_assoc given ahead more
+    ∙ ap (λ l. l ++ (ahead ++ more)) (offered_part ∙ ap (λ l. l ++ unoffered) whole ∙ append_assoc taken rest unoffered)
+    ∙ append_assoc taken (rest ++ unoffered) (ahead ++ more) ∙ ap (λ l. taken ++ l) (append_assoc rest unoffered (ahead ++ more))
+
 pub returns-clause-prefix : goal.returns-clause-prefix
-returns-clause-prefix c = λ check fill flow_record frames chunks given later segments events more counts answers fates feeder taker left cut near gave offered is_left after sequence.
+returns-clause-prefix c = λ check fill flow_record frames chunks given unoffered later segments events more counts answers fates feeder taker left cut near gave part is_left after sequence.
     let now = c.outcome_of_near_events_is_the_delivery_sequence.ensures check frames chunks fill segments flow_record events gave.answers given counts gave.fates cut
     near gave gave.after in
     let grown = c.delivery_sequence_only_grows.ensures check frames chunks flow_record.first flow_record.window events more gave.answers answers gave.fates fates given
-    later cut.each gave.after after now sequence in
-    (is_left.rest ++ grown.0, grown.1 ∙ ap (λ l. l ++ grown.0) (sym offered ∙ is_left.whole) ∙ append_assoc (taken taker) is_left.rest grown.0)
+    later cut.each gave.after after now sequence in (
+      is_left.rest ++ (unoffered ++ ([] ++ grown.0)),
+      taken-prefix later given given (closed_offered feeder) (taken taker) grown.0 [] unoffered is_left.rest grown.1 (sym (append-nil given)) part is_left.whole,
+    )
+
+pub returns-clause-prefix_before_drained : goal.returns-clause-prefix_before_drained
+returns-clause-prefix_before_drained c = λ check fill flow_record frames chunks given unoffered later segments flow events more before answers y fates feeder taker left cut near stands part is_left after sequence.
+    let ahead = c.flow_gives_the_delivery_sequence.ensures.ahead check frames chunks fill segments flow_record flow events before y given stands.fates cut near stands
+    stands.after in
+    let grown = c.delivery_sequence_only_grows.ensures check frames chunks flow_record.first flow_record.window events more before answers stands.fates fates ahead.0
+    later cut.each stands.after after ahead.1 sequence in (
+      is_left.rest ++ (unoffered ++ (ahead.2.0 ++ grown.0)),
+      taken-prefix later ahead.0 given (closed_offered feeder) (taken taker) grown.0 ahead.2.0 unoffered is_left.rest grown.1 ahead.2.1 part is_left.whole,
+    )

@@ -1,0 +1,9 @@
+pub mod Order
+pub mod Items
+pub mod Intake
+pub mod Outcome
+pub mod AdmittedOrder
+pub mod Faults
+pub mod Assembly
+pub mod Received
+pub mod SameOutcome

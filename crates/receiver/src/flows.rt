@@ -1,0 +1,127 @@
+//! All flows, and the frames that each gave.
+ghost use Rattle.std.specs.Prelude.{◌≡◌, ◌++◌, ◌∷◌, [], ℕ, Bool, List, length, IfOk};
+ghost use Rattle.flow_core.specs.declared.record.FlowRecord.{FlowRecord};
+ghost use Rattle.flow_core.specs.declared.event.Event.{Event};
+ghost use Rattle.flow_core.specs.Setup.{CanBeSetUp};
+ghost use Rattle.flow_core.specs.Flows.{IsDrainedAt, OthersStay};
+ghost use Rattle.flow_core.specs.Giving.{IsRunning};
+ghost use Rattle.receiver.specs.Items.{IsItem};
+ghost use Rattle.receiver.specs.Outcome.{AreOutcomesOfFlows};
+ghost use Rattle.receiver.specs.Assembly.{IsTaking, TakesItem, GivesTheRest};
+ghost use Rattle.receiver.specs.Assembly.{HasAssembled, IsAssembling};
+
+use crate::outcome::FlowOutcome;
+use docsis_wire::{Bytes, HeaderCheck};
+use flow_core::{Core, Event, FlowCounts, FlowRecord, laws};
+use std::alloc::{AllocError, Global};
+
+/// All flows, each drained, and the frames that each has given so far.
+#[derive(Drop)]
+pub struct Assembler<C> {
+    core: Core<C>,
+    frames: Vec<Vec<Bytes>>,
+}
+
+/// Takes an item, and appends the frames that its flow then gives. Where an allocation failed
+/// nothing is promised of the flow and of the list.
+pub fn take_item<C: HeaderCheck + Drop>(
+    alloc: Global,
+    core: &mut Core<C>,
+    event: Event,
+    frames: &mut Vec<Bytes>,
+) -> Result<(), AllocError>
+    requires item { IsItem (length core.old.flows.items) event }
+    requires taking { IsTaking C.accepts core.old }
+    ensures { IfOk result (λ _.
+        TakesItem C.accepts core.old event frames.old.items core.new frames.new.items) }
+{
+    let flow = event.flow();
+    core.apply(event);
+    core.drain(alloc, flow, frames)
+}
+
+/// Closes a drained flow, appends the frames that it then gives, and answers what was counted of
+/// it. Where an allocation failed nothing is promised of the flow and of the list.
+pub fn close_flow<C: HeaderCheck + Drop>(
+    alloc: Global,
+    core: &mut Core<C>,
+    flow: usize,
+    frames: &mut Vec<Bytes>,
+) -> Result<FlowCounts, AllocError>
+    requires running { IsRunning C.accepts core.old flow }
+    requires drained { IsDrainedAt core.old flow }
+    ensures gives { IfOk result (λ counts.
+        GivesTheRest C.accepts core.old flow frames.old.items frames.new.items counts) }
+    ensures others { OthersStay core.old core.new flow }
+{
+    laws::drained_flow_has_its_outcome();
+    laws::events_have_one_outcome();
+    core.close(alloc, flow, frames)?;
+    Ok(core.counts(flow))
+}
+
+impl<C: HeaderCheck + Drop> Assembler<C> {
+    /// Flows that have taken nothing yet, for records that have no fault.
+    pub fn new(alloc: Global, records: &[FlowRecord], check: C) -> Result<Assembler<C>, AllocError>
+        requires set_up { CanBeSetUp records.now }
+        ensures { IfOk result (λ assembler.
+            HasAssembled C.accepts assembler (C.accepts check) records.now []) }
+    {
+        let mut frames = Vec::with_capacity(alloc, records.len())?;
+        for _ in records {
+            frames.push_reserved(Vec::new(alloc));
+        }
+        // The records have no fault: only an allocation can fail.
+        let Ok(core) = Core::new(alloc, records, check) else {
+            return Err(AllocError);
+        };
+        Ok(Assembler { core, frames })
+    }
+
+    /// How many flows there are.
+    pub fn flow_count(&self) -> usize
+        ensures { result ≡ length self.now.core.flows.items }
+    {
+        self.core.flow_count()
+    }
+
+    /// Takes an item, and collects the frames that its flow then gives. Where an allocation failed
+    /// nothing is promised any more.
+    pub fn take(&mut self, alloc: Global, event: Event) -> Result<(), AllocError>
+        requires item { IsItem (length self.old.core.flows.items) event }
+        requires assembling { IsAssembling C.accepts self.old }
+        ensures { IfOk result (λ _.
+            (accepted : List ℕ → Bool) (records : List FlowRecord) (items : List Event)
+            → HasAssembled C.accepts self.old accepted records items
+            → HasAssembled C.accepts self.new accepted records (items ++ event ∷ [])) }
+    {
+        let flow = event.flow();
+        take_item(alloc, &mut self.core, event, &mut self.frames[flow])
+    }
+
+    /// Closes all flows, and answers what each gave, in the order of the records.
+    pub fn finish(
+        self,
+        alloc: Global,
+        records: &[FlowRecord],
+    ) -> Result<Vec<FlowOutcome>, AllocError>
+        requires assembling { (accepted : List ℕ → Bool) × (items : List Event)
+            × HasAssembled C.accepts self accepted records.now items }
+        ensures { IfOk result (λ flows.
+            (accepted : List ℕ → Bool) (items : List Event)
+            → HasAssembled C.accepts self accepted records.now items
+            → AreOutcomesOfFlows accepted records.now items flows.items) }
+    {
+        let Assembler { mut core, frames } = self;
+        let mut flows = Vec::with_capacity(alloc, records.len())?;
+        for (record, mut frames) in records.iter().zip(frames) {
+            let counts = close_flow(alloc, &mut core, flows.len(), &mut frames)?;
+            flows.push_reserved(FlowOutcome {
+                sfid: record.sfid,
+                frames,
+                counts,
+            });
+        }
+        Ok(flows)
+    }
+}

@@ -1,0 +1,31 @@
+//! The receiver on one thread: the inputs of four channels and decisions, in an order, become what
+//! each flow gave.
+//!
+//! What a receiver is set up with is a [`Setup`]: the flows' records and the rows of service
+//! identifiers. What comes in are [`Lists`]: the inputs of each channel, and [`Decision`]s that
+//! segments are lost. What it gives is an [`Outcome`].
+//!
+//! The calls, in the order of use:
+//!
+//! 1. [`admitted_order`] makes the order of the items from the senders of all inputs and decisions;
+//!    [`check_order`] checks one.
+//! 2. [`replay`] plays recorded inputs in such an order. Its contract is the one-thread answer of
+//!    the definitions.
+//!
+//! [`take_item`] and [`close_flow`] are what each receiver does with an item and with a flow's
+//! close. [`laws`] says what follows from the definitions, such as that a replay has one outcome.
+#![tactic(auto)]
+
+mod flows;
+mod incoming;
+pub mod laws;
+mod one_thread;
+mod order;
+mod outcome;
+mod setup;
+
+pub use flows::{close_flow, take_item};
+pub use one_thread::{ReplayFault, admitted_order, replay};
+pub use order::check_order;
+pub use outcome::{FlowOutcome, Outcome};
+pub use setup::{BadSetup, Decision, Lists, Setup};

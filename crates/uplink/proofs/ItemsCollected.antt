@@ -1,0 +1,47 @@
+-- What one more item makes of what was taken of each sender.
+use Rattle.std.proofs.Common.{◌≡◌, ℕ, ◌==◌, ◌<◌, List, [], ◌∷◌, ◌++◌, length, if◌then◌else◌, refl, sym, ◌∙◌, append_assoc, append-nil, arith}
+use Rattle.std.proofs.lemmas.Bool.{cases_eq}
+use Rattle.std.proofs.lemmas.Bool.Decides.{nat_tests}
+use Rattle.std.proofs.lemmas.List.{length_push}
+use Rattle.std.proofs.lemmas.List.Elements.{All-nil, All-push}
+use Rattle.flow_core.specs.declared.event.Event.{Event}
+use Rattle.receiver.specs.Order.{picked, senders}
+use Rattle.uplink.specs.Offering.{HasCollected}
+
+-- an item at the end is picked for its own sender
+picked-push : {T : Type 0} (s t : ℕ) (order : List ℕ) (x : T) (items : List T) → length order ≡ length items
+    → picked s (order ++ t ∷ []) (items ++ x ∷ []) ≡ (if s == t then picked s order items ++ x ∷ [] else picked s order items)
+picked-push s t [] x [] same = grind (arith, nat_tests, cases_eq s t)
+picked-push s t [] x (y ∷ items) same = absurd (omega arith)
+picked-push s t (u ∷ order) x [] same = absurd (omega arith)
+picked-push s t (u ∷ order) x (y ∷ items) same =
+    let h = picked-push s t order x items (omega arith) in
+    grind (arith, nat_tests, cases_eq s t, cases_eq s u)
+
+-- nothing was taken at first
+pub none_collected : (before : ℕ → List Event) → HasCollected before before [] []
+none_collected before = record {
+  named = All-nil (λ tag. tag < senders);
+  paired = refl;
+  taken_is = λ sender. sym (append-nil (before sender));
+}
+
+module _ (before old new : ℕ → List Event) (order : List ℕ) (items : List Event) (so_far : HasCollected before old order items) where
+  -- one item was taken
+  pub one_collected : (from : ℕ) (item : Event) → from < senders
+      → ((sender : ℕ) → new sender ≡ (if sender == from then old sender ++ item ∷ [] else old sender))
+      → HasCollected before new (order ++ from ∷ []) (items ++ item ∷ [])
+  one_collected from item named takes = record {
+    named = All-push (λ tag. tag < senders) order from so_far.named named;
+    paired = omega (arith, length_push order from, length_push items item, so_far.paired);
+    taken_is = λ sender.
+        let picks = picked-push sender from order item items so_far.paired in
+        let was = so_far.taken_is sender in
+        let now = takes sender in
+        let joined = append_assoc (before sender) (picked sender order items) (item ∷ []) in
+        grind (arith, nat_tests, cases_eq sender from);
+  }
+
+  -- nothing was taken
+  pub same_collected : ((sender : ℕ) → new sender ≡ old sender) → HasCollected before new order items
+  same_collected same = record { named = so_far.named; paired = so_far.paired; taken_is = λ sender. same sender ∙ so_far.taken_is sender }

@@ -1,5 +1,0 @@
-use Rattle.uplink.proofs.OneAnswer.{one-list-of-answers}
-use Rattle.uplink.proofs.laws.lane_has_at_most_one_answer_to_each_input.Goals as goal
-
-pub returns : goal.returns
-returns c = λ setup taken others can. one-list-of-answers setup can taken others

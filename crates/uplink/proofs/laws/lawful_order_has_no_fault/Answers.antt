@@ -1,5 +1,0 @@
-use Rattle.uplink.proofs.Places.{lawful-faultless}
-use Rattle.uplink.proofs.laws.lawful_order_has_no_fault.Goals as goal
-
-pub returns : goal.returns
-returns c = λ lengths order k lawful. lawful-faultless lengths order lawful k

@@ -1,8 +1,0 @@
-use Rattle.uplink.proofs.Merged.{merge-lawful, one-merge}
-use Rattle.uplink.proofs.laws.lists_have_one_merge.Goals as goal
-
-pub returns-clause-lawful : goal.returns-clause-lawful
-returns-clause-lawful g c = merge-lawful
-
-pub returns-clause-one : goal.returns-clause-one
-returns-clause-one g c = one-merge

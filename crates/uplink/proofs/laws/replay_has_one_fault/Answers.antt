@@ -1,8 +1,0 @@
-use Rattle.uplink.proofs.OneOutcome.{one-replay_fault, one-tags_fault}
-use Rattle.uplink.proofs.laws.replay_has_one_fault.Goals as goal
-
-pub returns-clause-replay : goal.returns-clause-replay
-returns-clause-replay c = one-replay_fault
-
-pub returns-clause-tags : goal.returns-clause-tags
-returns-clause-tags c = one-tags_fault

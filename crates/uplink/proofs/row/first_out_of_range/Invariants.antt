@@ -1,7 +1,0 @@
--- No row so far is out of range.
-use Rattle.std.proofs.Common.{ℕ, ◌<◌}
-use Rattle.uplink.specs.Rows.{IsOutOfRange}
-use Rattle.uplink.proofs.row.first_out_of_range.Given as goal
-
-abbrev pub invariant-loop-k : goal.invariant-loop-k
-invariant-loop-k l = (j : ℕ) → j < l.k → ¬ (IsOutOfRange l.rows j)

@@ -1,6 +1,0 @@
--- What was taken before is what was there.
-use Rattle.std.proofs.Common.{rules}
-use Rattle.uplink.proofs.running.assembling.close_flows.Goals as goal
-
-pub returns-clause-closed : goal.returns-clause-closed
-returns-clause-closed g c = (c.in_ok-core.field-0, c.in_ok-core.was, search rules, search rules)

@@ -1,0 +1,27 @@
+-- Which setups are run, and why one isn't.
+use Rattle.std.specs.Prelude.{◌≡◌, ◌<◌, length}
+use Rattle.flow_core.specs.Setup.{CanBeSetUp, IsSetupFault}
+use Rattle.lane.specs.Rows.{IsLaneFault}
+use Rattle.receiver.specs.declared.setup.Setup.{Setup}
+use Rattle.receiver.specs.declared.setup.BadSetup.{BadSetup}
+use Rattle.receiver.specs.declared.setup.BadSetup.TheVariants.{Flows, Rows}
+use Rattle.receiver.specs.Faults.{CanReceive}
+use Rattle.uplink.specs.declared.eight_threads.RunFault.{RunFault}
+use Rattle.uplink.specs.declared.eight_threads.RunFault.TheVariants as run_fault
+
+-- a setup that can be run: it has no fault, and its mailboxes have room for an entry
+pub record CanRun (setup : Setup) : Type 0 where
+  pub can_receive : CanReceive setup
+  pub capacity : 0 < setup.mailbox
+
+-- why this setup isn't run: each fault comes only where those before it don't apply
+abbrev pub IsRunFault : Setup → RunFault → Type 0
+IsRunFault setup (run_fault.Setup fault) = IsSetupFault setup.flows.items fault
+IsRunFault setup (run_fault.Lane fault) = CanBeSetUp setup.flows.items × IsLaneFault setup.sids.items (length setup.flows.items) fault
+IsRunFault setup run_fault.NoCapacity = CanReceive setup × (setup.mailbox ≡ 0)
+IsRunFault setup run_fault.OutOfMemory = CanRun setup
+
+-- why a setup can't be used, as a reason why it isn't run
+abbrev pub run_fault_of : BadSetup → RunFault
+run_fault_of (Flows fault) = run_fault.Setup fault
+run_fault_of (Rows fault) = run_fault.Lane fault

@@ -1,0 +1,205 @@
+//! A receiver on threads: seven workers beside its caller.
+//!
+//! Four lane workers, one for each channel, and one for the decisions post into the arrivals
+//! mailbox, from which the caller, the assembler, takes. Lane workers post requests into a second
+//! mailbox, from which the scheduler's worker takes. The assembler offers frames to a ring for each
+//! flow, from which the consumers' worker takes.
+ghost use Rattle.std.specs.Prelude.{◌≡◌, ◌↔◌, ◌∷◌, [], IfOk, IfErr, Ok};
+ghost use Rattle.uplink.specs.Faults.{CanRun, IsRunFault};
+ghost use Rattle.uplink.specs.Headline.{KeepsTheHeadline};
+ghost use Rattle.receiver.specs.Items.{incoming_from};
+ghost use Rattle.receiver.specs.Outcome.{IsOutcome};
+ghost use Rattle.uplink.specs.Running.{CanStart, HasEnded};
+
+use crate::assembler::{AssembledAll, assemble};
+use crate::decision_worker::DecidingWork;
+use crate::finish::{Ended, conclude};
+use crate::lane_worker::LaneWork;
+use crate::open::{Opened, open_all};
+use crate::retry::close_port;
+use crate::source::{Decisions, Source, Sources};
+use crate::tap::{Tap, Taps};
+use crate::threads::{Work, start_team};
+use docsis_wire::{Bytes, HeaderCheck};
+use flow_core::SetupFault;
+use lane::{LaneFault, Request};
+use receiver::{BadSetup, Outcome, Setup};
+use std::alloc::{AllocError, Global};
+use std::sync::Wait;
+use std::thread::Threads;
+use thiserror::Error;
+
+/// Why a receiver doesn't run. The first of these is reported.
+#[derive(Clone, Copy, Debug, PartialEq, Eq, Error)]
+pub enum RunFault {
+    /// The flows can't be set up. It is never `SetupFault::OutOfMemory`.
+    #[error(transparent)]
+    Setup(SetupFault),
+    /// The lanes can't be opened. It is never `LaneFault::OutOfMemory`.
+    #[error(transparent)]
+    Lane(LaneFault),
+    /// The mailboxes have no room: their capacity is 0.
+    #[error("a mailbox needs room for an entry")]
+    NoCapacity,
+    /// An allocation failed, or a thread could not be started.
+    #[error("out of memory")]
+    OutOfMemory,
+}
+
+impl From<AllocError> for RunFault {
+    ghost use Rattle.std.specs.Prelude.{◌≡◌};
+    ghost use Rattle.uplink.specs.declared.eight_threads.RunFault.TheVariants.{OutOfMemory};
+
+    ghost from_gives = { λ _ fault. fault ≡ OutOfMemory };
+
+    fn from(_: AllocError) -> RunFault {
+        RunFault::OutOfMemory
+    }
+}
+
+impl From<BadSetup> for RunFault {
+    ghost use Rattle.std.specs.Prelude.{◌≡◌};
+    ghost use Rattle.uplink.specs.Faults.{run_fault_of};
+
+    ghost from_gives = { λ bad fault. fault ≡ run_fault_of bad };
+
+    fn from(bad: BadSetup) -> RunFault {
+        match bad {
+            BadSetup::Flows(fault) => RunFault::Setup(fault),
+            BadSetup::Rows(fault) => RunFault::Lane(fault),
+        }
+    }
+}
+
+/// Looks for the first fault of a setup that is to be run. It takes no memory.
+fn check_setup(setup: &Setup) -> Result<(), RunFault>
+    ensures ok { (result ≡ Ok tt) ↔ CanRun setup.now }
+    ensures fault { IfErr result (IsRunFault setup.now) }
+{
+    setup.check()?;
+    if setup.mailbox == 0 {
+        return Err(RunFault::NoCapacity);
+    }
+    Ok(())
+}
+
+/// Runs a receiver on seven threads beside the caller's, until all sources and decisions are used
+/// up, and then closes each flow. It takes the items of the four channels and the decisions that
+/// name a flow in the order in which they come, which the outcome states.
+///
+/// **The headline is its contract** (`headline`): that order is a lawful one, the requests of each
+/// channel are those of its admitted segments, each once and in order, and what each flow's
+/// consumer took is the flow's whole delivery sequence, if the flow's segments are those of one
+/// lawful cut of a modem's frames and its events are near.
+///
+/// `Setup` and `Lane`: the first fault of the setup. `NoCapacity`: it has none, and the capacity of
+/// the mailboxes is 0. `OutOfMemory`: an allocation failed, in whichever thread, or a thread could
+/// not be started. Before all threads are started no source is asked. Later the worker of a channel
+/// whose allocation failed asks its source for nothing more, all others go on to their end, and
+/// nothing of the outcome is given. What is handed in doesn't come back, on any answer. The check is
+/// used by the caller's thread alone. The call waits for its threads, and they for the sources: it
+/// returns only if these end.
+pub fn run<S0, S1, S2, S3, D, F, Q, C, R>(
+    alloc: Global,
+    rt: R,
+    setup: Setup,
+    sources: Sources<S0, S1, S2, S3>,
+    decisions: D,
+    taps: Taps<F, Q>,
+    check: C,
+) -> Result<Outcome, RunFault>
+where
+    S0: Source + Drop + Send + 'static,
+    S1: Source + Drop + Send + 'static,
+    S2: Source + Drop + Send + 'static,
+    S3: Source + Drop + Send + 'static,
+    D: Decisions + Drop + Send + 'static,
+    F: Tap<Bytes> + Drop + Send + 'static,
+    Q: Tap<Request> + Drop + Send + 'static,
+    C: HeaderCheck + Drop,
+    R: Threads + Wait + Copy + Send + 'static,
+    ensures headline { IfOk result (λ outcome. KeepsTheHeadline (C.accepts check) setup
+        (incoming_from (S0.gives sources.s0 ∷ S1.gives sources.s1 ∷ S2.gives sources.s2
+        ∷ S3.gives sources.s3 ∷ []) (D.decides decisions))
+        outcome.order.items outcome) }
+    ensures answer { IfOk result (λ outcome. IsOutcome (C.accepts check) setup
+        (incoming_from (S0.gives sources.s0 ∷ S1.gives sources.s1 ∷ S2.gives sources.s2
+        ∷ S3.gives sources.s3 ∷ []) (D.decides decisions))
+        outcome.order.items outcome) }
+    ensures can_run { IfOk result (λ _. CanRun setup) }
+    ensures fault { IfErr result (IsRunFault setup) }
+{
+    crate::laws::consumers_take_the_delivery_sequence();
+    check_setup(&setup)?;
+    let opened = open_all(alloc, &setup, check)?;
+    let flow_count = setup.flows.len();
+    let end = run_opened(alloc, &rt, flow_count, opened, sources, decisions, taps)?;
+    Ok(conclude(alloc, &rt, &setup.flows, end)?)
+}
+
+/// Runs what was opened until all threads have returned.
+fn run_opened<S0, S1, S2, S3, D, F, Q, C, R>(
+    alloc: Global,
+    rt: &R,
+    flow_count: usize,
+    opened: Opened<C>,
+    sources: Sources<S0, S1, S2, S3>,
+    decisions: D,
+    taps: Taps<F, Q>,
+) -> Result<Ended, AllocError>
+where
+    S0: Source + Drop + Send + 'static,
+    S1: Source + Drop + Send + 'static,
+    S2: Source + Drop + Send + 'static,
+    S3: Source + Drop + Send + 'static,
+    D: Decisions + Drop + Send + 'static,
+    F: Tap<Bytes> + Drop + Send + 'static,
+    Q: Tap<Request> + Drop + Send + 'static,
+    C: HeaderCheck + Drop,
+    R: Threads + Wait + Copy + Send + 'static,
+    requires opened { CanStart C.accepts opened }
+    ensures { IfOk result (HasEnded C.accepts flow_count
+        (incoming_from (S0.gives sources.s0 ∷ S1.gives sources.s1 ∷ S2.gives sources.s2
+        ∷ S3.gives sources.s3 ∷ []) (D.decides decisions)) opened) }
+{
+    let Opened {
+        lanes,
+        core,
+        rings,
+        closed,
+        arrivals,
+        requests,
+    } = opened;
+    let unused_port = close_port(rt, requests.ports.p4);
+    let work = Work {
+        l0: LaneWork::new(lanes.l0, arrivals.ports.p0, requests.ports.p0, sources.s0),
+        l1: LaneWork::new(lanes.l1, arrivals.ports.p1, requests.ports.p1, sources.s1),
+        l2: LaneWork::new(lanes.l2, arrivals.ports.p2, requests.ports.p2, sources.s2),
+        l3: LaneWork::new(lanes.l3, arrivals.ports.p3, requests.ports.p3, sources.s3),
+        decisions: DecidingWork {
+            flow_count,
+            arrivals: arrivals.ports.p4,
+            decisions,
+        },
+        requests: requests.mouth,
+        takers: rings.takers,
+        taps,
+    };
+    let team = start_team(alloc, rt, work)?;
+    let AssembledAll {
+        mouth,
+        feeders,
+        done: assembled,
+    } = assemble(alloc, rt, core, arrivals.mouth, rings.feeders, closed);
+    let done = team.join(rt);
+    let (Some(done), Some(assembled)) = (done, assembled) else {
+        return Err(AllocError);
+    };
+    Ok(Ended {
+        done,
+        unused_port,
+        mouth,
+        feeders,
+        assembled,
+    })
+}

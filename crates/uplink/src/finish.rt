@@ -1,0 +1,109 @@
+//! What a run gave, once all threads have returned.
+ghost use Rattle.std.specs.Prelude.{◌≡◌, ℕ, true, Some, All, IfOk, length, map, slice_get};
+ghost use Rattle.delivery.specs.Feeders.{closed_ring, closed_offered};
+ghost use Rattle.delivery.specs.Takers.{taker_ring, taken, is_closed};
+ghost use Rattle.delivery.specs.declared.feeder.ClosedFeeder.{ClosedFeeder};
+ghost use Rattle.uplink.specs.declared.frame_worker.Consumed.{Consumed};
+ghost use Rattle.uplink.specs.Running.{CanSettle, HasConcluded, AreFlowsOf};
+
+use crate::assembler::Assembled;
+use crate::frame_worker::Consumed;
+use crate::threads::Done;
+use delivery::{ClosedFeeder, settle as settle_ring};
+use flow_core::{Event, FlowCounts, FlowRecord};
+use lane::Request;
+use mailbox::{ClosedPort, ClosedPorts, Mouth, settle};
+use receiver::{FlowOutcome, Outcome};
+use std::alloc::{AllocError, Global};
+use std::sync::Wait;
+
+/// What all threads handed on, in none of which an allocation failed.
+#[derive(Drop)]
+pub struct Ended {
+    pub done: Done,
+    /// The fifth port of the requests, which posted nothing.
+    pub unused_port: ClosedPort<Request>,
+    pub mouth: Mouth<Event>,
+    pub feeders: Vec<ClosedFeeder>,
+    pub assembled: Assembled,
+}
+
+/// The outcome. Both mailboxes and all rings are settled, and nothing is left in them.
+pub fn conclude<R: Wait>(
+    alloc: Global,
+    rt: &R,
+    records: &[FlowRecord],
+    end: Ended,
+) -> Result<Outcome, AllocError>
+    requires { CanSettle (length records.now) end }
+    ensures { IfOk result (HasConcluded records.now end) }
+{
+    let done = end.done;
+    let (l0, l1, l2, l3) = (done.l0, done.l1, done.l2, done.l3);
+    let (scheduled, assembled) = (done.scheduled, end.assembled);
+    let arrivals = ClosedPorts {
+        p0: l0.arrivals,
+        p1: l1.arrivals,
+        p2: l2.arrivals,
+        p3: l3.arrivals,
+        p4: done.decided,
+    };
+    let requests = ClosedPorts {
+        p0: l0.requests,
+        p1: l1.requests,
+        p2: l2.requests,
+        p3: l3.requests,
+        p4: end.unused_port,
+    };
+    let mut feeders = end.feeders;
+    let mut consumed = done.consumed;
+    settle(rt, arrivals, end.mouth);
+    settle(rt, requests, scheduled.mouth);
+    settle_rings(&mut feeders, &mut consumed);
+    Ok(Outcome {
+        flows: flows_of(alloc, records, consumed, &assembled.counts)?,
+        requests: scheduled.requests,
+        lanes: [l0.report, l1.report, l2.report, l3.report],
+        order: assembled.order,
+    })
+}
+
+/// Settles the ring of each flow.
+fn settle_rings(feeders: &mut [ClosedFeeder], consumed: &mut [Consumed])
+    requires rings { map closed_ring feeders.old
+        ≡ map (λ one. taker_ring one.taker) consumed.old }
+    requires closed { All (λ one. is_closed one.taker ≡ true) consumed.old }
+    ensures taken { (k : ℕ) (feeder : ClosedFeeder) (one : Consumed)
+        → slice_get feeders.old k ≡ Some feeder → slice_get consumed.old k ≡ Some one
+        → taken one.taker ≡ closed_offered feeder }
+    ensures frames { map (λ one. one.frames) consumed.new
+        ≡ map (λ one. one.frames) consumed.old }
+{
+    for k in 0..feeders.len() {
+        settle_ring(&mut feeders[k], &mut consumed[k].taker);
+    }
+}
+
+/// What each flow gave: the frames that its consumer took, and its counts.
+fn flows_of(
+    alloc: Global,
+    records: &[FlowRecord],
+    consumed: Vec<Consumed>,
+    counts: &[FlowCounts],
+) -> Result<Vec<FlowOutcome>, AllocError>
+    requires consumers { length consumed.items ≡ length records.now }
+    requires counts { length counts.now ≡ length records.now }
+    ensures { IfOk result (λ flows. AreFlowsOf records.now
+        (map (λ one. one.frames) consumed.items) counts.now flows.items) }
+{
+    let mut flows = Vec::with_capacity(alloc, records.len())?;
+    for one in consumed {
+        let k = flows.len();
+        flows.push_reserved(FlowOutcome {
+            sfid: records[k].sfid,
+            frames: one.frames,
+            counts: counts[k],
+        });
+    }
+    Ok(flows)
+}

@@ -1,0 +1,108 @@
+//! What a receiver needs before its workers start.
+ghost use Rattle.std.specs.Prelude.{IfOk, length};
+ghost use Rattle.receiver.specs.Faults.{CanReceive};
+ghost use Rattle.uplink.specs.Running.{AreOpenLanes, AreOpenRings, IsOpenMailbox, IsOpened};
+
+use delivery::{ClosedFeeder, Feeder, Taker, ring};
+use docsis_wire::HeaderCheck;
+use flow_core::{Core, Event, FlowRecord};
+use lane::{Lane, Request};
+use mailbox::{Mouth, Ports, open};
+use receiver::Setup;
+use std::alloc::{AllocError, Global};
+
+/// The lanes of the four channels.
+#[derive(Drop)]
+pub struct Lanes {
+    pub l0: Lane,
+    pub l1: Lane,
+    pub l2: Lane,
+    pub l3: Lane,
+}
+
+/// The two ends of the ring of each flow, in their order.
+#[derive(Drop)]
+pub struct Rings {
+    pub feeders: Vec<Feeder>,
+    pub takers: Vec<Taker>,
+}
+
+/// The five ports of a mailbox, and its mouth.
+#[derive(Drop)]
+pub struct OpenMailbox<T> {
+    pub ports: Ports<T>,
+    pub mouth: Mouth<T>,
+}
+
+/// What a receiver needs before its workers start. `closed` has room for a closed feeder of each
+/// flow.
+#[derive(Drop)]
+pub struct Opened<C> {
+    pub lanes: Lanes,
+    pub core: Core<C>,
+    pub rings: Rings,
+    pub closed: Vec<ClosedFeeder>,
+    pub arrivals: OpenMailbox<Event>,
+    pub requests: OpenMailbox<Request>,
+}
+
+/// Opens all that a receiver needs, for a setup without a fault and a capacity above 0.
+pub fn open_all<C: HeaderCheck + Drop>(
+    alloc: Global,
+    setup: &Setup,
+    check: C,
+) -> Result<Opened<C>, AllocError>
+    requires { CanReceive setup.now }
+    ensures { IfOk result (IsOpened C.accepts (C.accepts check) setup.now) }
+{
+    let Ok(core) = Core::new(alloc, &setup.flows, check) else {
+        return Err(AllocError);
+    };
+    Ok(Opened {
+        lanes: open_lanes(alloc, setup)?,
+        core,
+        rings: open_rings(alloc, &setup.flows)?,
+        closed: Vec::with_capacity(alloc, setup.flows.len())?,
+        arrivals: open_mailbox(alloc, setup.mailbox)?,
+        requests: open_mailbox(alloc, setup.mailbox)?,
+    })
+}
+
+/// The four lanes, with nothing outstanding.
+fn open_lanes(alloc: Global, setup: &Setup) -> Result<Lanes, AllocError>
+    requires { CanReceive setup.now }
+    ensures { IfOk result (AreOpenLanes setup.now) }
+{
+    Ok(Lanes {
+        l0: Lane::open(alloc, 0, &setup.sids, &setup.flows)?,
+        l1: Lane::open(alloc, 1, &setup.sids, &setup.flows)?,
+        l2: Lane::open(alloc, 2, &setup.sids, &setup.flows)?,
+        l3: Lane::open(alloc, 3, &setup.sids, &setup.flows)?,
+    })
+}
+
+/// A ring for each flow.
+fn open_rings(alloc: Global, flows: &[FlowRecord]) -> Result<Rings, AllocError>
+    ensures { IfOk result (AreOpenRings (length flows.now)) }
+{
+    let mut feeders = Vec::with_capacity(alloc, flows.len())?;
+    let mut takers = Vec::with_capacity(alloc, flows.len())?;
+    for flow in flows {
+        let Ok((feeder, taker)) = ring(alloc, flow.ring) else {
+            return Err(AllocError);
+        };
+        feeders.push_reserved(feeder);
+        takers.push_reserved(taker);
+    }
+    Ok(Rings { feeders, takers })
+}
+
+/// A mailbox into which nothing was posted.
+fn open_mailbox<T: Drop>(alloc: Global, capacity: u16) -> Result<OpenMailbox<T>, AllocError>
+    ensures { IfOk result IsOpenMailbox }
+{
+    let Ok((ports, mouth)) = open(alloc, capacity) else {
+        return Err(AllocError);
+    };
+    Ok(OpenMailbox { ports, mouth })
+}

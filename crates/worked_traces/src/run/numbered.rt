@@ -1,0 +1,97 @@
+//! Segments with a frame each, every fourth of which comes on one channel.
+use crate::traces::{FLOW, NO_COUNTS, push_segment, senders_of, setup_of};
+use flow_core::{FlowCounts, FlowRecord};
+use std::alloc::{AllocError, Global};
+use std::process::Abort;
+use uplink::{Input, Lists, Outcome, Setup, SidRow};
+
+/// The service identifier of a channel is one more than its index.
+const FOUR_ROWS: [SidRow; 4] = [
+    SidRow {
+        channel: 0,
+        sid: 1,
+        flow: 0,
+    },
+    SidRow {
+        channel: 1,
+        sid: 2,
+        flow: 0,
+    },
+    SidRow {
+        channel: 2,
+        sid: 3,
+        flow: 0,
+    },
+    SidRow {
+        channel: 3,
+        sid: 4,
+        flow: 0,
+    },
+];
+
+/// A setup of one flow with this window on four channels. Its ring and its mailboxes have room for
+/// one entry.
+pub fn narrow(alloc: Global, window: u16) -> Result<Setup, AllocError> {
+    let flow = FlowRecord { window, ..FLOW };
+    let mut setup = setup_of(alloc, &[flow], &FOUR_ROWS)?;
+    setup.mailbox = 1;
+    Ok(setup)
+}
+
+/// The frame of a segment.
+fn frame_of(number: u16) -> [u8; 7] {
+    let [_, low] = number.to_be_bytes();
+    [0, 0, 0, 1, 0x11, 0x11, low]
+}
+
+/// A segment that holds its whole frame.
+fn segment_of(number: u16) -> [u8; 15] {
+    let [high, low] = (number << 3).to_be_bytes();
+    let [f0, f1, f2, f3, f4, f5, f6] = frame_of(number);
+    [0x80, 0, high, low, 0, 0, 0, 0, f0, f1, f2, f3, f4, f5, f6]
+}
+
+/// The first segment of a channel and every fourth behind it, each in a grant of its size.
+fn inputs_of(alloc: Global, sid: u16, first: u16, all: u16) -> Result<Vec<Input>, AllocError> {
+    let mut inputs = Vec::new(alloc);
+    for number in (first..all).step_by(4) {
+        let grant = u32::from(number);
+        push_segment(alloc, &mut inputs, grant, sid, &segment_of(number))?;
+    }
+    Ok(inputs)
+}
+
+/// So many segments, a fourth of them on each channel.
+pub fn lists(alloc: Global, all: u16) -> Result<Lists, AllocError> {
+    Ok(Lists {
+        inputs: [
+            inputs_of(alloc, 1, 0, all)?,
+            inputs_of(alloc, 2, 1, all)?,
+            inputs_of(alloc, 3, 2, all)?,
+            inputs_of(alloc, 4, 3, all)?,
+        ],
+        decisions: Vec::new(alloc),
+    })
+}
+
+/// All frames came in the order of their numbers, whatever the order of the segments.
+pub fn expect_all(rt: &impl Abort, outcome: &Outcome, all: u16) {
+    assert_eq!(rt; outcome.flows.len(), 1);
+    let flow = &outcome.flows[0];
+    assert_eq!(rt; flow.frames.len(), usize::from(all));
+    for (number, frame) in (0..all).zip(&flow.frames) {
+        assert_eq!(rt; frame.as_slice(), frame_of(number).as_slice());
+    }
+    let count = u64::from(all);
+    assert_eq!(rt;
+        flow.counts,
+        FlowCounts {
+            kept: count,
+            frames: count,
+            ..NO_COUNTS
+        }
+    );
+    let each = usize::from(all / 4);
+    assert_eq!(rt; outcome.order.len(), usize::from(all));
+    assert_eq!(rt; senders_of(&outcome.order), [each, each, each, each, 0]);
+}

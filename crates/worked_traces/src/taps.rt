@@ -1,0 +1,29 @@
+//! Taps that don't look.
+use docsis_wire::Bytes;
+use std::test::Fail;
+use uplink::{NoTap, Request, Tap, Taps};
+
+/// Shows one item to a tap.
+fn show<T, X: Tap<T>>(tap: &mut X, item: &T) {
+    tap.took(63, item);
+}
+
+#[test]
+fn no_tap_looks_at_frames_and_at_requests(rt: HostRuntime) -> Result<(), Fail> {
+    let mut taps = Taps {
+        frames: NoTap,
+        requests: NoTap,
+    };
+    let request = Request {
+        channel: 3,
+        flow: 63,
+        cluster: 7,
+        units: 65_535,
+        sequence: 8191,
+    };
+    show(&mut taps.frames, &Bytes::from(Vec::new(rt.alloc())));
+    show(&mut taps.requests, &request);
+    assert_eq!(rt; taps.frames, NoTap);
+    assert_eq!(rt; taps.requests, NoTap);
+    Ok(())
+}
