@@ -70,16 +70,17 @@ decided-are_items n decisions =
 
 module _ (setup : Setup) (incoming : Incoming) (received : FourReceived) (have : HaveReceived setup incoming received) where
   -- an order of so many items is one of the items
-  pub bad-order : (order : List ℕ) (n0 n1 n2 n3 n4 k : ℕ) → n0 ≡ length received.r0.items.items → n1 ≡ length received.r1.items.items
-      → n2 ≡ length received.r2.items.items → n3 ≡ length received.r3.items.items
-      → n4 ≡ length (map event_of_decision (filter (names_a_flow (length setup.flows.items)) incoming.decisions))
-      → IsOrderFault (n0 ∷ n1 ∷ n2 ∷ n3 ∷ n4 ∷ []) order k → HasBadOrder setup incoming order k
-  bad-order order n0 n1 n2 n3 n4 k a0 a1 a2 a3 a4 fault =
+  pub bad-order : (order : List ℕ) (decided : List Event) (k : ℕ) → decided ≡ map event_of_decision (filter (names_a_flow (length setup.flows.items)) incoming.decisions)
+      → IsOrderFault (length received.r0.items.items ∷ length received.r1.items.items ∷ length received.r2.items.items ∷ length received.r3.items.items ∷ length decided ∷ []) order k
+      → HasBadOrder setup incoming order k
+  bad-order order decided k decided_are fault =
       let b0 = ap length (have.each 0 (omega arith)).items in
       let b1 = ap length (have.each 1 (omega arith)).items in
       let b2 = ap length (have.each 2 (omega arith)).items in
       let b3 = ap length (have.each 3 (omega arith)).items in
-      let are : n0 ∷ n1 ∷ n2 ∷ n3 ∷ n4 ∷ [] ≡ lengths_of (items_of setup incoming have.answered) = cc in
+      let b4 = ap length decided_are in
+      let are : length received.r0.items.items ∷ length received.r1.items.items ∷ length received.r2.items.items ∷ length received.r3.items.items ∷ length decided ∷ []
+      ≡ lengths_of (items_of setup incoming have.answered) = cc in
       record { answered = have.answered; lanes = have.lanes; fault = subst (λ l. IsOrderFault l order k) are fault }
 
   module _ (merging : Merging Event)

@@ -1,5 +1,5 @@
 //! A receiver on one thread, for inputs that were recorded.
-ghost use Rattle.std.specs.Prelude.{◌≡◌, ◌↔◌, ◌<◌, ℕ, Bool, List, IfOk, IfErr, Ok, Err, All, length, map, filter};
+ghost use Rattle.std.specs.Prelude.{◌≡◌, ◌↔◌, ◌<◌, ℕ, Bool, List, IfOk, IfErr, Ok, Err, All, length, map, filter, ◌∷◌, []};
 ghost use Rattle.flow_core.specs.declared.event.Event.{Event};
 ghost use Rattle.flow_core.specs.Setup.{CanBeSetUp};
 ghost use Rattle.receiver.specs.declared.one_thread.ReplayFault.{ReplayFault};
@@ -126,13 +126,7 @@ fn flags_of(alloc: Global, setup: &Setup, lists: &Lists) -> Result<Merging<bool>
 {
     let FourReceived { r0, r1, r2, r3 } = receive_all(alloc, setup, lists)?;
     let decided = decision_flags(alloc, setup, lists)?;
-    Ok(Merging {
-        l0: r0.are_items.into_iter(),
-        l1: r1.are_items.into_iter(),
-        l2: r2.are_items.into_iter(),
-        l3: r3.are_items.into_iter(),
-        l4: decided.into_iter(),
-    })
+    Ok(Merging::of(r0.are_items, r1.are_items, r2.are_items, r3.are_items, decided))
 }
 
 /// Of each decision, whether it names a flow.
@@ -200,25 +194,13 @@ pub fn replay<C: HeaderCheck + Drop>(
     ensures fault { IfErr result (IsReplayFault setup.now (incoming_of lists.now) order.now) }
 {
     setup.check()?;
-    let FourReceived { r0, r1, r2, r3 } = receive_all(alloc, setup, lists)?;
+    let received = receive_all(alloc, setup, lists)?;
     let decided = decisions_of(alloc, setup, lists)?;
-    let lengths = [
-        r0.items.len(),
-        r1.items.len(),
-        r2.items.len(),
-        r3.items.len(),
-        decided.len(),
-    ];
-    if let Err(place) = check_order(lengths, order) {
+    if let Err(place) = check_order(item_counts(&received, &decided), order) {
         return Err(ReplayFault::BadOrder(place));
     }
-    let merging = Merging {
-        l0: r0.items.into_iter(),
-        l1: r1.items.into_iter(),
-        l2: r2.items.into_iter(),
-        l3: r3.items.into_iter(),
-        l4: decided.into_iter(),
-    };
+    let FourReceived { r0, r1, r2, r3 } = received;
+    let merging = Merging::of(r0.items, r1.items, r2.items, r3.items, decided);
     let flows = assemble(alloc, &setup.flows, merging, order, check)?;
     Ok(Outcome {
         flows,
@@ -226,6 +208,21 @@ pub fn replay<C: HeaderCheck + Drop>(
         lanes: [r0.report, r1.report, r2.report, r3.report],
         order: Vec::from_slice(alloc, order)?,
     })
+}
+
+/// How many items each of the five senders has.
+fn item_counts(received: &FourReceived, decided: &[Event]) -> [usize; 5]
+    ensures { result ≡ length received.now.r0.items.items ∷ length received.now.r1.items.items
+        ∷ length received.now.r2.items.items ∷ length received.now.r3.items.items
+        ∷ length decided.now ∷ [] }
+{
+    [
+        received.r0.items.len(),
+        received.r1.items.len(),
+        received.r2.items.len(),
+        received.r3.items.len(),
+        decided.len(),
+    ]
 }
 
 /// What all flows give once they have taken the items of five senders in this order.

@@ -1,5 +1,6 @@
 //! The lists of five senders, whose items are taken in some order.
 ghost use Rattle.std.specs.Prelude.{◌≡◌, ◌≢◌, ◌<◌, ◌≤◌, ◌⊎◌, ◌∷◌, [], ℕ, MatchOption, IfSome};
+ghost use Rattle.std.specs.Vec.Iter.{into_iter_items};
 ghost use Rattle.receiver.specs.Order.{senders};
 ghost use Rattle.receiver.specs.Received.{left_of};
 
@@ -13,6 +14,25 @@ pub struct Merging<T> {
     pub l2: IntoIter<T>,
     pub l3: IntoIter<T>,
     pub l4: IntoIter<T>,
+}
+
+impl<T> Merging<T> {
+    /// All items of these lists, of the senders 0 to 4.
+    pub fn of(l0: Vec<T>, l1: Vec<T>, l2: Vec<T>, l3: Vec<T>, l4: Vec<T>) -> Merging<T>
+        ensures l0 { into_iter_items result.l0 ≡ l0.items }
+        ensures l1 { into_iter_items result.l1 ≡ l1.items }
+        ensures l2 { into_iter_items result.l2 ≡ l2.items }
+        ensures l3 { into_iter_items result.l3 ≡ l3.items }
+        ensures l4 { into_iter_items result.l4 ≡ l4.items }
+    {
+        Merging {
+            l0: l0.into_iter(),
+            l1: l1.into_iter(),
+            l2: l2.into_iter(),
+            l3: l3.into_iter(),
+            l4: l4.into_iter(),
+        }
+    }
 }
 
 impl<T: Drop> Merging<T> {

@@ -5,11 +5,8 @@ pub returns-clause-taken : goal.returns-clause-taken
 returns-clause-taken g c =
     let headline = c.in_ok-outcome.ensures.headline in
     record {
-      answered = headline.answer.answered;
-      lanes = headline.answer.lanes;
       order = c.in_ok-outcome.outcome.order.items;
-      items = headline.answer.items;
-      merged = headline.answer.merged;
-      flow_count = headline.answer.flows.count;
+      intake = headline.intake;
+      flow_count = c.in_ok-outcome.ensures.answer.flows.count;
       frames_taken = headline.delivered;
     }
