@@ -8,7 +8,7 @@ use Rattle.docsis_wire.specs.declared.segment.Segment.{Segment}
 use Rattle.docsis_wire.specs.Stream.{EndsIn, place_of}
 use Rattle.docsis_wire.specs.Cut.{IsLawfulCut}
 use Rattle.docsis_wire.specs.Span.{IsInSpan, IsSettledOf, IsKept, IsWhollyKept}
-use Rattle.docsis_wire.proofs.Places.{place_of-le}
+use Rattle.docsis_wire.proofs.StreamPlaces.{place_of-le}
 use Rattle.ccf.specs.Feed.{Feeds}
 use Rattle.ccf.specs.Join.{Joins}
 use Rattle.ccf.specs.Filter.{FiltersTo}
