@@ -11,7 +11,7 @@ use Rattle.docsis_wire.specs.declared.segment.Segment.{Segment}
 use Rattle.ccf.specs.Feed.{Feeds}
 use Rattle.ccf.proofs.OneReading.{Joins-append}
 use Rattle.reorder.specs.Number.{number_ahead, following}
-use Rattle.reorder.specs.Answers.{declared_count}
+use Rattle.reorder.specs.Verdicts.{declared_count}
 use Rattle.reorder.specs.View.{WindowView, held_at, IsLawful, next_taken, moved_on_by}
 use Rattle.flow_core.specs.declared.record.FlowRecord.{FlowRecord}
 use Rattle.flow_core.specs.declared.counts.FlowCounts.{FlowCounts}

@@ -5,7 +5,7 @@ ghost use Rattle.docsis_wire.specs.Ready.{IsReady};
 ghost use Rattle.flow_core.specs.Setup.{IsInRange};
 ghost use Rattle.flow_core.specs.Events.{arrives, gap, gap_to};
 ghost use Rattle.reorder.specs.View.{IsLawful};
-ghost use Rattle.reorder.specs.Answers.{declared_count};
+ghost use Rattle.reorder.specs.Verdicts.{declared_count};
 ghost use Rattle.flow_core.specs.Flows.{IsLoss};
 ghost use Rattle.flow_core.specs.Losses.{after_losses, after_declaring, GoesOn};
 ghost use Rattle.flow_core.specs.Stands.{StandsFor, IsDrained, TakesEvent, Advances};

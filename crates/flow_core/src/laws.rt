@@ -22,7 +22,7 @@ ghost use Rattle.flow_core.specs.Stands.{StandsFor, IsDrained};
 ghost use Rattle.flow_core.specs.Outcome.{IsFlowOutcome};
 ghost use Rattle.flow_core.specs.Closing.{IsClosed, Closes, says_lost, IsAllKept, HaveNoArrival};
 ghost use Rattle.flow_core.specs.Flows.{IsLoss};
-ghost use Rattle.reorder.specs.declared.answer.Declared.{Declared};
+ghost use Rattle.reorder.specs.declared.verdict.Declared.{Declared};
 
 /// Every list of events has one outcome: one list of answers and one fate of each index, of which
 /// one is the expected index.
