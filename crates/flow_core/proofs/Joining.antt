@@ -9,7 +9,7 @@ use Rattle.std.proofs.lemmas.List.Sums.{sum_by_push}
 use Rattle.std.proofs.lemmas.Option.{slice_get_within}
 use Rattle.docsis_wire.specs.declared.segment.Segment.{Segment}
 use Rattle.ccf.specs.Feed.{Feeds}
-use Rattle.ccf.proofs.OneReading.{Joins-append}
+use Rattle.ccf.proofs.OneJoining.{Joins-append}
 use Rattle.reorder.specs.Number.{number_ahead, following}
 use Rattle.reorder.specs.Verdicts.{declared_count}
 use Rattle.reorder.specs.View.{WindowView, held_at, IsLawful, next_taken, moved_on_by}

@@ -7,7 +7,7 @@ use Rattle.std.proofs.lemmas.List.Folds.{sum_by-replicate}
 use Rattle.std.proofs.lemmas.List.Sums.{sum_by-append}
 use Rattle.std.proofs.lemmas.Option.{slice_get_within, slice_get-get_or, get_or_from_slice_get}
 use Rattle.std.proofs.Math.Seq.{get_or-append_right}
-use Rattle.ccf.proofs.OneReading.{Joins-append}
+use Rattle.ccf.proofs.OneJoining.{Joins-append}
 use Rattle.docsis_wire.specs.declared.segment.Segment.{Segment}
 use Rattle.ccf.specs.Join.{Joins}
 use Rattle.reorder.specs.View.{IsLawful, moved_on_by}
