@@ -18,9 +18,9 @@ use Rattle.flow_core.specs.Fates.{Fates, number_of, IsKept, IsLost}
 use Rattle.flow_core.specs.Events.{arrives, IsAhead, IsVerdictOn, Keeps}
 use Rattle.flow_core.specs.Counts.{AreCounts}
 use Rattle.flow_core.specs.Stands.{IsWindowFrom, IsRemembered, IsDrained, TakesEvent}
-use Rattle.flow_core.proofs.Numbers.{index-offset, ahead-at, ahead-offset}
+use Rattle.flow_core.proofs.IndexNumbers.{index-offset, ahead-at, ahead-offset}
 use Rattle.flow_core.proofs.Windows.{held-kept, kept-held, window-keeps}
-use Rattle.flow_core.proofs.Counting.{answered, counts-answered}
+use Rattle.flow_core.proofs.FlowCounting.{answered, counts-answered}
 use Rattle.flow_core.proofs.Standing.{stands-next, drained-sound, open-kept, kept-not-lost}
 
 -- the verdict without what it hands back

@@ -20,7 +20,7 @@ use Rattle.flow_core.specs.Counts.{counted, says_kept, says_late, says_repeat, s
 use Rattle.flow_core.specs.Stands.{StandsFor, IsDrained}
 use Rattle.flow_core.specs.Outcome.{IsFlowOutcome}
 use Rattle.flow_core.proofs.Outcome.{expected-unique, sound-after}
-use Rattle.flow_core.proofs.OneOutcome.{after-once}
+use Rattle.flow_core.proofs.OneFates.{after-once}
 use Rattle.flow_core.proofs.Nearness.{AreOfIndex, numbered_of_cut, of_index-after, expected-within}
 use Rattle.flow_core.proofs.Giving.{expected_of_drained}
 use Rattle.flow_core.proofs.Closing.{only-close}

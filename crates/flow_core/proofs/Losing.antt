@@ -17,7 +17,7 @@ use Rattle.flow_core.specs.declared.counts.FlowCounts.{FlowCounts}
 use Rattle.flow_core.specs.declared.event.Applied.{Applied}
 use Rattle.flow_core.specs.Fates.{Fates, IsSettledBelow}
 use Rattle.flow_core.specs.Counts.{counted, payload_bytes, AreCounts}
-use Rattle.flow_core.specs.Losses.{after_losses}
+use Rattle.flow_core.specs.Inside.Losses.{after_losses}
 use Rattle.flow_core.specs.Stands.{IsWindowFrom, AreLost}
 use Rattle.flow_core.proofs.Standing.{kept-not-lost}
 use Rattle.flow_core.proofs.Windows.{window-moves}

@@ -45,7 +45,3 @@ pub record AreCounts (answers : List Applied) (settled : List (Option Segment)) 
   pub skipped_bytes : ℕ
   pub balance : skipped_bytes + length (concat given) + length unfinished ≡ sum_by payload_bytes settled
   pub skipped : counts.skipped ≡ counted skipped_bytes
-
--- nothing was counted yet
-abbrev pub no_counts : FlowCounts
-no_counts = record { kept = 0; late = 0; repeat = 0; beyond = 0; lost = 0; frames = 0; skipped = 0 }

@@ -1,4 +1,4 @@
--- What declared losses make of a flow of the code. These words serve contracts of private functions alone.
+-- What declared losses make of a flow of the code.
 use Rattle.std.specs.Prelude.{◌≡◌, ◌≢◌, ℕ, zero, suc, ◌+◌, ◌<◌, ◌⊎◌, Option, Some, None, [], length}
 use Rattle.std.specs.FinMap as map
 use Rattle.reorder.specs.View.{moved_on_by}

@@ -19,13 +19,13 @@ use Rattle.flow_core.specs.declared.event.Applied.TheVariants.{Decision, Decisio
 use Rattle.flow_core.specs.Fates.{Fates, number_of, kept_at, IsKept, IsLost, HasLaterKept}
 use Rattle.flow_core.specs.Events.{FlowEvent, gap, gap_to, IsAhead, IsDeclaredTo, DeclaresTo, Changes}
 use Rattle.flow_core.specs.Counts.{AreCounts}
-use Rattle.flow_core.specs.Losses.{after_losses, after_declaring}
+use Rattle.flow_core.specs.Inside.Losses.{after_losses, after_declaring}
 use Rattle.flow_core.specs.Stands.{IsWindowFrom, IsRemembered, StandsFor, IsDrained, AreLost, TakesEvent}
 use Rattle.flow_core.proofs.Outcome.{IsSound, sound-changes, after-append, settled-stays, declared-to}
 use Rattle.flow_core.proofs.Deciding.{IsDeclaredTo-decided, open_or_settled}
-use Rattle.flow_core.proofs.Numbers.{offset-index, index-offset, ahead-index, ahead-one}
+use Rattle.flow_core.proofs.IndexNumbers.{offset-index, index-offset, ahead-index, ahead-one}
 use Rattle.flow_core.proofs.Windows.{held-kept, kept-held, none-kept, window-same}
-use Rattle.flow_core.proofs.Counting.{answered, counts-answered}
+use Rattle.flow_core.proofs.FlowCounting.{answered, counts-answered}
 use Rattle.flow_core.proofs.Standing.{stands, drained-sound, open-kept, kept-not-lost, settled-cases}
 use Rattle.flow_core.proofs.Held.{some-held}
 use Rattle.flow_core.proofs.Losing.{HasComeTo, come-same, losses-pass, losses-window, losses-memory}
