@@ -1,10 +1,10 @@
-pub mod Splits
-pub mod OneReading
-pub mod Splitting
+pub mod FrameSplits
+pub mod OneJoining
+pub mod TwoSplits
 pub mod Filters
 pub mod Waiting
 pub mod Onward
 pub mod Pointers
 pub mod OneStep
-pub mod Settling
+pub mod SettledCuts
 pub mod NoLoss

@@ -8,13 +8,13 @@ use Rattle.docsis_wire.specs.declared.segment.Segment.{Segment}
 use Rattle.docsis_wire.specs.Stream.{EndsIn, place_of}
 use Rattle.docsis_wire.specs.Cut.{IsLawfulCut}
 use Rattle.docsis_wire.specs.Span.{IsInSpan, IsSettledOf, IsKept, IsWhollyKept}
-use Rattle.docsis_wire.proofs.Places.{place_of-le}
+use Rattle.docsis_wire.proofs.StreamPlaces.{place_of-le}
 use Rattle.ccf.specs.Feed.{Feeds}
 use Rattle.ccf.specs.Join.{Joins}
 use Rattle.ccf.specs.Filter.{FiltersTo}
 use Rattle.ccf.specs.Completed.{IsCompletedBy}
 use Rattle.ccf.proofs.Filters.{FiltersFrom-same}
-use Rattle.ccf.proofs.Settling.{completed_by_feed, frames_of_settled}
+use Rattle.ccf.proofs.SettledCuts.{completed_by_feed, frames_of_settled}
 
 -- each item is the segment at its index
 segment_at : (segments : List Segment) (n i : ℕ) (segment : Segment) → slice_get (map Some (take n segments)) i ≡ Some (Some segment) → slice_get segments i ≡ Some segment

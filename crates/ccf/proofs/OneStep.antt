@@ -12,9 +12,9 @@ use Rattle.ccf.specs.Feed.{Feeds, FeedsAs}
 use Rattle.ccf.specs.Filter.{FiltersFrom, FiltersTo}
 use Rattle.ccf.specs.Completed.{IsCompletedBy}
 use Rattle.ccf.specs.Unfinished.{IsLeftBetween, IsLeftWithin, IsLeftUnfinished, IsFrontLeft}
-use Rattle.docsis_wire.proofs.Places.{place_of-le, place_of-behind, place_of-behind_one, none_begins_within}
+use Rattle.docsis_wire.proofs.StreamPlaces.{place_of-le, place_of-behind, place_of-behind_one, none_begins_within}
 use Rattle.docsis_wire.proofs.Spans.{IsInSpan-ends, IsInSpan-by_places}
-use Rattle.ccf.proofs.Splitting.{Splits, two_splits, same_behind, split_pieces, AllByRecursion-behind}
+use Rattle.ccf.proofs.TwoSplits.{Splits, two_splits, same_behind, split_pieces, AllByRecursion-behind}
 use Rattle.ccf.proofs.Filters.{FiltersFrom-append, FiltersFrom-none}
 use Rattle.ccf.proofs.Waiting.{length-some, some_by_length, front_waits, no_fill, no_fill_left}
 use Rattle.ccf.proofs.Pointers.{Points-at, Points-none, Feeds-as, FeedsAs-goes_on, FeedsAs-completes, FeedsAs-walks, FeedsAs-after_fill, FeedsAs-fill}

@@ -12,9 +12,9 @@ use Rattle.ccf.specs.Walk.{Walks}
 use Rattle.ccf.specs.Filter.{FiltersFrom}
 use Rattle.ccf.specs.Completed.{IsCompletedBy}
 use Rattle.ccf.specs.Unfinished.{IsLeftUnfinished}
-use Rattle.docsis_wire.proofs.Places.{each_generic, place_of-le, place_of-lt, place_of-behind, place_of-behind_one, none_begins_within}
+use Rattle.docsis_wire.proofs.StreamPlaces.{each_generic, place_of-le, place_of-lt, place_of-behind, place_of-behind_one, none_begins_within}
 use Rattle.docsis_wire.proofs.Spans.{IsInSpan-ends}
-use Rattle.ccf.proofs.Splitting.{Splits, IsWithin, AllByRecursion-front, AllByRecursion-behind}
+use Rattle.ccf.proofs.TwoSplits.{Splits, IsWithin, AllByRecursion-front, AllByRecursion-behind}
 use Rattle.ccf.proofs.Filters.{FiltersFrom-append, FiltersFrom-none, FiltersFrom-all}
 use Rattle.ccf.proofs.Waiting.{length-some, front_waits, fill_left, no_fill, no_fill_left}
 

@@ -1,16 +1,7 @@
-pub use Rattle.docsis_wire.specs.Limits
-pub use Rattle.docsis_wire.specs.Words
-pub use Rattle.docsis_wire.specs.Ready
-pub use Rattle.docsis_wire.specs.SegmentBytes
-pub use Rattle.docsis_wire.specs.Frame
-pub use Rattle.docsis_wire.specs.Head
-pub use Rattle.docsis_wire.specs.Stream
-pub use Rattle.docsis_wire.specs.Cut
-pub use Rattle.docsis_wire.specs.Span
 pub mod Walk
-pub mod Front
 pub mod Feed
 pub mod Join
 pub mod Filter
 pub mod Completed
 pub mod Unfinished
+pub mod Inside

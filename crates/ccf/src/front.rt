@@ -1,7 +1,7 @@
 //! What is at the front of some bytes, and the frames that follow one another from there.
 ghost use Rattle.std.specs.Prelude.{◌≡◌, ◌+◌, ◌≤◌, ◌↔◌, true, false, length, take, IfOk, IsTrue};
 ghost use Rattle.std.specs.List.{concat};
-ghost use Rattle.ccf.specs.Front.{IsFrontOf};
+ghost use Rattle.ccf.specs.Inside.Front.{IsFrontOf};
 ghost use Rattle.ccf.specs.Walk.{Walks};
 
 use docsis_wire::{Bytes, HeadRead, HeaderCheck, read_head};

@@ -2,7 +2,8 @@
 use Rattle.std.specs.Prelude.{◌≡◌, ◌+◌, true, false, List, [], ◌∷◌, ◌++◌, length, refl}
 use Rattle.std.proofs.Common.{ap, sym, ◌∙◌, append-nil, arith}
 use Rattle.delivery.proofs.Sending.{frames_of-append}
-use Rattle.delivery.specs.Parcels.{frames_of, has_end, ends_once}
+use Rattle.delivery.specs.Parcels.{frames_of}
+use Rattle.delivery.specs.Inside.Ends.{has_end, ends_once}
 use Rattle.delivery.specs.declared.parcel.Parcel.{Parcel}
 use Rattle.delivery.specs.declared.parcel.Parcel.TheVariants.{Frame, End}
 

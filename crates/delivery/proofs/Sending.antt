@@ -3,7 +3,8 @@ use Rattle.std.specs.Prelude.{◌≡◌, ℕ, true, false, List, [], ◌∷◌, 
 use Rattle.std.specs.declared.alloc.Global.{Global}
 use Rattle.std.proofs.Common.{ap, sym, ◌∙◌, append-nil, append_assoc, arith}
 use Rattle.delivery.specs.Frames.{frames_in}
-use Rattle.delivery.specs.Parcels.{frames_of, has_end, ends_once}
+use Rattle.delivery.specs.Parcels.{frames_of}
+use Rattle.delivery.specs.Inside.Ends.{has_end, ends_once}
 use Rattle.delivery.specs.declared.parcel.Parcel.{Parcel}
 use Rattle.delivery.specs.declared.parcel.Parcel.TheVariants.{Frame, End}
 

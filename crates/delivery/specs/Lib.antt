@@ -4,3 +4,4 @@ pub mod Parcels
 pub mod Left
 pub mod Feeders
 pub mod Takers
+pub mod Inside

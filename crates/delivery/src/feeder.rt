@@ -1,7 +1,7 @@
 //! The end of a ring that offers frames.
 ghost use Rattle.std.specs.Prelude.{◌≡◌, true, false};
 ghost use Rattle.rtrb.specs.Ring.{sent};
-ghost use Rattle.delivery.specs.Parcels.{has_end, ends_once};
+ghost use Rattle.delivery.specs.Inside.Ends.{has_end, ends_once};
 
 use crate::parcel::Parcel;
 use rtrb::Producer;

@@ -1,7 +1,7 @@
 //! The end of a ring that takes frames.
 ghost use Rattle.std.specs.Prelude.{◌≡◌};
 ghost use Rattle.rtrb.specs.Ring.{received};
-ghost use Rattle.delivery.specs.Parcels.{has_end};
+ghost use Rattle.delivery.specs.Inside.Ends.{has_end};
 
 use crate::parcel::Parcel;
 use rtrb::Consumer;

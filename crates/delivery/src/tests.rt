@@ -30,7 +30,7 @@ fn takes(rt: &impl Abort, taker: &mut Taker, frame: &[u8])
     assert_eq!(rt; taken.as_slice(), frame);
 }
 
-fn close(rt: &impl Abort, feeder: Feeder) -> ClosedFeeder
+fn close_feeder(rt: &impl Abort, feeder: Feeder) -> ClosedFeeder
     ensures { closed_ring result ≡ feeder_ring feeder }
 {
     let Ok(closed) = feeder.close() else {
@@ -66,7 +66,7 @@ fn second_frame_waits_and_the_end_mark_after_it(rt: HostRuntime) -> Result<(), F
     assert_eq!(rt; feeder.flush(), 0);
     let feeder = comes_back(&rt, feeder);
     takes(&rt, &mut taker, EXTENDED);
-    let mut feeder = close(&rt, feeder);
+    let mut feeder = close_feeder(&rt, feeder);
     assert_eq!(rt; settle(&mut feeder, &mut taker), 0);
     assert_eq!(rt; taker.take(), Took::Closed);
     assert_eq!(rt; taker.take(), Took::Closed);
@@ -101,7 +101,7 @@ fn close_moves_the_backlog_as_far_as_it_goes(rt: HostRuntime) -> Result<(), Fail
     assert_eq!(rt; feeder.flush(), 0);
     let feeder = comes_back(&rt, feeder);
     takes(&rt, &mut taker, EXTENDED);
-    close(&rt, feeder);
+    close_feeder(&rt, feeder);
     assert_eq!(rt; taker.take(), Took::Closed);
     Ok(())
 }
@@ -111,7 +111,7 @@ fn frame_that_was_not_taken_is_left(rt: HostRuntime) -> Result<(), Fail> {
     let (mut feeder, mut taker) = ring(rt.alloc(), 3)?;
     offer(rt.alloc(), &mut feeder, PLAIN)?;
     offer(rt.alloc(), &mut feeder, EXTENDED)?;
-    let mut feeder = close(&rt, feeder);
+    let mut feeder = close_feeder(&rt, feeder);
     takes(&rt, &mut taker, PLAIN);
     assert_eq!(rt; settle(&mut feeder, &mut taker), 1);
     takes(&rt, &mut taker, EXTENDED);
@@ -126,7 +126,7 @@ fn ring_that_was_never_used(rt: HostRuntime) -> Result<(), Fail> {
     assert!(rt; feeder.abandon().is_empty());
     assert_eq!(rt; taker.take(), Took::NothingYet);
     let (feeder, mut taker) = ring(rt.alloc(), 1)?;
-    let mut feeder = close(&rt, feeder);
+    let mut feeder = close_feeder(&rt, feeder);
     assert_eq!(rt; settle(&mut feeder, &mut taker), 0);
     assert_eq!(rt; taker.take(), Took::Closed);
     Ok(())
@@ -152,7 +152,7 @@ fn greatest_ring_and_longest_frame(rt: HostRuntime) -> Result<(), Fail> {
     for number in 65535_u32..131070 {
         takes(&rt, &mut taker, &number.to_be_bytes());
     }
-    close(&rt, feeder);
+    close_feeder(&rt, feeder);
     takes(&rt, &mut taker, &[]);
     assert_eq!(rt; taker.take(), Took::Closed);
     Ok(())
@@ -192,13 +192,13 @@ fn ends_dropped_with_frames_left(rt: HostRuntime) -> Result<(), Fail> {
     takes(&rt, &mut taker, PLAIN);
     let feeder = comes_back(&rt, feeder);
     takes(&rt, &mut taker, EXTENDED);
-    drop(close(&rt, feeder));
+    drop(close_feeder(&rt, feeder));
     drop(taker);
 
     let (feeder, mut taker) = full_ring(rt.alloc())?;
     takes(&rt, &mut taker, PLAIN);
     takes(&rt, &mut taker, EXTENDED);
-    let feeder = close(&rt, feeder);
+    let feeder = close_feeder(&rt, feeder);
     drop(taker);
     drop(feeder);
     Ok(())

@@ -5,9 +5,9 @@ use Rattle.std.proofs.lemmas.List.{append_assoc, drop-drop, take_at, take_rest, 
 use Rattle.std.proofs.lemmas.Option.{slice_get_read, slice_get_cases}
 use Rattle.docsis_wire.specs.declared.cursor.Cursor.{Cursor}
 use Rattle.docsis_wire.specs.Frame.{IsGenericFrame}
-use Rattle.docsis_wire.specs.Cursor.{place_at, IsPlaced, chunk_at}
+use Rattle.docsis_wire.specs.Inside.Cursor.{place_at, IsPlaced, chunk_at}
 use Rattle.docsis_wire.proofs.FrameHeads.{length-frame}
-use Rattle.docsis_wire.proofs.Places.{place_of-next}
+use Rattle.docsis_wire.proofs.StreamPlaces.{place_of-next}
 use Rattle.docsis_wire.proofs.Stretches.{AllByRecursion-at, behind_place, front_of-append, take-split, place_of-le_all}
 
 -- the frame that was read at an index, by its bytes

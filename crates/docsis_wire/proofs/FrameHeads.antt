@@ -44,10 +44,6 @@ head_of-generic frame more h =
 pub head_of-frame : (check : List ℕ → Bool) (frame more : List ℕ) → IsFrame check frame → IsHeadOf check frame (head_of (frame ++ more))
 head_of-frame check frame more h = (length h.generic.ehdr, head_of-generic frame more h.generic, h.checked)
 
--- the header of a frame ends within it
-pub header_within : (frame : List ℕ) (h : IsGenericFrame frame) → 6 + length h.ehdr ≤ length frame
-header_within frame h = omega (arith, length-frame frame h, h.len_is)
-
 -- a test that chose something else than z was false
 not_chosen : {X : Type 0} (b : Bool) (x y z : X) → x ≢ z → cond b x y ≡ z → (b ≡ false) × (y ≡ z)
 not_chosen true x y z other e = absurd (other e)

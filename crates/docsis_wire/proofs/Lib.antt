@@ -1,10 +1,10 @@
 pub mod FrameHeads
 pub mod HeaderWords
-pub mod Places
+pub mod StreamPlaces
 pub mod Cursors
 pub mod Starts
 pub mod Chunks
-pub mod Lawful
+pub mod LawfulPieces
 pub mod Made
 pub mod OneByOne
 pub mod OneFault

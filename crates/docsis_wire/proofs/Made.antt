@@ -9,12 +9,12 @@ use Rattle.docsis_wire.specs.declared.pieces.Piece.{Piece}
 use Rattle.docsis_wire.specs.declared.segment.Segment.{Segment}
 use Rattle.docsis_wire.specs.Stream.{place_of, IsBoundary}
 use Rattle.docsis_wire.specs.Cut.{Points, IsCutSegment, IsFillByte, IsLawfulCut}
-use Rattle.docsis_wire.specs.Cursor.{place_at, chunk_at}
+use Rattle.docsis_wire.specs.Inside.Cursor.{place_at, chunk_at}
 use Rattle.docsis_wire.specs.Pieces.{fill_byte, chunks_of, IsPieceSegment, ArePieceSegments, IsUnlawful, IsCuttable}
 use Rattle.docsis_wire.specs.CutUnderWay.{IsMade, AreMade}
-use Rattle.docsis_wire.proofs.Places.{place_of-next}
+use Rattle.docsis_wire.proofs.StreamPlaces.{place_of-next}
 use Rattle.docsis_wire.proofs.Chunks.{length-chunks_from, chunks_from-front}
-use Rattle.docsis_wire.proofs.Lawful.{MovesOver, chunk_is_at, IsBoundary-from_lawful}
+use Rattle.docsis_wire.proofs.LawfulPieces.{MovesOver, chunk_is_at, IsBoundary-from_lawful}
 
 -- an element of a list and one more is one of the list, or the one more
 slice_get-push : {X : Type 0} (xs : List X) (y : X) (k : ℕ) (x : X) → slice_get (xs ++ y ∷ []) k ≡ Some x → (slice_get xs k ≡ Some x) ⊎ ((length xs ≡ k) × (y ≡ x))

@@ -8,7 +8,7 @@ use Rattle.docsis_wire.specs.declared.segment.Segment.{Segment}
 use Rattle.docsis_wire.specs.Stream.{place_of, IsBoundary}
 use Rattle.docsis_wire.specs.Cut.{Points, IsLawfulCut}
 use Rattle.docsis_wire.specs.Pieces.{chunks_of, ArePieceSegments, FillsInsideFrame, PointsTooFar, IsCuttable}
-use Rattle.docsis_wire.proofs.Places.{element_at, place_of-next}
+use Rattle.docsis_wire.proofs.StreamPlaces.{element_at, place_of-next}
 use Rattle.docsis_wire.proofs.Chunks.{chunks_from-at, length-chunks_from}
 
 -- as much fill makes as long a payload

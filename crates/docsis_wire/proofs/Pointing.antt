@@ -6,7 +6,7 @@ use Rattle.docsis_wire.specs.declared.segment.Segment.{Segment}
 use Rattle.docsis_wire.specs.Ready.{IsReady}
 use Rattle.docsis_wire.specs.Stream.{place_of}
 use Rattle.docsis_wire.specs.Cut.{Points, IsLawfulCut}
-use Rattle.docsis_wire.proofs.Places.{element_at}
+use Rattle.docsis_wire.proofs.StreamPlaces.{element_at}
 
 -- with PFI the pointer names a place within the chunk
 Points-within : (pfi : Bool) (pointer : ℕ) (frames : List (List ℕ)) (place : ℕ) (chunk : List ℕ) → Points pfi pointer frames place chunk → pfi ≡ true → pointer < length chunk

@@ -4,7 +4,7 @@ use Rattle.std.specs.List.{AllByRecursion}
 use Rattle.docsis_wire.specs.Frame.{IsGenericFrame}
 use Rattle.docsis_wire.specs.Stream.{place_of}
 use Rattle.docsis_wire.specs.Span.{IsInSpan}
-use Rattle.docsis_wire.proofs.Places.{place_of-le, place_of-lt, piece_at}
+use Rattle.docsis_wire.proofs.StreamPlaces.{place_of-le, place_of-lt, piece_at}
 
 -- a chunk of the span ends after the frame's first byte
 pub IsInSpan-ends : (frames chunks : List (List ℕ)) (j i : ℕ) → IsInSpan frames chunks j i → place_of frames j < place_of chunks (i + 1)

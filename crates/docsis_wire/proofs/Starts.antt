@@ -9,8 +9,8 @@ use Rattle.docsis_wire.specs.declared.cursor.Cursor.{Cursor}
 use Rattle.docsis_wire.specs.Frame.{IsGenericFrame}
 use Rattle.docsis_wire.specs.Stream.{place_of}
 use Rattle.docsis_wire.specs.Cut.{Points}
-use Rattle.docsis_wire.specs.Cursor.{place_at, chunk_at}
-use Rattle.docsis_wire.proofs.Places.{place_of-next, place_of-le}
+use Rattle.docsis_wire.specs.Inside.Cursor.{place_at, chunk_at}
+use Rattle.docsis_wire.proofs.StreamPlaces.{place_of-next, place_of-le}
 use Rattle.docsis_wire.proofs.Stretches.{place_of-le_all}
 use Rattle.docsis_wire.proofs.Cursors.{some_bytes}
 

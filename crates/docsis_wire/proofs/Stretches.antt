@@ -1,7 +1,7 @@
 -- Stretches of byte strings that stand end to end: what stands before a place and after it.
 use Rattle.std.proofs.Common.{◌≡◌, ℕ, suc, zero, ◌+◌, ◌<◌, ◌≤◌, Some, List, [], ◌∷◌, ◌++◌, length, take, drop, slice_get, refl, sym, ap, ◌∙◌, subst, arith}
 use Rattle.std.specs.List.{concat, AllByRecursion}
-use Rattle.std.proofs.lemmas.List.{length-append, take-append-drop, take_all, drop_at, drop-drop, drop-append-le, drop-take, take-take, take-append-le, take_min, length-take}
+use Rattle.std.proofs.lemmas.List.{length-append, take-append-drop, drop_at, drop-drop, drop-append-le, drop-take, take-take, take-append-le, take_min, length-take}
 use Rattle.std.proofs.lemmas.List.Folds.{concat-append}
 use Rattle.docsis_wire.specs.Stream.{place_of}
 
@@ -33,10 +33,6 @@ concat-split xs k = ap concat (sym (take-append-drop k xs)) ∙ concat-append (t
 -- each begins within the whole
 pub place_of-le_all : (xs : List (List ℕ)) (k : ℕ) → place_of xs k ≤ length (concat xs)
 place_of-le_all xs k = omega (arith, ap length (concat-split xs k), length-append (concat (take k xs)) (concat (drop k xs)))
-
--- after the last string is the end of the whole
-pub place_of-all : (xs : List (List ℕ)) (k : ℕ) → length xs ≤ k → place_of xs k ≡ length (concat xs)
-place_of-all xs k h = ap (λ t. length (concat t)) (take_all k xs h)
 
 -- what stands after a place of the k-th string
 pub behind_place : (xs : List (List ℕ)) (k n : ℕ) (x : List ℕ) → slice_get xs k ≡ Some x → n ≤ length x

@@ -1,16 +1,11 @@
 -- A cut that is being made, a segment at a time.
-use Rattle.std.specs.Prelude.{◌≡◌, ℕ, ◌+◌, ◌<◌, ◌≤◌, List, length, Option, Some, None, slice_get}
-use Rattle.std.specs.List.{AllByRecursion}
-use Rattle.docsis_wire.specs.declared.cursor.Cursor.{Cursor}
+use Rattle.std.specs.Prelude.{◌≡◌, ℕ, ◌+◌, List, length, Option, Some, None, slice_get}
 use Rattle.docsis_wire.specs.declared.pieces.FillByte.{FillByte}
 use Rattle.docsis_wire.specs.declared.pieces.Piece.{Piece}
 use Rattle.docsis_wire.specs.declared.segment.Segment.{Segment}
-use Rattle.docsis_wire.specs.Limits.{sequence_modulus}
-use Rattle.docsis_wire.specs.Frame.{IsGenericFrame}
 use Rattle.docsis_wire.specs.Stream.{place_of}
 use Rattle.docsis_wire.specs.Cut.{IsCutSegment}
-use Rattle.docsis_wire.specs.Cursor.{place_at, IsPlaced}
-use Rattle.docsis_wire.specs.Pieces.{fill_byte, chunks_of, IsPieceSegment, IsUnlawful}
+use Rattle.docsis_wire.specs.Pieces.{fill_byte, chunks_of, IsPieceSegment}
 
 -- What is cut and into what, the number of the first segment, the byte of fill, and how many segments were made.
 pub record CutUnderWay : Type 0 where
@@ -32,15 +27,6 @@ pub record IsMade (frames : List (List ℕ)) (pieces : List Piece) (first fill k
 -- each segment was made by the piece in its place
 abbrev pub AreMade : List (List ℕ) → List Piece → ℕ → ℕ → List Segment → Type 0
 AreMade frames pieces first fill segments = (k : ℕ) (segment : Segment) → slice_get segments k ≡ Some segment → IsMade frames pieces first fill k segment
-
--- Nothing is at fault, and the cursor stands after the chunk of the last segment that was made.
-pub record IsUnderWay (frames : List (List ℕ)) (pieces : List Piece) (first made : ℕ) (at : Cursor) : Type 0 where
-  pub each : AllByRecursion IsGenericFrame frames
-  pub lawful : (k : ℕ) → ¬ IsUnlawful frames pieces k
-  pub first_in_range : first < sequence_modulus
-  pub within : made ≤ length pieces
-  pub placed : IsPlaced frames at
-  pub place : place_at frames at ≡ place_of (chunks_of frames pieces) made
 
 -- two moments of one cut
 pub record IsSameCut (cut other : CutUnderWay) : Type 0 where

@@ -8,6 +8,6 @@ pub mod Head
 pub mod Stream
 pub mod Cut
 pub mod Span
-pub mod Cursor
 pub mod Pieces
 pub mod CutUnderWay
+pub mod Inside

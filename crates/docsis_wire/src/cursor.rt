@@ -4,7 +4,7 @@ ghost use Rattle.std.specs.Prelude.{OnOk, is_some, unwrap_or};
 ghost use Rattle.std.specs.List.{concat, AllByRecursion};
 ghost use Rattle.docsis_wire.specs.Frame.{IsGenericFrame};
 ghost use Rattle.docsis_wire.specs.Cut.{Points};
-ghost use Rattle.docsis_wire.specs.Cursor.{place_at, IsPlaced, chunk_at};
+ghost use Rattle.docsis_wire.specs.Inside.Cursor.{place_at, IsPlaced, chunk_at};
 
 use crate::buffer::Bytes;
 use std::alloc::AllocError;

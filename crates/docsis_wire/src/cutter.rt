@@ -4,7 +4,7 @@ ghost use Rattle.std.specs.Prelude.{IfOk, IfErr, IsOk, OnOk, OnErr};
 ghost use Rattle.std.specs.List.{concat, AllByRecursion};
 ghost use Rattle.docsis_wire.specs.Frame.{IsGenericFrame};
 ghost use Rattle.docsis_wire.specs.Cut.{IsLawfulCut, Points};
-ghost use Rattle.docsis_wire.specs.Cursor.{place_at, IsPlaced, chunk_at, CanPoint};
+ghost use Rattle.docsis_wire.specs.Inside.Cursor.{place_at, IsPlaced, chunk_at, CanPoint};
 ghost use Rattle.docsis_wire.specs.Pieces.{fill_byte, chunks_of, ArePieceSegments, IsFirstBadFrame};
 ghost use Rattle.docsis_wire.specs.Pieces.{IsFirstFillInsideFrame, IsFirstPointerTooFar, IsCuttable, Reports};
 ghost use Rattle.docsis_wire.specs.Limits.{sequence_modulus};
@@ -12,15 +12,12 @@ ghost use Rattle.docsis_wire.specs.CutUnderWay.{GivesNext};
 
 use crate::buffer::Bytes;
 use crate::cursor::{Cursor, START, copy, first_start};
-use crate::header::SegmentHeader;
+use crate::header::{SEQUENCE_MODULUS, SegmentHeader};
 use crate::header_check::HeaderCheck;
 use crate::pieces::{CutFault, FillByte, Piece, check};
 use crate::segment::Segment;
 use std::alloc::{AllocError, Global};
 use std::marker::Model;
-
-/// Segments are numbered modulo this.
-const SEQUENCES: u16 = 8192;
 
 /// The header of a segment whose chunk is the next `bytes` bytes.
 fn header_at(frames: &[Bytes], at: Cursor, bytes: usize, sequence: u16) -> SegmentHeader
@@ -88,7 +85,8 @@ pub struct Cutter<'a> {
 }
 
 impl<'a> Model for Cutter<'a> {
-    ghost use Rattle.docsis_wire.specs.CutUnderWay.{CutUnderWay, IsUnderWay};
+    ghost use Rattle.docsis_wire.specs.CutUnderWay.{CutUnderWay};
+    ghost use Rattle.docsis_wire.specs.Inside.UnderWay.{IsUnderWay};
 
     ghost Value = { CutUnderWay };
 
@@ -150,7 +148,8 @@ impl<'a> Cutter<'a> {
         let Some(piece) = self.pieces.get(self.made) else {
             return Ok(None);
         };
-        let sequence = (self.first + (self.made % usize::from(SEQUENCES)) as u16) % SEQUENCES;
+        let sequence = (self.first + (self.made % usize::from(SEQUENCE_MODULUS)) as u16)
+            % SEQUENCE_MODULUS;
         let head = header_at(self.frames, self.at, usize::from(piece.bytes), sequence);
         let mut at = self.at;
         let payload = payload_at(alloc, self.frames, &mut at, *piece, self.fill)?;

@@ -2,6 +2,9 @@
 ghost use Rattle.std.specs.Prelude.{◌<◌};
 ghost use Rattle.docsis_wire.specs.Limits.{pointer_limit, sequence_modulus, cluster_limit};
 
+/// How many sequence numbers there are. They run from 0 to 8191 and then begin again.
+pub const SEQUENCE_MODULUS: u16 = 8192;
+
 /// The header of a segment, eight bytes before its payload (CM-SP-MULPIv3.0, segment header
 /// format).
 #[derive(Clone, Copy, Debug, PartialEq, Eq)]

@@ -18,7 +18,7 @@ const POINTER: u16 = 0x3FFF;
 const CLUSTER: u16 = 0x0007;
 
 /// How many bytes of a segment its header takes.
-const HEADER_BYTES: usize = 8;
+pub const HEADER_BYTES: usize = 8;
 
 /// Why bytes are no segment.
 #[derive(Clone, Copy, Debug, PartialEq, Eq, Error)]

@@ -6,10 +6,10 @@ use Rattle.std.proofs.lemmas.Bool.{cases_eq}
 use Rattle.docsis_wire.specs.declared.segment.Segment.{Segment}
 use Rattle.reorder.specs.Number.{offset}
 use Rattle.reorder.specs.View.{WindowView, offset_in, IsHeld, IsLawful, with_item}
-use Rattle.reorder.specs.Answers.{IsVerdict, after_offer}
+use Rattle.reorder.specs.Verdicts.{IsVerdict, after_offer}
 use Rattle.reorder.proofs.Items.{get-insert_same, get-insert_other}
-use Rattle.reorder.specs.declared.answer.Verdict.{Verdict}
-use Rattle.reorder.specs.declared.answer.Verdict.TheVariants.{Late, Beyond, Repeat, Kept}
+use Rattle.reorder.specs.declared.verdict.Verdict.{Verdict}
+use Rattle.reorder.specs.declared.verdict.Verdict.TheVariants.{Late, Beyond, Repeat, Kept}
 use Rattle.flow_core.specs.declared.record.FlowRecord.{FlowRecord}
 use Rattle.flow_core.specs.declared.flow.Flow.{Flow}
 use Rattle.flow_core.specs.declared.ready.ReadySegment.{ReadySegment}
@@ -18,9 +18,9 @@ use Rattle.flow_core.specs.Fates.{Fates, number_of, IsKept, IsLost}
 use Rattle.flow_core.specs.Events.{arrives, IsAhead, IsVerdictOn, Keeps}
 use Rattle.flow_core.specs.Counts.{AreCounts}
 use Rattle.flow_core.specs.Stands.{IsWindowFrom, IsRemembered, IsDrained, TakesEvent}
-use Rattle.flow_core.proofs.Numbers.{index-offset, ahead-at, ahead-offset}
+use Rattle.flow_core.proofs.IndexNumbers.{index-offset, ahead-at, ahead-offset}
 use Rattle.flow_core.proofs.Windows.{held-kept, kept-held, window-keeps}
-use Rattle.flow_core.proofs.Counting.{answered, counts-answered}
+use Rattle.flow_core.proofs.FlowCounting.{answered, counts-answered}
 use Rattle.flow_core.proofs.Standing.{stands-next, drained-sound, open-kept, kept-not-lost}
 
 -- the verdict without what it hands back

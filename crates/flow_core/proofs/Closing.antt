@@ -3,8 +3,8 @@ use Rattle.std.proofs.Common.{◌≡◌, ℕ, zero, suc, ◌+◌, ◌<◌, ◌�
 use Rattle.std.proofs.lemmas.Bool.{cases_eq}
 use Rattle.std.proofs.lemmas.List.Sums.{sum_by-cons}
 use Rattle.std.specs.FinMap as map
-use Rattle.reorder.specs.declared.answer.Declared.{Declared}
-use Rattle.reorder.specs.declared.answer.Declared.TheVariants.{NextIsHere, NothingHeld, Lost}
+use Rattle.reorder.specs.declared.verdict.Declared.{Declared}
+use Rattle.reorder.specs.declared.verdict.Declared.TheVariants.{NextIsHere, NothingHeld, Lost}
 use Rattle.reorder.proofs.Items.{get-insert_same, get-insert_other}
 use Rattle.flow_core.specs.declared.event.Applied.{Applied}
 use Rattle.flow_core.specs.declared.event.Applied.TheVariants.{Arrival, Decision, DecisionTo}

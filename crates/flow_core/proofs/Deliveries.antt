@@ -9,7 +9,7 @@ use Rattle.docsis_wire.specs.Frame.{IsFrame}
 use Rattle.docsis_wire.specs.Stream.{place_of}
 use Rattle.docsis_wire.specs.Cut.{IsLawfulCut}
 use Rattle.docsis_wire.specs.Span.{IsInSpan, IsSettledOf, IsWhollyKept}
-use Rattle.docsis_wire.proofs.Places.{each_generic, place_of-le, place_of-lt, piece_at, element_at}
+use Rattle.docsis_wire.proofs.StreamPlaces.{each_generic, place_of-le, place_of-lt, piece_at, element_at}
 use Rattle.docsis_wire.proofs.Spans.{IsInSpan-begins, IsInSpan-by_places}
 use Rattle.ccf.specs.Filter.{FiltersFrom, FiltersTo}
 use Rattle.ccf.proofs.Filters.{FiltersFrom-none, FiltersFrom-same, FiltersFrom-once}

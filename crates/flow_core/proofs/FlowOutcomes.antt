@@ -11,7 +11,7 @@ use Rattle.flow_core.specs.declared.flow.Flow.{Flow}
 use Rattle.flow_core.specs.declared.counts.FlowCounts.{FlowCounts}
 use Rattle.flow_core.specs.declared.event.Applied.{Applied}
 use Rattle.flow_core.specs.Fates.{Fates, no_fates, IsExpected, IsSettledBelow}
-use Rattle.reorder.specs.declared.answer.Declared.{Declared}
+use Rattle.reorder.specs.declared.verdict.Declared.{Declared}
 use Rattle.flow_core.specs.declared.event.Applied.TheVariants.{Arrival, Decision, DecisionTo}
 use Rattle.flow_core.specs.Events.{FlowEvent, gap, Leads}
 use Rattle.flow_core.specs.Closing.{IsClosed}
@@ -20,7 +20,7 @@ use Rattle.flow_core.specs.Counts.{counted, says_kept, says_late, says_repeat, s
 use Rattle.flow_core.specs.Stands.{StandsFor, IsDrained}
 use Rattle.flow_core.specs.Outcome.{IsFlowOutcome}
 use Rattle.flow_core.proofs.Outcome.{expected-unique, sound-after}
-use Rattle.flow_core.proofs.OneOutcome.{after-once}
+use Rattle.flow_core.proofs.OneFates.{after-once}
 use Rattle.flow_core.proofs.Nearness.{AreOfIndex, numbered_of_cut, of_index-after, expected-within}
 use Rattle.flow_core.proofs.Giving.{expected_of_drained}
 use Rattle.flow_core.proofs.Closing.{only-close}

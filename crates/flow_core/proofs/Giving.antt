@@ -18,7 +18,7 @@ use Rattle.flow_core.specs.Near.{AreNear}
 use Rattle.flow_core.specs.Delivery.{IsDelivered, IsDeliverySequence}
 use Rattle.flow_core.specs.Stands.{StandsFor, IsDrained}
 use Rattle.flow_core.proofs.Outcome.{expected-unique, sound-after}
-use Rattle.flow_core.proofs.OneOutcome.{after-once}
+use Rattle.flow_core.proofs.OneFates.{after-once}
 use Rattle.flow_core.proofs.Nearness.{AreOfIndex, numbered_of_cut, of_index-after, expected-within}
 use Rattle.flow_core.proofs.Deliveries.{delivered_is_front}
 use Rattle.flow_core.proofs.Sequences.{sequence-some}

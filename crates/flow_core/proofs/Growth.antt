@@ -9,7 +9,7 @@ use Rattle.flow_core.specs.Fates.{Fates, no_fates}
 use Rattle.flow_core.specs.Events.{FlowEvent, Changes, Leads, IsAfter}
 use Rattle.flow_core.specs.Delivery.{IsDeliverySequence}
 use Rattle.flow_core.proofs.Outcome.{IsSound, expected-unique, sound-changes, sound-leads, sound-after, settled-stays}
-use Rattle.flow_core.proofs.OneOutcome.{after-once}
+use Rattle.flow_core.proofs.OneFates.{after-once}
 use Rattle.flow_core.proofs.Deliveries.{delivered_is_front}
 
 -- Events in front and more behind, with what is between them.

@@ -7,7 +7,7 @@ use Rattle.std.proofs.lemmas.List.Folds.{sum_by-replicate}
 use Rattle.std.proofs.lemmas.List.Sums.{sum_by-append}
 use Rattle.std.proofs.lemmas.Option.{slice_get_within, slice_get-get_or, get_or_from_slice_get}
 use Rattle.std.proofs.Math.Seq.{get_or-append_right}
-use Rattle.ccf.proofs.OneReading.{Joins-append}
+use Rattle.ccf.proofs.OneJoining.{Joins-append}
 use Rattle.docsis_wire.specs.declared.segment.Segment.{Segment}
 use Rattle.ccf.specs.Join.{Joins}
 use Rattle.reorder.specs.View.{IsLawful, moved_on_by}
@@ -17,7 +17,7 @@ use Rattle.flow_core.specs.declared.counts.FlowCounts.{FlowCounts}
 use Rattle.flow_core.specs.declared.event.Applied.{Applied}
 use Rattle.flow_core.specs.Fates.{Fates, IsSettledBelow}
 use Rattle.flow_core.specs.Counts.{counted, payload_bytes, AreCounts}
-use Rattle.flow_core.specs.Losses.{after_losses}
+use Rattle.flow_core.specs.Inside.Losses.{after_losses}
 use Rattle.flow_core.specs.Stands.{IsWindowFrom, AreLost}
 use Rattle.flow_core.proofs.Standing.{kept-not-lost}
 use Rattle.flow_core.proofs.Windows.{window-moves}

@@ -7,19 +7,19 @@ use Rattle.std.proofs.Props.{props}
 use Rattle.std.proofs.lemmas.List.{length-set, set-get_or}
 use Rattle.std.proofs.lemmas.Option.{slice_get_within, get_or_from_slice_get, same_Some}
 use mathlib.Core.HLevel.{is_prop→PathP}
-use Rattle.docsis_wire.proofs.Places.{slice_get-at}
-use Rattle.reorder.specs.declared.answer.Declared.{Declared}
-use Rattle.reorder.specs.declared.answer.Declared.TheVariants.{Lost}
+use Rattle.docsis_wire.proofs.StreamPlaces.{slice_get-at}
+use Rattle.reorder.specs.declared.verdict.Declared.{Declared}
+use Rattle.reorder.specs.declared.verdict.Declared.TheVariants.{Lost}
 use Rattle.flow_core.specs.declared.flow.Flow.{Flow}
 use Rattle.flow_core.specs.declared.flows.Core.{Core}
 use Rattle.flow_core.specs.declared.event.Applied.TheVariants.{Decision}
-use Rattle.flow_core.specs.Setup.{flows_max}
+use Rattle.flow_core.specs.Limits.{flows_max}
 use Rattle.flow_core.specs.Fates.{number_of}
 use Rattle.flow_core.specs.Events.{gap}
 use Rattle.flow_core.specs.Stands.{IsDrained, TakesEvent}
 use Rattle.flow_core.specs.Flows.{IsLoss, HasNoneLater, OthersStay}
 use Rattle.flow_core.proofs.Outcome.{after-append}
-use Rattle.flow_core.proofs.OneOutcome.{after-once}
+use Rattle.flow_core.proofs.OneFates.{after-once}
 use Rattle.flow_core.proofs.Standing.{drained-sound}
 
 -- lists that begin alike and have one more element each

@@ -1,6 +1,5 @@
 -- A flow runs from the start, and goes on running.
-use Rattle.std.proofs.Common.{◌≡◌, ℕ, ◌<◌, Some, Bool, List, [], ◌∷◌, ◌++◌, length, slice_get, ap}
-use Rattle.std.proofs.lemmas.Option.{slice_get_within}
+use Rattle.std.proofs.Common.{◌≡◌, ℕ, Some, Bool, List, [], ◌∷◌, ◌++◌, slice_get, ap}
 use Rattle.flow_core.specs.declared.record.FlowRecord.{FlowRecord}
 use Rattle.flow_core.specs.declared.flows.Core.{Core}
 use Rattle.flow_core.specs.declared.event.Applied.{Applied}
@@ -32,11 +31,7 @@ new_runs accepts check records core k flow_record is_new set_up has =
     }
 
 module _ {C : Type 0} (accepts : C → List ℕ → Bool) (core after : Core C) (k : ℕ) (w : IsRunning accepts core k) where
-  -- a flow that runs is there
-  pub runs_within : k < length core.flows.items
-  runs_within = slice_get_within core.flows.items k w.has_given.flow w.has_given.there
-
-  -- it runs after an event
+  -- a flow that runs does so after an event
   pub event_runs : (event : FlowEvent) (answer : Applied) → OthersStay core after k → TakesEventAt core k event answer after → IsRunning accepts after k
   event_runs event answer others takes =
       record {

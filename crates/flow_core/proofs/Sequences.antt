@@ -5,7 +5,7 @@ use Rattle.std.proofs.lemmas.Bool.{cases_lt}
 use Rattle.docsis_wire.specs.Frame.{IsFrame}
 use Rattle.docsis_wire.specs.Stream.{place_of}
 use Rattle.docsis_wire.specs.Span.{IsInSpan}
-use Rattle.docsis_wire.proofs.Places.{each_generic, place_of-le, place_of-lt}
+use Rattle.docsis_wire.proofs.StreamPlaces.{each_generic, place_of-le, place_of-lt}
 use Rattle.docsis_wire.proofs.Spans.{IsInSpan-begins, IsInSpan-ends, IsInSpan-by_places}
 use Rattle.ccf.specs.Filter.{FiltersFrom}
 use Rattle.ccf.proofs.Filters.{FiltersFrom-once}

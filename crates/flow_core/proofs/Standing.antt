@@ -7,9 +7,9 @@ use Rattle.std.proofs.lemmas.Option.{slice_get-get_or, slice_get_within}
 use Rattle.std.specs.Ordering.{nat_cmp}
 use Rattle.reorder.specs.View.{IsLawful, empty_window}
 use Rattle.flow_core.specs.Setup.{IsInRange}
-use Rattle.flow_core.specs.Counts.{no_counts}
+use Rattle.flow_core.specs.Inside.NoCounts.{no_counts}
 use Rattle.flow_core.specs.Fates.{no_fates}
-use Rattle.flow_core.proofs.Counting.{counts-new}
+use Rattle.flow_core.proofs.FlowCounting.{counts-new}
 use Rattle.flow_core.proofs.Windows.{window-new}
 use Rattle.docsis_wire.specs.declared.segment.Segment.{Segment}
 use Rattle.ccf.specs.Join.{Joins}

@@ -13,7 +13,7 @@ use Rattle.flow_core.specs.declared.ready.ReadySegment.{ReadySegment}
 use Rattle.flow_core.specs.Fates.{Fates, no_fates, number_of, kept_at, IsKept, IsKeptAs}
 use Rattle.flow_core.specs.Setup.{IsInRange}
 use Rattle.flow_core.specs.Stands.{IsWindowFrom}
-use Rattle.flow_core.proofs.Numbers.{same-index, following-index, ahead-index}
+use Rattle.flow_core.proofs.IndexNumbers.{same-index, following-index, ahead-index}
 
 -- the segment of an item
 abbrev pub segment_of : Option ReadySegment → Option Segment
@@ -34,9 +34,6 @@ kept-segment fates i segment is = ap option_flatten is
 pub some-none : {T : Type 0} (x : T) → Some x ≡ None → ⊥
 some-none x same = let tests = ap is_some same in cc
 
-pub not-kept : (fates : Fates) (i : ℕ) → kept_at fates i ≡ None → ¬ (IsKept fates i)
-not-kept fates i none kept = some-none kept.0 (sym (kept-segment fates i kept.0 kept.1) ∙ none)
-
 pub none-kept : (fates : Fates) (i : ℕ) → ¬ (IsKept fates i) → kept_at fates i ≡ None
 none-kept fates i free = ⊎_elim (λ kept. absurd (free kept)) (λ none. none) (kept-or-not fates i)
 
@@ -46,11 +43,6 @@ kept-from-segment fates i segment is =
     (λ kept. kept.1 ∙ ap Some (sym (kept-segment fates i kept.0 kept.1) ∙ is))
     (λ none. absurd (some-none segment (sym is ∙ none)))
     (kept-or-not fates i)
-
--- an item that is not there has no segment
-segment-none : (item : Option ReadySegment) → segment_of item ≡ None → item ≡ None
-segment-none None is = refl
-segment-none (Some ready) is = absurd (some-none ready.segment is)
 
 segment-some : (item : Option ReadySegment) (segment : Segment) → segment_of item ≡ Some segment → is_some item ≡ true
 segment-some None segment is = absurd (some-none segment (sym is))

@@ -3,7 +3,7 @@ use Rattle.std.specs.Prelude.{◌≡◌, ℕ, ◌+◌, ◌≤◌, Bool, true, fa
 use Rattle.docsis_wire.specs.declared.segment.Segment.{Segment}
 use Rattle.docsis_wire.specs.Stream.{place_of}
 use Rattle.docsis_wire.specs.Span.{IsInSpan}
-use Rattle.reorder.specs.declared.answer.Declared.TheVariants.{Lost}
+use Rattle.reorder.specs.declared.verdict.Declared.TheVariants.{Lost}
 use Rattle.flow_core.specs.declared.event.Applied.{Applied}
 use Rattle.flow_core.specs.declared.event.Applied.TheVariants.{Decision}
 use Rattle.flow_core.specs.Fates.{Fates, IsKept, IsExpected, HasLaterKept}

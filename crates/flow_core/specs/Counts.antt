@@ -2,7 +2,7 @@
 use Rattle.std.specs.Prelude.{◌≡◌, ℕ, ◌+◌, Bool, true, false, min, Option, Some, None, List, length, sum_by, count_by, is_some, not}
 use Rattle.std.specs.List.{concat}
 use Rattle.docsis_wire.specs.declared.segment.Segment.{Segment}
-use Rattle.reorder.specs.declared.answer.Verdict.TheVariants.{Late, Beyond, Repeat, Kept}
+use Rattle.reorder.specs.declared.verdict.Verdict.TheVariants.{Late, Beyond, Repeat, Kept}
 use Rattle.flow_core.specs.declared.counts.FlowCounts.{FlowCounts}
 use Rattle.flow_core.specs.declared.event.Applied.{Applied}
 use Rattle.flow_core.specs.declared.event.Applied.TheVariants.{Arrival}
@@ -45,7 +45,3 @@ pub record AreCounts (answers : List Applied) (settled : List (Option Segment)) 
   pub skipped_bytes : ℕ
   pub balance : skipped_bytes + length (concat given) + length unfinished ≡ sum_by payload_bytes settled
   pub skipped : counts.skipped ≡ counted skipped_bytes
-
--- nothing was counted yet
-abbrev pub no_counts : FlowCounts
-no_counts = record { kept = 0; late = 0; repeat = 0; beyond = 0; lost = 0; frames = 0; skipped = 0 }

@@ -2,10 +2,11 @@
 use Rattle.std.specs.Prelude.{◌≡◌, ℕ, ◌+◌, ◌<◌, ◌≤◌, ◌↔◌, Bool, Some, None, IsTrue, List, [], ◌∷◌}
 use Rattle.std.specs.FinMap as map
 use Rattle.docsis_wire.specs.declared.segment.Segment.{Segment}
-use Rattle.reorder.specs.declared.answer.Verdict.{Verdict}
-use Rattle.reorder.specs.declared.answer.Verdict.TheVariants.{Late, Beyond, Repeat, Kept}
-use Rattle.reorder.specs.declared.answer.Declared.{Declared}
-use Rattle.reorder.specs.declared.answer.Declared.TheVariants.{NextIsHere, NothingHeld, Lost}
+use Rattle.reorder.specs.Limits.{numbers_ahead}
+use Rattle.reorder.specs.declared.verdict.Verdict.{Verdict}
+use Rattle.reorder.specs.declared.verdict.Verdict.TheVariants.{Late, Beyond, Repeat, Kept}
+use Rattle.reorder.specs.declared.verdict.Declared.{Declared}
+use Rattle.reorder.specs.declared.verdict.Declared.TheVariants.{NextIsHere, NothingHeld, Lost}
 use Rattle.flow_core.specs.declared.event.Applied.{Applied}
 use Rattle.flow_core.specs.declared.event.Applied.TheVariants.{Arrival, Decision, DecisionTo}
 use Rattle.flow_core.specs.Fates.{Fates, no_fates, number_of, IsKept, IsOpen, IsExpected, HasLaterKept}
@@ -20,7 +21,7 @@ pub data FlowEvent : Type 0 where
 -- behind (this project's profile: half of the 8192 numbers).
 pub record IsAhead (first x number i : ℕ) : Type 0 where
   pub from : x ≤ i
-  pub to : i < x + 4096
+  pub to : i < x + numbers_ahead
   pub numbered : number_of first i ≡ number
 
 -- The verdict on a segment that arrives, where x is the expected index: it lies behind, it lies ahead beyond the window, its index was kept

@@ -10,8 +10,8 @@ use Rattle.flow_core.specs.declared.event.Event.TheVariants.{Arrive, Gap, GapTo}
 use Rattle.flow_core.specs.declared.event.Applied.{Applied}
 use Rattle.flow_core.specs.declared.event.Applied.TheVariants.{Decision}
 use Rattle.flow_core.specs.declared.event.Step.{Step}
-use Rattle.reorder.specs.declared.answer.Declared.{Declared}
-use Rattle.reorder.specs.declared.answer.Declared.TheVariants.{Lost}
+use Rattle.reorder.specs.declared.verdict.Declared.{Declared}
+use Rattle.reorder.specs.declared.verdict.Declared.TheVariants.{Lost}
 use Rattle.flow_core.specs.Fates.{HasLaterKept}
 use Rattle.flow_core.specs.Events.{FlowEvent, arrives, gap, gap_to}
 use Rattle.flow_core.specs.Stands.{StandsFor, IsDrained, TakesEvent, Advances}

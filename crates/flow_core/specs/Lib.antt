@@ -1,3 +1,4 @@
+pub mod Limits
 pub mod Fates
 pub mod Events
 pub mod Near
@@ -6,7 +7,7 @@ pub mod Counts
 pub mod Stands
 pub mod Setup
 pub mod Flows
-pub mod Losses
 pub mod Closing
 pub mod Outcome
 pub mod Giving
+pub mod Inside

@@ -1,6 +1,7 @@
 -- Which lists of events are those of a modem's cut.
 use Rattle.std.specs.Prelude.{◌≡◌, ℕ, ◌+◌, ◌<◌, ◌≤◌, Some, List, ◌∷◌, ◌++◌, slice_get}
 use Rattle.docsis_wire.specs.declared.segment.Segment.{Segment}
+use Rattle.reorder.specs.Limits.{numbers_ahead}
 use Rattle.flow_core.specs.declared.event.Applied.{Applied}
 use Rattle.flow_core.specs.Fates.{Fates, IsExpected}
 use Rattle.flow_core.specs.Events.{FlowEvent, arrives, IsAfter}
@@ -9,8 +10,8 @@ use Rattle.flow_core.specs.Events.{FlowEvent, arrives, IsAfter}
 pub record IsNearTo (segments : List Segment) (x : ℕ) (segment : Segment) : Type 0 where
   pub index : ℕ
   pub of_cut : slice_get segments index ≡ Some segment
-  pub from : x ≤ index + 4096
-  pub to : index < x + 4096
+  pub from : x ≤ index + numbers_ahead
+  pub to : index < x + numbers_ahead
 
 -- Near events: each segment that arrives is one of the cut's, and comes when the expected index is so near to its own.
 abbrev pub AreNear : ℕ → ℕ → List Segment → List FlowEvent → Type 0

@@ -1,21 +1,19 @@
 -- Which records of flows can be set up.
 use Rattle.std.specs.Prelude.{◌≡◌, ℕ, ◌<◌, ◌≤◌, Some, List, length, slice_get}
-use Rattle.docsis_wire.specs.Limits.{sequence_modulus}
+use Rattle.docsis_wire.specs.Limits.{sequence_modulus, cluster_limit}
+use Rattle.reorder.specs.Limits.{width_max}
+use Rattle.flow_core.specs.Limits.{flows_max}
 use Rattle.flow_core.specs.declared.record.FlowRecord.{FlowRecord}
 use Rattle.flow_core.specs.declared.record.SetupFault.{SetupFault}
 use Rattle.flow_core.specs.declared.record.SetupFault.TheVariants.{TooManyFlows, BadFlow, SameSfid, OutOfMemory}
-
--- the greatest number of flows
-abbrev pub flows_max : ℕ
-flows_max = 64
 
 -- each field of a record lies in its range
 pub record IsInRange (flow_record : FlowRecord) : Type 0 where
   pub first : flow_record.first < sequence_modulus
   pub window_positive : 1 ≤ flow_record.window
-  pub window_in_range : flow_record.window ≤ 4096
+  pub window_in_range : flow_record.window ≤ width_max
   pub clusters_positive : 1 ≤ flow_record.clusters
-  pub clusters_in_range : flow_record.clusters ≤ 8
+  pub clusters_in_range : flow_record.clusters ≤ cluster_limit
   pub ring_positive : 1 ≤ flow_record.ring
 
 -- record k is out of range

@@ -1,13 +1,13 @@
 //! One service flow: its window, its joiner, its counts.
-ghost use Rattle.std.specs.Prelude.{◌≡◌, ◌<◌, ◌↔◌, ℕ, Bool, List, [], IsTrue, Ok, IfOk, OnErr};
+ghost use Rattle.std.specs.Prelude.{◌≡◌, ◌<◌, ◌↔◌, ℕ, Bool, List, [], length, IsTrue, Ok, IfOk, OnErr};
 ghost use Rattle.docsis_wire.specs.Limits.{sequence_modulus};
 ghost use Rattle.docsis_wire.specs.Ready.{IsReady};
-ghost use Rattle.flow_core.specs.Setup.{IsInRange};
+ghost use Rattle.flow_core.specs.Setup.{IsInRange, CanBeSetUp};
 ghost use Rattle.flow_core.specs.Events.{arrives, gap, gap_to};
 ghost use Rattle.reorder.specs.View.{IsLawful};
-ghost use Rattle.reorder.specs.Answers.{declared_count};
-ghost use Rattle.flow_core.specs.Flows.{IsLoss};
-ghost use Rattle.flow_core.specs.Losses.{after_losses, after_declaring, GoesOn};
+ghost use Rattle.reorder.specs.Verdicts.{declared_count};
+ghost use Rattle.flow_core.specs.Flows.{IsLoss, AreNewFlows};
+ghost use Rattle.flow_core.specs.Inside.Losses.{after_losses, after_declaring, GoesOn};
 ghost use Rattle.flow_core.specs.Stands.{StandsFor, IsDrained, TakesEvent, Advances};
 ghost use Rattle.flow_core.specs.declared.event.Applied.{Applied};
 ghost use Rattle.flow_core.specs.declared.event.Step.{Step};
@@ -175,4 +175,17 @@ impl Flow {
     {
         self.counts
     }
+}
+
+/// A flow for each record, in their order.
+pub fn new_flows(alloc: Global, records: &[FlowRecord]) -> Result<Vec<Flow>, AllocError>
+    requires { CanBeSetUp records.now }
+    ensures count { IfOk result (λ flows. length flows.items ≡ length records.now) }
+    ensures each { IfOk result (λ flows. AreNewFlows records.now flows.items) }
+{
+    let mut flows = Vec::with_capacity(alloc, records.len())?;
+    for record in records {
+        flows.push_reserved(Flow::new(alloc, record)?);
+    }
+    Ok(flows)
 }

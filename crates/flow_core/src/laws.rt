@@ -9,6 +9,7 @@ ghost use Rattle.docsis_wire.specs.Frame.{IsFrame};
 ghost use Rattle.docsis_wire.specs.Cut.{IsLawfulCut};
 ghost use Rattle.docsis_wire.specs.Span.{IsSettledOf};
 ghost use Rattle.ccf.specs.Filter.{FiltersTo};
+ghost use Rattle.reorder.specs.Limits.{numbers_ahead};
 ghost use Rattle.ccf.specs.Join.{Joins};
 ghost use Rattle.flow_core.specs.declared.record.FlowRecord.{FlowRecord};
 ghost use Rattle.flow_core.specs.declared.flow.Flow.{Flow};
@@ -22,7 +23,7 @@ ghost use Rattle.flow_core.specs.Stands.{StandsFor, IsDrained};
 ghost use Rattle.flow_core.specs.Outcome.{IsFlowOutcome};
 ghost use Rattle.flow_core.specs.Closing.{IsClosed, Closes, says_lost, IsAllKept, HaveNoArrival};
 ghost use Rattle.flow_core.specs.Flows.{IsLoss};
-ghost use Rattle.reorder.specs.declared.answer.Declared.{Declared};
+ghost use Rattle.reorder.specs.declared.verdict.Declared.{Declared};
 
 /// Every list of events has one outcome: one list of answers and one fate of each index, of which
 /// one is the expected index.
@@ -81,7 +82,7 @@ pub fn events_of_a_short_cut_are_near()
     ensures { (check : List ℕ → Bool) (frames chunks : List (List ℕ)) (first fill width : ℕ)
         (segments : List Segment) (events : List FlowEvent)
         → IsLawfulCut check frames first fill chunks segments
-        → length segments ≤ 4096 → AreOfCut segments events
+        → length segments ≤ numbers_ahead → AreOfCut segments events
         → AreNear first width segments events }
 {}
 

@@ -29,4 +29,4 @@ mod tests;
 pub use counts::FlowCounts;
 pub use event::{Applied, Event, Step};
 pub use flows::Core;
-pub use record::{FlowRecord, SetupFault, check_records};
+pub use record::{CLUSTERS_MAX, FLOWS_MAX, FlowRecord, SetupFault, WINDOW_MAX, check_records};

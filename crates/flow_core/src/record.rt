@@ -4,11 +4,19 @@ ghost use Rattle.flow_core.specs.Setup.{IsInRange, IsBad, IsRepeated, IsLeast, I
 ghost use Rattle.flow_core.specs.Setup.{CanBeSetUp};
 ghost use Rattle.flow_core.specs.declared.record.SetupFault.{SetupFault};
 
+use docsis_wire::SEQUENCE_MODULUS;
+use reorder::WIDTH_MAX;
 use std::alloc::AllocError;
 use thiserror::Error;
 
 /// How many flows there may be.
-const FLOWS_MAX: usize = 64;
+pub const FLOWS_MAX: usize = 64;
+
+/// The greatest width of a flow's window.
+pub const WINDOW_MAX: u16 = WIDTH_MAX;
+
+/// How many SID clusters a flow may have.
+pub const CLUSTERS_MAX: u8 = 8;
 
 /// What is known of a service flow before it runs. A flow's index is the place of its record.
 #[derive(Clone, Copy, Debug, PartialEq, Eq)]
@@ -58,9 +66,9 @@ impl FlowRecord {
     fn is_in_range(&self) -> bool
         ensures { IsTrue result ↔ IsInRange self.now }
     {
-        self.first < 8192
-            && (1..=4096).contains(&self.window)
-            && (1..=8).contains(&self.clusters)
+        self.first < SEQUENCE_MODULUS
+            && (1..=WINDOW_MAX).contains(&self.window)
+            && (1..=CLUSTERS_MAX).contains(&self.clusters)
             && self.ring > 0
     }
 }

@@ -1,7 +1,7 @@
-pub mod Lists
+pub mod EntryLists
 pub mod Steps
 pub mod Posting
-pub mod Taking
+pub mod MouthTaking
 pub mod Marking
-pub mod Counts
-pub mod Joining
+pub mod CountingLeft
+pub mod PassJoining

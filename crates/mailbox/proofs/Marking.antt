@@ -1,8 +1,8 @@
 -- What a take leaves of the marks of the five ends.
 use Rattle.std.specs.Prelude.{◌≡◌, ℕ, zero, suc, ◌<◌, ◌==◌, Bool, true, List, [], ◌∷◌, if◌then◌else◌, slice_set}
 use Rattle.std.proofs.Common.{arith, ◌∙◌, ap}
-use Rattle.mailbox.specs.Entries.{has_end}
-use Rattle.mailbox.specs.Delivers.{sent_by, ends_in}
+use Rattle.mailbox.specs.Entries.{has_end, sent_by}
+use Rattle.mailbox.specs.Inside.Ends.{ends_in}
 use Rattle.mailbox.specs.declared.entry.Stamped.{Stamped}
 
 module _ {T : Type 0} where

@@ -2,9 +2,9 @@
 use Rattle.std.specs.Prelude.{◌≡◌, ℕ, false, List, [], ◌∷◌, ◌++◌, Result, Ok, Err, MatchResult, refl}
 use Rattle.std.proofs.Common.{ap, sym, ◌∙◌, subst}
 use Rattle.crossbeam_queue.specs.Fifo.{Held}
-use Rattle.mailbox.proofs.Lists.{has_end-item}
-use Rattle.mailbox.specs.Entries.{has_end}
-use Rattle.mailbox.specs.Delivers.{port, own, Posted}
+use Rattle.mailbox.proofs.EntryLists.{has_end-item}
+use Rattle.mailbox.specs.Entries.{has_end, own}
+use Rattle.mailbox.specs.Inside.Delivers.{port, Posted}
 use Rattle.mailbox.specs.declared.entry.Entry.TheVariants.{Item}
 use Rattle.mailbox.specs.declared.entry.Stamped.{Stamped}
 use Rattle.mailbox.specs.declared.view.View.{View}

@@ -12,7 +12,8 @@ use Rattle.mailbox.specs.declared.entry.Entry.{Entry}
 use Rattle.mailbox.specs.declared.entry.Stamped.{Stamped}
 use Rattle.mailbox.specs.declared.view.PortLog.{PortLog}
 use Rattle.mailbox.specs.declared.view.View.{View}
-use Rattle.mailbox.specs.Delivers.{sent_by, own, log, port, mouth, spent, newcomer, one_more, new_port, joined, Has, Holds, MayTake, Delivers, Posted, Taken, Accounts}
+use Rattle.mailbox.specs.Entries.{sent_by, own}
+use Rattle.mailbox.specs.Inside.Delivers.{log, port, mouth, spent, newcomer, one_more, new_port, joined, Has, Holds, MayTake, Delivers, Posted, Taken, Accounts}
 
 -- numbers by a test
 if_same : {A : Type 0} (j k : ℕ) (a b : A) → j ≡ k → (if j == k then a else b) ≡ a

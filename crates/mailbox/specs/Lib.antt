@@ -1,7 +1,6 @@
 pub mod Entries
-pub mod Delivers
 pub mod Ports
 pub mod Mouths
 pub mod Openings
 pub mod Settling
-pub mod Counting
+pub mod Inside

@@ -1,8 +1,7 @@
 -- What a clause sees of a mouth.
 use Rattle.std.specs.Prelude.{◌≡◌, ℕ, ◌+◌, ◌<◌, ◌==◌, Bool, true, List, [], ◌∷◌, ◌++◌, if◌then◌else◌}
 use Rattle.crossbeam_queue.specs.Passes.{view}
-use Rattle.mailbox.specs.Entries.{items_of, has_end, ends_of}
-use Rattle.mailbox.specs.Delivers.{sent_by}
+use Rattle.mailbox.specs.Entries.{items_of, has_end, ends_of, sent_by}
 use Rattle.mailbox.specs.Ports.{Address}
 use Rattle.mailbox.specs.declared.mouth.Mouth.{Mouth}
 use Rattle.mailbox.specs.declared.taken.Taken.{Taken}

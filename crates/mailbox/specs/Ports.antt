@@ -2,8 +2,7 @@
 use Rattle.std.specs.Prelude.{ℕ, List}
 use Rattle.atomic_table.specs.Seated.{TableId}
 use Rattle.crossbeam_queue.specs.Passes.{view}
-use Rattle.mailbox.specs.Entries.{items_of}
-use Rattle.mailbox.specs.Delivers.{own}
+use Rattle.mailbox.specs.Entries.{items_of, own}
 use Rattle.mailbox.specs.declared.port.Port.{Port}
 use Rattle.mailbox.specs.declared.port.ClosedPort.{ClosedPort}
 

@@ -1,7 +1,7 @@
 //! Counting what is left in the queue.
 ghost use Rattle.std.specs.Prelude.{◌≡◌, ◌<◌, ◌+◌, ◌^◌, true, length, slice_index};
 ghost use Rattle.crossbeam_queue.specs.Passes.{view, IsPassOf};
-ghost use Rattle.mailbox.specs.Counting.{Counts, AddsOne};
+ghost use Rattle.mailbox.specs.Inside.Counting.{Counts, AddsOne};
 
 use crate::entry::{Entry, Stamped};
 use crate::port::Queue;

@@ -2,7 +2,8 @@
 ghost use Rattle.std.specs.Prelude.{◌≡◌, []};
 ghost use Rattle.std.specs.Arc.{arc_value};
 ghost use Rattle.crossbeam_queue.specs.Passes.{view, IsPassOf};
-ghost use Rattle.mailbox.specs.Delivers.{mouth, got_by, ends_in};
+ghost use Rattle.mailbox.specs.Inside.Ends.{ends_in};
+ghost use Rattle.mailbox.specs.Inside.Delivers.{mouth, got_by};
 
 use crate::entry::{Entry, Stamped};
 use crate::port::Queue;

@@ -2,7 +2,7 @@
 ghost use Rattle.std.specs.Prelude.{◌≡◌, ◌<◌, ◌+◌, ◌↔◌, [], IfOk, Err};
 ghost use Rattle.std.specs.Arc.{arc_value};
 ghost use Rattle.crossbeam_queue.specs.Passes.{view, IsPassOf};
-ghost use Rattle.mailbox.specs.Delivers.{mouth};
+ghost use Rattle.mailbox.specs.Inside.Delivers.{mouth};
 ghost use Rattle.mailbox.specs.Ports.{address, posted};
 ghost use Rattle.mailbox.specs.Mouths.{places};
 ghost use Rattle.mailbox.specs.Openings.{addresses, NonePosted, NoneTaken};

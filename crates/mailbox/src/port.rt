@@ -2,8 +2,9 @@
 ghost use Rattle.std.specs.Prelude.{◌≡◌, ◌<◌, true, false};
 ghost use Rattle.std.specs.Arc.{arc_value};
 ghost use Rattle.crossbeam_queue.specs.Passes.{view, IsPassOf};
-ghost use Rattle.mailbox.specs.Delivers.{port, own};
-ghost use Rattle.mailbox.specs.Entries.{has_end, ends_once};
+ghost use Rattle.mailbox.specs.Entries.{own, has_end};
+ghost use Rattle.mailbox.specs.Inside.Ends.{ends_once};
+ghost use Rattle.mailbox.specs.Inside.Delivers.{port};
 
 use crate::entry::{Entry, Stamped};
 use crate::rule::{InOrder, Posts};
@@ -49,7 +50,7 @@ impl<T: Drop> Port<T> {
 
     /// Posts an item. [`Full`] gives it back where the mailbox held as many entries as it has room
     /// for; nothing is posted then.
-    #[tactic(auto, using(crate::proofs::Lists::pushes))]
+    #[tactic(auto, using(crate::proofs::EntryLists::pushes))]
     pub fn post<R: Wait>(&mut self, rt: &R, item: T) -> Result<(), Full<T>>
         ensures address { address self.new ≡ address self.old }
         ensures posted { OnOk result (posted self.new ≡ posted self.old ++ item ∷ []) }
@@ -74,7 +75,7 @@ impl<T: Drop> Port<T> {
 
     /// Posts the end mark, which takes the room of one entry. The port comes back where the mailbox
     /// held as many entries as it has room for; nothing is posted then.
-    #[tactic(auto, using(crate::proofs::Lists::pushes))]
+    #[tactic(auto, using(crate::proofs::EntryLists::pushes))]
     pub fn close<R: Wait>(self, rt: &R) -> Result<ClosedPort<T>, Port<T>>
         ensures closed { IfOk result (λ closed.
             (closed_address closed ≡ address self) × (closed_posted closed ≡ posted self)) }

@@ -7,7 +7,7 @@ use crossbeam_queue::protocol::{Join, Lesson, Outcome, Protocol, Split};
 pub struct InOrder;
 
 impl<T> Protocol<Stamped<T>, View<T>> for InOrder {
-    ghost use Rattle.mailbox.specs.Delivers.{Delivers, newcomer};
+    ghost use Rattle.mailbox.specs.Inside.Delivers.{Delivers, newcomer};
 
     ghost holds = { Delivers };
 
@@ -18,7 +18,7 @@ impl<T> Protocol<Stamped<T>, View<T>> for InOrder {
 pub struct Posts;
 
 impl<T> Outcome<Stamped<T>, View<T>> for Posts {
-    ghost use Rattle.mailbox.specs.Delivers.{Posted};
+    ghost use Rattle.mailbox.specs.Inside.Delivers.{Posted};
 
     ghost then = { Posted };
 }
@@ -31,13 +31,13 @@ impl<T> Lesson<Stamped<T>, View<T>> for Posts {
 pub struct Takes;
 
 impl<T> Outcome<Stamped<T>, View<T>> for Takes {
-    ghost use Rattle.mailbox.specs.Delivers.{Taken};
+    ghost use Rattle.mailbox.specs.Inside.Delivers.{Taken};
 
     ghost then = { Taken };
 }
 
 impl<T> Lesson<Stamped<T>, View<T>> for Takes {
-    ghost use Rattle.mailbox.specs.Delivers.{Accounts};
+    ghost use Rattle.mailbox.specs.Inside.Delivers.{Accounts};
 
     ghost fact = { Accounts };
 }
@@ -46,7 +46,7 @@ impl<T> Lesson<Stamped<T>, View<T>> for Takes {
 pub struct NewPort;
 
 impl<T> Split<View<T>> for NewPort {
-    ghost use Rattle.mailbox.specs.Delivers.{one_more, new_port};
+    ghost use Rattle.mailbox.specs.Inside.Delivers.{one_more, new_port};
 
     ghost left = { one_more };
 
@@ -57,7 +57,7 @@ impl<T> Split<View<T>> for NewPort {
 pub struct Joins;
 
 impl<T> Join<View<T>> for Joins {
-    ghost use Rattle.mailbox.specs.Delivers.{joined, spent};
+    ghost use Rattle.mailbox.specs.Inside.Delivers.{joined, spent};
 
     ghost both = { joined };
 

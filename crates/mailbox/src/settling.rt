@@ -1,7 +1,7 @@
 //! What is left once the threads have returned.
 ghost use Rattle.std.specs.Prelude.{◌≡◌, ◌<◌, ◌≤◌, ℕ, true, slice_index};
 ghost use Rattle.crossbeam_queue.specs.Passes.{view, IsPassOf, IsSamePass};
-ghost use Rattle.mailbox.specs.Delivers.{joined};
+ghost use Rattle.mailbox.specs.Inside.Delivers.{joined};
 ghost use Rattle.mailbox.specs.Ports.{closed_posted};
 ghost use Rattle.mailbox.specs.Mouths.{taken, ended, ends_taken, places};
 ghost use Rattle.mailbox.specs.Settling.{closed_addresses, Leaves};

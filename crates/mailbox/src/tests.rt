@@ -13,7 +13,7 @@ mod rows;
 mod threads;
 
 // Closes a port that has room for its end mark.
-fn close<T: Drop, R: Abort + Wait>(rt: &R, port: Port<T>) -> ClosedPort<T>
+fn close_port<T: Drop, R: Abort + Wait>(rt: &R, port: Port<T>) -> ClosedPort<T>
     ensures { closed_address result ≡ address port }
 {
     match port.close(rt) {
@@ -42,7 +42,7 @@ fn close_and_take<R: Abort + Wait>(
     ensures port { closed_address result ≡ address port }
     ensures mouth { places mouth.new ≡ places mouth.old }
 {
-    let closed = close(rt, port);
+    let closed = close_port(rt, port);
     assert_eq!(rt; mouth.next(rt), Taken::End { from });
     closed
 }

@@ -7,11 +7,11 @@ use Rattle.std.proofs.lemmas.Bool.{cases_eq, cases_lt}
 use Rattle.std.proofs.lemmas.List.{get_or_past, length-replicate, length-set, get_or-set_same, get_or-set_other}
 use Rattle.reorder.specs.Number.{offset, following}
 use Rattle.reorder.specs.View.{WindowView, held_at, empty_window, with_item, next_taken}
-use Rattle.reorder.specs.Places.{item_at, IsLaidOut, items_from, seen}
+use Rattle.reorder.specs.Inside.Places.{item_at, IsLaidOut, items_from, seen}
 use Rattle.reorder.proofs.Offsets.{following-in_range, offset-expected, offset-following, offset-injective, offset-passed}
 use Rattle.reorder.proofs.Items.{none, get-insert_same, get-insert_other, get-remove_same, get-remove_other}
-use Rattle.reorder.proofs.Lawful.{held_before}
-use Rattle.reorder.proofs.OneReading.{Agree-same}
+use Rattle.reorder.proofs.LawfulWindow.{held_before}
+use Rattle.reorder.proofs.AgreeingWindows.{Agree-same}
 
 module _ {T : Type 0} where
   -- the place after the first one

@@ -1,8 +1,8 @@
 pub mod Offsets
 pub mod Items
-pub mod Lawful
-pub mod OneReading
+pub mod LawfulWindow
+pub mod AgreeingWindows
 pub mod LaidOut
-pub mod Kept
-pub mod Declaring
+pub mod WindowFields
+pub mod DeclaredCount
 pub mod Passing

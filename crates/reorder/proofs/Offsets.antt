@@ -34,10 +34,6 @@ number_ahead-offset e n h k = omega arith
 pub number_ahead-zero : (e : ℕ) → e < 8192 → number_ahead e 0 ≡ e
 number_ahead-zero e h = omega arith
 
--- and one number more
-pub number_ahead-next : (e d : ℕ) → following (number_ahead e d) ≡ number_ahead e (d + 1)
-number_ahead-next e d = omega arith
-
--- or from the next number one less
+-- one number more, and from the next number one less
 pub number_ahead-following : (e d : ℕ) → number_ahead (following e) d ≡ number_ahead e (d + 1)
 number_ahead-following e d = omega arith

@@ -3,11 +3,11 @@ use Rattle.std.proofs.Common.{◌≡◌, ℕ, ◌+◌, ◌%◌, ◌<◌, ◌≤�
 use Rattle.std.proofs.lemmas.List.Sums.{sum_by-cons}
 use Rattle.reorder.specs.Number.{offset, number_ahead}
 use Rattle.reorder.specs.View.{WindowView, IsLawful}
-use Rattle.reorder.specs.Answers.{IsVerdict}
+use Rattle.reorder.specs.Verdicts.{IsVerdict}
 use Rattle.reorder.specs.Calls.{Call, offer, take_next, declare, declare_to, after_call, after_calls, passed_by, numbers_passed}
-use Rattle.reorder.specs.declared.answer.Verdict.{Verdict}
-use Rattle.reorder.specs.declared.answer.Verdict.TheVariants.{Late, Beyond, Repeat, Kept}
-use Rattle.reorder.specs.declared.answer.Declared.TheVariants.{NextIsHere, NothingHeld, Lost}
+use Rattle.reorder.specs.declared.verdict.Verdict.{Verdict}
+use Rattle.reorder.specs.declared.verdict.Verdict.TheVariants.{Late, Beyond, Repeat, Kept}
+use Rattle.reorder.specs.declared.verdict.Declared.TheVariants.{NextIsHere, NothingHeld, Lost}
 
 -- no number passed
 stays_put : (e : ℕ) → e < 8192 → e ≡ (e + 0) % 8192

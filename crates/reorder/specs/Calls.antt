@@ -1,10 +1,10 @@
 -- Calls of a window one after another, and what two windows agree on.
 use Rattle.std.specs.Prelude.{◌≡◌, ℕ, zero, suc, List, [], ◌∷◌, sum_by, Option, None, Some}
 use Rattle.reorder.specs.View.{WindowView, held_at, moved_on_by}
-use Rattle.reorder.specs.Answers.{after_offer, after_take_next, IsDeclared, after_declare}
-use Rattle.reorder.specs.declared.answer.Verdict.{Verdict}
-use Rattle.reorder.specs.declared.answer.Declared.{Declared}
-use Rattle.reorder.specs.declared.answer.Declared.TheVariants.{NextIsHere, NothingHeld, Lost}
+use Rattle.reorder.specs.Verdicts.{after_offer, after_take_next, IsDeclared, after_declare}
+use Rattle.reorder.specs.declared.verdict.Verdict.{Verdict}
+use Rattle.reorder.specs.declared.verdict.Declared.{Declared}
+use Rattle.reorder.specs.declared.verdict.Declared.TheVariants.{NextIsHere, NothingHeld, Lost}
 
 -- a call that may change a window, with what it was given and what it answered
 pub data Call (T : Type 0) : Type 0 where

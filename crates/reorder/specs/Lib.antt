@@ -1,5 +1,6 @@
+pub mod Limits
 pub mod Number
 pub mod View
-pub mod Places
-pub mod Answers
+pub mod Verdicts
 pub mod Calls
+pub mod Inside

@@ -1,8 +1,8 @@
 -- What contracts see of a resequencing window, and what its calls make of it.
-use Rattle.std.specs.Prelude.{ℕ, ◌<◌, ◌≤◌, Option, IsSome, refl}
+use Rattle.std.specs.Prelude.{ℕ, ◌<◌, ◌≤◌, Option, IsSome}
 use Rattle.std.specs.Ordering.{nat_cmp}
-use Rattle.std.specs.Coded.{Coded, code_by, coded×, coded_ℕ}
 use Rattle.std.specs.FinMap as map
+use Rattle.reorder.specs.Limits.{modulus, width_max}
 use Rattle.reorder.specs.Number.{offset, following, number_ahead}
 
 -- The number that is expected, how many numbers from it on may be held, and the held items by their
@@ -14,16 +14,6 @@ pub record WindowView (T : Type 0) : Type 0 where
   pub held : map.FinMap nat_cmp T
 
 module _ {T : Type 0} where
-  -- a window is stored as its three parts
-  abbrev pub view_code : Coded T → Coded (WindowView T)
-  view_code item =
-      code_by
-      (ℕ × (ℕ × map.FinMap nat_cmp T))
-      (coded× coded_ℕ (coded× coded_ℕ (map.code coded_ℕ item)))
-      (λ w. (w.expected, (w.width, w.held)))
-      (λ p. record { expected = p.0; width = p.1.0; held = p.1.1 })
-      (λ _. refl)
-
   -- how far a number lies ahead of the expected one
   abbrev pub offset_in : WindowView T → ℕ → ℕ
   offset_in w number = offset w.expected number
@@ -38,10 +28,10 @@ module _ {T : Type 0} where
 
   -- what every window keeps
   pub record IsLawful (w : WindowView T) : Type 0 where
-    pub expected_in_range : w.expected < 8192
+    pub expected_in_range : w.expected < modulus
     pub width_positive : 1 ≤ w.width
-    pub width_in_range : w.width ≤ 4096
-    pub held_in_range : (number : ℕ) → IsHeld w number → number < 8192
+    pub width_in_range : w.width ≤ width_max
+    pub held_in_range : (number : ℕ) → IsHeld w number → number < modulus
     pub held_within : (number : ℕ) → IsHeld w number → offset_in w number < w.width
 
   -- a window that holds nothing

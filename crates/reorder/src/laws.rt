@@ -3,15 +3,16 @@
 //! Each function states a law in its contract; its body is empty or only calls other laws.
 ghost use Rattle.std.specs.Prelude.{◌≡◌, ℕ, ◌+◌, ◌<◌, ◌≤◌, ◌⊎◌, List, Some};
 ghost use Rattle.std.specs.FinMap as map;
+ghost use Rattle.reorder.specs.Limits.{modulus, numbers_ahead};
 ghost use Rattle.reorder.specs.Number.{number_ahead};
 ghost use Rattle.reorder.specs.View.{WindowView, IsLawful, held_at, IsHeld, offset_in};
 ghost use Rattle.reorder.specs.View.{moved_on, moved_on_by};
-ghost use Rattle.reorder.specs.Answers.{IsVerdict, after_offer, after_take_next, IsDeclared};
-ghost use Rattle.reorder.specs.Answers.{declared_count};
+ghost use Rattle.reorder.specs.Verdicts.{IsVerdict, after_offer, after_take_next, IsDeclared};
+ghost use Rattle.reorder.specs.Verdicts.{declared_count};
 ghost use Rattle.reorder.specs.Calls.{Call, after_call, after_calls, numbers_passed, Agree};
 ghost use Rattle.reorder.specs.Calls.{LosesInTurn};
-ghost use Rattle.reorder.specs.declared.answer.Verdict.{Verdict};
-ghost use Rattle.reorder.specs.declared.answer.Declared.{Declared};
+ghost use Rattle.reorder.specs.declared.verdict.Verdict.{Verdict};
+ghost use Rattle.reorder.specs.declared.verdict.Declared.{Declared};
 
 /// An item that is kept under the expected number is the next one taken, and then the window is as
 /// it was but for the expected number, which is the following one.
@@ -29,11 +30,11 @@ pub fn kept_is_taken_next<T>()
 pub fn passed_is_late<T>()
     ensures late { (w : WindowView T) (calls : List (Call T)) (passed : ℕ)
         → (item : T) (verdict : Verdict T)
-        → IsLawful w → passed < numbers_passed calls → numbers_passed calls ≤ passed + 4096
+        → IsLawful w → passed < numbers_passed calls → numbers_passed calls ≤ passed + numbers_ahead
         → IsVerdict (after_calls w calls) (number_ahead w.expected passed) item verdict
         → verdict ≡ Verdict.Late item }
     ensures ahead_again { (w : WindowView T) (calls : List (Call T)) (passed : ℕ) (item : T)
-        → IsLawful w → passed + 4096 < numbers_passed calls → numbers_passed calls ≤ passed + 8192
+        → IsLawful w → passed + numbers_ahead < numbers_passed calls → numbers_passed calls ≤ passed + modulus
         → ¬ (IsVerdict (after_calls w calls) (number_ahead w.expected passed) item
         (Verdict.Late item)) }
 {}
@@ -61,8 +62,8 @@ pub fn agreeing_windows_answer_alike<T>()
 pub fn declare_to_is_declare_repeated<T>()
     ensures repeated { (w : WindowView T) (number : ℕ) → IsLawful w
         → LosesInTurn w (declared_count w number) (moved_on_by w (declared_count w number)) }
-    ensures ends { (w : WindowView T) (number : ℕ) → IsLawful w → number < 8192
-        → 0 < offset_in w number → offset_in w number < 4096
+    ensures ends { (w : WindowView T) (number : ℕ) → IsLawful w → number < modulus
+        → 0 < offset_in w number → offset_in w number < numbers_ahead
         → (number_ahead w.expected (declared_count w number) ≡ number)
         ⊎ ((lost : ℕ)
         → ¬ (IsDeclared (moved_on_by w (declared_count w number)) (Declared.Lost lost))) }
@@ -77,10 +78,10 @@ pub fn declare_to_stops_at_number_or_held<T>()
     ensures up_to_held { (w : WindowView T) (number held : ℕ) → IsLawful w → IsHeld w held
         → declared_count w number ≤ offset_in w held }
     ensures reached { (w : WindowView T) (number : ℕ) → IsLawful w
-        → 0 < offset_in w number → offset_in w number < 4096 → 0 < map.len w.held
+        → 0 < offset_in w number → offset_in w number < numbers_ahead → 0 < map.len w.held
         → (declared_count w number ≡ offset_in w number)
         ⊎ IsHeld w (number_ahead w.expected (declared_count w number)) }
     ensures none { (w : WindowView T) (number : ℕ)
-        → ((offset_in w number ≡ 0) ⊎ (4096 ≤ offset_in w number)) ⊎ (map.len w.held ≡ 0)
+        → ((offset_in w number ≡ 0) ⊎ (numbers_ahead ≤ offset_in w number)) ⊎ (map.len w.held ≡ 0)
         → declared_count w number ≡ 0 }
 {}

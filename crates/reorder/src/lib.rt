@@ -8,20 +8,23 @@
 //! changes anything. All memory is reserved by [`Window::new`].
 #![tactic(auto)]
 
-mod answer;
 pub mod laws;
+mod verdict;
 mod window;
 
-pub use answer::{Declared, Verdict};
+pub use verdict::{Declared, Verdict};
 pub use window::Window;
 
 /// How many sequence numbers there are. They run from 0 to 8191 and then begin again
 /// (CM-SP-MULPIv3.0, the sequence number of the segment header).
-pub(crate) const SEQUENCE_NUMBERS: u16 = 8192;
+pub const MODULUS: u16 = 8192;
 
 /// How many numbers lie ahead of an expected number, itself included: half of them all. The others
-/// lie behind it. No window is wider (this project's profile).
-pub(crate) const NUMBERS_AHEAD: u16 = 4096;
+/// lie behind it.
+pub(crate) const NUMBERS_AHEAD: u16 = MODULUS / 2;
+
+/// The greatest width of a window: as many numbers as lie ahead (this project's profile).
+pub const WIDTH_MAX: u16 = NUMBERS_AHEAD;
 
 #[cfg(test)]
 mod refusals;

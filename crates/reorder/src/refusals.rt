@@ -1,6 +1,6 @@
 //! Tests to be run with the Nth request for memory refused, and those whose names end in
 //! `without_memory` with all later ones refused too. Each says `refused` when `Window::new` was.
-use crate::{Declared, SEQUENCE_NUMBERS, Verdict, Window};
+use crate::{Declared, MODULUS, Verdict, Window};
 use std::process::Abort;
 use std::test::Fail;
 
@@ -23,7 +23,7 @@ fn new_refused(rt: HostRuntime) -> Result<(), Fail> {
 fn fill_and_empty(rt: &impl Abort, window: &mut Window<u16>) {
     assert_eq!(rt; window.offer(8191, 0), Verdict::Kept);
     for index in (1_u16..4096).rev() {
-        let number = (8191 + index) % SEQUENCE_NUMBERS;
+        let number = (8191 + index) % MODULUS;
         assert_eq!(rt; window.offer(number, index), Verdict::Kept, "{number}");
     }
     assert_eq!(rt; window.held(), 4096);

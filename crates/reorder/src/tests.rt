@@ -1,5 +1,5 @@
 //! What no clause says: that the definitions give the answers that were worked out by hand.
-use crate::{Declared, NUMBERS_AHEAD, SEQUENCE_NUMBERS, Verdict, Window};
+use crate::{Declared, MODULUS, NUMBERS_AHEAD, Verdict, Window};
 use std::alloc::Global;
 use std::fmt::Debug;
 use std::process::Abort;
@@ -21,14 +21,14 @@ fn play(rt: &impl Abort, name: &str, window: &mut Window<u8>, steps: &[Step]) {
     for step in steps {
         match *step {
             Step::Offer(number, item, verdict) => {
-                assert!(rt; number < SEQUENCE_NUMBERS);
+                assert!(rt; number < MODULUS);
                 assert_eq!(rt; window.offer(number, item), verdict, "{name}: {number}");
             }
             Step::Next(item) => assert_eq!(rt; window.next().copied(), item, "{name}"),
             Step::TakeNext(item) => assert_eq!(rt; window.take_next(), item, "{name}"),
             Step::Declare(declared) => assert_eq!(rt; window.declare(), declared, "{name}"),
             Step::DeclareTo(number, count) => {
-                assert!(rt; number < SEQUENCE_NUMBERS);
+                assert!(rt; number < MODULUS);
                 assert_eq!(rt; window.declare_to(number), count, "{name}: to {number}");
             }
             Step::Expected(number) => assert_eq!(rt; window.expected(), number, "{name}"),
@@ -215,11 +215,11 @@ const fn declared_to(
 
 fn declares_to(rt: &impl Abort, alloc: Global, case: &DeclaredTo) -> Result<(), Fail> {
     let name = case.name;
-    assert!(rt; case.first < SEQUENCE_NUMBERS && case.number < SEQUENCE_NUMBERS);
+    assert!(rt; case.first < MODULUS && case.number < MODULUS);
     assert!(rt; 1 <= case.width && case.width <= NUMBERS_AHEAD);
     let mut window = Window::new(alloc, case.first, case.width)?;
     for number in case.held {
-        assert!(rt; *number < SEQUENCE_NUMBERS);
+        assert!(rt; *number < MODULUS);
         assert_eq!(rt; window.offer(*number, *number), Verdict::Kept, "{name}");
     }
     assert_eq!(rt; window.declare_to(case.number), case.count, "{name}");
@@ -294,7 +294,7 @@ fn declares_to_a_number(rt: HostRuntime) -> Result<(), Fail> {
 fn full_window(rt: HostRuntime) -> Result<(), Fail> {
     let mut window = Window::new(rt.alloc(), 8191, 4096)?;
     for index in 0_u16..4096 {
-        let number = (8191 + index) % SEQUENCE_NUMBERS;
+        let number = (8191 + index) % MODULUS;
         assert_eq!(rt; window.offer(number, index), Verdict::Kept, "{number}");
     }
     assert_eq!(rt; window.held(), 4096);
@@ -318,7 +318,7 @@ enum First {
 
 fn first_verdict(rt: &impl Abort, alloc: Global, case: (u16, u16, u16, First)) -> Result<(), Fail> {
     let (first, width, number, answer) = case;
-    assert!(rt; first < SEQUENCE_NUMBERS && number < SEQUENCE_NUMBERS);
+    assert!(rt; first < MODULUS && number < MODULUS);
     assert!(rt; 1 <= width && width <= NUMBERS_AHEAD);
     let verdict = match answer {
         First::Kept => Verdict::Kept,

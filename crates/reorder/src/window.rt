@@ -2,13 +2,14 @@
 ghost use Rattle.std.specs.Prelude.{◌≡◌, ◌<◌, ◌≤◌, IfOk};
 ghost use Rattle.std.specs.Option.{option_copied};
 ghost use Rattle.std.specs.FinMap as map;
+ghost use Rattle.reorder.specs.Limits.{modulus, width_max};
 ghost use Rattle.reorder.specs.Number.{offset, following};
 ghost use Rattle.reorder.specs.View.{IsLawful, held_at, empty_window, next_taken, moved_on_by};
-ghost use Rattle.reorder.specs.Answers.{IsVerdict, after_offer, after_take_next};
-ghost use Rattle.reorder.specs.Answers.{IsDeclared, after_declare, declared_count};
+ghost use Rattle.reorder.specs.Verdicts.{IsVerdict, after_offer, after_take_next};
+ghost use Rattle.reorder.specs.Verdicts.{IsDeclared, after_declare, declared_count};
 
-use crate::answer::{Declared, Verdict};
-use crate::{NUMBERS_AHEAD, SEQUENCE_NUMBERS};
+use crate::verdict::{Declared, Verdict};
+use crate::{MODULUS, NUMBERS_AHEAD};
 use circular_buffer::HeapCircularBuffer;
 use std::alloc::{AllocError, Global};
 use std::marker::Model;
@@ -29,8 +30,9 @@ pub struct Window<T> {
 }
 
 impl<T> Model for Window<T> {
-    ghost use Rattle.reorder.specs.View.{WindowView, view_code};
-    ghost use Rattle.reorder.specs.Places.{seen, IsKept};
+    ghost use Rattle.reorder.specs.View.{WindowView};
+    ghost use Rattle.reorder.specs.Inside.Coding.{view_code};
+    ghost use Rattle.reorder.specs.Inside.Places.{seen, IsKept};
 
     ghost Value = { WindowView T };
 
@@ -45,9 +47,9 @@ impl<T> Window<T> {
     /// A window that holds nothing and waits for the number `first`, 0 to 8191. Its `width` is 1 to
     /// 4096. All memory that it will use is reserved here. `Err` comes only where memory ran out.
     pub fn new(alloc: Global, first: u16, width: u16) -> Result<Window<T>, AllocError>
-        requires first_in_range { first < 8192 }
+        requires first_in_range { first < modulus }
         requires width_positive { 1 ≤ width }
-        requires width_in_range { width ≤ 4096 }
+        requires width_in_range { width ≤ width_max }
         ensures empty { IfOk result (λ window. window ≡ empty_window first width) }
         ensures lawful { IfOk result IsLawful }
     {
@@ -69,7 +71,7 @@ impl<T> Window<T> {
     /// yet. Otherwise it answers, looked for in this order, `Late`, `Beyond` or `Repeat`. Only
     /// `Kept` changes anything.
     pub fn offer(&mut self, number: u16, item: T) -> Verdict<T>
-        requires { number < 8192 }
+        requires { number < modulus }
         ensures verdict { IsVerdict self.old number item result }
         ensures after { self.new ≡ after_offer self.old number item result }
         ensures lawful { IsLawful self.new }
@@ -141,7 +143,7 @@ impl<T> Window<T> {
     /// including `number`, 0 to 8191, and only as far as [`Window::declare`] would. It answers how
     /// many it gave up: 0 if `number` is the expected one or lies behind, or if nothing is held.
     pub fn declare_to(&mut self, number: u16) -> u16
-        requires { number < 8192 }
+        requires { number < modulus }
         ensures count { result ≡ declared_count self.old number }
         ensures after { self.new ≡ moved_on_by self.old result }
         ensures lawful { IsLawful self.new }
@@ -189,16 +191,16 @@ impl<T> Window<T> {
 }
 
 fn offset_of(expected: u16, number: u16) -> u16
-    requires expected_in_range { expected < 8192 }
-    requires number_in_range { number < 8192 }
+    requires expected_in_range { expected < modulus }
+    requires number_in_range { number < modulus }
     ensures { result ≡ offset expected number }
 {
-    (number + SEQUENCE_NUMBERS - expected) % SEQUENCE_NUMBERS
+    (number + MODULUS - expected) % MODULUS
 }
 
 fn number_after(number: u16) -> u16
-    requires { number < 8192 }
+    requires { number < modulus }
     ensures { result ≡ following number }
 {
-    (number + 1) % SEQUENCE_NUMBERS
+    (number + 1) % MODULUS
 }

@@ -6,11 +6,9 @@ ghost use Rattle.flow_core.specs.Giving.{IsRunning, Drains, ClosesFlow};
 use super::Core;
 use crate::event::Step;
 use crate::laws;
+use crate::record::WINDOW_MAX;
 use docsis_wire::{Bytes, HeaderCheck};
 use std::alloc::{AllocError, Global};
-
-/// The greatest width of a window.
-const WINDOW_MAX: u16 = 4096;
 
 impl<C: HeaderCheck + Drop> Core<C> {
     /// Advances a flow until nothing is next, and appends the frames that it gives. Where an

@@ -2,7 +2,7 @@
 ghost use Rattle.std.specs.Prelude.{◌≡◌};
 ghost use Rattle.mailbox.specs.Mouths.{places};
 
-use super::close;
+use super::close_port;
 use crate::{ClosedPorts, Mouth, Ports, Taken, open, settle};
 use std::alloc::{AllocError, Global};
 use std::process::Abort;
@@ -81,11 +81,11 @@ fn dropped_by_settle(rt: HostRuntime) -> Result<(), Fail> {
     assert!(rt; p2.post(&rt, item(&drops)?).is_ok());
     assert!(rt; p2.post(&rt, item(&drops)?).is_ok());
     take_one(&rt, &mut mouth);
-    let p0 = close(&rt, p0);
-    let p1 = close(&rt, p1);
-    let p2 = close(&rt, p2);
-    let p3 = close(&rt, p3);
-    let p4 = close(&rt, p4);
+    let p0 = close_port(&rt, p0);
+    let p1 = close_port(&rt, p1);
+    let p2 = close_port(&rt, p2);
+    let p3 = close_port(&rt, p3);
+    let p4 = close_port(&rt, p4);
     let settled = settle(&rt, ClosedPorts { p0, p1, p2, p3, p4 }, mouth);
     assert_eq!(rt; settled.left[2], 2);
     assert_eq!(rt; drops.load(Ordering::SeqCst), 3);

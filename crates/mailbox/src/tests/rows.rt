@@ -1,5 +1,5 @@
 //! Mailboxes with little room, worked out by hand.
-use super::{close, close_and_take, close_in_vain};
+use super::{close_and_take, close_in_vain, close_port};
 use crate::{ClosedPorts, Full, OpenFault, Ports, Settled, Taken, open, settle};
 use std::test::Fail;
 
@@ -82,7 +82,7 @@ fn end_mark_takes_the_room(rt: HostRuntime) -> Result<(), Fail> {
     assert_eq!(rt; p0.post(&rt, 7), Ok(()));
     let p1 = close_in_vain(&rt, p1);
     assert_eq!(rt; mouth.next(&rt), Taken::Item { from: 0, item: 7 });
-    let _p1 = close(&rt, p1);
+    let _p1 = close_port(&rt, p1);
     assert_eq!(rt; p0.post(&rt, 8), Err(Full(8)));
     assert_eq!(rt; mouth.next(&rt), Taken::End { from: 1 });
     assert_eq!(rt; p0.post(&rt, 8), Ok(()));
@@ -96,11 +96,11 @@ fn end_marks_are_not_left(rt: HostRuntime) -> Result<(), Fail> {
     let mut p0 = p0;
     assert_eq!(rt; p0.post(&rt, 1), Ok(()));
     assert_eq!(rt; p0.post(&rt, 2), Ok(()));
-    let p0 = close(&rt, p0);
-    let p1 = close(&rt, p1);
-    let p2 = close(&rt, p2);
-    let p3 = close(&rt, p3);
-    let p4 = close(&rt, p4);
+    let p0 = close_port(&rt, p0);
+    let p1 = close_port(&rt, p1);
+    let p2 = close_port(&rt, p2);
+    let p3 = close_port(&rt, p3);
+    let p4 = close_port(&rt, p4);
     assert_eq!(rt; mouth.next(&rt), Taken::Item { from: 0, item: 1 });
     let settled = settle(&rt, ClosedPorts { p0, p1, p2, p3, p4 }, mouth);
     assert_eq!(rt;

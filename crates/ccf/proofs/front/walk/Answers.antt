@@ -1,5 +1,5 @@
 use Rattle.std.proofs.Common.{◌∙◌}
-use Rattle.ccf.proofs.Splits.{walk_further}
+use Rattle.ccf.proofs.FrameSplits.{walk_further}
 use Rattle.ccf.proofs.front.walk.Goals as goal
 
 pub loop-length-preserved : goal.loop-length-preserved

@@ -4,7 +4,7 @@ use Rattle.std.proofs.lemmas.Bool.{false≢true}
 use Rattle.std.proofs.lemmas.Grind.{common_steps}
 use Rattle.docsis_wire.specs.Frame.{IsFrame}
 use Rattle.ccf.specs.Walk.{Walks}
-use Rattle.ccf.proofs.Splits.{not_empty, FeedsAs-complete, Completes-either}
+use Rattle.ccf.proofs.FrameSplits.{not_empty, FeedsAs-complete, Completes-either}
 use Rattle.ccf.proofs.joiner.complete.Goals.{then-well_formed, else-well_formed}
 use Rattle.ccf.proofs.joiner.complete.Goals as goal
 

@@ -1,7 +1,7 @@
 -- The three things that may stand at the front of what is unfinished and the payload.
 use Rattle.std.proofs.Common.{◌≡◌, ℕ, List, take, [], sym, ap, ◌∙◌, subst, inr, arith}
 use Rattle.ccf.specs.Walk.{Ends}
-use Rattle.ccf.proofs.Splits.{not_empty, FeedsAs-go_on, GoesOn-delivers}
+use Rattle.ccf.proofs.FrameSplits.{not_empty, FeedsAs-go_on, GoesOn-delivers}
 use Rattle.ccf.proofs.joiner.go_on.Goals.{in-Waits, in-Dropped, in-Whole+else-is_err}
 use Rattle.ccf.proofs.joiner.go_on.Goals as goal
 

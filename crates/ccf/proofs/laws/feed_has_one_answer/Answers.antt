@@ -1,4 +1,4 @@
-use Rattle.ccf.proofs.OneReading.{Feeds-once}
+use Rattle.ccf.proofs.OneJoining.{Feeds-once}
 use Rattle.ccf.proofs.laws.feed_has_one_answer.Goals as goal
 
 pub returns : goal.returns

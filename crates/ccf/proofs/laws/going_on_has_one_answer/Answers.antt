@@ -1,4 +1,4 @@
-use Rattle.ccf.proofs.OneReading.{GoesOn-once}
+use Rattle.ccf.proofs.OneJoining.{GoesOn-once}
 use Rattle.ccf.proofs.laws.going_on_has_one_answer.Goals as goal
 
 pub returns : goal.returns

@@ -1,4 +1,4 @@
-use Rattle.ccf.proofs.OneReading.{Joins-append}
+use Rattle.ccf.proofs.OneJoining.{Joins-append}
 use Rattle.ccf.proofs.laws.settled_lists_join_one_after_the_other.Goals as goal
 
 pub returns : goal.returns

@@ -1,4 +1,4 @@
-use Rattle.docsis_wire.proofs.Places.{each_generic}
+use Rattle.docsis_wire.proofs.StreamPlaces.{each_generic}
 use Rattle.docsis_wire.proofs.Spans.{IsInSpan-iff}
 use Rattle.ccf.proofs.laws.span_is_given_by_places.Goals as goal
 

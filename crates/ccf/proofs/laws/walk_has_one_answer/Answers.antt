@@ -1,4 +1,4 @@
-use Rattle.ccf.proofs.OneReading.{Walks-once}
+use Rattle.ccf.proofs.OneJoining.{Walks-once}
 use Rattle.ccf.proofs.laws.walk_has_one_answer.Goals as goal
 
 pub returns : goal.returns

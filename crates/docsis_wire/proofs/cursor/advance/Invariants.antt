@@ -1,5 +1,5 @@
 use Rattle.std.proofs.Common.{◌≡◌, ◌+◌}
-use Rattle.docsis_wire.specs.Cursor.{place_at, IsPlaced}
+use Rattle.docsis_wire.specs.Inside.Cursor.{place_at, IsPlaced}
 use Rattle.docsis_wire.proofs.cursor.advance.Given as goal
 
 abbrev pub invariant-loop-left : goal.invariant-loop-left

@@ -1,5 +1,5 @@
 use Rattle.std.proofs.Common.{◌≡◌, ◌+◌, ◌++◌}
-use Rattle.docsis_wire.specs.Cursor.{place_at, IsPlaced, chunk_at}
+use Rattle.docsis_wire.specs.Inside.Cursor.{place_at, IsPlaced, chunk_at}
 use Rattle.docsis_wire.proofs.cursor.copy.Given as goal
 
 abbrev pub invariant-loop-left : goal.invariant-loop-left

@@ -1,7 +1,7 @@
 use Rattle.std.proofs.Common.{◌≡◌, ◌<◌, Some, length, slice_get, refl, sym, ◌∙◌, arith}
 use Rattle.std.proofs.lemmas.Option.{slice_get_read}
 use Rattle.std.proofs.lemmas.Bool.{ltb-true, ltb-false}
-use Rattle.docsis_wire.specs.Cursor.{place_at}
+use Rattle.docsis_wire.specs.Inside.Cursor.{place_at}
 use Rattle.docsis_wire.proofs.Starts.{StartsNext, StartsNext-here, StartsNext-behind, Points-found}
 use Rattle.docsis_wire.proofs.cursor.first_start.Goals.{then-at-gt0, else-at-gt0, then-starting-frames, else-starting-frames}
 use Rattle.docsis_wire.proofs.cursor.first_start.Goals as goal

@@ -1,5 +1,5 @@
 use Rattle.std.proofs.Common.{◌≡◌, ◌<◌, Some, length, slice_get, arith}
-use Rattle.docsis_wire.proofs.Places.{place_of-next}
+use Rattle.docsis_wire.proofs.StreamPlaces.{place_of-next}
 use Rattle.docsis_wire.proofs.Cursors.{frame_found, part_of-frame, rest_of-chunk, length-rest}
 use Rattle.docsis_wire.proofs.cursor.next_part.Goals as goal
 

@@ -1,5 +1,5 @@
 use Rattle.std.proofs.Common.{arith}
-use Rattle.docsis_wire.proofs.Lawful.{pointer_fits}
+use Rattle.docsis_wire.proofs.LawfulPieces.{pointer_fits}
 use Rattle.docsis_wire.proofs.cutter.header_at.Goals as goal
 
 pub overflow_cast-result : goal.overflow_cast-result

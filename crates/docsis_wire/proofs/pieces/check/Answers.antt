@@ -8,7 +8,7 @@ use Rattle.docsis_wire.specs.declared.pieces.Piece.{Piece}
 use Rattle.docsis_wire.specs.Frame.{IsFrame}
 use Rattle.docsis_wire.specs.Pieces.{IsUnlawful, IsCuttable, Reports}
 use Rattle.docsis_wire.proofs.Cursors.{frame_found}
-use Rattle.docsis_wire.proofs.Places.{each_generic}
+use Rattle.docsis_wire.proofs.StreamPlaces.{each_generic}
 use Rattle.docsis_wire.proofs.Stretches.{AllByRecursion-from}
 use Rattle.docsis_wire.proofs.pieces.check.Goals as goal
 

@@ -1,7 +1,7 @@
 -- Each piece is judged by the cursors before and after its chunk.
 use Rattle.std.proofs.Common.{get_or, arith}
 use Rattle.std.proofs.lemmas.Option.{slice_get-get_or}
-use Rattle.docsis_wire.proofs.Lawful.{MovesOver-from, FillsInsideFrame-at, PointsTooFar-at, fill_is_lawful, lawful_further, lawful_past}
+use Rattle.docsis_wire.proofs.LawfulPieces.{MovesOver-from, FillsInsideFrame-at, PointsTooFar-at, fill_is_lawful, lawful_further, lawful_past}
 use Rattle.docsis_wire.proofs.pieces.check_pieces.Goals as goal
 
 pub returns-then-at-gt0-clause-faults : goal.returns-then-at-gt0-clause-faults

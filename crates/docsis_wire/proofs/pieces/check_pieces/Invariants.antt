@@ -1,6 +1,6 @@
 use Rattle.std.proofs.Common.{◌≡◌, ℕ, ◌<◌}
 use Rattle.docsis_wire.specs.Stream.{place_of}
-use Rattle.docsis_wire.specs.Cursor.{place_at, IsPlaced}
+use Rattle.docsis_wire.specs.Inside.Cursor.{place_at, IsPlaced}
 use Rattle.docsis_wire.specs.Pieces.{chunks_of, IsUnlawful}
 use Rattle.docsis_wire.proofs.pieces.check_pieces.Given as goal
 

@@ -1,5 +1,5 @@
 use Rattle.flow_core.proofs.Outcome.{expected-unique}
-use Rattle.flow_core.proofs.OneOutcome.{after-exists, after-once}
+use Rattle.flow_core.proofs.OneFates.{after-exists, after-once}
 use Rattle.flow_core.proofs.laws.events_have_one_outcome.Goals as goal
 
 pub returns-clause-some : goal.returns-clause-some

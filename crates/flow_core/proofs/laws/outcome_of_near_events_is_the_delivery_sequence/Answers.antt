@@ -1,7 +1,7 @@
 use Rattle.std.proofs.Common.{subst}
 use Rattle.flow_core.specs.Fates.{Fates}
 use Rattle.flow_core.specs.Delivery.{IsDeliverySequence}
-use Rattle.flow_core.proofs.OneOutcome.{after-once}
+use Rattle.flow_core.proofs.OneFates.{after-once}
 use Rattle.flow_core.proofs.FlowOutcomes.{outcome-of_cut}
 use Rattle.flow_core.proofs.laws.outcome_of_near_events_is_the_delivery_sequence.Goals as goal
 

@@ -1,7 +1,7 @@
 use Rattle.std.proofs.Common.{rules, arith}
 use Rattle.crossbeam_queue.specs.Passes.{view}
 use Rattle.mailbox.proofs.Steps.{takes, finds_nothing}
-use Rattle.mailbox.proofs.Counts.{nothing_counted, still_takes, has_room, another, finished}
+use Rattle.mailbox.proofs.CountingLeft.{nothing_counted, still_takes, has_room, another, finished}
 use Rattle.mailbox.proofs.counting.count_left.Goals as goal
 
 pub loop-init : goal.loop-init

@@ -1,6 +1,6 @@
 use Rattle.std.proofs.Common.{◌+◌, ◌≤◌, ℕ}
 use Rattle.crossbeam_queue.specs.Passes.{view, IsPassOf}
-use Rattle.mailbox.specs.Counting.{Counted}
+use Rattle.mailbox.specs.Inside.Counting.{Counted}
 use Rattle.mailbox.proofs.counting.count_left.Given as goal
 
 abbrev pub invariant-loop : goal.invariant-loop

@@ -1,8 +1,8 @@
 use Rattle.std.proofs.Common.{◌≤◌, ap, inl, inr, arith, refl}
 use Rattle.crossbeam_queue.specs.Passes.{view}
-use Rattle.mailbox.specs.Delivers.{own}
+use Rattle.mailbox.specs.Entries.{own}
 use Rattle.mailbox.specs.Mouths.{ends_taken}
-use Rattle.mailbox.proofs.Joining.{step, leaves, ends_at_most_once, of_each, each_of}
+use Rattle.mailbox.proofs.PassJoining.{step, leaves, ends_at_most_once, of_each, each_of}
 use Rattle.mailbox.proofs.settling.settle.Goals as goal
 
 pub returns : goal.returns

@@ -1,8 +1,8 @@
 use Rattle.std.proofs.Common.{ap, subst}
 use Rattle.reorder.specs.View.{WindowView}
-use Rattle.reorder.specs.Answers.{IsDeclared, declared_count}
+use Rattle.reorder.specs.Verdicts.{IsDeclared, declared_count}
 use Rattle.reorder.specs.Calls.{after_call}
-use Rattle.reorder.proofs.OneReading.{Agree-same, one_declared}
+use Rattle.reorder.proofs.AgreeingWindows.{Agree-same, one_declared}
 use Rattle.reorder.proofs.laws.agreeing_windows_answer_alike.Goals as goal
 
 pub returns-clause-same : goal.returns-clause-same

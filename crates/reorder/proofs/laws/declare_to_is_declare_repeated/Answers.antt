@@ -1,5 +1,5 @@
-use Rattle.reorder.specs.Answers.{declared_count}
-use Rattle.reorder.proofs.Declaring.{AreLost-declared_count, AreLost-LosesInTurn, declared_count-ends}
+use Rattle.reorder.specs.Verdicts.{declared_count}
+use Rattle.reorder.proofs.DeclaredCount.{AreLost-declared_count, AreLost-LosesInTurn, declared_count-ends}
 use Rattle.reorder.proofs.laws.declare_to_is_declare_repeated.Goals as goal
 
 pub returns-clause-repeated : goal.returns-clause-repeated

@@ -1,4 +1,4 @@
-use Rattle.reorder.proofs.Declaring.{declared_count-le, declared_count-le_held, declared_count-reaches, declared_count-none}
+use Rattle.reorder.proofs.DeclaredCount.{declared_count-le, declared_count-le_held, declared_count-reaches, declared_count-none}
 use Rattle.reorder.proofs.laws.declare_to_stops_at_number_or_held.Goals as goal
 
 pub returns-clause-up_to_number : goal.returns-clause-up_to_number

@@ -4,10 +4,10 @@ use Rattle.std.proofs.lemmas.Option.{slice_get_within, slice_get_read}
 use Rattle.docsis_wire.specs.declared.segment.Segment.{Segment}
 use Rattle.docsis_wire.specs.Limits.{sequence_modulus}
 use Rattle.docsis_wire.specs.Cut.{Points}
-use Rattle.docsis_wire.specs.Cursor.{place_at, chunk_at}
+use Rattle.docsis_wire.specs.Inside.Cursor.{place_at, chunk_at}
 use Rattle.docsis_wire.specs.Pieces.{fill_byte}
 use Rattle.docsis_wire.specs.CutUnderWay.{CutUnderWay, GivesNext}
-use Rattle.docsis_wire.proofs.Lawful.{MovesOver-from, CanPoint-from_lawful}
+use Rattle.docsis_wire.proofs.LawfulPieces.{MovesOver-from, CanPoint-from_lawful}
 use Rattle.docsis_wire.proofs.Made.{IsMade-at}
 use Rattle.docsis_wire.proofs.cutter.Cutter.next.Goals as goal
 

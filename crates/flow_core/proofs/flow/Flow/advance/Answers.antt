@@ -1,9 +1,9 @@
 -- A step gives the frames that the next segment completes.
 use Rattle.std.proofs.Common.{◌≡◌, ◌+◌, min, sym, ap, subst, ◌∙◌, is_some}
 use Rattle.reorder.specs.View.{IsLawful, next_taken}
-use Rattle.reorder.specs.Answers.{after_take_next}
-use Rattle.flow_core.specs.Losses.{GoesOn}
-use Rattle.flow_core.proofs.Joining.{step-gives}
+use Rattle.reorder.specs.Verdicts.{after_take_next}
+use Rattle.flow_core.specs.Inside.Losses.{GoesOn}
+use Rattle.flow_core.proofs.FlowJoining.{step-gives}
 use Rattle.flow_core.proofs.flow.Flow.advance.Goals as goal
 
 pub returns-clause-step : goal.returns-clause-step

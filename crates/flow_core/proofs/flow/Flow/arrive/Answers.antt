@@ -1,6 +1,6 @@
 -- The flow takes the segment as the window's verdict says.
 use Rattle.std.proofs.Common.{refl}
-use Rattle.reorder.specs.declared.answer.Verdict.TheVariants.{Late, Beyond, Repeat, Kept}
+use Rattle.reorder.specs.declared.verdict.Verdict.TheVariants.{Late, Beyond, Repeat, Kept}
 use Rattle.flow_core.proofs.Arriving.{arrives-taken}
 use Rattle.flow_core.proofs.flow.Flow.arrive.Goals as goal
 

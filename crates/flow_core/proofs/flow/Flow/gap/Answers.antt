@@ -3,9 +3,9 @@ use Rattle.std.proofs.Common.{refl, sym, ap, subst, ◌∙◌}
 use Rattle.reorder.specs.View.{IsLawful}
 use Rattle.flow_core.specs.declared.event.Applied.TheVariants.{Decision}
 use Rattle.flow_core.specs.Events.{gap}
-use Rattle.flow_core.specs.Losses.{after_losses}
+use Rattle.flow_core.specs.Inside.Losses.{after_losses}
 use Rattle.flow_core.specs.Stands.{TakesEvent}
-use Rattle.flow_core.proofs.Declaring.{gap-lost, gap-unlost}
+use Rattle.flow_core.proofs.FlowDeclaring.{gap-lost, gap-unlost}
 use Rattle.flow_core.proofs.flow.Flow.gap.Goals as goal
 
 pub returns-in-Lost-clause-taken : goal.returns-in-Lost-clause-taken

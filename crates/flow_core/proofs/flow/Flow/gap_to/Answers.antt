@@ -1,6 +1,6 @@
 -- The flow takes the gap up to the number.
 use Rattle.std.proofs.Common.{inl, inr, refl, sym, ◌∙◌, arith}
-use Rattle.flow_core.proofs.Declaring.{gap-to-event}
+use Rattle.flow_core.proofs.FlowDeclaring.{gap-to-event}
 use Rattle.flow_core.proofs.flow.Flow.gap_to.Goals as goal
 use Rattle.flow_core.proofs.flow.Flow.gap_to.Goals.{then-count-gt0+then-expected-number, else-count-gt0, else-count-gt0-via-then-count-gt0+else-expected-number, else-count-gt0-via-else-count-gt0}
 

@@ -1,7 +1,7 @@
 use Rattle.std.proofs.Common.{ap, ◌∙◌, rules}
 use Rattle.crossbeam_queue.specs.Passes.{view}
 use Rattle.mailbox.proofs.Steps.{takes, finds_nothing}
-use Rattle.mailbox.proofs.Taking.{took_item, took_end, still_takes}
+use Rattle.mailbox.proofs.MouthTaking.{took_item, took_end, still_takes}
 use Rattle.mailbox.proofs.Marking.{marks_stay, marks_one}
 use Rattle.mailbox.proofs.mouth.Mouth.next.Goals as goal
 

@@ -2,7 +2,7 @@ use Rattle.std.proofs.Common.{◌≡◌, ℕ, ◌≤◌, Bool, true, false, cond
 use Rattle.std.specs.Option.{option_flatten}
 use mir.Val.{bool_byte}
 use Rattle.reorder.specs.View.{WindowView, held_at, next_taken}
-use Rattle.reorder.proofs.Kept.{given-is_next, count-positive, kept-moved, seen-moved}
+use Rattle.reorder.proofs.WindowFields.{given-is_next, count-positive, kept-moved, seen-moved}
 use Rattle.reorder.proofs.window.Window.advance.Goals as goal
 
 -- a test as a number

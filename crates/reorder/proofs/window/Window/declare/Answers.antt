@@ -1,5 +1,5 @@
 use Rattle.std.proofs.Common.{◌∙◌}
-use Rattle.reorder.proofs.Lawful.{next_taken-none}
+use Rattle.reorder.proofs.LawfulWindow.{next_taken-none}
 use Rattle.reorder.proofs.window.Window.declare.Goals as goal
 
 pub returns-clause-after : goal.returns-clause-after

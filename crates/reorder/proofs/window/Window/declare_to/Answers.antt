@@ -1,7 +1,7 @@
 use Rattle.std.proofs.Common.{◌≡◌, ap, sym, subst, ◌∙◌, arith}
 use Rattle.reorder.specs.View.{WindowView, offset_in, IsLawful}
-use Rattle.reorder.specs.Answers.{IsDeclared, after_declare}
-use Rattle.reorder.proofs.Declaring.{declared_count-reached, declared_count-stopped}
+use Rattle.reorder.specs.Verdicts.{IsDeclared, after_declare}
+use Rattle.reorder.proofs.DeclaredCount.{declared_count-reached, declared_count-stopped}
 use Rattle.reorder.proofs.window.Window.declare_to.Goals as goal
 
 pub returns-in-NextIsHere : goal.returns-in-NextIsHere

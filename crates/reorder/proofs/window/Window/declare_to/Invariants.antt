@@ -1,6 +1,6 @@
 use Rattle.std.proofs.Common.{◌≡◌}
 use Rattle.reorder.specs.View.{IsLawful, moved_on_by}
-use Rattle.reorder.proofs.Declaring.{AreLost}
+use Rattle.reorder.proofs.DeclaredCount.{AreLost}
 use Rattle.reorder.proofs.window.Window.declare_to.Given as goal
 
 abbrev pub invariant-loop-count : goal.invariant-loop-count

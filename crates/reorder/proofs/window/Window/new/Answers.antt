@@ -1,5 +1,5 @@
 use Rattle.std.proofs.Common.{◌≡◌, replicate, None, ap, ◌∙◌, arith}
-use Rattle.reorder.proofs.Kept.{seen-empty, kept-empty}
+use Rattle.reorder.proofs.WindowFields.{seen-empty, kept-empty}
 use Rattle.reorder.proofs.window.Window.new.Goals as goal
 
 pub invariant_of-result : goal.invariant_of-result

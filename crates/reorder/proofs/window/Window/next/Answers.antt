@@ -1,7 +1,7 @@
 use Rattle.std.proofs.Common.{ap, sym, ◌∙◌}
 use Rattle.reorder.specs.View.{WindowView, held_at}
 use Rattle.reorder.proofs.Offsets.{offset-expected}
-use Rattle.reorder.proofs.Kept.{held-at_place}
+use Rattle.reorder.proofs.WindowFields.{held-at_place}
 use Rattle.reorder.proofs.window.Window.next.Goals as goal
 
 pub returns-clause-item : goal.returns-clause-item

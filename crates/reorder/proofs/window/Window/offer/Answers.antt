@@ -3,8 +3,8 @@ use Rattle.circular_buffer.specs.Buffer.{buffer}
 use Rattle.std.proofs.lemmas.Option.{slice_get_within}
 use Rattle.reorder.specs.Number.{offset}
 use Rattle.reorder.specs.View.{WindowView, IsHeld, with_item}
-use Rattle.reorder.specs.Places.{seen, IsKept}
-use Rattle.reorder.proofs.Kept.{held-at_place, count-small, seen-put, kept-put, set-same, past_places}
+use Rattle.reorder.specs.Inside.Places.{seen, IsKept}
+use Rattle.reorder.proofs.WindowFields.{held-at_place, count-small, seen-put, kept-put, set-same, past_places}
 use Rattle.reorder.proofs.window.Window.offer.Goals as goal
 
 pub invariant_of-self-then-is_some : goal.invariant_of-self-then-is_some

@@ -1,8 +1,8 @@
--- What declared losses make of a flow of the code. These words serve contracts of private functions alone.
+-- What declared losses make of a flow of the code.
 use Rattle.std.specs.Prelude.{◌≡◌, ◌≢◌, ℕ, zero, suc, ◌+◌, ◌<◌, ◌⊎◌, Option, Some, None, [], length}
 use Rattle.std.specs.FinMap as map
 use Rattle.reorder.specs.View.{moved_on_by}
-use Rattle.reorder.specs.Answers.{declared_count}
+use Rattle.reorder.specs.Verdicts.{declared_count}
 use Rattle.flow_core.specs.declared.flow.Flow.{Flow}
 use Rattle.flow_core.specs.declared.sequence.SequenceNumber.{SequenceNumber}
 use Rattle.flow_core.specs.Counts.{counted}

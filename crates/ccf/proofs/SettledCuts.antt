@@ -12,8 +12,8 @@ use Rattle.ccf.specs.Join.{Joins}
 use Rattle.ccf.specs.Filter.{FiltersTo}
 use Rattle.ccf.specs.Completed.{IsCompletedBy}
 use Rattle.ccf.specs.Unfinished.{IsLeftUnfinished}
-use Rattle.ccf.proofs.OneReading.{Feeds-once}
-use Rattle.docsis_wire.proofs.Places.{each_generic, place_of-le, place_of-lt, place_of-next, concat-at, slice_get-at, element_at}
+use Rattle.ccf.proofs.OneJoining.{Feeds-once}
+use Rattle.docsis_wire.proofs.StreamPlaces.{each_generic, place_of-le, place_of-lt, place_of-next, concat-at, slice_get-at, element_at}
 use Rattle.docsis_wire.proofs.Spans.{IsInSpan-begins, IsInSpan-by_places}
 use Rattle.ccf.proofs.Filters.{FiltersFrom-none, FiltersFrom-same, FiltersFrom-either}
 use Rattle.ccf.proofs.Waiting.{no_fill_left}

@@ -9,9 +9,9 @@ use Rattle.std.proofs.lemmas.List.Sums.{sum_by_push}
 use Rattle.std.proofs.lemmas.Option.{slice_get_within}
 use Rattle.docsis_wire.specs.declared.segment.Segment.{Segment}
 use Rattle.ccf.specs.Feed.{Feeds}
-use Rattle.ccf.proofs.OneReading.{Joins-append}
+use Rattle.ccf.proofs.OneJoining.{Joins-append}
 use Rattle.reorder.specs.Number.{number_ahead, following}
-use Rattle.reorder.specs.Answers.{declared_count}
+use Rattle.reorder.specs.Verdicts.{declared_count}
 use Rattle.reorder.specs.View.{WindowView, held_at, IsLawful, next_taken, moved_on_by}
 use Rattle.flow_core.specs.declared.record.FlowRecord.{FlowRecord}
 use Rattle.flow_core.specs.declared.counts.FlowCounts.{FlowCounts}
@@ -22,13 +22,13 @@ use Rattle.flow_core.specs.declared.event.Applied.{Applied}
 use Rattle.flow_core.specs.Fates.{Fates, number_of, IsKeptAs}
 use Rattle.flow_core.specs.Events.{FlowEvent}
 use Rattle.flow_core.specs.Counts.{payload_bytes, AreCounts}
-use Rattle.flow_core.specs.Losses.{after_losses, GoesOn, GoesOnTo}
+use Rattle.flow_core.specs.Inside.Losses.{after_losses, GoesOn, GoesOnTo}
 use Rattle.flow_core.specs.Stands.{IsRemembered, StandsFor, AreLost, Gives}
 use Rattle.flow_core.proofs.Windows.{kept-from-segment, window-taken}
 use Rattle.flow_core.proofs.Standing.{stands}
 use Rattle.flow_core.proofs.Losing.{HasComeTo, come-same, settled-more, losses-window, losses-memory}
-use Rattle.flow_core.proofs.Numbers.{following-index, ahead-index}
-use Rattle.flow_core.proofs.Declaring.{IsToGoOn, Stops, passed-lost, comes-further, forgotten, still-remembered}
+use Rattle.flow_core.proofs.IndexNumbers.{following-index, ahead-index}
+use Rattle.flow_core.proofs.FlowDeclaring.{IsToGoOn, Stops, passed-lost, comes-further, forgotten, still-remembered}
 
 -- the counts after a segment was joined
 abbrev pub fed_counts : FlowCounts → List (List ℕ) → ℕ → FlowCounts

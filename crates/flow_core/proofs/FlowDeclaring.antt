@@ -5,11 +5,11 @@ use Rattle.std.specs.FinMap as map
 use Rattle.std.proofs.lemmas.Bool.{cases_eq, cases_lt}
 use Rattle.reorder.specs.Number.{offset, number_ahead}
 use Rattle.reorder.specs.View.{WindowView, offset_in, IsHeld, IsLawful, moved_on_by}
-use Rattle.reorder.specs.Answers.{IsDeclared, after_declare, declared_count}
-use Rattle.reorder.specs.declared.answer.Declared.{Declared}
-use Rattle.reorder.specs.declared.answer.Declared.TheVariants.{NextIsHere, NothingHeld, Lost}
+use Rattle.reorder.specs.Verdicts.{IsDeclared, after_declare, declared_count}
+use Rattle.reorder.specs.declared.verdict.Declared.{Declared}
+use Rattle.reorder.specs.declared.verdict.Declared.TheVariants.{NextIsHere, NothingHeld, Lost}
 use Rattle.reorder.proofs.Items.{get-insert_same, get-insert_other}
-use Rattle.reorder.proofs.OneReading.{free-none_held}
+use Rattle.reorder.proofs.AgreeingWindows.{free-none_held}
 use Rattle.flow_core.specs.declared.record.FlowRecord.{FlowRecord}
 use Rattle.flow_core.specs.declared.flow.Flow.{Flow}
 use Rattle.flow_core.specs.declared.sequence.SequenceNumber.{SequenceNumber}
@@ -19,13 +19,13 @@ use Rattle.flow_core.specs.declared.event.Applied.TheVariants.{Decision, Decisio
 use Rattle.flow_core.specs.Fates.{Fates, number_of, kept_at, IsKept, IsLost, HasLaterKept}
 use Rattle.flow_core.specs.Events.{FlowEvent, gap, gap_to, IsAhead, IsDeclaredTo, DeclaresTo, Changes}
 use Rattle.flow_core.specs.Counts.{AreCounts}
-use Rattle.flow_core.specs.Losses.{after_losses, after_declaring}
+use Rattle.flow_core.specs.Inside.Losses.{after_losses, after_declaring}
 use Rattle.flow_core.specs.Stands.{IsWindowFrom, IsRemembered, StandsFor, IsDrained, AreLost, TakesEvent}
 use Rattle.flow_core.proofs.Outcome.{IsSound, sound-changes, after-append, settled-stays, declared-to}
 use Rattle.flow_core.proofs.Deciding.{IsDeclaredTo-decided, open_or_settled}
-use Rattle.flow_core.proofs.Numbers.{offset-index, index-offset, ahead-index, ahead-one}
+use Rattle.flow_core.proofs.IndexNumbers.{offset-index, index-offset, ahead-index, ahead-one}
 use Rattle.flow_core.proofs.Windows.{held-kept, kept-held, none-kept, window-same}
-use Rattle.flow_core.proofs.Counting.{answered, counts-answered}
+use Rattle.flow_core.proofs.FlowCounting.{answered, counts-answered}
 use Rattle.flow_core.proofs.Standing.{stands, drained-sound, open-kept, kept-not-lost, settled-cases}
 use Rattle.flow_core.proofs.Held.{some-held}
 use Rattle.flow_core.proofs.Losing.{HasComeTo, come-same, losses-pass, losses-window, losses-memory}

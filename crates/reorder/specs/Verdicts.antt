@@ -1,16 +1,17 @@
--- When a window gives each answer, and what the window is after it.
+-- When a window gives each verdict on an item, and each answer to a declared loss, and what the window is after it.
 use Rattle.std.specs.Prelude.{◌≡◌, ℕ, ◌<◌, ◌≤◌, List, [], ◌∷◌, Option, None, Some, Bool, ◌&&◌, nat_lt, min, if◌then◌else◌}
 use Rattle.std.specs.FinMap as map
 use Rattle.reorder.specs.View.{WindowView, offset_in, IsHeld, with_item, moved_on, next_taken}
+use Rattle.reorder.specs.Limits.{modulus, numbers_ahead}
 use Rattle.reorder.specs.Number.{offset}
-use Rattle.reorder.specs.declared.answer.Verdict.{Verdict}
-use Rattle.reorder.specs.declared.answer.Verdict.TheVariants.{Late, Beyond, Repeat, Kept}
-use Rattle.reorder.specs.declared.answer.Declared.{Declared}
-use Rattle.reorder.specs.declared.answer.Declared.TheVariants.{NextIsHere, NothingHeld, Lost}
+use Rattle.reorder.specs.declared.verdict.Verdict.{Verdict}
+use Rattle.reorder.specs.declared.verdict.Verdict.TheVariants.{Late, Beyond, Repeat, Kept}
+use Rattle.reorder.specs.declared.verdict.Declared.{Declared}
+use Rattle.reorder.specs.declared.verdict.Declared.TheVariants.{NextIsHere, NothingHeld, Lost}
 
--- the least offset of some numbers, or 8192 where there is none
+-- the least offset of some numbers, or the modulus where there is none
 abbrev pub least_offset : ℕ → List ℕ → ℕ
-least_offset expected [] = 8192
+least_offset expected [] = modulus
 least_offset expected (number ∷ numbers) =
     min (offset expected number) (least_offset expected numbers)
 
@@ -18,9 +19,9 @@ module _ {T : Type 0} where
   -- The verdict on an item that is offered under a number, in the order in which the causes are
   -- looked for. Every verdict but `Kept` hands the item back.
   abbrev pub IsVerdict : WindowView T → ℕ → T → Verdict T → Type 0
-  IsVerdict w number item (Late back) = (4096 ≤ offset_in w number) × (back ≡ item)
+  IsVerdict w number item (Late back) = (numbers_ahead ≤ offset_in w number) × (back ≡ item)
   IsVerdict w number item (Beyond back) =
-      (offset_in w number < 4096) × (w.width ≤ offset_in w number) × (back ≡ item)
+      (offset_in w number < numbers_ahead) × (w.width ≤ offset_in w number) × (back ≡ item)
   IsVerdict w number item (Repeat back) =
       (offset_in w number < w.width) × IsHeld w number × (back ≡ item)
   IsVerdict w number item Kept = (offset_in w number < w.width) × ¬ (IsHeld w number)
@@ -50,7 +51,7 @@ module _ {T : Type 0} where
   -- the number lies ahead of the expected one, and something is held
   abbrev pub has_gap_to : WindowView T → ℕ → Bool
   has_gap_to w number =
-      nat_lt 0 (offset_in w number) && nat_lt (offset_in w number) 4096 && nat_lt 0 (map.len w.held)
+      nat_lt 0 (offset_in w number) && nat_lt (offset_in w number) numbers_ahead && nat_lt 0 (map.len w.held)
 
   -- How many numbers are declared lost up to a number: none where it is the expected one or lies
   -- behind, or nothing is held; else as many as come before both it and the nearest held number.

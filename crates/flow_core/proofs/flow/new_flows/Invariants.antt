@@ -1,7 +1,7 @@
 -- Each record so far has its flow, and there is room for the rest.
 use Rattle.std.proofs.Common.{◌≡◌, ◌≤◌, length, vec_capacity}
 use Rattle.flow_core.proofs.NewFlows.{AreNewBelow}
-use Rattle.flow_core.proofs.flows.calls.new_flows.Given as goal
+use Rattle.flow_core.proofs.flow.new_flows.Given as goal
 
 abbrev pub invariant-loop-record : goal.invariant-loop-record
 invariant-loop-record l =

@@ -8,12 +8,12 @@ use Rattle.std.specs.FinMap as map
 use Rattle.std.proofs.lemmas.Bool.{cases_eq, cases_lt, lt-ltb, ltb-true}
 use Rattle.reorder.specs.Number.{offset, number_ahead}
 use Rattle.reorder.specs.View.{WindowView, offset_in, IsHeld, IsLawful, moved_on, moved_on_by}
-use Rattle.reorder.specs.Answers.{least_offset, has_gap_to, declared_count, IsDeclared, after_declare}
-use Rattle.reorder.specs.declared.answer.Declared.{Declared}
-use Rattle.reorder.specs.declared.answer.Declared.TheVariants.{NextIsHere, NothingHeld, Lost}
+use Rattle.reorder.specs.Verdicts.{least_offset, has_gap_to, declared_count, IsDeclared, after_declare}
+use Rattle.reorder.specs.declared.verdict.Declared.{Declared}
+use Rattle.reorder.specs.declared.verdict.Declared.TheVariants.{NextIsHere, NothingHeld, Lost}
 use Rattle.reorder.specs.Calls.{LosesInTurn}
-use Rattle.reorder.proofs.Offsets.{offset-number_ahead, number_ahead-offset, number_ahead-zero, number_ahead-next, number_ahead-following}
-use Rattle.reorder.proofs.OneReading.{free-none_held}
+use Rattle.reorder.proofs.Offsets.{offset-number_ahead, number_ahead-offset, number_ahead-zero, number_ahead-following}
+use Rattle.reorder.proofs.AgreeingWindows.{free-none_held}
 
 -- a number is among some
 abbrev IsAmong : ℕ → List ℕ → Type 0
@@ -108,18 +108,6 @@ module _ {T : Type 0} (w : WindowView T) where
   pub AreLost-none : AreLost 0
   AreLost-none = record { free = λ k below. absurd (omega arith); some_held = λ some. absurd (omega arith) }
 
-  -- one more
-  pub AreLost-next : (count : ℕ) → AreLost count → ¬ (IsHeld w (number_ahead w.expected count)) → 0 < map.len w.held → AreLost (count + 1)
-  AreLost-next count lost free held =
-      record {
-        free = λ k below.
-            ⊎_elim
-            (λ (same : k ≡ count). subst (λ n. ¬ (IsHeld w (number_ahead w.expected n))) (sym same) free)
-            (λ (differ : k ≢ count). lost.free k (omega arith))
-            (cases_eq k count);
-        some_held = λ _. held;
-      }
-
   module _ (lawful : IsLawful w) (number count : ℕ) (lost : AreLost count) where
     -- what is held lies no nearer
     lost-before_held : (q : ℕ) → IsHeld w q → count ≤ offset_in w q
@@ -193,9 +181,6 @@ module _ {T : Type 0} (w : WindowView T) where
 module _ {T : Type 0} (w : WindowView T) where
   pub moved_on_by-zero : w.expected < 8192 → moved_on_by w 0 ≡ w
   moved_on_by-zero in_range = ap (λ e. record w { expected = e }) (number_ahead-zero w.expected in_range)
-
-  pub moved_on-moved_on_by : (count : ℕ) → moved_on (moved_on_by w count) ≡ moved_on_by w (count + 1)
-  moved_on-moved_on_by count = ap (λ e. record w { expected = e }) (number_ahead-next w.expected count)
 
 module _ {T : Type 0} where
   -- numbers that may be declared lost are declared lost one after another

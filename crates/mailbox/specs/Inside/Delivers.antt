@@ -1,37 +1,21 @@
 -- The rule of the shared queue: what each sender posted is what was taken of it and then what the queue holds of it.
-use Rattle.std.specs.Prelude.{◌≡◌, ℕ, ◌+◌, ◌<◌, ◌≤◌, ◌==◌, ◌⊎◌, Bool, true, false, List, [], ◌∷◌, ◌++◌, if◌then◌else◌}
+use Rattle.std.specs.Prelude.{◌≡◌, ℕ, ◌+◌, ◌<◌, ◌≤◌, ◌⊎◌, true, false, List, [], ◌∷◌, ◌++◌}
 use mathlib.Core.Option.{some}
 use lib.ListN.{get_elem?}
-use Rattle.mailbox.specs.Entries.{has_end}
+use Rattle.mailbox.specs.Entries.{sent_by, own}
 use Rattle.mailbox.specs.declared.entry.Entry.{Entry}
 use Rattle.mailbox.specs.declared.entry.Stamped.{Stamped}
 use Rattle.mailbox.specs.declared.view.PortLog.{PortLog}
 use Rattle.mailbox.specs.declared.view.View.{View}
 
 module _ {T : Type 0} where
-  -- the entries of sender k, in order
-  abbrev pub sent_by : ℕ → List (Stamped T) → List (Entry T)
-  sent_by k [] = []
-  sent_by k (x ∷ xs) = if x.from == k then x.entry ∷ sent_by k xs else sent_by k xs
-
-  -- of each of the five senders, whether its end mark stands among them
-  abbrev pub ends_in : List (Stamped T) → List Bool
-  ends_in xs = has_end (sent_by 0 xs) ∷ has_end (sent_by 1 xs) ∷ has_end (sent_by 2 xs) ∷ has_end (sent_by 3 xs) ∷ has_end (sent_by 4 xs) ∷ []
-
+  -- the log of one sender
   abbrev pub log : ℕ → List (Entry T) → PortLog T
   log k es = record { from = k; entries = es }
 
   -- what the pass of a port knows
   abbrev pub port : ℕ → List (Entry T) → View T
   port k es = record { logs = log k es ∷ []; takes = false; made = 0; got = [] }
-
-  abbrev pub first_of : List (PortLog T) → List (Entry T)
-  first_of [] = []
-  first_of (x ∷ xs) = x.entries
-
-  -- the entries in a port's one log
-  abbrev pub own : View T → List (Entry T)
-  own v = first_of v.logs
 
   -- what the pass of the mouth knows
   abbrev pub mouth : List (PortLog T) → ℕ → List (Stamped T) → View T
@@ -59,6 +43,7 @@ module _ {T : Type 0} where
   abbrev pub joined : View T → View T → View T
   joined v w = mouth (v.logs ++ w.logs) v.made v.got
 
+  -- the log is one of these
   abbrev pub Has : PortLog T → List (PortLog T) → Type 0
   Has h [] = ⊥
   Has h (x ∷ xs) = (h ≡ x) ⊎ Has h xs

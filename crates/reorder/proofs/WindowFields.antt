@@ -11,10 +11,10 @@ use borrow.Author.Tests.{ltb-true}
 use Rattle.circular_buffer.specs.Buffer.{Buffer, buffer, keep_last}
 use Rattle.reorder.specs.Number.{offset, following}
 use Rattle.reorder.specs.View.{WindowView, held_at, IsLawful, empty_window, with_item, next_taken}
-use Rattle.reorder.specs.Places.{item_at, IsLaidOut, items_from, seen, IsKept}
+use Rattle.reorder.specs.Inside.Places.{item_at, IsLaidOut, items_from, seen, IsKept}
 use Rattle.reorder.proofs.Offsets.{following-in_range, offset-expected}
-use Rattle.reorder.proofs.Lawful.{empty_window-lawful, with_item-lawful, next_taken-lawful}
-use Rattle.reorder.proofs.OneReading.{free-none_held}
+use Rattle.reorder.proofs.LawfulWindow.{empty_window-lawful, with_item-lawful, next_taken-lawful}
+use Rattle.reorder.proofs.AgreeingWindows.{free-none_held}
 use Rattle.reorder.proofs.LaidOut.{item_at-append_empty, len-items_from, seen-laid_out, seen-is, empty-laid_out, with_item-laid_out, next_taken-laid_out}
 
 -- no number is below itself

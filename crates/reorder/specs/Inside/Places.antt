@@ -3,6 +3,7 @@ use Rattle.std.specs.Prelude.{◌≡◌, ℕ, ◌<◌, List, [], ◌∷◌, leng
 use Rattle.std.specs.Ordering.{nat_cmp}
 use Rattle.std.specs.FinMap as map
 use Rattle.circular_buffer.specs.Buffer.{Buffer}
+use Rattle.reorder.specs.Limits.{modulus}
 use Rattle.reorder.specs.Number.{following}
 use Rattle.reorder.specs.View.{WindowView, offset_in, held_at, IsHeld, IsLawful}
 
@@ -15,9 +16,9 @@ module _ {T : Type 0} where
   -- item is at the place as far from the front as the number lies ahead of the expected one.
   pub record IsLaidOut (places : List (Option T)) (w : WindowView T) : Type 0 where
     pub wide : length places ≡ w.width
-    pub items : (number : ℕ) → number < 8192
+    pub items : (number : ℕ) → number < modulus
         → held_at w number ≡ item_at places (offset_in w number)
-    pub in_range : (number : ℕ) → IsHeld w number → number < 8192
+    pub in_range : (number : ℕ) → IsHeld w number → number < modulus
 
   -- the items at the places, of which the first is the given number's
   unfoldable pub items_from : ℕ → List (Option T) → map.FinMap nat_cmp T

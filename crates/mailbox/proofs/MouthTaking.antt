@@ -3,10 +3,10 @@ use Rattle.std.specs.Prelude.{◌≡◌, ◌≢◌, ℕ, ◌+◌, ◌==◌, true
 use Rattle.std.proofs.Common.{ap, sym, ◌∙◌, subst, arith}
 use Rattle.std.proofs.lemmas.Bool.{cases_eq}
 use Rattle.std.proofs.lemmas.Bool.Decides.{nat_tests}
-use Rattle.mailbox.proofs.Lists.{has_end-item, has_end-end, items_of-item, items_of-end, ends_of-item, ends_of-end}
+use Rattle.mailbox.proofs.EntryLists.{has_end-item, has_end-end, items_of-item, items_of-end, ends_of-item, ends_of-end}
 use Rattle.mailbox.proofs.Steps.{sent_by-other, sent_by-same}
-use Rattle.mailbox.specs.Entries.{has_end, ends_of, items_of}
-use Rattle.mailbox.specs.Delivers.{sent_by, mouth, got_by, Taken}
+use Rattle.mailbox.specs.Entries.{has_end, ends_of, items_of, sent_by}
+use Rattle.mailbox.specs.Inside.Delivers.{mouth, got_by, Taken}
 use Rattle.mailbox.specs.declared.entry.Entry.{Entry}
 use Rattle.mailbox.specs.declared.entry.Entry.TheVariants.{Item, End}
 use Rattle.mailbox.specs.declared.entry.Stamped.{Stamped}

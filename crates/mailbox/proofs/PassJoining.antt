@@ -3,10 +3,11 @@ use Rattle.std.specs.Prelude.{◌≡◌, ℕ, suc, zero, ◌<◌, ◌≤◌, tru
 use Rattle.std.proofs.Common.{ap, sym, ◌∙◌, subst, arith}
 use Rattle.std.proofs.lemmas.Bool.{cases_eq}
 use Rattle.std.proofs.lemmas.Bool.Decides.{nat_tests}
-use Rattle.mailbox.proofs.Lists.{items_of-append, ends_of-append}
-use Rattle.mailbox.specs.Entries.{items_of, has_end, ends_of, ends_once}
-use Rattle.mailbox.specs.Delivers.{sent_by, log, port, mouth, joined, Has, Accounts}
-use Rattle.mailbox.specs.Counting.{Counts}
+use Rattle.mailbox.proofs.EntryLists.{items_of-append, ends_of-append}
+use Rattle.mailbox.specs.Entries.{items_of, has_end, ends_of, sent_by}
+use Rattle.mailbox.specs.Inside.Ends.{ends_once}
+use Rattle.mailbox.specs.Inside.Delivers.{log, port, mouth, joined, Has, Accounts}
+use Rattle.mailbox.specs.Inside.Counting.{Counts}
 use Rattle.mailbox.specs.Settling.{Leaves}
 use Rattle.mailbox.specs.declared.entry.Entry.{Entry}
 use Rattle.mailbox.specs.declared.entry.Entry.TheVariants.{Item, End}

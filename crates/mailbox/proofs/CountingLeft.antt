@@ -4,11 +4,11 @@ use Rattle.std.proofs.Common.{ap, sym, ◌∙◌, subst, arith, length-append, a
 use Rattle.std.proofs.lemmas.Bool.{cases_eq}
 use Rattle.std.proofs.lemmas.Bool.Decides.{nat_tests}
 use Rattle.std.proofs.lemmas.List.{append-nil}
-use Rattle.mailbox.proofs.Lists.{items_of-append}
-use Rattle.mailbox.proofs.Joining.{sent_by-append}
-use Rattle.mailbox.specs.Entries.{items_of}
-use Rattle.mailbox.specs.Delivers.{sent_by, mouth, Accounts, Taken}
-use Rattle.mailbox.specs.Counting.{AreCounts, AddsOne, Counts, Counted}
+use Rattle.mailbox.proofs.EntryLists.{items_of-append}
+use Rattle.mailbox.proofs.PassJoining.{sent_by-append}
+use Rattle.mailbox.specs.Entries.{items_of, sent_by}
+use Rattle.mailbox.specs.Inside.Delivers.{mouth, Accounts, Taken}
+use Rattle.mailbox.specs.Inside.Counting.{AreCounts, AddsOne, Counts, Counted}
 use Rattle.mailbox.specs.declared.entry.Entry.{Entry}
 use Rattle.mailbox.specs.declared.entry.Entry.TheVariants.{Item, End}
 use Rattle.mailbox.specs.declared.entry.Stamped.{Stamped}

@@ -4,9 +4,6 @@ use Rattle.reorder.specs.Number.{offset, following, number_ahead}
 use Rattle.flow_core.specs.Fates.{number_of}
 use Rattle.flow_core.specs.Events.{IsAhead}
 
-pub number_of-in_range : (first i : ℕ) → number_of first i < 8192
-number_of-in_range first i = omega arith
-
 -- the number of an index ahead has as offset how far the index lies ahead
 pub offset-index : (first y i : ℕ) → y ≤ i → i < y + 8192 → y + offset (number_of first y) (number_of first i) ≡ i
 offset-index first y i from to = omega arith

@@ -1,7 +1,7 @@
 -- What is left in the queue, counted.
 use Rattle.std.specs.Prelude.{◌≡◌, ℕ, ◌+◌, ◌<◌, ◌≤◌, List, [], ◌∷◌, ◌++◌, length, slice_index}
-use Rattle.mailbox.specs.Entries.{items_of}
-use Rattle.mailbox.specs.Delivers.{sent_by, mouth, Accounts}
+use Rattle.mailbox.specs.Entries.{items_of, sent_by}
+use Rattle.mailbox.specs.Inside.Delivers.{mouth, Accounts}
 use Rattle.mailbox.specs.declared.entry.Stamped.{Stamped}
 use Rattle.mailbox.specs.declared.view.View.{View}
 

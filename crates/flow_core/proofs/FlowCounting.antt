@@ -4,14 +4,12 @@ use Rattle.std.proofs.lemmas.List.Sums.{sum_by_push}
 use Rattle.docsis_wire.specs.declared.segment.Segment.{Segment}
 use Rattle.flow_core.specs.declared.counts.FlowCounts.{FlowCounts}
 use Rattle.flow_core.specs.declared.event.Applied.{Applied}
-use Rattle.flow_core.specs.Counts.{counted, says_kept, says_late, says_repeat, says_beyond, AreCounts, no_counts}
+use Rattle.flow_core.specs.Counts.{counted, says_kept, says_late, says_repeat, says_beyond, AreCounts}
+use Rattle.flow_core.specs.Inside.NoCounts.{no_counts}
 
 -- a count goes on from what was counted
 pub counted-more : (n m k : ℕ) → k ≡ counted n → min (k + m) 18446744073709551615 ≡ counted (n + m)
 counted-more n m k is = omega arith
-
-counted-as : (n m k : ℕ) → k ≡ counted n → n ≡ m → k ≡ counted m
-counted-as n m k is same = is ∙ ap counted same
 
 -- one answer more
 push-no : (p : Applied → Bool) (answers : List Applied) (answer : Applied) → p answer ≡ false → count_by p (answers ++ answer ∷ []) ≡ count_by p answers

@@ -1,7 +1,8 @@
 -- One entry more.
 use Rattle.std.specs.Prelude.{◌≡◌, ◌+◌, true, false, List, [], ◌∷◌, ◌++◌, refl}
 use Rattle.std.proofs.Common.{ap, arith}
-use Rattle.mailbox.specs.Entries.{items_of, has_end, ends_of, ends_once}
+use Rattle.mailbox.specs.Entries.{items_of, has_end, ends_of}
+use Rattle.mailbox.specs.Inside.Ends.{ends_once}
 use Rattle.mailbox.specs.declared.entry.Entry.{Entry}
 use Rattle.mailbox.specs.declared.entry.Entry.TheVariants.{Item, End}
 

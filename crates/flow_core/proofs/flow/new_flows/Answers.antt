@@ -2,7 +2,7 @@
 use Rattle.std.proofs.Common.{◌+◌, [], ◌∷◌, length, sym, ap, subst, ◌∙◌, arith, length-append}
 use Rattle.std.proofs.lemmas.Option.{slice_get-get_or, slice_get_within}
 use Rattle.flow_core.proofs.NewFlows.{AreNewBelow, new-more}
-use Rattle.flow_core.proofs.flows.calls.new_flows.Goals as goal
+use Rattle.flow_core.proofs.flow.new_flows.Goals as goal
 
 pub new-requires : goal.new-requires
 new-requires c = c.requires.each c.loop-record.record-index _ (slice_get-get_or c.args.records.now c.loop-record.record-index _ c.loop-record-test.true)

@@ -7,9 +7,9 @@ use Rattle.docsis_wire.specs.declared.cursor.Cursor.{Cursor}
 use Rattle.docsis_wire.specs.declared.pieces.Piece.{Piece}
 use Rattle.docsis_wire.specs.Stream.{place_of, IsBoundary}
 use Rattle.docsis_wire.specs.Cut.{Points}
-use Rattle.docsis_wire.specs.Cursor.{place_at, IsPlaced, chunk_at, CanPoint}
+use Rattle.docsis_wire.specs.Inside.Cursor.{place_at, IsPlaced, chunk_at, CanPoint}
 use Rattle.docsis_wire.specs.Pieces.{chunks_of, FillsInsideFrame, PointsTooFar, IsUnlawful}
-use Rattle.docsis_wire.proofs.Places.{place_of-next, place_of-le}
+use Rattle.docsis_wire.proofs.StreamPlaces.{place_of-next, place_of-le}
 use Rattle.docsis_wire.proofs.Chunks.{place_of-chunk, chunks_from-at, length-chunks_from}
 
 -- where a frame ends the cursor stands before the next

@@ -5,10 +5,10 @@ use Rattle.std.specs.Cmp.{nat_cmp_total}
 use Rattle.std.specs.FinMap.{nat_cmp-IsAntisymmetric}
 use Rattle.std.specs.FinMap as map
 use Rattle.docsis_wire.specs.declared.segment.Segment.{Segment}
-use Rattle.reorder.specs.declared.answer.Verdict.{Verdict}
-use Rattle.reorder.specs.declared.answer.Verdict.TheVariants.{Late, Beyond, Repeat, Kept}
-use Rattle.reorder.specs.declared.answer.Declared.{Declared}
-use Rattle.reorder.specs.declared.answer.Declared.TheVariants.{NextIsHere, NothingHeld, Lost}
+use Rattle.reorder.specs.declared.verdict.Verdict.{Verdict}
+use Rattle.reorder.specs.declared.verdict.Verdict.TheVariants.{Late, Beyond, Repeat, Kept}
+use Rattle.reorder.specs.declared.verdict.Declared.{Declared}
+use Rattle.reorder.specs.declared.verdict.Declared.TheVariants.{NextIsHere, NothingHeld, Lost}
 use Rattle.flow_core.specs.declared.event.Applied.{Applied}
 use Rattle.flow_core.specs.declared.event.Applied.TheVariants.{Arrival, Decision, DecisionTo}
 use Rattle.flow_core.specs.Fates.{Fates, no_fates, number_of, IsKept, IsExpected}

@@ -5,10 +5,10 @@ use Rattle.std.specs.Cmp.{nat_cmp_total}
 use Rattle.std.specs.FinMap.{nat_cmp-IsAntisymmetric}
 use Rattle.std.specs.FinMap as map
 use Rattle.reorder.specs.View.{WindowView, IsHeld}
-use Rattle.reorder.specs.Answers.{IsDeclared}
+use Rattle.reorder.specs.Verdicts.{IsDeclared}
 use Rattle.reorder.specs.Calls.{Agree}
-use Rattle.reorder.specs.declared.answer.Declared.{Declared}
-use Rattle.reorder.specs.declared.answer.Declared.TheVariants.{NextIsHere, NothingHeld, Lost}
+use Rattle.reorder.specs.declared.verdict.Declared.{Declared}
+use Rattle.reorder.specs.declared.verdict.Declared.TheVariants.{NextIsHere, NothingHeld, Lost}
 
 module _ {T : Type 0} where
   -- a window is what it expects, how far it may hold, and what it holds at each number

@@ -1,0 +1,6 @@
+-- How many flows there are at most. The limits of segments and of windows are those of `docsis_wire` and `reorder`.
+use Rattle.std.specs.Prelude.{ℕ}
+
+-- the greatest number of flows
+abbrev pub flows_max : ℕ
+flows_max = 64
