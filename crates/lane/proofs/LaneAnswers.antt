@@ -10,7 +10,7 @@ use Rattle.docsis_wire.specs.SegmentBytes.{segment_bytes}
 use Rattle.docsis_wire.specs.Ready.{IsReady}
 use Rattle.docsis_wire.proofs.HeaderWords.{header_of-bytes}
 use Rattle.docsis_wire.proofs.SegmentReads.{spelled_as}
-use Rattle.docsis_wire.proofs.Places.{element_at}
+use Rattle.docsis_wire.proofs.StreamPlaces.{element_at}
 use Rattle.lane.specs.declared.sids.SidRow.{SidRow}
 use Rattle.lane.specs.declared.input.Input.{Input}
 use Rattle.lane.specs.declared.input.Input.TheVariants.{Grant, Burst}

@@ -9,7 +9,7 @@ use Rattle.std.proofs.lemmas.Option.{slice_get_within, same_Some}
 use Rattle.std.proofs.lemmas.List.{take-append-le, length-append}
 use Rattle.std.proofs.lemmas.List.Sums.{sum_by_push}
 use Rattle.std.proofs.Math.Seq.{take-append_seam}
-use Rattle.docsis_wire.proofs.Places.{slice_get-at}
+use Rattle.docsis_wire.proofs.StreamPlaces.{slice_get-at}
 use Rattle.lane.specs.declared.admitted.Admitted.{Admitted}
 use Rattle.lane.specs.declared.input.Input.TheVariants.{Grant}
 use Rattle.lane.specs.declared.grant.SidFlow.{SidFlow}

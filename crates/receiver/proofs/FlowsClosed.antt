@@ -5,7 +5,7 @@ use Rattle.std.proofs.lemmas.List.{length_push, get_or-map, get_or_push, get_or_
 use Rattle.std.proofs.lemmas.Option.{slice_get_within, get_or_from_slice_get, slice_get-get_or, same_Some}
 use Rattle.std.specs.Global.{Global}
 use Rattle.docsis_wire.specs.declared.buffer.Bytes.{Bytes}
-use Rattle.docsis_wire.proofs.Places.{element_at}
+use Rattle.docsis_wire.proofs.StreamPlaces.{element_at}
 use Rattle.flow_core.specs.declared.record.FlowRecord.{FlowRecord}
 use Rattle.flow_core.specs.declared.flows.Core.{Core}
 use Rattle.flow_core.specs.declared.event.Event.{Event}

@@ -6,7 +6,7 @@ use Rattle.std.proofs.lemmas.List.Elements.{filter-append}
 use Rattle.std.proofs.lemmas.Option.{slice_get_within, same_Some}
 use Rattle.std.specs.Global.{Global}
 use Rattle.docsis_wire.specs.declared.buffer.Bytes.{Bytes}
-use Rattle.docsis_wire.proofs.Places.{element_at}
+use Rattle.docsis_wire.proofs.StreamPlaces.{element_at}
 use Rattle.flow_core.specs.declared.record.FlowRecord.{FlowRecord}
 use Rattle.flow_core.specs.declared.flow.Flow.{Flow}
 use Rattle.flow_core.specs.declared.flows.Core.{Core}

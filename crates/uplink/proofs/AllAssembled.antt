@@ -3,7 +3,7 @@ use Rattle.std.proofs.Common.{◌≡◌, ℕ, zero, suc, ◌<◌, ◌==◌, Bool
 use Rattle.std.proofs.lemmas.List.{length-map}
 use Rattle.std.proofs.lemmas.Option.{slice_get_within, same_Some, IfSome_then}
 use Rattle.std.specs.Global.{Global}
-use Rattle.docsis_wire.proofs.Places.{element_at}
+use Rattle.docsis_wire.proofs.StreamPlaces.{element_at}
 use Rattle.delivery.specs.Feeders.{feeder_ring, offered, closed_offered}
 use Rattle.delivery.specs.declared.feeder.Feeder.{Feeder}
 use Rattle.delivery.specs.declared.feeder.ClosedFeeder.{ClosedFeeder}

@@ -6,7 +6,7 @@ use Rattle.std.proofs.lemmas.Bool.{cases_eq}
 use Rattle.std.proofs.lemmas.List.{length-append, length-map, get_or_append_left, get_or_push, get_or_default}
 use Rattle.std.proofs.lemmas.List.{get_or-set_same, get_or-set_other, get_or-map}
 use Rattle.std.proofs.lemmas.Option.{slice_get_within, get_or_from_slice_get}
-use Rattle.docsis_wire.proofs.Places.{element_at}
+use Rattle.docsis_wire.proofs.StreamPlaces.{element_at}
 use Rattle.delivery.specs.Takers.{is_closed}
 use Rattle.delivery.specs.declared.taker.Taker.{Taker}
 use Rattle.uplink.specs.declared.frame_worker.Consumed.{Consumed}

@@ -3,7 +3,7 @@ use Rattle.std.proofs.Common.{◌≡◌, ℕ, ◌+◌, ◌<◌, ◌≤◌, ⊎_e
 use Rattle.std.proofs.lemmas.Bool.{cases_lt}
 use Rattle.std.proofs.lemmas.List.{length_push}
 use Rattle.std.proofs.lemmas.Option.{slice_get_within, same_Some}
-use Rattle.docsis_wire.proofs.Places.{element_at, slice_get-at}
+use Rattle.docsis_wire.proofs.StreamPlaces.{element_at, slice_get-at}
 use Rattle.delivery.specs.Feeders.{offered}
 use Rattle.delivery.specs.declared.feeder.Feeder.{Feeder}
 use Rattle.flow_core.specs.declared.record.FlowRecord.{FlowRecord}

@@ -6,9 +6,9 @@ use Rattle.std.specs.Cmp.{nat_cmp_total, eq_by_cmp_equiv}
 use Rattle.std.specs.FinMap.{nat_cmp-IsAntisymmetric, get, insert, get-empty, get-insert, get-remove}
 use Rattle.std.proofs.lemmas.Bool.{cases_eq, cases_lt, lt-ltb, le-ltb, ne_eqb}
 use Rattle.reorder.specs.View.{WindowView, IsLawful, held_at, empty_window, next_taken}
-use Rattle.reorder.specs.Answers.{IsVerdict, after_offer}
-use Rattle.reorder.specs.declared.answer.Verdict.{Verdict}
-use Rattle.reorder.specs.declared.answer.Verdict.TheVariants.{Late, Beyond, Repeat, Kept}
+use Rattle.reorder.specs.Verdicts.{IsVerdict, after_offer}
+use Rattle.reorder.specs.declared.verdict.Verdict.{Verdict}
+use Rattle.reorder.specs.declared.verdict.Verdict.TheVariants.{Late, Beyond, Repeat, Kept}
 use Rattle.uses.specs.Window.{number_after, first_offered, item_of}
 
 -- two numbers that differ are two keys
