@@ -8,6 +8,8 @@ use std::alloc::Global;
 use std::process::Abort;
 use std::test::Fail;
 
+mod refusals;
+
 /// A frame of eight bytes without an extended header.
 const PLAIN: &[u8] = &[0, 0, 0, 2, 0x11, 0x11, 0xaa, 0xbb];
 /// A frame of nine bytes with an extended header of one byte.
@@ -32,7 +34,7 @@ struct Joining {
     idle: bool,
 }
 
-const JOININGS: [Joining; 7] = [
+const JOININGS: [Joining; 9] = [
     Joining {
         name: "the first of the three segments is lost",
         segments: &[SECOND, THIRD],
@@ -106,6 +108,29 @@ const JOININGS: [Joining; 7] = [
         frames: &[&[], &[]],
         skipped: &[0, 7],
         idle: false,
+    },
+    Joining {
+        name: "a pointer one byte too high",
+        segments: &[
+            FIRST,
+            &[
+                0x80, 4, 0, 8, 0, 0, 0, 0, 0x11, 0xaa, 0xbb, 0, 1, 1, 0, 3, 0xe0, 0x22, 0x22, 0xcc,
+                0xdd,
+            ],
+        ],
+        frames: &[&[], &[EXTENDED]],
+        skipped: &[0, 9],
+        idle: true,
+    },
+    Joining {
+        name: "a header that the second segment shows to be malformed",
+        segments: &[
+            &[0x80, 0, 0, 0, 0, 0, 0, 0, 1],
+            &[0, 0, 0, 8, 0, 0, 0, 0, 0xf1, 0xff, 0xff],
+        ],
+        frames: &[&[], &[]],
+        skipped: &[0, 4],
+        idle: true,
     },
 ];
 
@@ -346,49 +371,4 @@ fn keeps_what_a_low_pointer_begins(rt: HostRuntime) -> Result<(), Fail> {
         }
     }
     Ok(())
-}
-
-mod refusals {
-    use super::*;
-
-    /// Reads a segment, and once more where the first call was refused memory.
-    fn segment_again(rt: &impl Print, alloc: Global, bytes: &[u8]) -> Result<Segment, Fail>
-        ensures { IfOk result IsReady }
-    {
-        if let Ok(first) = Segment::read(alloc, bytes) {
-            return Ok(first);
-        }
-        println!(rt; "refused")?;
-        Ok(Segment::read(alloc, bytes)?)
-    }
-
-    /// Feeds a segment, and once more where the first call was refused memory.
-    fn feed_twice(
-        rt: &impl Print,
-        alloc: Global,
-        joiner: &mut Joiner,
-        next: &Segment,
-    ) -> Result<Fed, Fail>
-        requires { IsReady next.now }
-    {
-        if let Ok(fed) = joiner.feed(alloc, next, &NoCheck) {
-            return Ok(fed);
-        }
-        println!(rt; "refused")?;
-        Ok(joiner.feed(alloc, next, &NoCheck)?)
-    }
-
-    #[test]
-    fn feed_again(rt: HostRuntime) -> Result<(), Fail> {
-        let mut joiner = Joiner::new(rt.alloc());
-        for (i, bytes) in [FIRST, SECOND, THIRD].iter().enumerate() {
-            let next = segment_again(&rt, rt.alloc(), bytes)?;
-            let fed = feed_twice(&rt, rt.alloc(), &mut joiner, &next)?;
-            let wanted: [&[&[u8]]; 3] = [&[], &[PLAIN], &[EXTENDED]];
-            assert!(rt; same_bytes(&fed.frames, wanted[i]), "segment {i}: {fed:?}");
-            assert_eq!(rt; fed.skipped, 0, "segment {i}");
-        }
-        assert!(rt; joiner.is_idle());
-        Ok(())
-    }
 }

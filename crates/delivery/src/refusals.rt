@@ -1,4 +1,9 @@
-//! Tests to be run with the Nth request for memory refused. Each says `refused` when one was.
+//! Tests to be run with the Nth request for memory refused, and the one whose name ends in
+//! `without_memory` with all later ones refused too. Each says `refused` when one was.
+use crate::tests::{
+    abandon_the_second, close_three_times, settle_before_the_second_is_taken,
+    take_both_from_one_place, two_offered,
+};
 use crate::{Feeder, Refused, Took, ring, settle};
 use std::alloc::Global;
 use std::io;
@@ -108,5 +113,27 @@ fn whole_run_refused(rt: HostRuntime) -> Result<(), Fail> {
     };
     assert_eq!(rt; taker.take(), Took::Closed);
     assert_eq!(rt; settle(&mut closed, &mut taker), 0);
+    Ok(())
+}
+
+/// In the end it asks for memory itself, so that a run is known in which nothing else did.
+#[test]
+fn calls_after_offer_without_memory(rt: HostRuntime) -> Result<(), Fail> {
+    let first = two_offered(rt.alloc(), 1);
+    let second = two_offered(rt.alloc(), 1);
+    let third = two_offered(rt.alloc(), 1);
+    let wide = two_offered(rt.alloc(), 3);
+    let (Ok(first), Ok(second), Ok(third), Ok(wide)) = (first, second, third, wide) else {
+        println!(rt; "refused")?;
+        return Ok(());
+    };
+    take_both_from_one_place(&rt, first.0, first.1);
+    abandon_the_second(&rt, second.0, second.1);
+    close_three_times(&rt, third.0, third.1);
+    settle_before_the_second_is_taken(&rt, wide.0, wide.1);
+    match Vec::<u8>::with_capacity(rt.alloc(), 1) {
+        Ok(_) => println!(rt; "memory after all calls")?,
+        Err(_) => println!(rt; "all calls after `offer` were made without memory")?,
+    }
     Ok(())
 }

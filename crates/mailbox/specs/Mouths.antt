@@ -1,6 +1,7 @@
 -- What a clause sees of a mouth.
 use Rattle.std.specs.Prelude.{◌≡◌, ℕ, ◌+◌, ◌<◌, ◌==◌, Bool, true, List, [], ◌∷◌, ◌++◌, if◌then◌else◌}
-use Rattle.crossbeam_queue.specs.Passes.{view}
+use Rattle.std.specs.Arc.{arc_value}
+use Rattle.crossbeam_queue.specs.Passes.{view, ruled_capacity}
 use Rattle.mailbox.specs.Entries.{items_of, has_end, ends_of, sent_by}
 use Rattle.mailbox.specs.Ports.{Address}
 use Rattle.mailbox.specs.declared.mouth.Mouth.{Mouth}
@@ -14,6 +15,10 @@ module _ {T : Type 0} where
   -- the five places in the mailbox of this mouth, in order
   abbrev pub places : Mouth T → List Address
   places m = place m 0 ∷ place m 1 ∷ place m 2 ∷ place m 3 ∷ place m 4 ∷ []
+
+  -- how many entries the mailbox of this mouth has room for
+  abbrev pub mouth_capacity : Mouth T → ℕ
+  mouth_capacity m = ruled_capacity (arc_value m.queue)
 
   -- every item of sender k that was taken, in order
   abbrev pub taken : Mouth T → ℕ → List T

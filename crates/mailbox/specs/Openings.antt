@@ -1,7 +1,7 @@
 -- What a clause sees of the five ports of one mailbox.
 use Rattle.std.specs.Prelude.{◌≡◌, ℕ, false, List, [], ◌∷◌}
-use Rattle.mailbox.specs.Ports.{Address, address, posted}
-use Rattle.mailbox.specs.Mouths.{taken, ended, ends_taken}
+use Rattle.mailbox.specs.Ports.{Address, address, posted, port_capacity}
+use Rattle.mailbox.specs.Mouths.{taken, ended, ends_taken, mouth_capacity}
 use Rattle.mailbox.specs.declared.mouth.Mouth.{Mouth}
 use Rattle.mailbox.specs.declared.opening.Ports.{Ports}
 
@@ -23,3 +23,12 @@ module _ {T : Type 0} where
     pub taken_is : (k : ℕ) → taken mouth k ≡ []
     pub ended_is : (k : ℕ) → ended mouth k ≡ false
     pub ends_are : (k : ℕ) → ends_taken mouth k ≡ 0
+
+  -- the mailbox of these ports and of this mouth has room for so many entries
+  pub record HaveCapacity (ports : Ports T) (mouth : Mouth T) (entries : ℕ) : Type 0 where
+    pub p0 : port_capacity ports.p0 ≡ entries
+    pub p1 : port_capacity ports.p1 ≡ entries
+    pub p2 : port_capacity ports.p2 ≡ entries
+    pub p3 : port_capacity ports.p3 ≡ entries
+    pub p4 : port_capacity ports.p4 ≡ entries
+    pub mouth_is : mouth_capacity mouth ≡ entries

@@ -1,7 +1,8 @@
 -- What a clause sees of ports.
 use Rattle.std.specs.Prelude.{ℕ, List}
+use Rattle.std.specs.Arc.{arc_value}
 use Rattle.atomic_table.specs.Seated.{TableId}
-use Rattle.crossbeam_queue.specs.Passes.{view}
+use Rattle.crossbeam_queue.specs.Passes.{view, ruled_capacity}
 use Rattle.mailbox.specs.Entries.{items_of, own}
 use Rattle.mailbox.specs.declared.port.Port.{Port}
 use Rattle.mailbox.specs.declared.port.ClosedPort.{ClosedPort}
@@ -24,3 +25,10 @@ module _ {T : Type 0} where
 
   abbrev pub closed_posted : ClosedPort T → List T
   closed_posted p = items_of (own (view p.pass))
+
+  -- how many entries the mailbox of a port has room for
+  abbrev pub port_capacity : Port T → ℕ
+  port_capacity p = ruled_capacity (arc_value p.queue)
+
+  abbrev pub closed_capacity : ClosedPort T → ℕ
+  closed_capacity p = ruled_capacity (arc_value p.queue)

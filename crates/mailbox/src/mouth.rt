@@ -27,13 +27,14 @@ pub struct Mouth<T> {
 
 impl<T: Drop> Mouth<T> {
     ghost use Rattle.std.specs.Prelude.{◌≡◌, ◌<◌, ℕ, true, IsTrue, ◌↔◌};
-    ghost use Rattle.mailbox.specs.Mouths.{places, ended, TakesOne};
+    ghost use Rattle.mailbox.specs.Mouths.{places, ended, mouth_capacity, TakesOne};
 
     /// Takes the oldest entry, which of its sender is the oldest too. `Empty` only where the
     /// mailbox was empty at one moment of the call.
     pub fn next<R: Wait>(&mut self, rt: &R) -> Taken<T>
         ensures places { places self.new ≡ places self.old }
         ensures takes { TakesOne result self.old self.new }
+        ensures capacity { mouth_capacity self.new ≡ mouth_capacity self.old }
     {
         let queue: &Queue<T> = &self.queue;
         let Some(stamped) = queue.pop_as::<Takes, R>(rt, &mut self.pass) else {

@@ -1,11 +1,11 @@
 //! Making a mailbox.
 ghost use Rattle.std.specs.Prelude.{◌≡◌, ◌<◌, ◌+◌, ◌↔◌, [], IfOk, Err};
 ghost use Rattle.std.specs.Arc.{arc_value};
-ghost use Rattle.crossbeam_queue.specs.Passes.{view, IsPassOf};
+ghost use Rattle.crossbeam_queue.specs.Passes.{view, IsPassOf, ruled_capacity};
 ghost use Rattle.mailbox.specs.Inside.Delivers.{mouth};
-ghost use Rattle.mailbox.specs.Ports.{address, posted};
+ghost use Rattle.mailbox.specs.Ports.{address, posted, port_capacity};
 ghost use Rattle.mailbox.specs.Mouths.{places};
-ghost use Rattle.mailbox.specs.Openings.{addresses, NonePosted, NoneTaken};
+ghost use Rattle.mailbox.specs.Openings.{addresses, HaveCapacity, NonePosted, NoneTaken};
 
 use crate::entry::Stamped;
 use crate::mouth::Mouth;
@@ -57,6 +57,7 @@ pub fn open<T: Drop>(alloc: Global, capacity: u16) -> Result<(Ports<T>, Mouth<T>
     ensures places { IfOk result (λ opened. addresses opened.0 ≡ places opened.1) }
     ensures posted { IfOk result (λ opened. NonePosted opened.0) }
     ensures taken { IfOk result (λ opened. NoneTaken opened.1) }
+    ensures capacity { IfOk result (λ opened. HaveCapacity opened.0 opened.1 capacity) }
 {
     if capacity == 0 {
         return Err(OpenFault::NoCapacity);
@@ -91,6 +92,8 @@ fn new_port<T: Drop>(
     ensures address { IfOk result (λ port. address port ≡ (pass.old.table_id, from)) }
     ensures same { pass.new.table_id ≡ pass.old.table_id }
     ensures posted { IfOk result (λ port. posted port ≡ []) }
+    ensures capacity { IfOk result
+        (λ port. port_capacity port ≡ ruled_capacity (arc_value queue.now)) }
 {
     let theirs = Arc::try_clone(queue)?;
     let mine: &Queue<T> = queue;

@@ -47,6 +47,7 @@ pub struct Full<T>(pub T);
 impl<T: Drop> Port<T> {
     ghost use Rattle.std.specs.Prelude.{◌≡◌, [], ◌∷◌, ◌++◌, OnOk, OnErr, IfOk, IfErr};
     ghost use Rattle.mailbox.specs.Ports.{address, posted, closed_address, closed_posted};
+    ghost use Rattle.mailbox.specs.Ports.{port_capacity, closed_capacity};
 
     /// Posts an item. [`Full`] gives it back where the mailbox held as many entries as it has room
     /// for; nothing is posted then.
@@ -56,6 +57,7 @@ impl<T: Drop> Port<T> {
         ensures posted { OnOk result (posted self.new ≡ posted self.old ++ item ∷ []) }
         ensures item_back { IfErr result (λ full. full.0 ≡ item) }
         ensures full { OnErr result (posted self.new ≡ posted self.old) }
+        ensures capacity { port_capacity self.new ≡ port_capacity self.old }
     {
         let from = self.from;
         let stamped = Stamped {
@@ -81,6 +83,8 @@ impl<T: Drop> Port<T> {
             (closed_address closed ≡ address self) × (closed_posted closed ≡ posted self)) }
         ensures full { IfErr result (λ port.
             (address port ≡ address self) × (posted port ≡ posted self)) }
+        ensures capacity { IfOk result (λ closed. closed_capacity closed ≡ port_capacity self) }
+        ensures full_capacity { IfErr result (λ port. port_capacity port ≡ port_capacity self) }
     {
         let Port {
             queue,

@@ -1,4 +1,6 @@
-//! Tests to be run with the Nth request for memory refused. Each says `refused` when one was.
+//! Tests to be run with the Nth request for memory refused, and the one whose name ends in
+//! `without_memory` with all later ones refused too. Each says `refused` when one was.
+use crate::tests::rows::{leave_an_item, take_each_before_the_next};
 use crate::{Full, OpenFault, Taken, open};
 use std::test::Fail;
 
@@ -26,5 +28,23 @@ fn no_room_refused(rt: HostRuntime) -> Result<(), Fail> {
         open::<u32>(rt.alloc(), 0).err(),
         Some(OpenFault::NoCapacity)
     );
+    Ok(())
+}
+
+/// In the end it asks for memory itself, so that a run is known in which nothing else did.
+#[test]
+fn calls_after_open_without_memory(rt: HostRuntime) -> Result<(), Fail> {
+    let narrow = open::<u32>(rt.alloc(), 1);
+    let wide = open::<u32>(rt.alloc(), 7);
+    let (Ok(narrow), Ok(wide)) = (narrow, wide) else {
+        println!(rt; "refused")?;
+        return Ok(());
+    };
+    take_each_before_the_next(&rt, narrow.0, narrow.1);
+    leave_an_item(&rt, wide.0, wide.1);
+    match Vec::<u8>::with_capacity(rt.alloc(), 1) {
+        Ok(_) => println!(rt; "memory after all calls")?,
+        Err(_) => println!(rt; "all calls after `open` were made without memory")?,
+    }
     Ok(())
 }

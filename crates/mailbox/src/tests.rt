@@ -9,7 +9,7 @@ use std::process::Abort;
 use std::sync::Wait;
 
 mod drops;
-mod rows;
+pub(crate) mod rows;
 mod threads;
 
 // Closes a port that has room for its end mark.

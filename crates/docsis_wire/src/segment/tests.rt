@@ -1,6 +1,9 @@
 //! Headers and whole segments, read and written.
 use super::*;
+use std::process::Abort;
 use std::test::Fail;
+
+mod refusals;
 
 struct Reading {
     name: &'static str,
@@ -50,47 +53,70 @@ const READINGS: [Reading; 3] = [
     },
 ];
 
-#[test]
-fn reads_headers(rt: HostRuntime) -> Result<(), Fail> {
+fn expect_readings(rt: &impl Abort) {
     for reading in &READINGS {
         let name = reading.name;
         assert_eq!(rt; read_segment(&reading.bytes), Some(reading.head), "{name}");
     }
-    Ok(())
+    assert_eq!(rt;
+        read_segment(&[0x40, 0x05, 0, 0x0a, 0, 0x10, 0]),
+        None,
+        "seven bytes"
+    );
 }
 
 #[test]
-fn writes_headers(rt: HostRuntime) -> Result<(), Fail> {
+fn reads_headers(rt: HostRuntime) {
+    expect_readings(&rt);
+}
+
+fn expect_writings(rt: &impl Abort) {
     for reading in &READINGS {
         let name = reading.name;
         assert_eq!(rt; write_segment(&reading.head), reading.bytes, "{name}");
     }
-    Ok(())
 }
 
 #[test]
-fn reads_no_header_of_seven_bytes(rt: HostRuntime) {
-    assert_eq!(rt; read_segment(&[0x40, 0x05, 0, 0x0a, 0, 0x10, 0]), None);
+fn writes_headers(rt: HostRuntime) {
+    expect_writings(&rt);
+}
+
+/// A header, the length of a payload, and whether the header's pointer stays within it.
+const POINTINGS: [(&str, [u8; 8], usize, bool); 4] = [
+    ("at the first byte", [0x80, 0, 0, 0, 0, 0, 0, 0], 1, true),
+    ("at the last byte", [0x80, 4, 0, 0, 0, 0, 0, 0], 5, true),
+    ("after the last byte", [0x80, 5, 0, 0, 0, 0, 0, 0], 5, false),
+    (
+        "where it means nothing",
+        [0x3f, 0xff, 0, 0, 0, 0, 0, 0],
+        0,
+        true,
+    ),
+];
+
+fn pointing_segments(alloc: Global) -> Result<Vec<Segment>, AllocError> {
+    let mut segments = Vec::new(alloc);
+    for (_, bytes, len, _) in POINTINGS {
+        let Some(head) = read_segment(&bytes) else {
+            unreachable!()
+        };
+        let payload = Bytes::from(vec![in alloc; 0; len]?);
+        segments.push(Segment { head, payload })?;
+    }
+    Ok(segments)
+}
+
+fn expect_pointings(rt: &impl Abort, segments: &[Segment]) {
+    assert_eq!(rt; segments.len(), POINTINGS.len());
+    for (segment, (name, _, _, within)) in segments.iter().zip(POINTINGS) {
+        assert_eq!(rt; ready(segment), within, "{name}");
+    }
 }
 
 #[test]
 fn knows_whether_a_pointer_stays_within(rt: HostRuntime) -> Result<(), Fail> {
-    let cases: [(&str, [u8; 8], usize, bool); 4] = [
-        ("at the first byte", [0x80, 0, 0, 0, 0, 0, 0, 0], 1, true),
-        ("at the last byte", [0x80, 4, 0, 0, 0, 0, 0, 0], 5, true),
-        ("after the last byte", [0x80, 5, 0, 0, 0, 0, 0, 0], 5, false),
-        (
-            "where it means nothing",
-            [0x3f, 0xff, 0, 0, 0, 0, 0, 0],
-            0,
-            true,
-        ),
-    ];
-    for (name, bytes, len, within) in &cases {
-        let head = read_segment(bytes).ok_or("too short")?;
-        let payload = Bytes::from(vec![in rt.alloc(); 0; *len]?);
-        assert_eq!(rt; ready(&Segment { head, payload }), *within, "{name}");
-    }
+    expect_pointings(&rt, &pointing_segments(rt.alloc())?);
     Ok(())
 }
 
@@ -139,18 +165,5 @@ fn says_why_bytes_are_no_segment(rt: HostRuntime) -> Result<(), Fail> {
     for (fault, text) in texts {
         assert_eq!(rt; fault.to_string(rt.alloc())?.as_str(), text);
     }
-    Ok(())
-}
-
-/// Reads a segment, and once more where the first call was refused memory.
-#[test]
-fn reads_again(rt: HostRuntime) -> Result<(), Fail> {
-    let mut answer = Segment::read(rt.alloc(), POINTED);
-    if let Err(fault) = answer {
-        assert_eq!(rt; fault, SegmentFault::OutOfMemory);
-        println!(rt; "refused")?;
-        answer = Segment::read(rt.alloc(), POINTED);
-    }
-    assert_eq!(rt; answer?.payload.len(), 3);
     Ok(())
 }
