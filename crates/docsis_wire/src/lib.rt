@@ -1,14 +1,29 @@
 //! The wire formats of a bonded upstream: the header of a segment and the generic MAC header of a
-//! frame.
+//! frame, and how a modem cuts frames into segments.
 //!
-//! What matters most: `read_segment` reads exactly the header that eight bytes spell,
-//! `write_segment` writes them, and `Segment::read` reads a whole segment. `well_formed` says yes
-//! to exactly the frames of the grammar `IsFrame`, and `read_head` reads a frame's length from its
-//! first four bytes, whatever follows the frame. `cut` makes of frames one lawful cut, by the
-//! pieces that it is given, or reports the first fault; `Cutter` makes the same cut a segment at a
-//! time.
+//! A segment is eight bytes of header and a payload. A frame is a generic MAC frame of 6 to 65,541
+//! bytes. Continuous concatenation and fragmentation puts a flow's frames end to end and cuts them
+//! into payloads anywhere (CM-SP-MULPIv3.0).
 //!
-//! [`laws`] says what follows from the definitions alone.
+//! The calls, in the order of use:
+//!
+//! 1. [`Segment::read`] makes a segment of a burst's bytes, or says that they are too few or that
+//!    the pointer leads past the payload. [`ready`] asks the same of a segment that is there.
+//!    [`read_segment`] and [`write_segment`] read and write the header alone.
+//! 2. [`read_head`] tells from the front of some bytes how long a frame is, whatever follows it,
+//!    and [`well_formed`] whether bytes are one whole frame. A [`HeaderCheck`] may be handed in
+//!    that looks at a frame's header; [`NoCheck`] lets each pass.
+//! 3. [`cut`] is the sending side: of frames and [`Piece`]s it makes the segments, or reports the
+//!    first fault. [`Cutter`] makes the same segments one at a time, so that they need not all be
+//!    held.
+//!
+//! What matters most: `read_segment` reads exactly the header that eight bytes spell; `well_formed`
+//! says yes to exactly the frames of the grammar `IsFrame`; and what `cut` makes is one lawful cut
+//! by the definition `IsLawfulCut`, on which everything above rests. [`laws`] says what follows
+//! from the definitions alone, as that what is written is read back.
+//!
+//! Callers that are proved: `crates/uses/src/burst.rt` feeds a burst's segment to a joiner, and
+//! `crates/uses/src/cut_joined_again.rt` cuts frames and joins them again.
 #![tactic(auto)]
 
 mod buffer;

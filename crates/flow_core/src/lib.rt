@@ -1,16 +1,31 @@
 //! The core of many bonded service flows: events in, frames out.
 //!
 //! [`Core`] holds for each flow a resequencing window, a joiner and counts. An event is a segment
-//! that arrives, or the decision that segments are lost. [`Core::apply`] takes it,
-//! [`Core::advance`] joins the next segment, and [`Core::close_gap`] is the decision at a flow's
-//! close. Contracts say which list of events a flow stands for, and [`laws`] says what follows:
-//! over a modem's lawful cut, what a drained flow gave is exactly the modem's frames whose segments
-//! were all kept and lie before the expected one, in the modem's order
-//! ([`laws::flow_gives_the_delivery_sequence`]).
+//! that arrives, or the decision that segments are lost. It has no threads, no clock and no input
+//! of its own: whoever drives it decides what comes when.
 //!
-//! [`Core::drain`] advances a flow until `Nothing`. [`Core::close`] calls [`Core::close_gap`] and
-//! drains, until that answers false. Then a flow's frames are all those whose segments were kept
-//! ([`laws::closed_flow_gives_the_frames_that_were_all_kept`]).
+//! The calls, in the order of use:
+//!
+//! 1. [`check_records`] looks for the first fault of the flows' records, and [`Core::new`] makes a
+//!    core of them, with a check of frames' headers.
+//! 2. [`Core::apply`] takes an event of a drained flow, and answers its verdict or what was
+//!    declared lost.
+//! 3. [`Core::drain`] joins all segments that are next and appends the frames that they complete.
+//!    [`Core::advance`] joins one of them, for a caller that wants a step at a time, and
+//!    [`Core::is_drained`] asks whether one is left.
+//! 4. [`Core::close`] declares lost what is missing before a held segment, until nothing is held,
+//!    and appends the frames that come then; [`Core::close_gap`] is one such loss.
+//! 5. [`Core::counts`] says how many segments were kept, late, repeated, beyond the window and
+//!    lost, how many frames were given and how many bytes skipped; [`Core::flow_count`] how many
+//!    flows there are.
+//!
+//! Contracts say which list of events a flow stands for, whatever it stood for before, and [`laws`]
+//! says what follows: over a modem's lawful cut and near events, what a drained flow gave is
+//! exactly the modem's frames whose segments were all kept and lie before the expected one, in the
+//! modem's order ([`laws::flow_gives_the_delivery_sequence`]). After the close it is all whose
+//! segments were kept ([`laws::closed_flow_gives_the_frames_that_were_all_kept`]).
+//!
+//! A caller that is proved: `crates/uses/src/one_flow.rt` plays one flow to its close.
 #![tactic(auto)]
 
 mod counts;

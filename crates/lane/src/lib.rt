@@ -31,4 +31,4 @@ pub use input::Input;
 pub use lane::Lane;
 pub use refusal::Refusal;
 pub use report::{Answer, LaneReport, admitted_segment};
-pub use sids::{LaneFault, SeenSids, SidRow, check_rows};
+pub use sids::{CHANNELS, LaneFault, SIDS, SeenSids, SidRow, check_rows};

@@ -7,8 +7,7 @@ ghost use Rattle.lane.specs.declared.sids.LaneFault.{LaneFault};
 
 mod seen;
 
-pub use seen::SeenSids;
-use seen::{CHANNELS, SIDS};
+pub use seen::{CHANNELS, SIDS, SeenSids};
 use std::alloc::AllocError;
 use thiserror::Error;
 

@@ -1,6 +1,7 @@
 //! What a receiver is set up with, and what comes in on its channels.
+use docsis_wire::SEQUENCE_MODULUS;
 use flow_core::{Event, FlowRecord, SetupFault, check_records};
-use lane::{Input, LaneFault, SidRow, check_rows};
+use lane::{CHANNELS, Input, LaneFault, SidRow, check_rows};
 use thiserror::Error;
 
 /// What a receiver is set up with.
@@ -59,7 +60,7 @@ impl Decision {
     pub fn names_a_flow(&self, flow_count: usize) -> bool
         ensures { result ≡ names_a_flow flow_count self.now }
     {
-        self.flow < flow_count && self.upto.is_none_or(|number| number < 8192)
+        self.flow < flow_count && self.upto.is_none_or(|number| number < SEQUENCE_MODULUS)
     }
 
     /// What it is to the flows.
@@ -78,7 +79,7 @@ impl Decision {
 #[derive(Debug, Drop)]
 pub struct Lists {
     /// The inputs of the channels 0 to 3.
-    pub inputs: [Vec<Input>; 4],
+    pub inputs: [Vec<Input>; CHANNELS],
     /// The decisions.
     pub decisions: Vec<Decision>,
 }

@@ -1,11 +1,28 @@
 //! Puts the segments of a service flow, which come over several channels, back into the order of
 //! their sequence numbers.
 //!
-//! [`Window`] holds the items that came ahead of their turn and gives out the one whose number is
-//! expected. Contracts see a window as its expected number, its width and a finite map from the
-//! held numbers to the items, and each call is an equation on these three. The contract that
-//! matters most is that of [`Window::offer`]: which verdict comes when, and that only `Kept`
-//! changes anything. All memory is reserved by [`Window::new`].
+//! Numbers run from 0 to 8191 and then begin again. [`Window`] holds the items that came ahead of
+//! their turn and gives out the one whose number is expected; it is generic in the item.
+//!
+//! The calls, in the order of use:
+//!
+//! 1. [`Window::new`] is told the first number and the width, and reserves all memory.
+//! 2. [`Window::offer`] takes an item under its number, and answers by how far the number lies
+//!    ahead of the expected one: `Late`, `Beyond`, `Repeat`, each with the item back, or `Kept`.
+//! 3. [`Window::take_next`] gives the item whose turn it is and expects the next number;
+//!    [`Window::next`] only looks at it.
+//! 4. [`Window::declare`] gives the expected number up as lost, if a later one is held, and
+//!    [`Window::declare_to`] all before a number. When to do so is for the caller to decide.
+//! 5. [`Window::expected`] and [`Window::held`] tell the state.
+//!
+//! Contracts see a window as its expected number, its width and a finite map from the held numbers
+//! to the items, and each call is an equation on these three. The contract that matters most is
+//! that of [`Window::offer`]: which verdict comes when, and that only `Kept` changes anything.
+//! [`laws`] says what follows for calls one after another, as that what is kept under the expected
+//! number is taken next.
+//!
+//! A caller that is proved: `crates/uses/src/window.rt` puts items that came in any order into the
+//! order of their numbers.
 #![tactic(auto)]
 
 pub mod laws;

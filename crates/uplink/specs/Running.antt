@@ -3,7 +3,7 @@ use Rattle.std.specs.Prelude.{◌≡◌, ℕ, ◌<◌, ◌≤◌, Bool, true, So
 use Rattle.std.specs.declared.alloc.Global.{Global}
 use Rattle.docsis_wire.specs.declared.buffer.Bytes.{Bytes}
 use Rattle.mailbox.specs.Ports.{closed_posted}
-use Rattle.mailbox.specs.Openings.{addresses, NonePosted, NoneTaken}
+use Rattle.mailbox.specs.Openings.{addresses, HaveCapacity, NonePosted, NoneTaken}
 use Rattle.mailbox.specs.Mouths.{places, taken, ended}
 use Rattle.mailbox.specs.Settling.{closed_addresses}
 use Rattle.mailbox.specs.declared.settling.ClosedPorts.{ClosedPorts}
@@ -46,8 +46,9 @@ pub record AreOpenRings (count : ℕ) (rings : Rings) : Type 0 where
   pub none_offered : All (λ feeder. offered feeder ≡ []) rings.feeders.items
   pub none_taken : All (λ taker. takers.taken taker ≡ []) rings.takers.items
 
--- a mailbox with nothing posted and nothing taken
-pub record IsOpenMailbox {T : Type 0} (mailbox : OpenMailbox T) : Type 0 where
+-- a mailbox with room for so many entries, with nothing posted and nothing taken
+pub record IsOpenMailbox {T : Type 0} (entries : ℕ) (mailbox : OpenMailbox T) : Type 0 where
+  pub room : HaveCapacity mailbox.ports mailbox.mouth entries
   pub same : addresses mailbox.ports ≡ places mailbox.mouth
   pub none_posted : NonePosted mailbox.ports
   pub none_taken : NoneTaken mailbox.mouth
@@ -59,8 +60,8 @@ pub record IsOpened {C : Type 0} (accepts : C → List ℕ → Bool) (accepted :
   pub rings : AreOpenRings (length setup.flows.items) opened.rings
   pub none_closed : opened.closed.items ≡ []
   pub room : length setup.flows.items ≤ opened.closed.cap
-  pub arrivals : IsOpenMailbox opened.arrivals
-  pub requests : IsOpenMailbox opened.requests
+  pub arrivals : IsOpenMailbox setup.mailbox opened.arrivals
+  pub requests : IsOpenMailbox setup.mailbox opened.requests
 
 -- what can be started: the core has taken some items, there is a feeder for each flow, and room for it once it is closed
 pub record CanStart {C : Type 0} (accepts : C → List ℕ → Bool) (opened : Opened C) : Type 0 where

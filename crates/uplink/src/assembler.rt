@@ -11,7 +11,7 @@ ghost use Rattle.receiver.specs.Assembly.{IsTaking, GivesTheRest};
 ghost use Rattle.uplink.specs.Offering.{HasCollected, HasAssembledSoFar, OffersItem, OffersTheRest, HasAssembledAll};
 
 use delivery::{ClosedFeeder, Feeder};
-use docsis_wire::{Bytes, HeaderCheck, ready};
+use docsis_wire::{Bytes, HeaderCheck, SEQUENCE_MODULUS, ready};
 use flow_core::{Core, Event, FlowCounts};
 use mailbox::{Mouth, Taken};
 use receiver::{close_flow, take_item};
@@ -172,7 +172,7 @@ fn is_item(item: &Event, flow_count: usize) -> bool
         && match item {
             Event::Arrive { segment, .. } => ready(segment),
             Event::Gap { .. } => true,
-            Event::GapTo { number, .. } => *number < 8192,
+            Event::GapTo { number, .. } => *number < SEQUENCE_MODULUS,
         }
 }
 

@@ -97,9 +97,9 @@ fn open_rings(alloc: Global, flows: &[FlowRecord]) -> Result<Rings, AllocError>
     Ok(Rings { feeders, takers })
 }
 
-/// A mailbox into which nothing was posted.
+/// A mailbox with room for so many entries, into which nothing was posted.
 fn open_mailbox<T: Drop>(alloc: Global, capacity: u16) -> Result<OpenMailbox<T>, AllocError>
-    ensures { IfOk result IsOpenMailbox }
+    ensures { IfOk result (IsOpenMailbox capacity) }
 {
     let Ok((ports, mouth)) = open(alloc, capacity) else {
         return Err(AllocError);

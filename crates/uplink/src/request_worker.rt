@@ -4,7 +4,7 @@ ghost use Rattle.uplink.specs.Working.{DidSchedule, KeepsOneMore};
 
 use crate::start_word::StartWord;
 use crate::tap::Tap;
-use lane::Request;
+use lane::{CHANNELS, Request};
 use mailbox::{Mouth, Taken};
 use std::alloc::{AllocError, Global};
 use std::snapshot::Snapshot;
@@ -17,7 +17,7 @@ use std::thread::{Promise, PromisedHandle, Threads};
 #[derive(Drop)]
 pub struct Scheduled {
     pub mouth: Mouth<Request>,
-    pub requests: [Vec<Request>; 4],
+    pub requests: [Vec<Request>; CHANNELS],
 }
 
 /// The mouth that the scheduler's worker was started with.
@@ -94,10 +94,10 @@ fn serve_requests<Q: Tap<Request> + Drop, R: Wait>(
 /// With one request more of this channel. Nothing where there was nothing, or where an allocation
 /// failed.
 fn with_request(
-    requests: Option<[Vec<Request>; 4]>,
+    requests: Option<[Vec<Request>; CHANNELS]>,
     from: u8,
     request: Request,
-) -> Option<[Vec<Request>; 4]>
+) -> Option<[Vec<Request>; CHANNELS]>
     ensures { IfSome result (λ after. (before : _) × (requests ≡ Some before)
         × KeepsOneMore before from request after) }
 {
