@@ -6,4 +6,4 @@ pub mod Flow
 pub mod HeaderSequence
 pub mod Window
 pub mod OneFlow
-pub mod Receiver
+pub mod RunCaller

@@ -10,5 +10,5 @@ pub mod five_senders;
 pub mod flow;
 pub mod header_check;
 pub mod one_flow;
-pub mod receiver;
+pub mod run_caller;
 pub mod window;

@@ -2,7 +2,7 @@
 ghost use Rattle.std.specs.Prelude.{◌∷◌, [], IfOk, IfErr};
 ghost use Rattle.uplink.specs.Faults.{IsRunFault};
 ghost use Rattle.receiver.specs.Items.{incoming_from};
-ghost use Rattle.uses.specs.Receiver.{TookOfEachFlow};
+ghost use Rattle.uses.specs.RunCaller.{TookOfEachFlow};
 
 use docsis_wire::HeaderCheck;
 use std::alloc::Global;

@@ -1,5 +1,5 @@
 -- What was taken is the delivery sequence of each flow, by the headline.
-use Rattle.uses.proofs.receiver.receive.Goals as goal
+use Rattle.uses.proofs.run_caller.receive.Goals as goal
 
 pub returns-clause-taken : goal.returns-clause-taken
 returns-clause-taken g c =
