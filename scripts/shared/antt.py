@@ -77,7 +77,8 @@ def definitions(file):
         elif deep <= indent and not is_remark:
             words = line.split()
             name = None if words[0] in ("use", "module", "mod") else name_begun(words, now)
-            ends = name is not None or words[0] in ("use", "module", "mod", "end") or words[:2] in (["pub", "use"], ["pub", "mod"])
+            is_list = words[0] in ("use", "module", "mod", "end") or words[:2] in (["pub", "use"], ["pub", "mod"])
+            ends = name is not None or is_list
             if ends and now is not None:
                 end = (begun if begun is not None else at) - 1
                 while not lines[end].strip():

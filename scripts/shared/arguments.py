@@ -16,7 +16,8 @@ def add_count(to, default, what):
 
 
 def add_seed(to, default):
-    to.add_argument("--seed", type=int, default=default, metavar="N", help=f"the seed of what is chosen by chance; {default} if left out")
+    what = f"the seed of what is chosen by chance; {default} if left out"
+    to.add_argument("--seed", type=int, default=default, metavar="N", help=what)
 
 
 def add_size(to, default, what):
@@ -29,6 +30,15 @@ def add_jobs(to, default, what):
 
 def add_crates(to):
     to.add_argument("crates", nargs="*", metavar="CRATE", help="all crates where none is named")
+
+
+def of_bench(head, count, size=None):
+    """The arguments of a bench: how often everything is measured and, of one that reads a text, its size."""
+    to = parser(head)
+    add_count(to, count, "how often everything is measured")
+    if size is not None:
+        add_size(to, size, "the size of the text")
+    return to.parse_args()
 
 
 def processors():

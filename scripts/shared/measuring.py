@@ -58,6 +58,13 @@ def prove_and_build(room, runner, uses, layers):
     return os.path.join(crate, "out", name), built.stdout
 
 
+def built_rates(runner, uses, layer, forms, cases, runs):
+    """The median rates of the program of a bench, which is proved and built first."""
+    with scratch.folder() as room:
+        program, _ = prove_and_build(room, runner, uses, [layer])
+        return median_rates(program, forms, cases, runs)
+
+
 def median_rates(program, forms, cases, runs):
     """The median of how many a second went through, for each form and case. Each run is a process of its own, so that
     all begin with the same memory; the forms of a case run one after another, in one order and then in the other."""

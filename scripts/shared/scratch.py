@@ -69,8 +69,9 @@ def add_program(room, name, uses, sources):
     return crate
 
 
-def copy_tree(room):
-    """Makes a copy of the work tree, without its planted mistakes and with what earlier checks kept."""
+def copy_tree(room, crates):
+    """Makes a copy of the work tree, without its planted mistakes, and with what earlier checks of these crates, and of those
+    that they stand on, kept."""
     words = ["git", "ls-files", "-co", "--exclude-standard"]
     listed = subprocess.run(words, cwd=path(), capture_output=True, text=True, check=True)
     for name in listed.stdout.splitlines():
@@ -78,7 +79,7 @@ def copy_tree(room):
             to = os.path.join(room, name)
             os.makedirs(os.path.dirname(to), exist_ok=True)
             shutil.copy2(path(name), to)
-    for crate in crate_lines():
+    for crate in with_those_below(crates):
         kept = path("crates", crate, "out")
         if os.path.isdir(kept):
             shutil.copytree(kept, os.path.join(room, shown(kept)), symlinks=True)

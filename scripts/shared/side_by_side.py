@@ -9,6 +9,13 @@ from shared.tree import path
 
 Part = namedtuple("Part", "name words")
 Done = namedtuple("Done", "name seconds passed")
+# What needs no proof and takes seconds.
+WITHOUT_PROOF = [
+    Part("the sources' format", ["scripts/format"]),
+    Part("links, names and proofs in the documents", ["scripts/documents"]),
+    Part("the reading order of the definitions", ["scripts/reading", "--check"]),
+    Part("planted mistakes that can be applied", ["scripts/mutants", "--check"]),
+]
 
 
 def run_part(part, environment):
