@@ -6,8 +6,10 @@ import signal
 import subprocess
 import sys
 import threading
+import time
 
 ENDING = (signal.SIGTERM, signal.SIGHUP, signal.SIGINT)
+SECONDS_TO_END = 5
 running, lock = set(), threading.Lock()
 state = {"ends": False}
 
@@ -22,17 +24,24 @@ def end_with(number, _frame):
     sys.exit(128 + number)
 
 
-def kill(child):
+def send(child, number):
+    """Sends a signal to a program and all that it started in its own group."""
     with contextlib.suppress(ProcessLookupError):
-        os.killpg(child.pid, signal.SIGKILL)
+        os.killpg(child.pid, number)
 
 
 def end_all():
-    """Kills all that runs, and has nothing more run."""
+    """Ends all that runs, and has nothing more run. A script among it has some seconds to end what it runs itself."""
     with lock:
         state["ends"] = True
-        for child in running:
-            kill(child)
+        left = list(running)
+    for child in left:
+        send(child, signal.SIGTERM)
+    until = time.monotonic() + SECONDS_TO_END
+    while time.monotonic() < until and any(child.poll() is None for child in left):
+        time.sleep(0.05)
+    for child in left:
+        send(child, signal.SIGKILL)
 
 
 @contextlib.contextmanager
@@ -62,7 +71,7 @@ def started(words, **how):
         yield child
     finally:
         if child.poll() is None:
-            kill(child)
+            send(child, signal.SIGKILL)
             child.wait()
         with lock:
             running.discard(child)
