@@ -10,7 +10,7 @@ from shared.tree import below, crate_lines, path, read, sources
 
 Clause = namedtuple("Clause", "kind name text first last")
 Contract = namedtuple("Contract", "name place head clauses is_public")
-HEAD_OF_CLAUSE = re.compile(r"\s*(requires|ensures)(?: \*)?(?: (\w+))? \{")
+HEAD_OF_CLAUSE = re.compile(r"(?:\s*//[^\n]*)*\s*(requires|ensures)(?: \*)?(?: (\w+))? \{")
 
 
 def line_at(text, at):
