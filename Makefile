@@ -1,16 +1,29 @@
-# make        proves and builds the program, runs it on the sample and leaves it at crates/segrx/out/segrx
-# make try    runs it on the sample without a proof
-# make quick  looks at the program that was built last: the table of runs and generated inputs
-# make test   the whole gate
-.PHONY: run try quick test
-run:
-	cd crates/segrx && rt run < stdin
+# `make help` lists the targets with what they do.
+.PHONY: run try quick check test bench mutants soak help
 
-try:
-	bash scripts/try
+run: # proves and builds the program, crates side by side, runs it on the sample and leaves it at crates/segrx/out/segrx
+	@scripts/build
 
-quick:
-	bash scripts/quick
+try: # runs the program on the sample without a proof
+	@scripts/try
 
-test:
-	bash scripts/test
+quick: # looks at the program that was built last: the table of runs and generated inputs
+	@scripts/quick
+
+check: # what one runs before a change is handed in: format, documents, and the crates that changed, proved with their tests
+	@scripts/check
+
+test: # the whole gate: every proof from nothing, planted mistakes, tests, runs
+	@scripts/test
+
+bench: # all benches, one after the other, for times that mean something on a machine that does nothing else
+	@for bench in core engines mailbox replay ring run window; do echo "== $$bench"; bench/$$bench/run || exit 1; done
+
+mutants: # tries all planted mistakes of mutants/ on copies of the work tree
+	@scripts/mutants
+
+soak: # runs of the program and of a mailbox again and again, while other work keeps all cores busy
+	@scripts/soak && bench/mailbox_soak/run
+
+help: # lists these targets
+	@sed -n 's/^\([a-z]*\): # \(.*\)/make \1	\2/p' Makefile | sed 's/^make run/make/' | expand -t 16

@@ -1,17 +1,8 @@
-"""Frames and segments for the texts that the benches give to the program, and the program's speed and memory on them."""
+"""Frames and segments, and the long texts of them that the benches give to the program."""
 
 import itertools
-import os
 import random
-import statistics
-import subprocess
-import sys
-import tempfile
-import time
 
-# The program that SEGRX names, or the one that was built last.
-BUILT = os.path.join(os.path.dirname(os.path.abspath(__file__)), "..", "crates", "segrx", "out", "segrx")
-PROGRAM = os.environ.get("SEGRX", BUILT)
 MIB = 1 << 20
 CHANNELS, FLOWS = 4, 64
 
@@ -95,36 +86,3 @@ def write_up_to(size, path, lines):
         written = out.tell()
         while written < size:
             written += out.write(next(lines))
-
-
-def once(words, path, cores=None):
-    """The seconds that the program takes with these words, on these cores or all, and what the system says of it."""
-    with open(path, "rb") as given, open(os.devnull, "wb") as taken:
-        began = time.monotonic()
-        bound = [] if cores is None else ["taskset", "-c", cores]
-        child = subprocess.Popen([*bound, PROGRAM, *words], stdin=given, stdout=taken)
-        _, status, usage = os.wait4(child.pid, 0)
-        seconds = time.monotonic() - began
-    if status != 0:
-        sys.exit(f"segrx ended with {status}")
-    return seconds, usage
-
-
-def measure(command, path, runs):
-    """The median of the seconds, and the greatest memory."""
-    made = [once([command], path) for _ in range(runs)]
-    return statistics.median(seconds for seconds, _ in made), max(usage.ru_maxrss * 1024 for _, usage in made)
-
-
-def show(name, command, lines, size, runs):
-    """Prints the speed and memory of a command on a text of that size, and how the time grows with twice as much."""
-    with tempfile.TemporaryDirectory() as folder:
-        path = os.path.join(folder, "input")
-        write_up_to(size, path, lines)
-        seconds, memory = measure(command, path, runs)
-        write_up_to(2 * size, path, lines)
-        twice, _ = measure(command, path, runs)
-    print(name)
-    print(f"  {size / MIB:.0f} MiB in {seconds:.3f} s: {size / MIB / seconds:.0f} MiB of text a second")
-    print(f"  greatest resident memory {memory / MIB:.0f} MiB, {memory / size:.2f} times the input")
-    print(f"  time at {2 * size / MIB:.0f} MiB is {twice / seconds:.2f} times that", flush=True)

@@ -1,6 +1,7 @@
 /* Loaded before the C library, refuses one request for memory or for the start of a thread: the one whose number
  * REFUSE_ALLOCATION gives, counted from 1. Where REFUSE_LATER is set, to anything but nothing, it refuses all later ones
- * too. When it refuses one it makes the file that REFUSE_MET names. */
+ * too. When it refuses one it writes into the file that REFUSE_MET names whether it was in the first thread or in
+ * another. */
 #define _GNU_SOURCE
 #include <dlfcn.h>
 #include <errno.h>
@@ -8,6 +9,7 @@
 #include <pthread.h>
 #include <stddef.h>
 #include <stdlib.h>
+#include <string.h>
 #include <unistd.h>
 
 extern void *__libc_malloc(size_t);
@@ -22,6 +24,14 @@ static start_thread *start;
 
 __attribute__((constructor)) static void find_start(void) { start = (start_thread *)dlsym(RTLD_NEXT, "pthread_create"); }
 
+static void note(const char *file, const char *where)
+{
+    int to = open(file, O_WRONLY | O_CREAT | O_TRUNC, 0600);
+    if (to < 0 || write(to, where, strlen(where)) < 0)
+        abort();
+    close(to);
+}
+
 static int refused(void)
 {
     const char *number = getenv("REFUSE_ALLOCATION");
@@ -35,7 +45,7 @@ static int refused(void)
     if (first == 0 || now < first || (now > first && !all))
         return 0;
     if (met != NULL)
-        close(open(met, O_WRONLY | O_CREAT, 0600));
+        note(met, gettid() == getpid() ? "the first thread" : "another thread");
     errno = ENOMEM;
     return 1;
 }

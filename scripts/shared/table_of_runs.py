@@ -4,9 +4,10 @@ import copy
 import glob
 import os
 import re
+import subprocess
 import sys
 
-RUNS = os.path.join(os.path.dirname(os.path.abspath(__file__)), "..", "runs")
+from shared.tree import path
 
 
 class Run:
@@ -63,7 +64,12 @@ def of_command(run, command):
     return one
 
 
+def input_of(run, maker):
+    """What a run's program reads: what the commands before it print, where there are any, or the run's own input."""
+    return subprocess.run(["bash", "-c", maker], capture_output=True, check=True).stdout if maker else run.input
+
+
 def read_table():
     """All runs, each of one command."""
-    runs = [run for path in sorted(glob.glob(os.path.join(RUNS, "*.txt"))) for run in read_runs(path)]
+    runs = [run for path in sorted(glob.glob(path("runs", "*.txt"))) for run in read_runs(path)]
     return [of_command(run, command) for run in runs for command in run.commands]

@@ -1,7 +1,7 @@
 """Generated traces for `segrx replay` and `segrx run`: lawful ones, the same in another dress, and faulty ones."""
 
-from plain_reading import AHEAD, MODULUS, Cut, some_frame
-from plain_receiver import CHANNELS, CHECK, FORMS, HEX, MOST_FLOWS, MOST_GRANTS
+from shared.plain_reading import AHEAD, MODULUS, Cut, some_frame
+from shared.plain_receiver import CHANNELS, CHECK, FORMS, HEX, MOST_FLOWS, MOST_GRANTS
 
 # Some that would be the same if they were cut to 16 or 31 bits.
 NUMBERS = [0, 1, 2, 3, 65536, 65537, 1 << 31, (1 << 31) + 1, 4294967295]

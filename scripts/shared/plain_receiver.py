@@ -8,7 +8,7 @@ import collections
 import re
 import sys
 
-from plain_reading import Flow, header
+from shared.plain_reading import Flow, header
 
 CHANNELS, MOST_FLOWS, MOST_GRANTS = 4, 64, 65536
 DECISION = 4

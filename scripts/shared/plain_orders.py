@@ -11,8 +11,8 @@ import copy
 import itertools
 import math
 
-from plain_reading import AHEAD, MODULUS, header
-from plain_receiver import CHANNELS, DECISION, FlowOutcome, report_of_lanes, text_of
+from shared.plain_reading import AHEAD, MODULUS, header
+from shared.plain_receiver import CHANNELS, DECISION, FlowOutcome, report_of_lanes, text_of
 
 SENDERS = range(DECISION + 1)
 # More standings than this aren't followed.

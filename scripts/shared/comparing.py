@@ -1,0 +1,37 @@
+"""Compares the program with a plain reading of what it answers, on many inputs and several at once."""
+
+import collections
+import itertools
+import multiprocessing
+import sys
+
+from shared import arguments
+
+
+def read_arguments(head, count, jobs):
+    parser = arguments.parser(head)
+    arguments.add_count(parser, count, "how many traces are generated")
+    arguments.add_seed(parser, 1)
+    arguments.add_jobs(parser, jobs, "how many traces are compared at once")
+    return parser.parse_args()
+
+
+def compare_all(label, given, compare_fixed, fixed, compare_generated, generated):
+    """Compares fixed and generated inputs, each by such a function, which returns the input's name and either what is wrong
+    or what the input shows. Returns the sum of what they show."""
+    seen = collections.Counter()
+    with multiprocessing.Pool(given.jobs) as pool:
+        of_fixed, of_generated = pool.imap(compare_fixed, fixed), pool.imap(compare_generated, generated, 20)
+        for name, shown in itertools.chain(of_fixed, of_generated):
+            if isinstance(shown, str):
+                sys.exit(f"{label}: trace {name} of seed {given.seed}: {shown}")
+            seen += shown
+    return seen
+
+
+def print_seen(label, seen, names, is_whole):
+    """Prints what was seen, by these names. Where the comparison is a whole one, all of them have to be there."""
+    unseen = [name for name in names if not seen[name]]
+    if unseen and is_whole:
+        sys.exit(f"{label}: the inputs show none of {unseen}")
+    print(f"{label}: " + ", ".join(f"{seen[name]} {name}" for name in names) + ": all agree")
