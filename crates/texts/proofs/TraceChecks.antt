@@ -15,8 +15,8 @@ use Rattle.texts.specs.Trace.Line.{flow_line, fields_after, AreFields, values_of
 use Rattle.texts.specs.Trace.Place.{Said, nothing_said, with_line, HasFaultAmong, trace_format}
 use Rattle.texts.proofs.OneTraceLine.{sid_in_range}
 use Rattle.texts.proofs.TraceLines.{none_among}
-use Rattle.texts.proofs.Pushed.{EachAt, AreApart, EachAt-pushed, AreApart-pushed}
-use Rattle.texts.proofs.ReadKeeps.{Keeps, IsRead-keeps}
+use Rattle.texts.proofs.LastElement.{EachAt, AreApart, EachAt-pushed, AreApart-pushed}
+use Rattle.texts.proofs.KeptByEachLine.{Keeps, IsRead-keeps}
 
 -- ---- the flows
 

@@ -17,7 +17,7 @@ use Rattle.texts.specs.Trace.{tag_of, came_on, decision_in, IsGivenBy}
 use Rattle.texts.specs.Trace.Line.{Carries}
 use Rattle.texts.specs.Trace.Place.{Entry, came, decided, Said, nothing_said, with_line, trace_format}
 use Rattle.texts.proofs.OneTraceLine.{channel_in_range}
-use Rattle.texts.proofs.ReadKeeps.{Keeps, IsRead-keeps}
+use Rattle.texts.proofs.KeptByEachLine.{Keeps, IsRead-keeps}
 
 -- ---- each input came on one of the four channels
 

@@ -1,7 +1,6 @@
 -- A trace: what its lines say, and the receiver's setup, lists and tags that they give.
 pub mod Line
 pub mod Place
-pub mod Reading
 use Rattle.std.specs.Prelude.{◌≡◌, ◌<◌, ◌==◌, ℕ, Option, Some, None, List, length, map, filter_map, if◌then◌else◌}
 use Rattle.uplink.specs.Limits.{channel_limit}
 use Rattle.uplink.specs.declared.input.Input.{Input}

@@ -5,7 +5,6 @@ use Rattle.texts.specs.declared.fault.TraceKind.{TraceKind}
 use Rattle.texts.specs.declared.fault.TraceKind.TheVariants.{UnknownLine, SetupLate, FieldCount, BadNumber, BadWord, NotHex, UnknownFlow, TooManyFlows, SameFlow, SameSid, TooShort, PointerPast}
 use Rattle.texts.specs.declared.trace.line.TraceLine.{TraceLine}
 use Rattle.texts.specs.declared.trace.line.TraceLine.TheVariants.{Flow, Sid, Input, Gap}
-use Rattle.texts.specs.Kinds.{IsLeastFault}
 use Rattle.texts.specs.Field.{SpellsBytes}
 use Rattle.texts.specs.Number.{IsNumberIn}
 
@@ -182,7 +181,3 @@ HasFaultByItself fields SameFlow = ⊥
 HasFaultByItself fields SameSid = ⊥
 HasFaultByItself fields TooShort = ⊥
 HasFaultByItself fields PointerPast = ⊥
-
--- the least of them
-abbrev pub IsLeastFaultByItself : List (List ℕ) → TraceKind → Type 0
-IsLeastFaultByItself fields = IsLeastFault (HasFaultByItself fields)

@@ -5,7 +5,7 @@ use Rattle.texts.specs.AnyHeader.{any_header}
 use Rattle.texts.specs.Replay.{default_capacity}
 use Rattle.texts.specs.Trace.{AreSameTraces}
 use Rattle.texts.proofs.OneReport.{report_text_same}
-use Rattle.texts.proofs.OnePlay.{order_moved, outcome_moved, one_order}
+use Rattle.texts.proofs.OneReplay.{order_moved, outcome_moved, one_order}
 use Rattle.texts.proofs.laws.replay_has_one_text.Goals as goal
 
 pub returns : goal.returns
