@@ -1,5 +1,5 @@
-pub mod KnownBytes
-pub mod Statuses
-pub mod Written
-pub mod Obeying
+pub mod WrittenFront
+pub mod ExitStatuses
+pub mod FailedWriter
+pub mod ObeyedWords
 pub mod AskedWords

@@ -1,13 +1,6 @@
 -- Words that ask for what the program does, the program's name first.
-use Rattle.std.specs.Prelude.{◌≡◌, ◌<◌, ◌≤◌, ◌⊎◌, ℕ, List, [], ◌∷◌, ◌++◌, length, codes, slice_get, Option, Some, None, Result, Ok, Err}
+use Rattle.std.specs.Prelude.{◌≡◌, ◌<◌, ◌≤◌, ◌⊎◌, ℕ, List, [], ◌∷◌, ◌++◌, length, codes, slice_get, Some}
 use Rattle.docsis_wire.specs.Limits.{sequence_modulus}
-use Rattle.docsis_wire.specs.declared.pieces.FillByte.{FillByte}
-use Rattle.docsis_wire.specs.declared.pieces.FillByte.TheVariants.{Zero, Ones}
-use Rattle.segrx.specs.declared.command.UsageFault.{UsageFault}
-use Rattle.segrx.specs.declared.command.UsageFault.TheVariants.{Usage, OutOfMemory}
-use Rattle.texts.specs.Number.{IsNumber}
-use Rattle.segrx.specs.Limits.{sequence_max, capacity_max}
-use Rattle.texts.specs.Replay.{default_capacity}
 use Rattle.segrx.specs.declared.command.Command.{Command}
 use Rattle.segrx.specs.declared.command.Command.TheVariants.{Join, Cut, Replay, Run, Help}
 
@@ -75,52 +68,3 @@ Asks words (Cut first fill) = AsksToCut words × HasNoHelpWord words × (first <
 Asks words Replay = AsksToReplay words
 Asks words (Run mailbox ring) = AsksToRun words × HasNoHelpWord words × (1 ≤ mailbox) × (1 ≤ ring)
 Asks words (Help text) = AsksForHelp words
-
--- the words begin with a command that has options, and this is it
-abbrev pub AsksWithOptions : List (List ℕ) → Command → Type 0
-AsksWithOptions words Join = ⊥
-AsksWithOptions words (Cut first fill) = AsksToCut words × (first < sequence_modulus)
-AsksWithOptions words Replay = ⊥
-AsksWithOptions words (Run mailbox ring) = AsksToRun words × (1 ≤ mailbox) × (1 ≤ ring)
-AsksWithOptions words (Help text) = ⊥
-
--- a cut begins with the number of a segment, and a run has room in its mailboxes and rings
-abbrev pub IsInRange : Command → Type 0
-IsInRange Join = Unit {0}
-IsInRange (Cut first fill) = first < sequence_modulus
-IsInRange Replay = Unit {0}
-IsInRange (Run mailbox ring) = (1 ≤ mailbox) × (1 ≤ ring)
-IsInRange (Help text) = Unit {0}
-
--- the number that the option `first` asks for, 0 where it is left out
-abbrev pub IsFirst : Option (List ℕ) → ℕ → Type 0
-IsFirst None first = first ≡ 0
-IsFirst (Some text) first = IsNumber text sequence_max first
-
--- the fill that the option `fill` asks for, zeros where it is left out
-abbrev pub IsFill : Option (List ℕ) → FillByte → Type 0
-IsFill None fill = fill ≡ Zero
-IsFill (Some text) fill = ((text ≡ codes "zero") × (fill ≡ Zero)) ⊎ ((text ≡ codes "ones") × (fill ≡ Ones))
-
--- the options of `cut` were read: both have a value, or one has none
-abbrev pub ReadsOptions : Option (List ℕ) → Option (List ℕ) → Result (ℕ × FillByte) UsageFault → Type 0
-ReadsOptions first fill (Ok options) = IsFirst first options.0 × IsFill fill options.1
-ReadsOptions first fill (Err Usage) = ((n : ℕ) → ¬ IsFirst first n) ⊎ ((byte : FillByte) → ¬ IsFill fill byte)
-ReadsOptions first fill (Err OutOfMemory) = ⊥
-
--- the capacity that an option asks for, the default one where it is left out
-abbrev pub IsCapacity : Option (List ℕ) → ℕ → Type 0
-IsCapacity None capacity = capacity ≡ default_capacity
-IsCapacity (Some text) capacity = IsNumber text capacity_max capacity × (1 ≤ capacity)
-
--- an option's capacity was read, or it has none
-abbrev pub ReadsCapacity : Option (List ℕ) → Result ℕ UsageFault → Type 0
-ReadsCapacity option (Ok capacity) = IsCapacity option capacity
-ReadsCapacity option (Err Usage) = (n : ℕ) → ¬ IsCapacity option n
-ReadsCapacity option (Err OutOfMemory) = ⊥
-
--- the options of `run` were read: both have a value, or one has none
-abbrev pub ReadsCapacities : Option (List ℕ) → Option (List ℕ) → Result (ℕ × ℕ) UsageFault → Type 0
-ReadsCapacities mailbox ring (Ok capacities) = IsCapacity mailbox capacities.0 × IsCapacity ring capacities.1
-ReadsCapacities mailbox ring (Err Usage) = ((n : ℕ) → ¬ IsCapacity mailbox n) ⊎ ((n : ℕ) → ¬ IsCapacity ring n)
-ReadsCapacities mailbox ring (Err OutOfMemory) = ⊥

@@ -5,3 +5,4 @@ pub mod Transfer
 pub mod Engine
 pub mod Command
 pub mod Program
+pub mod Inside

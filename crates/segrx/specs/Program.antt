@@ -1,5 +1,5 @@
 -- What the program does with its arguments, and what its exit status says of its input.
-use Rattle.std.specs.Prelude.{◌≡◌, ◌≢◌, ◌⊎◌, ◌<◌, ◌≤◌, ℕ, List, [], Option, Result, Ok, Err, true, false, IfErr, OnOk, OnErr, string_bytes}
+use Rattle.std.specs.Prelude.{◌≡◌, ◌≢◌, ◌⊎◌, ◌<◌, ◌≤◌, ℕ, List, [], Option, Result, Ok, Err, true, false, IfErr, OnOk, OnErr}
 use Rattle.std.specs.Io.KnownBytes.{Appends}
 use Rattle.docsis_wire.specs.declared.pieces.FillByte.{FillByte}
 use Rattle.docsis_wire.specs.Limits.{sequence_modulus}
@@ -8,8 +8,6 @@ use Rattle.segrx.specs.declared.fault.WriteFault.{WriteFault}
 use Rattle.segrx.specs.declared.fault.EngineFault.{EngineFault}
 use Rattle.segrx.specs.declared.fault.EngineFault.TheVariants.{OutOfMemory, Read, Write, Usage}
 use Rattle.texts.specs.declared.fault.TextFault.{TextFault}
-use Rattle.segrx.specs.declared.command.Command.{Command}
-use Rattle.segrx.specs.declared.command.Command.TheVariants.{Join, Cut, Replay, Run, Help}
 use Rattle.segrx.specs.Device.{inner_of, has_failed, is_flushed, IsFresh}
 use Rattle.segrx.specs.Transfer.{AppendsFront, IsLeftFlushed, IsReadFault, IsRead}
 use Rattle.segrx.specs.Fault.{status_of, exit_status_of, fault_line}
@@ -52,15 +50,6 @@ pub record WritesHelp {R W : Type 0} (contents : W → Option (List ℕ)) (text 
   pub writes : Writes contents text writer writer' result
   pub left_flushed : OnOk result (IsLeftFlushed writer writer')
   pub only : IfErr result (λ fault. fault ≡ Write)
-
--- what a command does: its engine runs, or the text of help is written
-abbrev pub Performs : {R W : Type 0} → (R → Option (List ℕ)) → (W → Option (List ℕ)) → Command → Device R → Device R → Device W → Device W → Result (Unit {0}) EngineFault → Type 0
-Performs remaining contents Join reader reader' writer writer' result = RunsEngine remaining contents IsJoined IsJoinFault reader reader' writer writer' result
-Performs remaining contents (Cut first fill) reader reader' writer writer' result = RunsEngine remaining contents (IsCutText first fill) IsCutFault reader reader' writer writer' result
-Performs remaining contents Replay reader reader' writer writer' result = RunsEngine remaining contents IsReplayed IsReplayFault reader reader' writer writer' result
-Performs remaining contents (Run mailbox ring) reader reader' writer writer' result =
-    RunsEngine remaining contents (IsRunText ring mailbox) (IsReportFault ring) reader reader' writer writer' result
-Performs remaining contents (Help text) reader reader' writer writer' result = WritesHelp contents (string_bytes text) reader reader' writer writer' result
 
 -- some text of help was written
 abbrev pub Helps : {R W : Type 0} → (W → Option (List ℕ)) → Device R → Device R → Device W → Device W → Result (Unit {0}) EngineFault → Type 0

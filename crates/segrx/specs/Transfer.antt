@@ -1,6 +1,6 @@
 -- What is read from a device as a whole, and written to one.
-use Rattle.std.specs.Prelude.{◌≡◌, ◌<◌, ◌≤◌, ◌⊎◌, ℕ, true, false, List, [], ◌++◌, length, Option}
-use Rattle.std.specs.Io.KnownBytes.{Appends, Consumes, IsAtEnd}
+use Rattle.std.specs.Prelude.{◌≡◌, ◌<◌, ◌≤◌, ◌⊎◌, ℕ, true, false, List, ◌++◌, Option}
+use Rattle.std.specs.Io.KnownBytes.{Appends, IsAtEnd}
 use Rattle.segrx.specs.declared.device.Device.{Device}
 use Rattle.segrx.specs.Device.{has_failed, given_of, is_flushed}
 use Rattle.segrx.specs.Limits.{input_limit}
@@ -28,15 +28,3 @@ IsRead device = (has_failed device ≡ false) × (given_of device ≤ input_limi
 -- a reader was read to its end: it did not fail and gave no more than an engine reads, and nothing is left of the bytes that it is known to have
 abbrev pub IsReadToEnd : {T : Type 0} → Device T → Option (List ℕ) → Type 0
 IsReadToEnd device left = IsRead device × IsAtEnd left
-
--- a reader did not fail, and gave just these bytes as far as can be counted, no more than an engine reads
-abbrev pub IsCounted : {T : Type 0} → Device T → List ℕ → Type 0
-IsCounted device input = (has_failed device ≡ false) × (given_of device ≡ length input) × (length input ≤ input_limit)
-
--- an input grew by what a read took from known bytes, and it took none only at their end
-pub record ReadsMore (old new : Option (List ℕ)) (input input' : List ℕ) (count : ℕ) : Type 0 where
-  pub bytes : List ℕ
-  pub grown : input' ≡ input ++ bytes
-  pub taken : Consumes old new bytes
-  pub none : count ≡ 0 → (bytes ≡ []) × IsAtEnd new
-  pub some : 0 < count → length input < length input'

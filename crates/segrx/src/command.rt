@@ -1,9 +1,11 @@
 //! What the program's arguments ask for.
 ghost use Rattle.std.specs.Prelude.{◌≡◌, ◌<◌, ◌↔◌, map, codes, IsTrue, IfOk, MatchOption};
 ghost use Rattle.segrx.specs.declared.command.UsageFault.TheVariants.{OutOfMemory};
+ghost use Rattle.docsis_wire.specs.Limits.{sequence_modulus};
 ghost use Rattle.segrx.specs.Command.{IsCommandAlone, IsCommand, AsksToJoin, AsksToReplay};
 ghost use Rattle.segrx.specs.Command.{IsHelpWord, HasNoHelpWord, StandsBeforeHelp, Asks};
-ghost use Rattle.segrx.specs.Command.{AsksWithOptions, ReadsOptions, ReadsCapacity, ReadsCapacities};
+ghost use Rattle.segrx.specs.Inside.Command.{AsksWithOptions};
+ghost use Rattle.segrx.specs.Inside.Options.{ReadsOptions, ReadsCapacity, ReadsCapacities};
 ghost use Rattle.clap.specs.Matches.{found_of, first_value};
 
 use crate::command_line::command_line;
@@ -13,7 +15,7 @@ use docsis_wire::FillByte;
 use std::alloc::{AllocError, Global};
 use std::convert::AsStr;
 use std::io;
-use texts::{DEFAULT_CAPACITY, read_number};
+use texts::{Capacities, DEFAULT_CAPACITY, read_number};
 use thiserror::Error;
 
 /// What the program is asked to do.
@@ -185,13 +187,13 @@ fn read_capacity(options: &ArgMatches<'_>, name: &str) -> Result<u16, UsageFault
 }
 
 /// The capacities of the mailboxes and of the rings that the options of `run` ask for.
-fn read_run(options: &ArgMatches<'_>) -> Result<(u16, u16), UsageFault>
+fn read_run(options: &ArgMatches<'_>) -> Result<Capacities, UsageFault>
     ensures { ReadsCapacities (first_value (found_of options.now) (codes "mailbox"))
         (first_value (found_of options.now) (codes "ring")) result }
 {
     let mailbox = read_capacity(options, "mailbox")?;
     let ring = read_capacity(options, "ring")?;
-    Ok((mailbox, ring))
+    Ok(Capacities { mailbox, ring })
 }
 
 /// What words ask for that begin with a command which has options, and of which none asks for help.
@@ -209,7 +211,7 @@ fn read_with_options<'a, S: AsStr>(alloc: Global, words: &'a [S]) -> Result<Comm
         return Ok(Command::Cut { first, fill });
     }
     if runs && let Some(options) = matches.subcommand_matches("run") {
-        let (mailbox, ring) = read_run(options)?;
+        let Capacities { mailbox, ring } = read_run(options)?;
         return Ok(Command::Run { mailbox, ring });
     }
     Err(UsageFault::Usage)

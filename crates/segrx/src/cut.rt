@@ -28,7 +28,7 @@ impl Engine for CutEngine {
 
     ghost is_fault = { λ _. IsCutFault };
 
-    fn text(self, alloc: Global, input: Vec<u8>) -> Result<Vec<u8>, TextFault> {
+    fn make_text(self, alloc: Global, input: Vec<u8>) -> Result<Vec<u8>, TextFault> {
         cut_lines(alloc, input, self.first, self.fill)
     }
 }

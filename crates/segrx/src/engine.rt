@@ -24,7 +24,7 @@ pub trait Engine {
     ghost is_fault: { Self → List ℕ → TextFault → Type 0 };
 
     /// A text that stands for the input, or why there is none.
-    fn text(self, alloc: Global, input: Vec<u8>) -> Result<Vec<u8>, TextFault>
+    fn make_text(self, alloc: Global, input: Vec<u8>) -> Result<Vec<u8>, TextFault>
         ensures text { IfOk result (λ text. is_text self input.items text.items) }
         ensures fault { IfErr result (is_fault self input.items) };
 }
@@ -47,7 +47,7 @@ pub fn run_engine<X: Engine + Drop, R: Read, W: Write>(
         reader.old reader.new writer.old writer.new result }
 {
     let input = read_input(alloc, reader)?;
-    let text = engine.text(alloc, input)?;
+    let text = engine.make_text(alloc, input)?;
     write_text(writer, &text)?;
     Ok(())
 }

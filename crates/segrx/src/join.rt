@@ -19,7 +19,7 @@ impl Engine for JoinEngine {
 
     ghost is_fault = { λ _. IsJoinFault };
 
-    fn text(self, alloc: Global, input: Vec<u8>) -> Result<Vec<u8>, TextFault> {
+    fn make_text(self, alloc: Global, input: Vec<u8>) -> Result<Vec<u8>, TextFault> {
         join_lines(alloc, &input)
     }
 }

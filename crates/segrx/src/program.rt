@@ -3,11 +3,13 @@ ghost use Rattle.std.specs.Prelude.{◌≡◌, ◌≢◌, ◌⊎◌, map, Result
 ghost use Rattle.segrx.specs.declared.fault.EngineFault.{EngineFault};
 ghost use Rattle.segrx.specs.Device.{IsFresh};
 ghost use Rattle.segrx.specs.Fault.{exit_status_of};
-ghost use Rattle.segrx.specs.Command.{AsksToJoin, AsksToReplay, IsInRange};
+ghost use Rattle.segrx.specs.Command.{AsksToJoin, AsksToReplay};
+ghost use Rattle.segrx.specs.Inside.Command.{IsInRange};
 ghost use Rattle.texts.specs.Join.{IsJoinFault};
 ghost use Rattle.texts.specs.Cut.{IsCutFault};
 ghost use Rattle.texts.specs.Replay.{IsReplayFault};
-ghost use Rattle.segrx.specs.Program.{AsksToCutOnly, AsksToRunOnly, AsksForNothing, Performs, Obeys, IsReported, RunsWords, ComesOf};
+ghost use Rattle.segrx.specs.Program.{AsksToCutOnly, AsksToRunOnly, AsksForNothing, Obeys, IsReported, RunsWords, ComesOf};
+ghost use Rattle.segrx.specs.Inside.Program.{Performs};
 ghost use Rattle.segrx.specs.Program.{IsStatus, HasJoinedText, HasCutText, HasReport, HasRunReport, HasRunFault, SaysOf};
 
 use crate::command::{Command, read_words};
@@ -75,7 +77,7 @@ fn obey<S: AsStr, T: Threads + Wait + Copy + Send + 'static, R: Read, W: Write>(
 
 /// Answers the exit status of an outcome, and writes the line of its fault, if it has one. That the
 /// line cannot be written changes nothing.
-pub fn report<E: Write>(outcome: &Result<(), EngineFault>, err: &mut Device<E>) -> u8
+pub fn report_outcome<E: Write>(outcome: &Result<(), EngineFault>, err: &mut Device<E>) -> u8
     ensures report { IsReported E.contents err.old err.new outcome.now }
     ensures status { result ≡ exit_status_of outcome.now }
 {
@@ -107,7 +109,7 @@ where
         reader.old reader.new out.old out.new err.old err.new result }
 {
     let outcome = obey(alloc, rt, words, reader, out);
-    report(&outcome, err)
+    report_outcome(&outcome, err)
 }
 
 /// The whole program: it does what the words ask for, its name first, and answers the exit status:

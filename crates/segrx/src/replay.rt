@@ -19,7 +19,7 @@ impl Engine for ReplayEngine {
 
     ghost is_fault = { λ _. IsReplayFault };
 
-    fn text(self, alloc: Global, input: Vec<u8>) -> Result<Vec<u8>, TextFault> {
+    fn make_text(self, alloc: Global, input: Vec<u8>) -> Result<Vec<u8>, TextFault> {
         replay_lines(alloc, input)
     }
 }

@@ -13,7 +13,7 @@ use std::alloc::Global;
 use std::io::{Read, Write};
 use std::sync::Wait;
 use std::thread::Threads;
-use texts::run_lines;
+use texts::{Capacities, run_lines};
 use uplink::{Request, Tap, Taps};
 
 /// Receives the trace that a reader gives, each channel's inputs and the decisions on a thread of
@@ -46,7 +46,8 @@ where
         reader.old reader.new writer.old writer.new result }
 {
     let input = read_input(alloc, reader)?;
-    let text = run_lines(alloc, rt, input, ring, mailbox, taps)?;
+    let capacities = Capacities { mailbox, ring };
+    let text = run_lines(alloc, rt, input, capacities, taps)?;
     write_text(writer, &text)?;
     Ok(())
 }

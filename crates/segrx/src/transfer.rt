@@ -2,7 +2,8 @@
 ghost use Rattle.std.specs.Prelude.{◌≡◌, ◌≢◌, ◌<◌, [], length, IsOk, true, IfOk, IfErr, IfSome, OnOk, OnErr, vec_len};
 ghost use Rattle.std.specs.Io.KnownBytes.{Appends};
 ghost use Rattle.segrx.specs.Device.{inner_of, has_failed, is_flushed, IsFresh};
-ghost use Rattle.segrx.specs.Transfer.{AppendsFront, IsLeftFlushed, IsCounted, IsRead, IsReadToEnd, IsReadFault, ReadsMore};
+ghost use Rattle.segrx.specs.Transfer.{AppendsFront, IsLeftFlushed, IsRead, IsReadToEnd, IsReadFault};
+ghost use Rattle.segrx.specs.Inside.Transfer.{IsCounted, ReadsMore};
 
 use crate::device::Device;
 use crate::fault::{EngineFault, WriteFault};

@@ -3,7 +3,7 @@ use Rattle.std.proofs.Common.{◌≡◌, ℕ, ◌<◌, Bool, true, false, List, 
 use Rattle.std.specs.Prelude.{position}
 use Rattle.std.proofs.lemmas.List.Quantifiers.{position-Some}
 use Rattle.memchr.specs.Find.{IsFirstByte}
-use Rattle.texts.proofs.Parts.{position-none}
+use Rattle.texts.proofs.LinesAndWords.{position-none}
 
 -- a byte passes or it does not
 not_both : (b : Bool) → b ≡ true → b ≡ false → ⊥

@@ -13,11 +13,10 @@ pub encode_lower_append : (xs ys : List ℕ) → encode_lower (xs ++ ys) ≡ enc
 encode_lower_append xs ys = encode_with-append lower_digits xs ys
 
 -- a text with one more line, whose bytes were spelled in two parts
-pub line_appended : (old text more line header head bytes payload : List ℕ) → text ≡ old ++ encode_lower header → header ≡ head → more ≡ text ++ encode_lower bytes → bytes ≡ payload
+pub line_appended : (old text more line head bytes payload : List ℕ) → text ≡ old ++ encode_lower head → more ≡ text ++ encode_lower bytes → bytes ≡ payload
     → line ≡ more ++ 10 ∷ [] → line ≡ old ++ (encode_lower (head ++ payload) ++ 10 ∷ [])
-line_appended old text more line header head bytes payload first header_is second bytes_is third =
-    let front : text ≡ old ++ encode_lower head = first ∙ ap (λ xs. old ++ encode_lower xs) header_is in
-    let both : more ≡ (old ++ encode_lower head) ++ encode_lower payload = second ∙ ap (λ xs. text ++ encode_lower xs) bytes_is ∙ ap (λ xs. xs ++ encode_lower payload) front in
+line_appended old text more line head bytes payload first second bytes_is third =
+    let both : more ≡ (old ++ encode_lower head) ++ encode_lower payload = second ∙ ap (λ xs. text ++ encode_lower xs) bytes_is ∙ ap (λ xs. xs ++ encode_lower payload) first in
     third
     ∙ ap (λ xs. xs ++ 10 ∷ []) (both ∙ append_assoc old (encode_lower head) (encode_lower payload))
     ∙ append_assoc old (encode_lower head ++ encode_lower payload) (10 ∷ [])

@@ -5,7 +5,8 @@ use Rattle.std.proofs.lemmas.Grind.{flat_map-append}
 use Rattle.docsis_wire.specs.declared.segment.Segment.{Segment}
 use Rattle.ccf.specs.Feed.{Feeds}
 use Rattle.ccf.specs.Join.{Joins}
-use Rattle.texts.specs.Join.{IsJoinedSoFar, frame_line}
+use Rattle.texts.specs.Join.{frame_line}
+use Rattle.texts.specs.Inside.Join.{IsJoinedSoFar}
 use Rattle.texts.specs.Join.Line.{Carries, AddsSegment}
 use Rattle.texts.specs.AnyHeader.{any_header}
 

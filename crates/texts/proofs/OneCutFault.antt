@@ -10,8 +10,8 @@ use Rattle.texts.specs.Lines.{lines_of}
 use Rattle.texts.specs.Format.{IsRead}
 use Rattle.texts.specs.Cut.{IsCutFault, IsFirstPieceFault, IsPieceFault}
 use Rattle.texts.specs.Cut.Line.{FramesAndPieces, nothing, cut_format}
-use Rattle.texts.proofs.OneReading.{one_reading}
-use Rattle.texts.proofs.OneReading as lines
+use Rattle.texts.proofs.LinesReadOneWay.{one_reading}
+use Rattle.texts.proofs.LinesReadOneWay as lines
 use Rattle.texts.proofs.OneCutLine.{cut_is_determined}
 use Rattle.texts.specs.AnyHeader.{any_header}
 

@@ -8,7 +8,7 @@ use Rattle.texts.specs.Field.{SpellsBytes}
 use Rattle.texts.specs.Number.{IsNumber}
 use Rattle.texts.specs.Cut.Line.{CarriesFrame, CarriesPiece, HasOtherCount, HasBadNumber, HasFault, FramesAndPieces, AddsFrame, AddsPiece, cut_format}
 use Rattle.texts.proofs.FirstField.{none_or_some, one_word, same_after}
-use Rattle.texts.proofs.OneReading.{IsDetermined}
+use Rattle.texts.proofs.LinesReadOneWay.{IsDetermined}
 use Rattle.texts.proofs.OneJoinLine.{one_spelling}
 
 -- ---- fields that are there twice

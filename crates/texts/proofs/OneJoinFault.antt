@@ -10,7 +10,7 @@ use Rattle.texts.specs.Fault.{text_fault_of_parse}
 use Rattle.texts.specs.Format.{IsRead, IsReadingFault}
 use Rattle.texts.specs.Join.{IsJoinFault}
 use Rattle.texts.specs.Join.Line.{join_format}
-use Rattle.texts.proofs.OneReading as lines
+use Rattle.texts.proofs.LinesReadOneWay as lines
 use Rattle.texts.proofs.OneJoinLine.{OneHeader, join_is_determined}
 
 -- a fault of the lines is one of the input

@@ -12,7 +12,7 @@ use Rattle.texts.specs.declared.fault.TraceKind.{TraceKind}
 use Rattle.texts.specs.declared.fault.TraceKind.TheVariants.{FieldCount, NotHex, TooShort, PointerPast}
 use Rattle.texts.specs.Field.{SpellsBytes}
 use Rattle.texts.specs.Join.Line.{OnlySpells, Carries, HasFault, IsNotHex, IsTooShort, PointsPast, AddsSegment, join_format}
-use Rattle.texts.proofs.OneReading.{IsDetermined}
+use Rattle.texts.proofs.LinesReadOneWay.{IsDetermined}
 
 -- ---- one field, one reading
 

@@ -7,7 +7,7 @@ use Rattle.texts.specs.Kinds.{kind_number, IsLeastFault}
 use Rattle.texts.specs.Trace.Line.{word_of, form_of}
 use Rattle.texts.specs.Trace.Place.{Said, with_line, AddsLine, SaysFaulty, HasLineFault, trace_format}
 use Rattle.texts.proofs.FirstField.{none_or_some}
-use Rattle.texts.proofs.OneReading.{IsDetermined}
+use Rattle.texts.proofs.LinesReadOneWay.{IsDetermined}
 use Rattle.texts.proofs.OneTraceLine.{one_line}
 
 -- ---- one least fault

@@ -4,7 +4,7 @@ use Rattle.std.specs.Prelude.{OnOk}
 use Rattle.texts.specs.declared.fault.LineFault.{LineFault}
 use Rattle.texts.specs.declared.fault.LineFault.TheVariants.{Kind, OutOfMemory}
 use Rattle.texts.specs.Lines.{lines_of, fields_of}
-use Rattle.texts.specs.Fault.{IsLineFault, fault_at}
+use Rattle.texts.specs.Inside.LineFault.{IsLineFault, fault_at}
 use Rattle.texts.specs.Format.{Format, IsRead, no_lines, skipped, taken, IsReadingFault}
 
 -- lines are read, and then others

@@ -2,11 +2,10 @@
 use Rattle.std.proofs.Common.{◌≡◌, ℕ, ◌<◌, ◌≤◌, inl, inr, ⊎_elim, List, [], ◌∷◌, ◌++◌, length, sym, subst, arith, length-append}
 use Rattle.std.proofs.lemmas.Bool.{cases_lt}
 use Rattle.flow_core.specs.declared.record.FlowRecord.{FlowRecord}
-use Rattle.flow_core.specs.Limits.{flows_max}
-use Rattle.flow_core.specs.Setup.{IsInRange, CanBeSetUp}
-use Rattle.lane.specs.declared.sids.SidRow.{SidRow}
-use Rattle.lane.specs.Limits.{channel_limit, sid_limit}
-use Rattle.lane.specs.Rows.{CanBeOpened}
+use Rattle.flow_core.specs.Setup.{flows_max, IsInRange, CanBeSetUp}
+use Rattle.uplink.specs.declared.row.SidRow.{SidRow}
+use Rattle.uplink.specs.Limits.{channel_limit, sid_limit}
+use Rattle.uplink.specs.Rows.{CanBeOpened}
 use Rattle.texts.specs.declared.fault.TraceKind.{TraceKind}
 use Rattle.texts.specs.declared.fault.TraceKind.TheVariants.{UnknownFlow, TooManyFlows, SameFlow, SameSid}
 use Rattle.texts.specs.declared.trace.line.TraceLine.{TraceLine}
@@ -16,8 +15,8 @@ use Rattle.texts.specs.Trace.Line.{flow_line, fields_after, AreFields, values_of
 use Rattle.texts.specs.Trace.Place.{Said, nothing_said, with_line, HasFaultAmong, trace_format}
 use Rattle.texts.proofs.OneTraceLine.{sid_in_range}
 use Rattle.texts.proofs.TraceLines.{none_among}
-use Rattle.texts.proofs.Pushed.{EachAt, AreApart, EachAt-pushed, AreApart-pushed}
-use Rattle.texts.proofs.ReadKeeps.{Keeps, IsRead-keeps}
+use Rattle.texts.proofs.LastElement.{EachAt, AreApart, EachAt-pushed, AreApart-pushed}
+use Rattle.texts.proofs.KeptByEachLine.{Keeps, IsRead-keeps}
 
 -- ---- the flows
 

@@ -3,7 +3,8 @@ use Rattle.std.proofs.Common.{◌≡◌, ◌≢◌, ℕ, ◌<◌, ◌≤◌, Lis
 use Rattle.texts.specs.declared.fault.TraceKind.{TraceKind}
 use Rattle.texts.specs.declared.fault.TraceKind.TheVariants.{UnknownLine, SetupLate, FieldCount, BadNumber, BadWord, NotHex}
 use Rattle.texts.specs.Kinds.{kind_number}
-use Rattle.texts.specs.Trace.Line.{FieldForm, LineForm, flow_line, sid_line, grant_line, burst_line, gap_line, gap_to_line, word_of, fields_after, Value, IsField, IsUnknown, HasWrongCount, fault_of, IsBadField, HasBadAmong, HasBadField, HasFaultByItself, IsLeastFaultByItself}
+use Rattle.texts.specs.Trace.Line.{FieldForm, LineForm, flow_line, sid_line, grant_line, burst_line, gap_line, gap_to_line, word_of, fields_after, Value, IsField, IsUnknown, HasWrongCount, fault_of, IsBadField, HasBadAmong, HasBadField, HasFaultByItself}
+use Rattle.texts.specs.Inside.LineFault.{IsLeastFaultByItself}
 use Rattle.texts.proofs.FirstField.{one_word, same_after}
 
 -- ---- one form

@@ -4,11 +4,11 @@ use Rattle.texts.specs.declared.fault.TraceKind.{TraceKind}
 use Rattle.texts.specs.declared.fault.TraceKind.TheVariants.{FieldCount, BadNumber, BadWord, NotHex}
 use Rattle.texts.specs.declared.fault.LineFault.{LineFault}
 use Rattle.texts.specs.declared.fault.LineFault.TheVariants as line_fault
-use Rattle.texts.specs.declared.field.FieldFault.{FieldFault}
-use Rattle.texts.specs.declared.field.FieldFault.TheVariants as field_fault
-use Rattle.texts.specs.Fault.{IsLineFault, line_fault_of_field}
+use Rattle.texts.specs.Inside.LineFault.{IsLineFault}
 use Rattle.texts.specs.Field.{IsHex}
-use Rattle.texts.specs.Trace.Line.{hex_field, LineForm, flow_line, sid_line, grant_line, burst_line, gap_line, gap_to_line, word_of, fields_after, some_bytes, IsBadField, HasBadField, HasFaultByItself, IsLeastFaultByItself}
+use Rattle.texts.specs.Inside.LineFault.{HasHexFault}
+use Rattle.texts.specs.Trace.Line.{hex_field, LineForm, flow_line, sid_line, grant_line, burst_line, gap_line, gap_to_line, word_of, fields_after, some_bytes, IsBadField, HasBadField, HasFaultByItself}
+use Rattle.texts.specs.Inside.LineFault.{IsLeastFaultByItself}
 use Rattle.texts.proofs.TraceFields.{IsFirstBad, least_bad, least_count}
 
 -- ---- a wrong number of fields
@@ -70,9 +70,9 @@ IsBadField-hex field none (some_bytes bytes) spelled = none (bytes, spelled)
 IsBadField-hex field none _ spelled = absurd spelled
 
 -- not hexadecimal, or its bytes got no memory
-pub hex_fault : (form : LineForm) (after fields : List (List ℕ)) (fault : FieldFault) → after ≡ fields → length fields ≡ length (fields_after form)
-    → (fault ≡ field_fault.NotHex → IsFirstBad (fields_after form) fields NotHex)
-    → IsLineFault (IsLeastFaultByItself (word_of form ∷ after)) (line_fault_of_field fault)
-hex_fault form after fields field_fault.NotHex are count first =
-    first_fault form after fields NotHex (line_fault.Kind NotHex) (λ bad. bad) are count refl (first refl)
-hex_fault form after fields field_fault.OutOfMemory are count first = tt
+pub hex_fault : (form : LineForm) (after fields : List (List ℕ)) (field : List ℕ) (fault : LineFault) → after ≡ fields → length fields ≡ length (fields_after form)
+    → (¬ (IsHex field) → IsFirstBad (fields_after form) fields NotHex) → IsLineFault (HasHexFault field) fault
+    → IsLineFault (IsLeastFaultByItself (word_of form ∷ after)) fault
+hex_fault form after fields field (line_fault.Kind kind) are count first is =
+    first_fault form after fields NotHex (line_fault.Kind kind) (λ bad. bad) are count (ap line_fault.Kind is.0) (first is.1)
+hex_fault form after fields field line_fault.OutOfMemory are count first is = tt

@@ -4,7 +4,8 @@ use Rattle.texts.specs.declared.fault.TraceKind.{TraceKind}
 use Rattle.texts.specs.declared.fault.TraceKind.TheVariants.{UnknownLine, SetupLate, FieldCount, BadNumber, BadWord, NotHex, UnknownFlow, TooManyFlows, SameFlow, SameSid, TooShort, PointerPast}
 use Rattle.texts.specs.declared.trace.line.TraceLine.{TraceLine}
 use Rattle.texts.specs.Kinds.{kind_number, IsLeastFault}
-use Rattle.texts.specs.Trace.Line.{flow_line, sid_line, word_of, Carries, IsLeastFaultByItself}
+use Rattle.texts.specs.Trace.Line.{flow_line, sid_line, word_of, Carries}
+use Rattle.texts.specs.Inside.LineFault.{IsLeastFaultByItself}
 use Rattle.texts.specs.Trace.Place.{Said, IsSetupLine, HasFaultAmong, SaysFaulty, HasLineFault}
 use Rattle.texts.proofs.FirstField.{one_word}
 use Rattle.texts.proofs.OneTraceLine.{one_line, carried_without_fault}

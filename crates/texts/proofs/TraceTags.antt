@@ -5,10 +5,10 @@ use Rattle.std.specs.List.{cons_option}
 use Rattle.std.proofs.lemmas.Bool.{cases_lt}
 use Rattle.std.proofs.lemmas.List.Sums.{sum_by-cons}
 use Rattle.std.proofs.lemmas.List.Elements.{All-nil, All-head, All-tail, All-push, All-map, All-weaker}
-use Rattle.lane.specs.Limits.{channel_limit}
-use Rattle.receiver.specs.Items.{Incoming, incoming_of}
-use Rattle.receiver.specs.Order.{senders, times_of, IsLawfulOrder}
-use Rattle.receiver.specs.AdmittedOrder.{input_counts}
+use Rattle.uplink.specs.Limits.{channel_limit}
+use Rattle.uplink.specs.Items.{Incoming, incoming_of}
+use Rattle.uplink.specs.Order.{senders, times_of, IsLawfulOrder}
+use Rattle.uplink.specs.Answer.{input_counts}
 use Rattle.texts.specs.Format.{IsRead}
 use Rattle.texts.specs.declared.trace.Trace.{Trace}
 use Rattle.texts.specs.declared.trace.line.TraceLine.{TraceLine}
@@ -17,7 +17,7 @@ use Rattle.texts.specs.Trace.{tag_of, came_on, decision_in, IsGivenBy}
 use Rattle.texts.specs.Trace.Line.{Carries}
 use Rattle.texts.specs.Trace.Place.{Entry, came, decided, Said, nothing_said, with_line, trace_format}
 use Rattle.texts.proofs.OneTraceLine.{channel_in_range}
-use Rattle.texts.proofs.ReadKeeps.{Keeps, IsRead-keeps}
+use Rattle.texts.proofs.KeptByEachLine.{Keeps, IsRead-keeps}
 
 -- ---- each input came on one of the four channels
 

@@ -15,7 +15,7 @@ use Rattle.texts.specs.declared.fault.TextFault.{TextFault}
 use Rattle.texts.specs.declared.fault.TextFault.TheVariants.{Trace, Cut, OutOfMemory}
 use Rattle.texts.specs.Lines.{lines_of, line_feed}
 use Rattle.texts.specs.Format.{IsRead, IsFirstFaultyLine}
-use Rattle.texts.specs.Cut.Line.{FramesAndPieces, nothing, cut_format}
+use Rattle.texts.specs.Cut.Line.{nothing, cut_format}
 use Rattle.texts.specs.AnyHeader.{any_header}
 
 -- the segments of the lawful cut that the pieces name: their numbers begin with the first, and the fields that a cut gives no meaning are 0
@@ -26,12 +26,6 @@ pub record IsCutInto (first : ℕ) (fill : FillByte) (frames : List (List ℕ)) 
 -- a segment's line: its header and its payload as lower-case digits, and a line feed
 abbrev pub segment_line : Segment → List ℕ
 segment_line segment = encode_lower (segment_bytes segment) ++ line_feed ∷ []
-
--- a line for each segment that frames are cut into
-pub record IsPrinted (first : ℕ) (fill : FillByte) (frames : List (List ℕ)) (pieces : List Piece) (text : List ℕ) : Type 0 where
-  pub segments : List Segment
-  pub cut : IsCutInto first fill frames pieces segments
-  pub printed : text ≡ flat_map segment_line segments
 
 -- How long the lines of a cut's segments are: two digits for each byte of a header, of what the pieces take of the frames, and of fill, and a
 -- line feed for each segment.

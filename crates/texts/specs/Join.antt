@@ -15,12 +15,6 @@ use Rattle.texts.specs.AnyHeader.{any_header}
 abbrev pub frame_line : List ℕ → List ℕ
 frame_line frame = encode_lower frame ++ line_feed ∷ []
 
--- these segments, none of them lost, join to frames whose lines are this text, and leave these bytes unfinished
-pub record IsJoinedSoFar (segments : List Segment) (unfinished text : List ℕ) : Type 0 where
-  pub frames : List (List ℕ)
-  pub joined : Joins any_header [] (map Some segments) frames unfinished
-  pub printed : text ≡ flat_map frame_line frames
-
 -- the text that stands for an input: a line for each frame that its segments, none of them lost, join to
 pub record IsJoined (input text : List ℕ) : Type 0 where
   pub segments : List Segment

@@ -11,3 +11,4 @@ pub mod Trace
 pub mod Report
 pub mod Replay
 pub mod Run
+pub mod Inside

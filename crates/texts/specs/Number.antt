@@ -15,7 +15,3 @@ IsNoNumber field most = (number : ℕ) → ¬ IsNumber field most number
 -- the field is a number in this range
 abbrev pub IsNumberIn : List ℕ → ℕ → ℕ → ℕ → Type 0
 IsNumberIn field least most number = IsNumber field most number × (least ≤ number)
-
--- the field is no number in this range
-abbrev pub IsNoNumberIn : List ℕ → ℕ → ℕ → Type 0
-IsNoNumberIn field least most = (number : ℕ) → ¬ IsNumberIn field least most number

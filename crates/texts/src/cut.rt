@@ -1,19 +1,22 @@
 //! The text of `cut`: the segments that an input's frames are cut into, one a line.
-ghost use Rattle.std.specs.Prelude.{◌≡◌, ◌<◌, ◌++◌, min, IfOk, IfErr, OnOk};
+ghost use Rattle.std.specs.Prelude.{◌≡◌, ◌≢◌, ◌<◌, ◌++◌, min, false, flat_map, IfOk, IfErr, IfSome, OnOk};
+ghost use Rattle.docsis_wire.specs.Header.{header_bytes};
 ghost use Rattle.docsis_wire.specs.Limits.{sequence_modulus};
+ghost use Rattle.hex.specs.Hex.{encode_lower};
 ghost use Rattle.docsis_wire.specs.Pieces.{IsCuttable};
 ghost use Rattle.texts.specs.AnyHeader.{any_header};
 ghost use Rattle.texts.specs.Lines.{lines_of};
 ghost use Rattle.texts.specs.Format.{IsRead, IsReadingFault};
 ghost use Rattle.texts.specs.Cut.Line.{nothing, cut_format};
-ghost use Rattle.texts.specs.Cut.{IsPrinted, IsCutText, IsCutFault, segment_line, cut_text_length};
+ghost use Rattle.texts.specs.Cut.{IsCutText, IsCutFault, segment_line, cut_text_length};
+ghost use Rattle.texts.specs.Inside.Cut.{IsPrinted};
 
 mod line;
 
 use crate::fault::{LineFault, ParseFault, TextFault};
 use crate::field::append_hex;
 use crate::lines::{TakeLine, take_lines};
-use docsis_wire::{Bytes, Cutter, FillByte, NoCheck, Piece, Segment, write_segment};
+use docsis_wire::{Bytes, Cutter, FillByte, NoCheck, Piece, Segment, SegmentHeader, write_segment};
 use line::{CutLine, read_cut_line};
 use std::alloc::{AllocError, Global};
 
@@ -83,11 +86,18 @@ fn text_length(read: &CutInput) -> usize
     bytes.saturating_mul(2).saturating_add(read.pieces.len())
 }
 
+/// Appends the digits of a segment's header to a text.
+fn append_header(alloc: Global, text: &mut Vec<u8>, head: &SegmentHeader) -> Result<(), AllocError>
+    ensures { OnOk result (text.new.items ≡ text.old.items ++ encode_lower (header_bytes head.now)) }
+{
+    append_hex(alloc, text, &write_segment(head))
+}
+
 /// Appends a segment's line to a text.
 fn append_segment(alloc: Global, text: &mut Vec<u8>, segment: &Segment) -> Result<(), AllocError>
     ensures { OnOk result (text.new.items ≡ text.old.items ++ segment_line segment.now) }
 {
-    append_hex(alloc, text, &write_segment(&segment.head))?;
+    append_header(alloc, text, &segment.head)?;
     append_hex(alloc, text, segment.payload.as_slice())?;
     text.push(b'\n')?;
     Ok(())

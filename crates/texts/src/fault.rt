@@ -1,14 +1,13 @@
-//! Why an input was not read: the faults of a line and of an input, to which those of a field, of a
-//! segment and of a cut convert by `?`.
+//! Why an input was not read: the faults of a line and of an input, to which a failed allocation and
+//! the faults of a segment and of a cut convert by `?`.
 ghost use Rattle.std.specs.Prelude.{◌≡◌};
 ghost use Rattle.texts.specs.Kinds.{kind_text};
 ghost use Rattle.texts.specs.declared.fault.LineFault.TheVariants as line_fault;
 ghost use Rattle.texts.specs.declared.fault.ParseFault.TheVariants as parse_fault;
 ghost use Rattle.texts.specs.declared.fault.TextFault.TheVariants as text_fault;
-ghost use Rattle.texts.specs.Fault.{fault_at, line_fault_of_field, line_fault_of_segment};
+ghost use Rattle.texts.specs.Inside.LineFault.{fault_at, line_fault_of_segment};
 ghost use Rattle.texts.specs.Fault.{text_fault_of_cut, text_fault_of_parse};
 
-use crate::field::FieldFault;
 use docsis_wire::{CutFault, SegmentFault};
 use std::alloc::{AllocError, AllocFailed};
 use thiserror::Error;
@@ -136,17 +135,6 @@ impl<T: Drop> From<AllocFailed<T>> for LineFault {
 
     fn from(_: AllocFailed<T>) -> LineFault {
         LineFault::OutOfMemory
-    }
-}
-
-impl From<FieldFault> for LineFault {
-    ghost from_gives = { λ field line. line ≡ line_fault_of_field field };
-
-    fn from(fault: FieldFault) -> LineFault {
-        match fault {
-            FieldFault::NotHex => LineFault::Kind(TraceKind::NotHex),
-            FieldFault::OutOfMemory => LineFault::OutOfMemory,
-        }
     }
 }
 

@@ -1,35 +1,28 @@
 //! Hexadecimal fields, read and written.
-ghost use Rattle.std.specs.Prelude.{◌≡◌, ◌++◌, IfOk, OnOk};
+ghost use Rattle.std.specs.Prelude.{◌≡◌, ◌++◌, IfOk, IfErr, OnOk};
 ghost use Rattle.hex.specs.Hex.{encode_lower};
-ghost use Rattle.texts.specs.Field.{SpellsBytes, IsHex};
+ghost use Rattle.texts.specs.Inside.LineFault.{IsLineFault};
+ghost use Rattle.texts.specs.Field.{SpellsBytes};
+ghost use Rattle.texts.specs.Inside.LineFault.{HasHexFault};
 
+use crate::fault::{LineFault, TraceKind};
 use hex::FromHexError;
 use std::alloc::{AllocError, Global};
-use thiserror::Error;
-
-/// Why a hexadecimal field was not read.
-#[derive(Clone, Copy, Debug, PartialEq, Eq, Error)]
-pub enum FieldFault {
-    /// It is neither `-` nor an even number of hexadecimal digits.
-    #[error("not hexadecimal")]
-    NotHex,
-    /// An allocation failed.
-    #[error("out of memory")]
-    OutOfMemory,
-}
 
 /// The bytes that a hexadecimal field spells: two digits for each, in either case, or `-` for none.
-pub fn read_hex(alloc: Global, field: &[u8]) -> Result<Vec<u8>, FieldFault>
+///
+/// `NotHex`: it is neither `-` nor an even number of hexadecimal digits.
+pub fn read_hex(alloc: Global, field: &[u8]) -> Result<Vec<u8>, LineFault>
     ensures spelled { IfOk result (λ bytes. SpellsBytes field.now bytes.items) }
-    ensures not_hex { result ≡ Err FieldFault.NotHex → ¬ IsHex field.now }
+    ensures fault { IfErr result (IsLineFault (HasHexFault field.now)) }
 {
     if field == b"-".as_slice() {
         return Ok(Vec::new(alloc));
     }
     match hex::decode(alloc, field) {
         Ok(bytes) => Ok(bytes),
-        Err(FromHexError::OutOfMemory) => Err(FieldFault::OutOfMemory),
-        Err(_) => Err(FieldFault::NotHex),
+        Err(FromHexError::OutOfMemory) => Err(LineFault::OutOfMemory),
+        Err(_) => Err(LineFault::Kind(TraceKind::NotHex)),
     }
 }
 
@@ -81,7 +74,7 @@ mod tests {
             "\u{ff10}0",
         ] {
             match read_hex(rt.alloc(), field.as_bytes()) {
-                Err(FieldFault::NotHex) => {}
+                Err(LineFault::Kind(TraceKind::NotHex)) => {}
                 _ => assert!(rt; false, "{field}"),
             }
         }

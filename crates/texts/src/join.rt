@@ -1,5 +1,5 @@
 //! The text of `join`: the frames that an input's segments join to, one a line.
-ghost use Rattle.std.specs.Prelude.{◌≡◌, ◌++◌, flat_map, IfOk, IfErr, OnOk};
+ghost use Rattle.std.specs.Prelude.{◌≡◌, ◌≢◌, ◌++◌, false, flat_map, IfOk, IfErr, IfSome, OnOk};
 ghost use Rattle.texts.specs.Join.{IsJoined, IsJoinFault, frame_line};
 
 mod line;
@@ -13,7 +13,11 @@ use line::read_segment;
 use std::alloc::{AllocError, Global};
 
 /// Appends a line for each frame to a text.
-fn append_frames(alloc: Global, text: &mut Vec<u8>, frames: &[Bytes]) -> Result<(), AllocError>
+fn append_joined_frames(
+    alloc: Global,
+    text: &mut Vec<u8>,
+    frames: &[Bytes],
+) -> Result<(), AllocError>
     ensures { OnOk result (text.new.items ≡ text.old.items ++ flat_map frame_line frames.now) }
 {
     for frame in frames {
@@ -30,11 +34,25 @@ struct Joining {
     text: Vec<u8>,
 }
 
+impl Joining {
+    ghost use Rattle.std.specs.Prelude.{[]};
+    ghost use Rattle.texts.specs.Inside.Join.{IsJoinedSoFar};
+
+    /// No segments yet, and no frames.
+    fn new(alloc: Global) -> Joining
+        ensures { IsJoinedSoFar [] result.joiner result.text.items }
+    {
+        let joiner = Joiner::new(alloc);
+        let text = Vec::new(alloc);
+        Joining { joiner, text }
+    }
+}
+
 impl TakeLine for Joining {
     ghost use Rattle.std.specs.Prelude.{List};
     ghost use Rattle.docsis_wire.specs.declared.segment.Segment.{Segment};
     ghost use Rattle.texts.specs.Join.Line.{join_format};
-    ghost use Rattle.texts.specs.Join.{IsJoinedSoFar};
+    ghost use Rattle.texts.specs.Inside.Join.{IsJoinedSoFar};
 
     ghost State = { List Segment };
 
@@ -46,7 +64,7 @@ impl TakeLine for Joining {
     fn take_line(&mut self, alloc: Global, field: &[u8], rest: &[u8]) -> Result<(), LineFault> {
         let segment = read_segment(alloc, field, rest)?;
         let fed = self.joiner.feed(alloc, &segment, &NoCheck)?;
-        append_frames(alloc, &mut self.text, &fed.frames)?;
+        append_joined_frames(alloc, &mut self.text, &fed.frames)?;
         Ok(())
     }
 }
@@ -64,10 +82,7 @@ pub fn join_lines(alloc: Global, input: &[u8]) -> Result<Vec<u8>, TextFault>
     ensures text { IfOk result (λ text. IsJoined input.now text.items) }
     ensures fault { IfErr result (IsJoinFault input.now) }
 {
-    let mut joining = Joining {
-        joiner: Joiner::new(alloc),
-        text: Vec::new(alloc),
-    };
+    let mut joining = Joining::new(alloc);
     take_lines(alloc, input, &mut joining)?;
     Ok(joining.text)
 }

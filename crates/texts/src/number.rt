@@ -1,6 +1,7 @@
 //! Number fields.
 ghost use Rattle.std.specs.Prelude.{◌≡◌, IfSome};
-ghost use Rattle.texts.specs.Number.{IsNumber, IsNoNumber, IsNumberIn, IsNoNumberIn};
+ghost use Rattle.texts.specs.Number.{IsNumber, IsNoNumber, IsNumberIn};
+ghost use Rattle.texts.specs.Inside.LineFault.{IsNoNumberIn};
 
 /// The number that a field spells in decimal digits, leading zeros or not, if it is at most `most`.
 /// A field without digits, with any other byte, such as a sign, or with a greater number is none.

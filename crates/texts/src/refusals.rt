@@ -30,17 +30,17 @@ fn join_lines_is_refused(rt: HostRuntime) -> Result<(), Fail> {
 }
 
 /// Cuts the frames of a copy of the input, which the call takes.
-fn cut(alloc: Global) -> Result<Vec<u8>, TextFault> {
+fn cut_copy(alloc: Global) -> Result<Vec<u8>, TextFault> {
     let input = Vec::from_slice(alloc, FRAMES_AND_PIECES)?;
     cut_lines(alloc, input, 0, FillByte::Zero)
 }
 
 #[test]
 fn cut_lines_is_refused(rt: HostRuntime) -> Result<(), Fail> {
-    let mut text = cut(rt.alloc());
+    let mut text = cut_copy(rt.alloc());
     if let Err(TextFault::OutOfMemory) = text {
         println!(rt; "refused")?;
-        text = cut(rt.alloc());
+        text = cut_copy(rt.alloc());
     }
     assert_eq!(rt; text?.as_slice(), SEGMENTS.as_slice());
     Ok(())
@@ -79,23 +79,23 @@ frame 0 000000021111aabb\nframe 0 01010003e02222ccdd\nlane 0 admitted 2 refused 
 lane 1 admitted 1 refused -\nlane 2 admitted 0 refused -\nlane 3 admitted 0 refused -\n";
 
 /// The report of a copy of the trace, which the call takes.
-fn replay(alloc: Global) -> Result<Vec<u8>, TextFault> {
+fn replay_copy(alloc: Global) -> Result<Vec<u8>, TextFault> {
     replay_lines(alloc, Vec::from_slice(alloc, TRACE)?)
 }
 
 #[test]
 fn replay_lines_is_refused(rt: HostRuntime) -> Result<(), Fail> {
-    let mut text = replay(rt.alloc());
+    let mut text = replay_copy(rt.alloc());
     if let Err(TextFault::OutOfMemory) = text {
         println!(rt; "refused")?;
-        text = replay(rt.alloc());
+        text = replay_copy(rt.alloc());
     }
     assert_eq!(rt; text?.as_slice(), TRACE_REPORT.as_slice());
     Ok(())
 }
 
 /// An outcome with two flows, a frame, a request and refusals.
-fn outcome(alloc: Global) -> Result<Outcome, AllocError> {
+fn sample_outcome(alloc: Global) -> Result<Outcome, AllocError> {
     let counts = FlowCounts {
         kept: 1,
         late: 2,
@@ -152,7 +152,7 @@ fn outcome(alloc: Global) -> Result<Outcome, AllocError> {
 
 /// The report of the outcome.
 fn report_outcome(alloc: Global) -> Result<Vec<u8>, AllocError> {
-    report(alloc, &outcome(alloc)?)
+    report(alloc, &sample_outcome(alloc)?)
 }
 
 #[test]

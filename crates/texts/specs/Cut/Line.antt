@@ -3,8 +3,6 @@ use Rattle.std.specs.Prelude.{◌≡◌, ◌≢◌, ◌⊎◌, ℕ, List, [], �
 use Rattle.docsis_wire.specs.declared.pieces.Piece.{Piece}
 use Rattle.texts.specs.declared.fault.TraceKind.{TraceKind}
 use Rattle.texts.specs.declared.fault.TraceKind.TheVariants.{UnknownLine, SetupLate, FieldCount, BadNumber, BadWord, NotHex, UnknownFlow, TooManyFlows, SameFlow, SameSid, TooShort, PointerPast}
-use Rattle.texts.specs.declared.cut.line.CutLine.{CutLine}
-use Rattle.texts.specs.declared.cut.line.CutLine.TheVariants as cut_line
 use Rattle.texts.specs.Field.{SpellsBytes, IsHex}
 use Rattle.texts.specs.Number.{IsNumber, IsNoNumber}
 use Rattle.texts.specs.Format.{Format}
@@ -34,11 +32,6 @@ pub record CarriesPiece (fields : List (List ℕ)) (piece : Piece) : Type 0 wher
   pub are : fields ≡ piece_word ∷ bytes ∷ fill ∷ []
   pub bytes_is : IsNumber bytes piece_number_max piece.bytes
   pub fill_is : IsNumber fill piece_number_max piece.fill
-
--- the fields carry this frame, or this piece
-abbrev pub Carries : List (List ℕ) → CutLine → Type 0
-Carries fields (cut_line.Frame frame) = CarriesFrame fields frame
-Carries fields (cut_line.Piece piece) = CarriesPiece fields piece
 
 -- the first field is neither `frame` nor `piece`
 pub record IsUnknown (fields : List (List ℕ)) : Type 0 where

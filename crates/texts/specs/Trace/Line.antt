@@ -1,11 +1,10 @@
 -- What a line of a trace says by itself, and the faults that it has by itself.
 use Rattle.std.specs.Prelude.{◌≡◌, ◌≢◌, ◌⊎◌, ℕ, Bool, true, false, Option, Some, None, List, [], ◌∷◌, length, codes}
-use Rattle.lane.specs.declared.input.Input.TheVariants.{Grant, Burst}
+use Rattle.uplink.specs.declared.input.Input.TheVariants.{Grant, Burst}
 use Rattle.texts.specs.declared.fault.TraceKind.{TraceKind}
 use Rattle.texts.specs.declared.fault.TraceKind.TheVariants.{UnknownLine, SetupLate, FieldCount, BadNumber, BadWord, NotHex, UnknownFlow, TooManyFlows, SameFlow, SameSid, TooShort, PointerPast}
 use Rattle.texts.specs.declared.trace.line.TraceLine.{TraceLine}
 use Rattle.texts.specs.declared.trace.line.TraceLine.TheVariants.{Flow, Sid, Input, Gap}
-use Rattle.texts.specs.Kinds.{IsLeastFault}
 use Rattle.texts.specs.Field.{SpellsBytes}
 use Rattle.texts.specs.Number.{IsNumberIn}
 
@@ -182,7 +181,3 @@ HasFaultByItself fields SameFlow = ⊥
 HasFaultByItself fields SameSid = ⊥
 HasFaultByItself fields TooShort = ⊥
 HasFaultByItself fields PointerPast = ⊥
-
--- the least of them
-abbrev pub IsLeastFaultByItself : List (List ℕ) → TraceKind → Type 0
-IsLeastFaultByItself fields = IsLeastFault (HasFaultByItself fields)

@@ -1,8 +1,9 @@
 //! A line of `cut`.
 ghost use Rattle.std.specs.Prelude.{◌∷◌, IfOk, IfErr};
-ghost use Rattle.texts.specs.Fault.{IsLineFault};
+ghost use Rattle.texts.specs.Inside.LineFault.{IsLineFault};
 ghost use Rattle.texts.specs.Lines.{words_of};
-ghost use Rattle.texts.specs.Cut.Line.{HasFault, Carries, frame_word, piece_word};
+ghost use Rattle.texts.specs.Cut.Line.{HasFault, frame_word, piece_word};
+ghost use Rattle.texts.specs.Inside.Cut.{Carries};
 
 use crate::fault::{LineFault, TraceKind};
 use crate::field::read_hex;

@@ -66,27 +66,3 @@ fn shows_each_fault_of_an_input(rt: HostRuntime) -> Result<(), Fail> {
     }
     Ok(())
 }
-
-#[test]
-fn shows_each_fault_of_a_field(rt: HostRuntime) -> Result<(), Fail> {
-    let cases = [
-        (
-            FieldFault::NotHex,
-            LineFault::Kind(TraceKind::NotHex),
-            "not hexadecimal",
-        ),
-        (
-            FieldFault::OutOfMemory,
-            LineFault::OutOfMemory,
-            "out of memory",
-        ),
-    ];
-    for (field, line, words) in &cases {
-        assert_eq!(rt; LineFault::from(*field), *line);
-        let shown = format!(in rt.alloc(); "{field}")?;
-        assert_eq!(rt; shown.as_str(), *words);
-        let shown = format!(in rt.alloc(); "{line}")?;
-        assert_eq!(rt; shown.as_str(), *words);
-    }
-    Ok(())
-}

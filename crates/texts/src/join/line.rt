@@ -1,6 +1,6 @@
 //! A line of `join`.
 ghost use Rattle.std.specs.Prelude.{◌∷◌, IfOk, IfErr};
-ghost use Rattle.texts.specs.Fault.{IsLineFault};
+ghost use Rattle.texts.specs.Inside.LineFault.{IsLineFault};
 ghost use Rattle.texts.specs.Lines.{words_of};
 ghost use Rattle.texts.specs.Join.Line.{Carries, HasFault};
 

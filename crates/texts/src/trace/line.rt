@@ -1,11 +1,12 @@
 //! A line of a trace, by itself.
 ghost use Rattle.std.specs.Prelude.{◌≡◌, ◌∷◌, ℕ, IfOk, IfErr};
-ghost use Rattle.texts.specs.Fault.{IsLineFault};
+ghost use Rattle.texts.specs.Inside.LineFault.{IsLineFault};
 ghost use Rattle.texts.specs.Lines.{words_of};
 ghost use Rattle.texts.specs.Trace.Line.{number_in, check_word, a_number, a_check};
 ghost use Rattle.texts.specs.Trace.Line.{flow_line, sid_line, grant_line, burst_line, gap_line};
 ghost use Rattle.texts.specs.Trace.Line.{word_of, IsField, IsBadField};
-ghost use Rattle.texts.specs.Trace.Line.{Carries, IsLeastFaultByItself};
+ghost use Rattle.texts.specs.Trace.Line.{Carries};
+ghost use Rattle.texts.specs.Inside.LineFault.{IsLeastFaultByItself};
 
 use crate::fault::{LineFault, TraceKind};
 use crate::field::read_hex;
@@ -109,11 +110,15 @@ fn read_flow(ring: u16, rest: &[u8]) -> Result<TraceLine, LineFault>
     let Some((sfid, first, window, clusters)) = only_four_words(rest) else {
         return Err(LineFault::Kind(TraceKind::FieldCount));
     };
+    let sfid = number_of(sfid, u32::MAX)?;
+    let first = number_of(first, SEQUENCE_MAX)? as u16;
+    let window = number_between(window, 1, 4096)? as u16;
+    let clusters = number_between(clusters, 1, 8)? as u8;
     Ok(TraceLine::Flow(FlowRecord {
-        sfid: number_of(sfid, u32::MAX)?,
-        first: number_of(first, SEQUENCE_MAX)? as u16,
-        window: number_between(window, 1, 4096)? as u16,
-        clusters: number_between(clusters, 1, 8)? as u8,
+        sfid,
+        first,
+        window,
+        clusters,
         ring,
     }))
 }
@@ -128,11 +133,10 @@ fn read_sid(rest: &[u8]) -> Result<TraceLine, LineFault>
     let Some((channel, sid, flow)) = only_three_words(rest) else {
         return Err(LineFault::Kind(TraceKind::FieldCount));
     };
-    Ok(TraceLine::Sid(SidRow {
-        channel: number_of(channel, CHANNEL_MAX)? as u8,
-        sid: number_of(sid, SID_MAX)? as u16,
-        flow: number_of(flow, FLOW_MAX)? as usize,
-    }))
+    let channel = number_of(channel, CHANNEL_MAX)? as u8;
+    let sid = number_of(sid, SID_MAX)? as u16;
+    let flow = number_of(flow, FLOW_MAX)? as usize;
+    Ok(TraceLine::Sid(SidRow { channel, sid, flow }))
 }
 
 /// `grant <channel> <number> <sid> <bytes>`, by what follows the first word.
@@ -146,11 +150,10 @@ fn read_grant(rest: &[u8]) -> Result<TraceLine, LineFault>
         return Err(LineFault::Kind(TraceKind::FieldCount));
     };
     let channel = number_of(channel, CHANNEL_MAX)? as u8;
-    let input = Input::Grant {
-        number: number_of(number, u32::MAX)?,
-        sid: number_of(sid, SID_MAX)? as u16,
-        bytes: number_of(bytes, u32::MAX)?,
-    };
+    let number = number_of(number, u32::MAX)?;
+    let sid = number_of(sid, SID_MAX)? as u16;
+    let bytes = number_of(bytes, u32::MAX)?;
+    let input = Input::Grant { number, sid, bytes };
     Ok(TraceLine::Input { channel, input })
 }
 
@@ -184,12 +187,15 @@ fn read_gap(rest: &[u8]) -> Result<TraceLine, LineFault>
         let flow = number_of(flow, FLOW_MAX)? as usize;
         return Ok(TraceLine::Gap(Decision { flow, upto: None }));
     }
-    let Some((flow, number)) = only_two_words(rest) else {
+    let Some((index, number)) = only_two_words(rest) else {
         return Err(LineFault::Kind(TraceKind::FieldCount));
     };
-    let flow = number_of(flow, FLOW_MAX)? as usize;
-    let upto = Some(number_of(number, SEQUENCE_MAX)? as u16);
-    Ok(TraceLine::Gap(Decision { flow, upto }))
+    let index = number_of(index, FLOW_MAX)? as usize;
+    let number = number_of(number, SEQUENCE_MAX)? as u16;
+    Ok(TraceLine::Gap(Decision {
+        flow: index,
+        upto: Some(number),
+    }))
 }
 
 #[cfg(test)]

@@ -1,6 +1,6 @@
 //! The lines of a trace, one after another.
-ghost use Rattle.std.specs.Prelude.{◌≡◌, ◌≤◌, ◌<◌, ◌↔◌, ◌⊎◌, IsTrue, OnOk, IfOk, IfErr, vec_len};
-ghost use Rattle.lane.specs.Limits.{channel_limit, sid_limit};
+ghost use Rattle.std.specs.Prelude.{◌≡◌, ◌≤◌, ◌<◌, ◌↔◌, ◌⊎◌, [], ◌∷◌, ◌++◌, IsTrue, OnOk, IfOk, IfErr, vec_len};
+ghost use Rattle.uplink.specs.Limits.{channel_limit, sid_limit};
 ghost use Rattle.texts.specs.Trace.{IsTrace, IsTraceFault};
 ghost use Rattle.texts.specs.Trace.Line.{word_of, flow_line, sid_line};
 
@@ -9,13 +9,20 @@ use super::line::{TraceLine, read_trace_line};
 use crate::fault::{LineFault, ParseFault, TraceKind};
 use crate::lines::{TakeLine, take_lines};
 use flow_core::FlowRecord;
-use std::alloc::Global;
+use std::alloc::{AllocError, Global};
 use uplink::{Decision, Input, Lists, SeenSids, Setup, SidRow};
 
 /// How many flows a trace may have.
 const FLOWS_MAX: usize = 64;
 /// The tag of a decision.
 const DECISION: u8 = 4;
+
+/// Appends a sender to the tags.
+fn push_tag(tags: &mut Vec<u8>, sender: u8) -> Result<(), AllocError>
+    ensures { OnOk result (tags.new.items ≡ tags.old.items ++ sender ∷ []) }
+{
+    Ok(tags.push(sender)?)
+}
 
 /// What the lines so far give.
 #[derive(Drop)]
@@ -30,7 +37,7 @@ struct Reading {
 
 impl Reading {
     ghost use Rattle.texts.specs.Trace.Place.{nothing_said};
-    ghost use Rattle.texts.specs.Trace.Reading.{HasRead, IsInRange, ReadsLine};
+    ghost use Rattle.texts.specs.Inside.Reading.{HasRead, IsInRange, ReadsLine};
 
     /// What no lines give, where each flow is to have a ring of this capacity.
     fn new(alloc: Global, ring: u16) -> Reading
@@ -110,7 +117,7 @@ impl Reading {
         requires { channel < channel_limit }
         ensures { ReadsLine self.old (TraceLine.Input channel input) result self.new }
     {
-        self.tags.push(channel)?;
+        push_tag(&mut self.tags, channel)?;
         Ok(self.lists.inputs[usize::from(channel)].push(input)?)
     }
 
@@ -119,7 +126,7 @@ impl Reading {
         ensures { ReadsLine self.old (TraceLine.Gap decision) result self.new }
     {
         self.find_flow(decision.flow)?;
-        self.tags.push(DECISION)?;
+        push_tag(&mut self.tags, DECISION)?;
         Ok(self.lists.decisions.push(decision)?)
     }
 
@@ -138,7 +145,7 @@ impl Reading {
 
 impl TakeLine for Reading {
     ghost use Rattle.texts.specs.Trace.Place.{Said, trace_format};
-    ghost use Rattle.texts.specs.Trace.Reading.{HasRead};
+    ghost use Rattle.texts.specs.Inside.Reading.{HasRead};
 
     ghost State = { Said };
 

@@ -2,7 +2,7 @@ use Rattle.std.proofs.Common.{◌≡◌}
 use Rattle.std.specs.Prelude.{map}
 use Rattle.segrx.specs.declared.command.Command.TheVariants.{Join, Replay}
 use Rattle.segrx.specs.Command.{AsksToJoin, AsksToReplay}
-use Rattle.segrx.proofs.Obeying.{Obeys-performed}
+use Rattle.segrx.proofs.ObeyedWords.{Obeys-performed}
 use Rattle.segrx.proofs.program.obey.Goals as goal
 
 pub returns : goal.returns

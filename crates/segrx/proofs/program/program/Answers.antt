@@ -1,4 +1,4 @@
-use Rattle.segrx.proofs.Statuses.{SaysOfWords-run}
+use Rattle.segrx.proofs.ExitStatuses.{SaysOfWords-run}
 use Rattle.segrx.proofs.program.program.Goals as goal
 
 pub returns-clause-outcome : goal.returns-clause-outcome

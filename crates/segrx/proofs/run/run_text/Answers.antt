@@ -2,7 +2,7 @@ use Rattle.std.proofs.Common.{sym, subst}
 use Rattle.std.proofs.lemmas.Bool.{false≢true}
 use Rattle.texts.specs.Replay.{IsReportFault}
 use Rattle.texts.specs.Run.{IsRunText}
-use Rattle.segrx.proofs.Written.{RunsEngine-failed, is_write}
+use Rattle.segrx.proofs.FailedWriter.{RunsEngine-failed, is_write}
 use Rattle.segrx.proofs.run.run_text.Goals as goal
 
 pub returns-in_err-write_text : goal.returns-in_err-write_text

@@ -1,6 +1,6 @@
 use Rattle.std.proofs.Common.{◌≡◌, ◌-◌, vec_len}
 use Rattle.std.specs.Io.KnownBytes.{Consumes}
-use Rattle.segrx.specs.Transfer.{IsCounted}
+use Rattle.segrx.specs.Inside.Transfer.{IsCounted}
 use Rattle.segrx.proofs.transfer.read_input.Given as goal
 
 abbrev pub invariant-loop-room : goal.invariant-loop-room

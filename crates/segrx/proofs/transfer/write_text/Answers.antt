@@ -1,5 +1,5 @@
 use Rattle.std.proofs.Common.{rules}
-use Rattle.segrx.proofs.KnownBytes.{AppendsBefore-more}
+use Rattle.segrx.proofs.WrittenFront.{AppendsBefore-more}
 use Rattle.std.proofs.lemmas.List.{take_rest}
 use Rattle.segrx.proofs.transfer.write_text.Goals as goal
 

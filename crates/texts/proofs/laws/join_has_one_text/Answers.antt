@@ -4,7 +4,7 @@ use Rattle.ccf.specs.Join.{Joins}
 use Rattle.texts.specs.Lines.{lines_of}
 use Rattle.texts.specs.Join.{frame_line}
 use Rattle.texts.specs.Join.Line.{join_format}
-use Rattle.texts.proofs.OneReading.{one_reading}
+use Rattle.texts.proofs.LinesReadOneWay.{one_reading}
 use Rattle.texts.proofs.OneJoinLine.{join_is_determined}
 use Rattle.texts.proofs.laws.join_has_one_text.Goals as goal
 use Rattle.texts.specs.AnyHeader.{any_header}

@@ -1,13 +1,11 @@
 use Rattle.std.proofs.Common.{◌≡◌, List, ℕ, sym, subst, ◌∙◌, arith}
-use Rattle.receiver.specs.Items.{incoming_of}
-use Rattle.receiver.specs.Outcome.{IsOutcome}
-use Rattle.receiver.specs.AdmittedOrder.{IsAdmittedOrder}
-use Rattle.receiver.specs.Faults.{CanReceive}
+use Rattle.uplink.specs.Items.{incoming_of}
+use Rattle.uplink.specs.Answer.{IsOutcome, IsAdmittedOrder, CanReceive}
 use Rattle.texts.specs.AnyHeader.{any_header}
 use Rattle.texts.specs.Replay.{default_capacity}
 use Rattle.texts.specs.Trace.{AreSameTraces}
 use Rattle.texts.proofs.OneReport.{report_text_same}
-use Rattle.texts.proofs.OnePlay.{order_moved, outcome_moved, one_order}
+use Rattle.texts.proofs.OneReplay.{order_moved, outcome_moved, one_order}
 use Rattle.texts.proofs.laws.replay_has_one_text.Goals as goal
 
 pub returns : goal.returns

@@ -1,6 +1,6 @@
 use Rattle.std.proofs.Common.{◌+◌, ◌∙◌, sym}
 use Rattle.std.proofs.lemmas.List.{take_rest}
-use Rattle.texts.proofs.Parts.{lines_of-feed, lines_of-last}
+use Rattle.texts.proofs.LinesAndWords.{lines_of-feed, lines_of-last}
 use Rattle.texts.proofs.lines.split_line.Goals as goal
 
 pub returns-in-Some-clause-lines : goal.returns-in-Some-clause-lines

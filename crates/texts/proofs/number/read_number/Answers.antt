@@ -1,5 +1,5 @@
 use Rattle.std.proofs.Common.{◌+◌, ◌∙◌, arith}
-use Rattle.texts.proofs.Numbers.{IsNoNumber-byte, IsNoNumber-past, ReadsDigit-more}
+use Rattle.texts.proofs.NumberFields.{IsNoNumber-byte, IsNoNumber-past, ReadsDigit-more}
 use Rattle.texts.proofs.number.read_number.Goals as goal
 
 pub returns-in_default-clause-none : goal.returns-in_default-clause-none

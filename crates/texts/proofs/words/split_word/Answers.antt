@@ -1,5 +1,5 @@
 use Rattle.std.proofs.Common.{◌∙◌, sym}
-use Rattle.texts.proofs.Parts.{BeginsWord-at, words_of-none, words_of-word, words_of-last}
+use Rattle.texts.proofs.LinesAndWords.{BeginsWord-at, words_of-none, words_of-word, words_of-last}
 use Rattle.texts.proofs.words.split_word.Goals as goal
 
 pub returns-in_err-start : goal.returns-in_err-start

@@ -6,7 +6,7 @@ use std::test::Fail;
 const RING: u16 = 7;
 
 /// What a line with fields says.
-fn read(alloc: Global, line: &str) -> Result<TraceLine, LineFault> {
+fn read_line(alloc: Global, line: &str) -> Result<TraceLine, LineFault> {
     match split_field(line.as_bytes()) {
         Some((field, rest)) => read_trace_line(alloc, RING, field, rest),
         None => Err(LineFault::Kind(TraceKind::FieldCount)),
@@ -36,7 +36,7 @@ fn reads_flows(rt: HostRuntime) -> Result<(), Fail> {
         (" flow\t007  0008 0009\t0001 \r", flow(7, 8, 9, 1)),
     ];
     for (line, record) in &cases {
-        match read(rt.alloc(), line)? {
+        match read_line(rt.alloc(), line)? {
             TraceLine::Flow(other) => assert_eq!(rt; other, *record, "{line}"),
             _ => assert!(rt; false, "{line}"),
         }
@@ -57,7 +57,7 @@ fn reads_sids(rt: HostRuntime) -> Result<(), Fail> {
             sid: *sid,
             flow: *flow,
         };
-        match read(rt.alloc(), line)? {
+        match read_line(rt.alloc(), line)? {
             TraceLine::Sid(other) => assert_eq!(rt; other, row, "{line}"),
             _ => assert!(rt; false, "{line}"),
         }
@@ -76,7 +76,7 @@ fn reads_grants(rt: HostRuntime) -> Result<(), Fail> {
         ("grant 2 0 0 0", (2, 0, 0, 0)),
     ];
     for (line, says) in &cases {
-        match read(rt.alloc(), line)? {
+        match read_line(rt.alloc(), line)? {
             TraceLine::Input {
                 channel,
                 input: Input::Grant { number, sid, bytes },
@@ -104,7 +104,7 @@ fn reads_bursts(rt: HostRuntime) -> Result<(), Fail> {
         ),
     ];
     for (line, says, written) in &cases {
-        match read(rt.alloc(), line)? {
+        match read_line(rt.alloc(), line)? {
             TraceLine::Input {
                 channel,
                 input: Input::Burst {
@@ -135,7 +135,7 @@ fn reads_gaps(rt: HostRuntime) -> Result<(), Fail> {
             flow: *flow,
             upto: *upto,
         };
-        match read(rt.alloc(), line)? {
+        match read_line(rt.alloc(), line)? {
             TraceLine::Gap(other) => assert_eq!(rt; other, decision, "{line}"),
             _ => assert!(rt; false, "{line}"),
         }
@@ -204,15 +204,15 @@ const BAD_WORDS: [(&str, TraceKind); 8] = [
 ];
 
 /// The fault of a line.
-fn fault_of(alloc: Global, line: &str) -> Option<LineFault> {
-    read(alloc, line).err()
+fn fault_of_line(alloc: Global, line: &str) -> Option<LineFault> {
+    read_line(alloc, line).err()
 }
 
 #[test]
 fn refuses_unknown_words_and_wrong_counts(rt: HostRuntime) {
     for (line, kind) in &MISCOUNTED {
         assert_eq!(rt;
-            fault_of(rt.alloc(), line),
+            fault_of_line(rt.alloc(), line),
             Some(LineFault::Kind(*kind)),
             "{line}"
         );
@@ -223,7 +223,7 @@ fn refuses_unknown_words_and_wrong_counts(rt: HostRuntime) {
 fn refuses_numbers_out_of_their_ranges(rt: HostRuntime) {
     for line in &BAD_NUMBERS {
         assert_eq!(rt;
-            fault_of(rt.alloc(), line),
+            fault_of_line(rt.alloc(), line),
             Some(LineFault::Kind(TraceKind::BadNumber)),
             "{line}"
         );
@@ -234,7 +234,7 @@ fn refuses_numbers_out_of_their_ranges(rt: HostRuntime) {
 fn refuses_bad_words_and_bad_digits(rt: HostRuntime) {
     for (line, kind) in &BAD_WORDS {
         assert_eq!(rt;
-            fault_of(rt.alloc(), line),
+            fault_of_line(rt.alloc(), line),
             Some(LineFault::Kind(*kind)),
             "{line}"
         );

@@ -173,12 +173,12 @@ const FAULTY: [(&str, u64, TraceKind); 23] = [
 ];
 
 /// The fault of an input that should be a trace.
-fn fault_of(alloc: Global, input: &[u8]) -> Option<ParseFault> {
+fn fault_of_trace(alloc: Global, input: &[u8]) -> Option<ParseFault> {
     parse_trace(alloc, input, 1, 1).err()
 }
 
 /// A faulty line.
-fn at(line: u64, kind: TraceKind) -> Option<ParseFault> {
+fn faulty_line(line: u64, kind: TraceKind) -> Option<ParseFault> {
     Some(ParseFault::Line(TraceFault { line, kind }))
 }
 
@@ -186,8 +186,8 @@ fn at(line: u64, kind: TraceKind) -> Option<ParseFault> {
 fn reports_the_first_faulty_line(rt: HostRuntime) {
     for (input, line, kind) in &FAULTY {
         assert_eq!(rt;
-            fault_of(rt.alloc(), input.as_bytes()),
-            at(*line, *kind),
+            fault_of_trace(rt.alloc(), input.as_bytes()),
+            faulty_line(*line, *kind),
             "{input}"
         );
     }
@@ -204,7 +204,11 @@ fn refuses_a_65th_flow(rt: HostRuntime) -> Result<(), Fail> {
     for (line, kind) in &cases {
         let mut input = flows(rt.alloc(), 64)?;
         input.extend_from_slice(line.as_bytes())?;
-        assert_eq!(rt; fault_of(rt.alloc(), &input), at(65, *kind), "{line}");
+        assert_eq!(rt;
+            fault_of_trace(rt.alloc(), &input),
+            faulty_line(65, *kind),
+            "{line}"
+        );
     }
     Ok(())
 }

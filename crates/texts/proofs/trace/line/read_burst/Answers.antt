@@ -1,4 +1,4 @@
-use Rattle.std.proofs.Common.{ap, inl, inr, refl, Err}
+use Rattle.std.proofs.Common.{inl, inr, refl}
 use Rattle.std.proofs.lemmas.Result.{err_from_is_err_and}
 use Rattle.texts.specs.Lines.{words_of}
 use Rattle.texts.specs.Trace.Line.{a_number, a_check, burst_line}
@@ -29,13 +29,14 @@ returns-in_err-read_check-clause-fault c =
 pub returns-in_err-read_hex-clause-fault : goal.returns-in_err-read_hex-clause-fault
 returns-in_err-read_hex-clause-fault c =
     let p = err_from_is_err_and c.from_residual-in_err-read_hex.result c.from_residual-in_err-read_hex.ensures.1 in
-    rw (p.1, p.2) (hex_fault burst_line _ _ c.in_err-read_hex.field-0.0 c.in-Some.ensures refl
+    rw (p.1, p.2) (hex_fault burst_line _ _ _ c.in_err-read_hex.field-0.0 c.in-Some.ensures refl
     (λ none. inr (
       a_number _,
       c.in_ok-channel.ensures.number,
       inr (
         a_number _,
         c.in_ok-number_of.ensures.number,
-        inr (a_check _, c.in_ok-read_check.ensures.check, inl (refl, IsBadField-hex _ (c.in_err-read_hex.ensures.not_hex (ap Err none)))),
+        inr (a_check _, c.in_ok-read_check.ensures.check, inl (refl, IsBadField-hex _ none)),
       ),
-    )))
+    ))
+    c.in_err-read_hex.ensures.fault)

@@ -14,14 +14,14 @@ returns-in_err-flow-clause-fault c =
 pub returns-in_default-only_two_words-clause-fault : goal.returns-in_default-only_two_words-clause-fault
 returns-in_default-only_two_words-clause-fault c = miscounted_gap (words_of c.args.rest.now) c.in_default.ensures c.in_default-only_two_words.ensures
 
-pub returns-in_err-flow-2-clause-fault : goal.returns-in_err-flow-2-clause-fault
-returns-in_err-flow-2-clause-fault c =
-    let p = err_from_is_err_and c.from_residual-in_err-flow-2.result c.from_residual-in_err-flow-2.ensures.1 in
-    rw (p.1, p.2) (number_fault gap_to_line _ _ _ c.in-Some-only_two_words.ensures refl c.in_err-flow-2.ensures.kind
-    (inl (refl, c.in_err-flow-2.ensures.bad)))
+pub returns-in_err-index-clause-fault : goal.returns-in_err-index-clause-fault
+returns-in_err-index-clause-fault c =
+    let p = err_from_is_err_and c.from_residual-in_err-index.result c.from_residual-in_err-index.ensures.1 in
+    rw (p.1, p.2) (number_fault gap_to_line _ _ _ c.in-Some-only_two_words.ensures refl c.in_err-index.ensures.kind
+    (inl (refl, c.in_err-index.ensures.bad)))
 
-pub returns-in_err-number_of-clause-fault : goal.returns-in_err-number_of-clause-fault
-returns-in_err-number_of-clause-fault c =
-    let p = err_from_is_err_and c.from_residual-in_err-number_of.result c.from_residual-in_err-number_of.ensures.1 in
-    rw (p.1, p.2) (number_fault gap_to_line _ _ _ c.in-Some-only_two_words.ensures refl c.in_err-number_of.ensures.kind
-    (inr (a_number _, c.in_ok-flow-2.ensures.number, inl (refl, c.in_err-number_of.ensures.bad))))
+pub returns-in_err-number-clause-fault : goal.returns-in_err-number-clause-fault
+returns-in_err-number-clause-fault c =
+    let p = err_from_is_err_and c.from_residual-in_err-number.result c.from_residual-in_err-number.ensures.1 in
+    rw (p.1, p.2) (number_fault gap_to_line _ _ _ c.in-Some-only_two_words.ensures refl c.in_err-number.ensures.kind
+    (inr (a_number _, c.in_ok-index.ensures.number, inl (refl, c.in_err-number.ensures.bad))))

@@ -14,20 +14,20 @@ returns-in_err-channel-clause-fault c =
     rw (p.1, p.2) (number_fault grant_line _ _ _ c.in-Some.ensures refl c.in_err-channel.ensures.kind
     (inl (refl, c.in_err-channel.ensures.bad)))
 
-pub returns-in_err-number_of-clause-fault : goal.returns-in_err-number_of-clause-fault
-returns-in_err-number_of-clause-fault c =
-    let p = err_from_is_err_and c.from_residual-in_err-number_of.result c.from_residual-in_err-number_of.ensures.1 in
-    rw (p.1, p.2) (number_fault grant_line _ _ _ c.in-Some.ensures refl c.in_err-number_of.ensures.kind
-    (inr (a_number _, c.in_ok-channel.ensures.number, inl (refl, c.in_err-number_of.ensures.bad))))
+pub returns-in_err-number-clause-fault : goal.returns-in_err-number-clause-fault
+returns-in_err-number-clause-fault c =
+    let p = err_from_is_err_and c.from_residual-in_err-number.result c.from_residual-in_err-number.ensures.1 in
+    rw (p.1, p.2) (number_fault grant_line _ _ _ c.in-Some.ensures refl c.in_err-number.ensures.kind
+    (inr (a_number _, c.in_ok-channel.ensures.number, inl (refl, c.in_err-number.ensures.bad))))
 
-pub returns-in_err-number_of-2-clause-fault : goal.returns-in_err-number_of-2-clause-fault
-returns-in_err-number_of-2-clause-fault c =
-    let p = err_from_is_err_and c.from_residual-in_err-number_of-2.result c.from_residual-in_err-number_of-2.ensures.1 in
-    rw (p.1, p.2) (number_fault grant_line _ _ _ c.in-Some.ensures refl c.in_err-number_of-2.ensures.kind
-    (inr (a_number _, c.in_ok-channel.ensures.number, inr (a_number _, c.in_ok-number_of.ensures.number, inl (refl, c.in_err-number_of-2.ensures.bad)))))
+pub returns-in_err-sid-clause-fault : goal.returns-in_err-sid-clause-fault
+returns-in_err-sid-clause-fault c =
+    let p = err_from_is_err_and c.from_residual-in_err-sid.result c.from_residual-in_err-sid.ensures.1 in
+    rw (p.1, p.2) (number_fault grant_line _ _ _ c.in-Some.ensures refl c.in_err-sid.ensures.kind
+    (inr (a_number _, c.in_ok-channel.ensures.number, inr (a_number _, c.in_ok-number.ensures.number, inl (refl, c.in_err-sid.ensures.bad)))))
 
-pub returns-in_err-number_of-3-clause-fault : goal.returns-in_err-number_of-3-clause-fault
-returns-in_err-number_of-3-clause-fault c =
-    let p = err_from_is_err_and c.from_residual-in_err-number_of-3.result c.from_residual-in_err-number_of-3.ensures.1 in
-    rw (p.1, p.2) (number_fault grant_line _ _ _ c.in-Some.ensures refl c.in_err-number_of-3.ensures.kind
-    (inr (a_number _, c.in_ok-channel.ensures.number, inr (a_number _, c.in_ok-number_of.ensures.number, inr (a_number _, c.in_ok-number_of-2.ensures.number, inl (refl, c.in_err-number_of-3.ensures.bad))))))
+pub returns-in_err-bytes-clause-fault : goal.returns-in_err-bytes-clause-fault
+returns-in_err-bytes-clause-fault c =
+    let p = err_from_is_err_and c.from_residual-in_err-bytes.result c.from_residual-in_err-bytes.ensures.1 in
+    rw (p.1, p.2) (number_fault grant_line _ _ _ c.in-Some.ensures refl c.in_err-bytes.ensures.kind
+    (inr (a_number _, c.in_ok-channel.ensures.number, inr (a_number _, c.in_ok-number.ensures.number, inr (a_number _, c.in_ok-sid.ensures.number, inl (refl, c.in_err-bytes.ensures.bad))))))

@@ -1,7 +1,7 @@
 use Rattle.std.proofs.Common.{◌∙◌, refl}
 use Rattle.texts.specs.declared.trace.line.TraceLine.TheVariants as line
 use Rattle.texts.specs.Trace.Place.{came, with_line}
-use Rattle.texts.proofs.Readings.{input_without_fault, tags-pushed, AreListsOf-input, seen-kept}
+use Rattle.texts.proofs.TraceSoFar.{input_without_fault, tags-pushed, AreListsOf-input, seen-kept}
 use Rattle.texts.proofs.trace.reading.Reading.add_input.Goals as goal
 
 pub returns : goal.returns
@@ -14,8 +14,8 @@ returns c = λ said has.
         flows = has.flows;
         sids = has.sids;
         lists = AreListsOf-input said.entries c.args.self.now.lists _ c.args.channel c.args.input c.from.result c.index-self-from.result _
-            has.lists c.requires c.from.ensures refl c.in_ok-push-2.ensures.items refl;
-        tags = c.in_ok-push.ensures.items ∙ tags-pushed c.args.self.now.tags.items said.entries entry has.tags;
+            has.lists c.requires c.from.ensures refl c.in_ok-push.ensures.items refl;
+        tags = c.in_ok-push_tag.ensures ∙ tags-pushed c.args.self.now.tags.items said.entries entry has.tags;
         seen = seen-kept said (with_line said (line.Input c.args.channel c.args.input)) c.args.self.now.seen refl has.seen;
       };
     }

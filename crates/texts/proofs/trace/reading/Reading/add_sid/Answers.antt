@@ -1,6 +1,6 @@
 use Rattle.std.proofs.Common.{◌≡◌, ◌∙◌, ◌++◌, ◌∷◌, [], true, ap}
 use Rattle.texts.specs.Trace.Place.{IsSidAbove}
-use Rattle.texts.proofs.Readings.{flow_known, sid_without_fault, seen-pushed}
+use Rattle.texts.proofs.TraceSoFar.{flow_known, sid_without_fault, seen-pushed}
 use Rattle.texts.proofs.trace.reading.Reading.add_sid.Goals as goal
 
 pub returns : goal.returns

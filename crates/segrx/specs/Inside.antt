@@ -1,0 +1,5 @@
+-- What only the contracts of functions inside this crate cite.
+pub mod Options
+pub mod Command
+pub mod Transfer
+pub mod Program

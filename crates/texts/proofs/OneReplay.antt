@@ -1,0 +1,112 @@
+-- Traces that say the same are played in one order, and to one outcome.
+use Rattle.std.proofs.Common.{◌≡◌, ℕ, zero, suc, ◌<◌, Bool, List, length, map, refl, sym, ap, subst, ◌∙◌, arith}
+use Rattle.std.specs.Prelude.{nat_lt, filter, is_some, if◌then◌else◌}
+use Rattle.uplink.specs.declared.outcome.Outcome.{Outcome}
+use Rattle.uplink.specs.declared.setup.Setup.{Setup}
+use Rattle.uplink.specs.Limits.{channel_limit}
+use Rattle.uplink.specs.Rows.{CanBeOpened}
+use Rattle.uplink.specs.Inputs.{LaneSetup, AnsweredInput, AreAnswered, inputs_of}
+use Rattle.uplink.specs.Report.{admitted_by, admitted_of}
+use Rattle.uplink.specs.Order.{senders, kept_places, IsMergeOf}
+use Rattle.uplink.specs.Items.{Incoming, AreLanesOf, lane_setup, items_of, are_items, event_of_admitted, event_of_decision, names_a_flow}
+use Rattle.uplink.specs.Answer.{IsOutcome, IsAdmittedOrder, AreOutcomesOfFlows, CanReceive}
+
+-- lists with the same items have the same merges
+merge_moved : {T : Type 0} (lists others : ℕ → List T) (order : List ℕ) (items : List T)
+    → ((sender : ℕ) → sender < senders → lists sender ≡ others sender) → IsMergeOf lists order items → IsMergeOf others order items
+merge_moved lists others order items same is =
+    record { named = is.named; paired = is.paired; lists_are = λ sender below. is.lists_are sender below ∙ same sender below }
+
+module _ (setup other : Setup) (incoming more : Incoming) (flows : setup.flows.items ≡ other.flows.items) (sids : setup.sids.items ≡ other.sids.items)
+    (inputs : (channel : ℕ) → channel < channel_limit → incoming.inputs channel ≡ more.inputs channel) (decisions : incoming.decisions ≡ more.decisions) where
+  -- the answers to the same inputs
+  lanes_moved : (answered : ℕ → List AnsweredInput) → AreLanesOf setup incoming answered → AreLanesOf other more answered
+  lanes_moved answered lanes channel below =
+      let is = lanes channel below in
+      let rows = subst (λ rows. AreAnswered (record { channel = channel; rows = rows; records = setup.flows.items }) (answered channel)) sids is.answers in
+      record {
+        answers = subst (λ records. AreAnswered (record { channel = channel; rows = other.sids.items; records = records }) (answered channel)) flows rows;
+        inputs = is.inputs ∙ inputs channel below;
+      }
+
+  -- which inputs and decisions give an item
+  are_items_moved : (answered : ℕ → List AnsweredInput) (sender : ℕ) → are_items setup incoming answered sender ≡ are_items other more answered sender
+  are_items_moved answered sender =
+      let lane = map (λ one. is_some (admitted_by one.answer)) (answered sender) in
+      ap (λ records. if nat_lt sender channel_limit then lane else map (names_a_flow (length records)) incoming.decisions) flows
+      ∙ ap (λ decided. if nat_lt sender channel_limit then lane else map (names_a_flow (length other.flows.items)) decided) decisions
+
+  -- and the items
+  items_moved : (answered : ℕ → List AnsweredInput) (sender : ℕ) → items_of setup incoming answered sender ≡ items_of other more answered sender
+  items_moved answered sender =
+      let lane = map event_of_admitted (admitted_of (answered sender)) in
+      ap (λ records. if nat_lt sender channel_limit then lane else map event_of_decision (filter (names_a_flow (length records)) incoming.decisions)) flows
+      ∙ ap
+      (λ decided. if nat_lt sender channel_limit then lane else map event_of_decision (filter (names_a_flow (length other.flows.items)) decided))
+      decisions
+
+  -- the admitted order
+  pub order_moved : (tags order : List ℕ) → IsAdmittedOrder setup incoming tags order → IsAdmittedOrder other more tags order
+  order_moved tags order is = record {
+    answered = is.answered;
+    lanes = lanes_moved is.answered is.lanes;
+    flags = is.flags;
+    merged =
+        merge_moved (are_items setup incoming is.answered) (are_items other more is.answered) tags is.flags
+        (λ sender _. are_items_moved is.answered sender) is.merged;
+    order_is = is.order_is;
+  }
+
+  -- and the outcome
+  pub outcome_moved : (check : List ℕ → Bool) (order : List ℕ) (outcome : Outcome) → IsOutcome check setup incoming order outcome
+      → IsOutcome check other more order outcome
+  outcome_moved check order outcome is = record {
+    answered = is.answered;
+    lanes = lanes_moved is.answered is.lanes;
+    items = is.items;
+    merged =
+        merge_moved (items_of setup incoming is.answered) (items_of other more is.answered) order is.items
+        (λ sender _. items_moved is.answered sender) is.merged;
+    flows = subst (λ records. AreOutcomesOfFlows check records is.items outcome.flows.items) flows is.flows;
+    request_lists = is.request_lists;
+    requests = is.requests;
+    report_count = is.report_count;
+    reports = is.reports;
+    order_is = is.order_is;
+  }
+
+-- inputs of a lane have one list of answers
+abbrev pub AnswersAreOne : Type 0
+AnswersAreOne =
+    (setup : LaneSetup) (taken others : List AnsweredInput) → CanBeOpened setup.rows (length setup.records)
+    → AreAnswered setup taken → AreAnswered setup others → inputs_of taken ≡ inputs_of others → taken ≡ others
+
+-- flags have one merge
+abbrev pub MergesAreOne : Type 0
+MergesAreOne =
+    (lists : ℕ → List Bool) (order : List ℕ) (flags others : List Bool) → IsMergeOf lists order flags → IsMergeOf lists order others → flags ≡ others
+
+module _ (setup : Setup) (incoming : Incoming) (can : CanReceive setup) where
+  same_flags : (answered others : ℕ → List AnsweredInput) → ((channel : ℕ) → channel < channel_limit → answered channel ≡ others channel)
+      → (sender : ℕ) → sender < senders → are_items setup incoming answered sender ≡ are_items setup incoming others sender
+  same_flags answered others same zero below = ap (map (λ one. is_some (admitted_by one.answer))) (same 0 (omega arith))
+  same_flags answered others same (suc zero) below = ap (map (λ one. is_some (admitted_by one.answer))) (same 1 (omega arith))
+  same_flags answered others same (suc (suc zero)) below = ap (map (λ one. is_some (admitted_by one.answer))) (same 2 (omega arith))
+  same_flags answered others same (suc (suc (suc zero))) below = ap (map (λ one. is_some (admitted_by one.answer))) (same 3 (omega arith))
+  same_flags answered others same (suc (suc (suc (suc zero)))) below = refl
+  same_flags answered others same (suc (suc (suc (suc (suc more))))) below = absurd (omega arith)
+
+  -- tags have one admitted order
+  pub one_order : AnswersAreOne → MergesAreOne → (tags order other : List ℕ)
+      → IsAdmittedOrder setup incoming tags order → IsAdmittedOrder setup incoming tags other → order ≡ other
+  one_order answers merges tags order other is also =
+      let same : (channel : ℕ) → channel < channel_limit → is.answered channel ≡ also.answered channel =
+      λ channel below.
+      let one = is.lanes channel below in
+      let two = also.lanes channel below in
+      answers (lane_setup setup channel) (is.answered channel) (also.answered channel) can.lanes one.answers two.answers (one.inputs ∙ sym two.inputs)
+      in
+      let back = λ (sender : ℕ) (below : sender < senders). sym (same_flags is.answered also.answered same sender below) in
+      let merged = merge_moved (are_items setup incoming also.answered) (are_items setup incoming is.answered) tags also.flags back also.merged in
+      let flags = merges (are_items setup incoming is.answered) tags is.flags also.flags is.merged merged in
+      is.order_is ∙ ap (kept_places tags) flags ∙ sym also.order_is

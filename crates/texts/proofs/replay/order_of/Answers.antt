@@ -1,0 +1,14 @@
+use Rattle.std.proofs.Common.{sym, subst}
+use Rattle.uplink.specs.Items.{incoming_of}
+use Rattle.uplink.specs.Order.{IsLawfulOrder, IsOrderFault}
+use Rattle.uplink.specs.Answer.{input_counts}
+use Rattle.texts.proofs.OutOfMemoryAlone.{unless_out_of_memory}
+use Rattle.texts.proofs.replay.order_of.Goals as goal
+
+pub unless_out_of_memory-requires : goal.unless_out_of_memory-requires
+unless_out_of_memory-requires c =
+    let lengths = input_counts (incoming_of c.args.trace.now.lists) in
+    let tags = c.deref.result.now in
+    let lawful : IsLawfulOrder lengths tags = subst (IsLawfulOrder lengths) (sym c.deref.ensures.value) c.requires.lawful in
+    unless_out_of_memory c.args.trace.now.setup (IsOrderFault lengths tags) c.admitted_order-order.result c.rows_have_one_first_fault.ensures.none c.requires.can_receive
+    (λ k. c.lawful_order_has_no_fault.ensures lengths tags k lawful) c.admitted_order-order.ensures.fault

@@ -1,0 +1,20 @@
+-- What a line of `cut` carries, and the lines of a cut's segments.
+use Rattle.std.specs.Prelude.{◌≡◌, ℕ, List, flat_map}
+use Rattle.docsis_wire.specs.declared.segment.Segment.{Segment}
+use Rattle.docsis_wire.specs.declared.pieces.Piece.{Piece}
+use Rattle.docsis_wire.specs.declared.pieces.FillByte.{FillByte}
+use Rattle.texts.specs.declared.cut.line.CutLine.{CutLine}
+use Rattle.texts.specs.declared.cut.line.CutLine.TheVariants as cut_line
+use Rattle.texts.specs.Cut.{IsCutInto, segment_line}
+use Rattle.texts.specs.Cut.Line.{CarriesFrame, CarriesPiece}
+
+-- a line for each segment that frames are cut into
+pub record IsPrinted (first : ℕ) (fill : FillByte) (frames : List (List ℕ)) (pieces : List Piece) (text : List ℕ) : Type 0 where
+  pub segments : List Segment
+  pub cut : IsCutInto first fill frames pieces segments
+  pub printed : text ≡ flat_map segment_line segments
+
+-- the fields carry this frame, or this piece
+abbrev pub Carries : List (List ℕ) → CutLine → Type 0
+Carries fields (cut_line.Frame frame) = CarriesFrame fields frame
+Carries fields (cut_line.Piece piece) = CarriesPiece fields piece

@@ -1,0 +1,81 @@
+//! The text of `replay`: the report of a trace.
+ghost use Rattle.std.specs.Prelude.{◌≤◌, IfOk, IfErr};
+ghost use Rattle.uplink.specs.Items.{incoming_of};
+ghost use Rattle.uplink.specs.Answer.{CanReceive, input_counts, IsAdmittedOrder};
+ghost use Rattle.uplink.specs.Order.{IsLawfulOrder};
+ghost use Rattle.texts.specs.Trace.{IsTrace, IsTraceFault};
+ghost use Rattle.texts.specs.Replay.{default_capacity, IsPlayed, IsReplayed, IsReplayFault};
+
+use crate::capacities::{Capacities, DEFAULT_CAPACITY};
+use crate::fault::{ParseFault, TextFault};
+use crate::receiver_fault::unless_out_of_memory;
+use crate::report_lines::report;
+use crate::trace::{Trace, parse_trace};
+use docsis_wire::NoCheck;
+use std::alloc::{AllocError, Global};
+use uplink::{Outcome, admitted_order, replay};
+
+/// The trace of an input, which is freed, with rings and mailboxes of these capacities, each at
+/// least 1.
+pub fn read_trace(
+    alloc: Global,
+    input: Vec<u8>,
+    capacities: Capacities,
+) -> Result<Trace, ParseFault>
+    requires ring { 1 ≤ capacities.ring }
+    requires mailbox { 1 ≤ capacities.mailbox }
+    ensures trace { IfOk result (IsTrace capacities.ring capacities.mailbox input.items) }
+    ensures fault { IfErr result (IsTraceFault capacities.ring input.items) }
+{
+    parse_trace(alloc, &input, capacities.ring, capacities.mailbox)
+}
+
+/// The senders of what a trace's lines say that was admitted, in the order of the lines.
+fn order_of(alloc: Global, trace: &Trace) -> Result<Vec<u8>, AllocError>
+    requires can_receive { CanReceive trace.now.setup }
+    requires lawful { IsLawfulOrder (input_counts (incoming_of trace.now.lists))
+        trace.now.tags.items }
+    ensures { IfOk result (λ order. IsAdmittedOrder
+        trace.now.setup (incoming_of trace.now.lists) trace.now.tags.items order.items) }
+{
+    uplink::laws::rows_have_one_first_fault();
+    uplink::laws::lawful_order_has_no_fault();
+    let order = admitted_order(alloc, &trace.setup, &trace.lists, &trace.tags);
+    unless_out_of_memory(order)
+}
+
+/// What a trace gives, which is freed.
+fn replay_trace(alloc: Global, trace: Trace) -> Result<Outcome, AllocError>
+    requires can_receive { CanReceive trace.setup }
+    requires lawful { IsLawfulOrder (input_counts (incoming_of trace.lists))
+        trace.tags.items }
+    ensures { IfOk result (IsPlayed trace) }
+{
+    uplink::laws::rows_have_one_first_fault();
+    uplink::laws::admitted_order_is_lawful();
+    let order = order_of(alloc, &trace)?;
+    let answer = replay(alloc, &trace.setup, &trace.lists, &order, NoCheck);
+    unless_out_of_memory(answer)
+}
+
+/// The report of a trace: its grants, bursts and decisions are taken in the order of their lines.
+///
+/// Otherwise it reports the first faulty line, or that an allocation failed. That an input has at
+/// most one text or one fault, and never both, is stated by
+/// [`replay_has_one_text`](crate::laws::replay_has_one_text),
+/// [`report_has_one_fault`](crate::laws::report_has_one_fault) and
+/// [`faulty_input_has_no_report`](crate::laws::faulty_input_has_no_report).
+pub fn replay_lines(alloc: Global, input: Vec<u8>) -> Result<Vec<u8>, TextFault>
+    ensures text { IfOk result (λ text. IsReplayed input.items text.items) }
+    ensures fault { IfErr result (IsReplayFault input.items) }
+{
+    crate::laws::trace_passes_the_checks();
+    crate::laws::tags_of_a_trace_are_lawful();
+    let capacities = Capacities {
+        mailbox: DEFAULT_CAPACITY,
+        ring: DEFAULT_CAPACITY,
+    };
+    let trace = read_trace(alloc, input, capacities)?;
+    let outcome = replay_trace(alloc, trace)?;
+    Ok(report(alloc, &outcome)?)
+}
