@@ -1,15 +1,17 @@
 -- Traces that say the same are played in one order, and to one outcome.
 use Rattle.std.proofs.Common.{◌≡◌, ℕ, zero, suc, ◌<◌, Bool, List, length, map, refl, sym, ap, subst, ◌∙◌, arith}
 use Rattle.std.specs.Prelude.{nat_lt, filter, is_some, if◌then◌else◌}
-use Rattle.uplink.specs.declared.outcome.Outcome.{Outcome}
-use Rattle.uplink.specs.declared.setup.Setup.{Setup}
-use Rattle.uplink.specs.Limits.{channel_limit}
-use Rattle.uplink.specs.Rows.{CanBeOpened}
-use Rattle.uplink.specs.Inputs.{LaneSetup, AnsweredInput, AreAnswered, inputs_of}
-use Rattle.uplink.specs.Report.{admitted_by, admitted_of}
-use Rattle.uplink.specs.Order.{senders, kept_places, IsMergeOf}
-use Rattle.uplink.specs.Items.{Incoming, AreLanesOf, lane_setup, items_of, are_items, event_of_admitted, event_of_decision, names_a_flow}
-use Rattle.uplink.specs.Answer.{IsOutcome, IsAdmittedOrder, AreOutcomesOfFlows, CanReceive}
+use Rattle.receiver.specs.declared.outcome.Outcome.{Outcome}
+use Rattle.receiver.specs.declared.setup.Setup.{Setup}
+use Rattle.lane.specs.Limits.{channel_limit}
+use Rattle.lane.specs.Rows.{CanBeOpened}
+use Rattle.lane.specs.Inputs.{LaneSetup, AnsweredInput, AreAnswered, inputs_of}
+use Rattle.lane.specs.Report.{admitted_by, admitted_of}
+use Rattle.receiver.specs.Order.{senders, kept_places, IsMergeOf}
+use Rattle.receiver.specs.Items.{Incoming, AreLanesOf, lane_setup, items_of, are_items, event_of_admitted, event_of_decision, names_a_flow}
+use Rattle.receiver.specs.Outcome.{IsOutcome, AreOutcomesOfFlows}
+use Rattle.receiver.specs.AdmittedOrder.{IsAdmittedOrder}
+use Rattle.receiver.specs.Faults.{CanReceive}
 
 -- lists with the same items have the same merges
 merge_moved : {T : Type 0} (lists others : ℕ → List T) (order : List ℕ) (items : List T)
@@ -61,13 +63,15 @@ module _ (setup other : Setup) (incoming more : Incoming) (flows : setup.flows.i
   pub outcome_moved : (check : List ℕ → Bool) (order : List ℕ) (outcome : Outcome) → IsOutcome check setup incoming order outcome
       → IsOutcome check other more order outcome
   outcome_moved check order outcome is = record {
-    answered = is.answered;
-    lanes = lanes_moved is.answered is.lanes;
-    items = is.items;
-    merged =
-        merge_moved (items_of setup incoming is.answered) (items_of other more is.answered) order is.items
-        (λ sender _. items_moved is.answered sender) is.merged;
-    flows = subst (λ records. AreOutcomesOfFlows check records is.items outcome.flows.items) flows is.flows;
+    intake = record {
+      answered = is.intake.answered;
+      lanes = lanes_moved is.intake.answered is.intake.lanes;
+      items = is.intake.items;
+      merged =
+          merge_moved (items_of setup incoming is.intake.answered) (items_of other more is.intake.answered) order is.intake.items
+          (λ sender _. items_moved is.intake.answered sender) is.intake.merged;
+    };
+    flows = subst (λ records. AreOutcomesOfFlows check records is.intake.items outcome.flows.items) flows is.flows;
     request_lists = is.request_lists;
     requests = is.requests;
     report_count = is.report_count;

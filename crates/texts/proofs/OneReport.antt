@@ -6,12 +6,12 @@ use Rattle.std.proofs.lemmas.List.{length-map, same_lists, get_or_default}
 use Rattle.std.proofs.lemmas.List.Folds.{flat_map-map}
 use Rattle.std.proofs.lemmas.Option.{slice_get_within}
 use Rattle.flow_core.specs.declared.counts.FlowCounts.{FlowCounts}
-use Rattle.uplink.specs.Limits.{channel_limit}
-use Rattle.uplink.specs.declared.admitted.Request.{Request}
-use Rattle.uplink.specs.declared.outcome.FlowOutcome.{FlowOutcome}
-use Rattle.uplink.specs.declared.outcome.LaneReport.{LaneReport}
-use Rattle.uplink.specs.declared.outcome.Outcome.{Outcome}
-use Rattle.uplink.specs.SameOutcome.{GaveTheSame, ReportTheSame, IsSameOutcome}
+use Rattle.lane.specs.Limits.{channel_limit}
+use Rattle.lane.specs.declared.admitted.Request.{Request}
+use Rattle.receiver.specs.declared.outcome.FlowOutcome.{FlowOutcome}
+use Rattle.lane.specs.declared.report.LaneReport.{LaneReport}
+use Rattle.receiver.specs.declared.outcome.Outcome.{Outcome}
+use Rattle.receiver.specs.SameOutcome.{GaveTheSame, ReportTheSame, IsSameOutcome}
 use Rattle.texts.specs.Lines.{line_feed}
 use Rattle.texts.specs.Report.{spaced, named, counts_text, frame_line, flow_lines, request_line, refused_text, lane_line, numbered_lines, report_text}
 

@@ -1,9 +1,9 @@
 -- A line of a trace says one thing by itself, and then has no fault by itself.
 use Rattle.std.proofs.Common.{◌≡◌, ℕ, suc, ◌≤◌, Bool, true, false, Option, Some, None, List, [], ◌∷◌, length, inl, inr, refl, sym, ap, ◌∙◌, subst, arith}
 use Rattle.std.specs.Prelude.{codes}
-use Rattle.uplink.specs.declared.row.SidRow.{SidRow}
-use Rattle.uplink.specs.declared.input.Input.{Input}
-use Rattle.uplink.specs.declared.input.Input.TheVariants.{Grant, Burst}
+use Rattle.lane.specs.declared.sids.SidRow.{SidRow}
+use Rattle.lane.specs.declared.input.Input.{Input}
+use Rattle.lane.specs.declared.input.Input.TheVariants.{Grant, Burst}
 use Rattle.texts.specs.declared.fault.TraceKind.{TraceKind}
 use Rattle.texts.specs.declared.fault.TraceKind.TheVariants.{UnknownLine, FieldCount, BadNumber, BadWord, NotHex}
 use Rattle.texts.specs.declared.trace.line.TraceLine.{TraceLine}

@@ -5,13 +5,13 @@ use Rattle.flow_core.specs.declared.record.FlowRecord.{FlowRecord}
 use Rattle.flow_core.specs.declared.record.SetupFault.{SetupFault}
 use Rattle.flow_core.specs.declared.record.SetupFault.TheVariants.{TooManyFlows, BadFlow, SameSfid, OutOfMemory}
 use Rattle.flow_core.specs.Setup.{CanBeSetUp, IsSetupFault}
-use Rattle.uplink.specs.declared.setup.Setup.{Setup}
-use Rattle.uplink.specs.declared.row.SidRow.{SidRow}
-use Rattle.uplink.specs.declared.row.LaneFault.{LaneFault}
-use Rattle.uplink.specs.declared.replaying.ReplayFault.{ReplayFault}
-use Rattle.uplink.specs.declared.replaying.ReplayFault.TheVariants as replay_fault
-use Rattle.uplink.specs.Rows.{IsLaneFault, CanBeOpened}
-use Rattle.uplink.specs.Answer.{CanReceive, IsFirstFault}
+use Rattle.receiver.specs.declared.setup.Setup.{Setup}
+use Rattle.lane.specs.declared.sids.SidRow.{SidRow}
+use Rattle.lane.specs.declared.sids.LaneFault.{LaneFault}
+use Rattle.receiver.specs.declared.one_thread.ReplayFault.{ReplayFault}
+use Rattle.receiver.specs.declared.one_thread.ReplayFault.TheVariants as replay_fault
+use Rattle.lane.specs.Rows.{IsLaneFault, CanBeOpened}
+use Rattle.receiver.specs.Faults.{CanReceive, IsFirstFault}
 
 -- records that can be set up have no fault
 pub no_setup_fault : (records : List FlowRecord) (fault : SetupFault) → CanBeSetUp records → IsSetupFault records fault → ⊥

@@ -2,16 +2,17 @@
 use Rattle.std.proofs.Common.{◌≡◌, ℕ, zero, suc, ◌<◌, Bool, Vec, Global, List, [], ◌∷◌, Result, Ok, Err, length, get_or, refl, sym, subst, ap, ◌∙◌, arith}
 use Rattle.std.proofs.lemmas.List.{get_or-map}
 use Rattle.std.specs.Prelude.{IfOk, IfErr, slice_index_or}
-use Rattle.uplink.specs.declared.input.Input.{Input}
-use Rattle.uplink.specs.declared.outcome.Outcome.{Outcome}
-use Rattle.uplink.specs.declared.running.RunFault.{RunFault}
-use Rattle.uplink.specs.declared.running.RunFault.TheVariants as run_fault
-use Rattle.uplink.specs.declared.setup.Decision.{Decision}
-use Rattle.uplink.specs.declared.setup.Lists.{Lists}
-use Rattle.uplink.specs.declared.setup.Setup.{Setup}
-use Rattle.uplink.specs.Limits.{channel_limit}
-use Rattle.uplink.specs.Items.{incoming_of, incoming_from, inputs_on}
-use Rattle.uplink.specs.Answer.{IsOutcome, IsRunFault, CanRun}
+use Rattle.lane.specs.declared.input.Input.{Input}
+use Rattle.receiver.specs.declared.outcome.Outcome.{Outcome}
+use Rattle.uplink.specs.declared.eight_threads.RunFault.{RunFault}
+use Rattle.uplink.specs.declared.eight_threads.RunFault.TheVariants as run_fault
+use Rattle.receiver.specs.declared.setup.Decision.{Decision}
+use Rattle.receiver.specs.declared.setup.Lists.{Lists}
+use Rattle.receiver.specs.declared.setup.Setup.{Setup}
+use Rattle.lane.specs.Limits.{channel_limit}
+use Rattle.receiver.specs.Items.{incoming_of, incoming_from, inputs_on}
+use Rattle.receiver.specs.Outcome.{IsOutcome}
+use Rattle.uplink.specs.Faults.{IsRunFault, CanRun}
 use Rattle.texts.proofs.OneReplay.{outcome_moved}
 use Rattle.texts.proofs.OutOfMemoryAlone.{HaveNoFault, no_setup_fault}
 

@@ -8,14 +8,14 @@ use Rattle.std.proofs.lemmas.List.{length-map, map-append, map-set, get_or-set_s
 use Rattle.std.proofs.lemmas.List.Elements.{filter_map-append}
 use Rattle.std.proofs.lemmas.Bool.{cases_eq, false≢true}
 use Rattle.docsis_wire.proofs.Places.{slice_get-at}
-use Rattle.uplink.specs.declared.input.Input.{Input}
-use Rattle.uplink.specs.declared.row.SidRow.{SidRow}
-use Rattle.uplink.specs.declared.seen.SeenSids.{SeenSids}
-use Rattle.uplink.specs.declared.setup.Decision.{Decision}
-use Rattle.uplink.specs.declared.setup.Lists.{Lists}
-use Rattle.uplink.specs.Items.{inputs_on}
-use Rattle.uplink.specs.Limits.{channel_limit}
-use Rattle.uplink.specs.Seen.{HasSeen}
+use Rattle.lane.specs.declared.input.Input.{Input}
+use Rattle.lane.specs.declared.sids.SidRow.{SidRow}
+use Rattle.lane.specs.declared.sids.seen.SeenSids.{SeenSids}
+use Rattle.receiver.specs.declared.setup.Decision.{Decision}
+use Rattle.receiver.specs.declared.setup.Lists.{Lists}
+use Rattle.receiver.specs.Items.{inputs_on}
+use Rattle.lane.specs.Limits.{channel_limit}
+use Rattle.lane.specs.Seen.{HasSeen}
 use Rattle.texts.specs.declared.fault.TraceKind.{TraceKind}
 use Rattle.texts.specs.declared.fault.TraceKind.TheVariants.{UnknownFlow, SameSid}
 use Rattle.texts.specs.declared.fault.LineFault.{LineFault}

@@ -5,10 +5,10 @@ use Rattle.std.specs.List.{cons_option}
 use Rattle.std.proofs.lemmas.Bool.{cases_lt}
 use Rattle.std.proofs.lemmas.List.Sums.{sum_by-cons}
 use Rattle.std.proofs.lemmas.List.Elements.{All-nil, All-head, All-tail, All-push, All-map, All-weaker}
-use Rattle.uplink.specs.Limits.{channel_limit}
-use Rattle.uplink.specs.Items.{Incoming, incoming_of}
-use Rattle.uplink.specs.Order.{senders, times_of, IsLawfulOrder}
-use Rattle.uplink.specs.Answer.{input_counts}
+use Rattle.lane.specs.Limits.{channel_limit}
+use Rattle.receiver.specs.Items.{Incoming, incoming_of}
+use Rattle.receiver.specs.Order.{senders, times_of, IsLawfulOrder}
+use Rattle.receiver.specs.AdmittedOrder.{input_counts}
 use Rattle.texts.specs.Format.{IsRead}
 use Rattle.texts.specs.declared.trace.Trace.{Trace}
 use Rattle.texts.specs.declared.trace.line.TraceLine.{TraceLine}

@@ -1,8 +1,9 @@
 -- The text that stands for a trace.
 use Rattle.std.specs.Prelude.{◌≡◌, ℕ, List}
-use Rattle.uplink.specs.declared.outcome.Outcome.{Outcome}
-use Rattle.uplink.specs.Items.{incoming_of}
-use Rattle.uplink.specs.Answer.{IsOutcome, IsAdmittedOrder}
+use Rattle.receiver.specs.declared.outcome.Outcome.{Outcome}
+use Rattle.receiver.specs.Items.{incoming_of}
+use Rattle.receiver.specs.Outcome.{IsOutcome}
+use Rattle.receiver.specs.AdmittedOrder.{IsAdmittedOrder}
 use Rattle.texts.specs.declared.fault.TextFault.{TextFault}
 use Rattle.texts.specs.declared.fault.TextFault.TheVariants.{Trace, Cut, OutOfMemory}
 use Rattle.texts.specs.declared.trace.Trace.{Trace as TraceValue}

@@ -4,10 +4,10 @@ use Rattle.std.specs.List.{enumerate_from}
 use Rattle.std.specs.Fmt.{decimal}
 use Rattle.hex.specs.Hex.{encode_lower}
 use Rattle.flow_core.specs.declared.counts.FlowCounts.{FlowCounts}
-use Rattle.uplink.specs.declared.admitted.Request.{Request}
-use Rattle.uplink.specs.declared.outcome.FlowOutcome.{FlowOutcome}
-use Rattle.uplink.specs.declared.outcome.LaneReport.{LaneReport}
-use Rattle.uplink.specs.declared.outcome.Outcome.{Outcome}
+use Rattle.lane.specs.declared.admitted.Request.{Request}
+use Rattle.receiver.specs.declared.outcome.FlowOutcome.{FlowOutcome}
+use Rattle.lane.specs.declared.report.LaneReport.{LaneReport}
+use Rattle.receiver.specs.declared.outcome.Outcome.{Outcome}
 use Rattle.texts.specs.Lines.{line_feed}
 
 -- a space and a number

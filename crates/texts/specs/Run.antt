@@ -1,8 +1,8 @@
 -- The text of a trace that is received on threads.
 use Rattle.std.specs.Prelude.{◌≡◌, ℕ, List}
-use Rattle.uplink.specs.declared.outcome.Outcome.{Outcome}
-use Rattle.uplink.specs.Items.{incoming_of}
-use Rattle.uplink.specs.Answer.{IsOutcome}
+use Rattle.receiver.specs.declared.outcome.Outcome.{Outcome}
+use Rattle.receiver.specs.Items.{incoming_of}
+use Rattle.receiver.specs.Outcome.{IsOutcome}
 use Rattle.texts.specs.declared.trace.Trace.{Trace as TraceValue}
 use Rattle.texts.specs.AnyHeader.{any_header}
 use Rattle.texts.specs.Report.{report_text}

@@ -2,11 +2,11 @@
 pub mod Line
 pub mod Place
 use Rattle.std.specs.Prelude.{◌≡◌, ◌<◌, ◌==◌, ℕ, Option, Some, None, List, length, map, filter_map, if◌then◌else◌}
-use Rattle.uplink.specs.Limits.{channel_limit}
-use Rattle.uplink.specs.declared.input.Input.{Input}
-use Rattle.uplink.specs.declared.setup.Decision.{Decision}
-use Rattle.uplink.specs.declared.setup.Lists.{Lists}
-use Rattle.uplink.specs.Items.{inputs_on}
+use Rattle.lane.specs.Limits.{channel_limit}
+use Rattle.lane.specs.declared.input.Input.{Input}
+use Rattle.receiver.specs.declared.setup.Decision.{Decision}
+use Rattle.receiver.specs.declared.setup.Lists.{Lists}
+use Rattle.receiver.specs.Items.{inputs_on}
 use Rattle.texts.specs.declared.fault.ParseFault.{ParseFault}
 use Rattle.texts.specs.declared.trace.Trace.{Trace}
 use Rattle.texts.specs.Lines.{lines_of}

@@ -8,9 +8,10 @@ ghost use Rattle.std.specs.Prelude.{◌≡◌, ◌≢◌, ◌≤◌, ℕ, List, 
 ghost use Rattle.docsis_wire.specs.declared.pieces.FillByte.{FillByte};
 ghost use Rattle.docsis_wire.specs.declared.pieces.Piece.{Piece};
 ghost use Rattle.docsis_wire.specs.declared.segment.Segment.{Segment};
-ghost use Rattle.uplink.specs.Items.{incoming_of};
-ghost use Rattle.uplink.specs.Answer.{CanReceive, input_counts};
-ghost use Rattle.uplink.specs.Order.{IsLawfulOrder};
+ghost use Rattle.receiver.specs.Items.{incoming_of};
+ghost use Rattle.receiver.specs.Faults.{CanReceive};
+ghost use Rattle.receiver.specs.AdmittedOrder.{input_counts};
+ghost use Rattle.receiver.specs.Order.{IsLawfulOrder};
 ghost use Rattle.texts.specs.declared.fault.ParseFault.{ParseFault};
 ghost use Rattle.texts.specs.declared.fault.TextFault.{TextFault};
 ghost use Rattle.texts.specs.declared.trace.Trace.{Trace};

@@ -1,8 +1,8 @@
 //! The one fault that is left to a receiver whose setup and order come from a trace: an allocation
 //! failed, or a thread could not be started.
 ghost use Rattle.std.specs.Prelude.{◌≡◌, Ok, IfOk, IfErr};
-ghost use Rattle.uplink.specs.declared.replaying.ReplayFault.TheVariants as replay_fault;
-ghost use Rattle.uplink.specs.declared.running.RunFault.TheVariants as run_fault;
+ghost use Rattle.receiver.specs.declared.one_thread.ReplayFault.TheVariants as replay_fault;
+ghost use Rattle.uplink.specs.declared.eight_threads.RunFault.TheVariants as run_fault;
 
 use std::alloc::AllocError;
 use uplink::{ReplayFault, RunFault};

@@ -1,8 +1,9 @@
 //! The text of `replay`: the report of a trace.
 ghost use Rattle.std.specs.Prelude.{◌≤◌, IfOk, IfErr};
-ghost use Rattle.uplink.specs.Items.{incoming_of};
-ghost use Rattle.uplink.specs.Answer.{CanReceive, input_counts, IsAdmittedOrder};
-ghost use Rattle.uplink.specs.Order.{IsLawfulOrder};
+ghost use Rattle.receiver.specs.Items.{incoming_of};
+ghost use Rattle.receiver.specs.Faults.{CanReceive};
+ghost use Rattle.receiver.specs.AdmittedOrder.{input_counts, IsAdmittedOrder};
+ghost use Rattle.receiver.specs.Order.{IsLawfulOrder};
 ghost use Rattle.texts.specs.Trace.{IsTrace, IsTraceFault};
 ghost use Rattle.texts.specs.Replay.{default_capacity, IsPlayed, IsReplayed, IsReplayFault};
 

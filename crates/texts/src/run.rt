@@ -1,7 +1,7 @@
 //! The text of `run`: the report of a trace that is received on threads.
 ghost use Rattle.std.specs.Prelude.{◌≡◌, ◌≤◌, IfOk, IfErr};
-ghost use Rattle.uplink.specs.Answer.{CanRun};
-ghost use Rattle.uplink.specs.Items.{inputs_on};
+ghost use Rattle.uplink.specs.Faults.{CanRun};
+ghost use Rattle.receiver.specs.Items.{inputs_on};
 ghost use Rattle.texts.specs.Replay.{IsReportFault};
 ghost use Rattle.texts.specs.Run.{IsReceived, IsRunText};
 

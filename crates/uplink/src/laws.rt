@@ -27,6 +27,17 @@ ghost use Rattle.receiver.specs.declared.outcome.Outcome.{Outcome};
 ghost use Rattle.receiver.specs.Items.{Incoming};
 ghost use Rattle.receiver.specs.Outcome.{IsOutcome};
 
+pub use lane::laws::{
+    each_input_has_an_answer, lane_has_at_most_one_answer_to_each_input,
+    lanes_of_the_same_inputs_answer_alike, next_input_changes_what_is_outstanding,
+    next_input_is_answered, number_has_one_outstanding_grant, outstanding_numbers_are_counted,
+    reports_are_appended, rows_have_one_first_fault,
+};
+pub use receiver::laws::{
+    admitted_order_is_lawful, admitted_segments_are_of_the_flows, lawful_order_has_no_fault,
+    lists_have_one_merge, order_has_one_intake, replay_has_one_fault, replay_has_one_outcome,
+};
+
 /// **The headline.** Whatever the four channels interleave, delay or lose and whenever gaps are
 /// declared: for the outcome of a receiver, from [`run`](crate::run) or from
 /// [`replay`](crate::replay), what each flow's consumer took is the flow's delivery sequence, if

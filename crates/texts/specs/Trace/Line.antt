@@ -1,6 +1,6 @@
 -- What a line of a trace says by itself, and the faults that it has by itself.
 use Rattle.std.specs.Prelude.{◌≡◌, ◌≢◌, ◌⊎◌, ℕ, Bool, true, false, Option, Some, None, List, [], ◌∷◌, length, codes}
-use Rattle.uplink.specs.declared.input.Input.TheVariants.{Grant, Burst}
+use Rattle.lane.specs.declared.input.Input.TheVariants.{Grant, Burst}
 use Rattle.texts.specs.declared.fault.TraceKind.{TraceKind}
 use Rattle.texts.specs.declared.fault.TraceKind.TheVariants.{UnknownLine, SetupLate, FieldCount, BadNumber, BadWord, NotHex, UnknownFlow, TooManyFlows, SameFlow, SameSid, TooShort, PointerPast}
 use Rattle.texts.specs.declared.trace.line.TraceLine.{TraceLine}

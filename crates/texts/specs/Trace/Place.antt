@@ -2,9 +2,9 @@
 use Rattle.std.specs.Prelude.{◌≡◌, ◌≤◌, ◌<◌, ◌⊎◌, ℕ, Some, List, [], ◌∷◌, ◌++◌, length, slice_get}
 use Rattle.flow_core.specs.Setup.{flows_max}
 use Rattle.flow_core.specs.declared.record.FlowRecord.{FlowRecord}
-use Rattle.uplink.specs.declared.row.SidRow.{SidRow}
-use Rattle.uplink.specs.declared.input.Input.{Input}
-use Rattle.uplink.specs.declared.setup.Decision.{Decision}
+use Rattle.lane.specs.declared.sids.SidRow.{SidRow}
+use Rattle.lane.specs.declared.input.Input.{Input}
+use Rattle.receiver.specs.declared.setup.Decision.{Decision}
 use Rattle.texts.specs.declared.fault.TraceKind.{TraceKind}
 use Rattle.texts.specs.declared.fault.TraceKind.TheVariants.{UnknownLine, SetupLate, FieldCount, BadNumber, BadWord, NotHex, UnknownFlow, TooManyFlows, SameFlow, SameSid, TooShort, PointerPast}
 use Rattle.texts.specs.declared.trace.line.TraceLine.{TraceLine}

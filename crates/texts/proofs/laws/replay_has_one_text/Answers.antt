@@ -1,6 +1,8 @@
 use Rattle.std.proofs.Common.{◌≡◌, List, ℕ, sym, subst, ◌∙◌, arith}
-use Rattle.uplink.specs.Items.{incoming_of}
-use Rattle.uplink.specs.Answer.{IsOutcome, IsAdmittedOrder, CanReceive}
+use Rattle.receiver.specs.Items.{incoming_of}
+use Rattle.receiver.specs.Outcome.{IsOutcome}
+use Rattle.receiver.specs.AdmittedOrder.{IsAdmittedOrder}
+use Rattle.receiver.specs.Faults.{CanReceive}
 use Rattle.texts.specs.AnyHeader.{any_header}
 use Rattle.texts.specs.Replay.{default_capacity}
 use Rattle.texts.specs.Trace.{AreSameTraces}

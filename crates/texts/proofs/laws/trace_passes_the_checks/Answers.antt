@@ -1,8 +1,8 @@
 use Rattle.std.proofs.Common.{List, length, sym, subst}
 use Rattle.flow_core.specs.declared.record.FlowRecord.{FlowRecord}
 use Rattle.flow_core.specs.Setup.{CanBeSetUp}
-use Rattle.uplink.specs.declared.row.SidRow.{SidRow}
-use Rattle.uplink.specs.Rows.{CanBeOpened}
+use Rattle.lane.specs.declared.sids.SidRow.{SidRow}
+use Rattle.lane.specs.Rows.{CanBeOpened}
 use Rattle.texts.specs.Lines.{lines_of}
 use Rattle.texts.proofs.TraceChecks.{read_passes}
 use Rattle.texts.proofs.laws.trace_passes_the_checks.Goals as goal

@@ -1,7 +1,7 @@
 use Rattle.std.proofs.Common.{sym, subst}
-use Rattle.uplink.specs.Items.{incoming_of}
-use Rattle.uplink.specs.Order.{IsLawfulOrder, IsOrderFault}
-use Rattle.uplink.specs.Answer.{input_counts}
+use Rattle.receiver.specs.Items.{incoming_of}
+use Rattle.receiver.specs.Order.{IsLawfulOrder, IsOrderFault}
+use Rattle.receiver.specs.AdmittedOrder.{input_counts}
 use Rattle.texts.proofs.OutOfMemoryAlone.{unless_out_of_memory}
 use Rattle.texts.proofs.replay.order_of.Goals as goal
 

@@ -1,6 +1,7 @@
 use Rattle.std.proofs.Common.{sym, subst}
-use Rattle.uplink.specs.Items.{incoming_of}
-use Rattle.uplink.specs.Answer.{HasBadOrder, IsAdmittedOrder}
+use Rattle.receiver.specs.Items.{incoming_of}
+use Rattle.receiver.specs.Faults.{HasBadOrder}
+use Rattle.receiver.specs.AdmittedOrder.{IsAdmittedOrder}
 use Rattle.texts.proofs.OutOfMemoryAlone.{unless_out_of_memory}
 use Rattle.texts.proofs.replay.replay_trace.Goals as goal
 

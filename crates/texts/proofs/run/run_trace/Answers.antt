@@ -1,7 +1,7 @@
 use Rattle.std.proofs.Common.{◌∷◌, []}
 use Rattle.std.specs.Vec.Iter.{into_iter_items}
-use Rattle.uplink.specs.Items.{Incoming, incoming_from}
-use Rattle.uplink.specs.Headline.{KeepsTheHeadline}
+use Rattle.receiver.specs.Items.{Incoming, incoming_from}
+use Rattle.receiver.specs.Outcome.{IsOutcome}
 use Rattle.texts.specs.AnyHeader.{any_header}
 use Rattle.texts.specs.Run.{IsReceived}
 use Rattle.texts.proofs.TraceFromSources.{received, out_of_memory_alone, value_kept}
@@ -22,8 +22,8 @@ returns g c =
     let i3 = into_iter_items c.sources_of-sources.result.0.s3.rest in
     let decisions = into_iter_items c.sources_of-sources.result.1.rest in
     let from : Incoming = incoming_from (i0 ∷ i1 ∷ i2 ∷ i3 ∷ []) decisions in
-    value_kept c.run-answer.result c.unless_out_of_memory.result (λ outcome. KeepsTheHeadline any_header setup from outcome.order.items outcome)
+    value_kept c.run-answer.result c.unless_out_of_memory.result (λ outcome. IsOutcome any_header setup from outcome.order.items outcome)
     (IsReceived c.args.trace)
     (λ outcome is.
-    received any_header setup lists i0 i1 i2 i3 decisions outcome.order.items outcome made.first made.second made.third made.fourth made.decisions is.answer)
-    c.unless_out_of_memory.ensures c.run-answer.ensures.headline
+    received any_header setup lists i0 i1 i2 i3 decisions outcome.order.items outcome made.first made.second made.third made.fourth made.decisions is)
+    c.unless_out_of_memory.ensures c.run-answer.ensures.answer
