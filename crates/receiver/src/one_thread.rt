@@ -126,7 +126,13 @@ fn flags_of(alloc: Global, setup: &Setup, lists: &Lists) -> Result<Merging<bool>
 {
     let FourReceived { r0, r1, r2, r3 } = receive_all(alloc, setup, lists)?;
     let decided = decision_flags(alloc, setup, lists)?;
-    Ok(Merging::of(r0.are_items, r1.are_items, r2.are_items, r3.are_items, decided))
+    Ok(Merging::of(
+        r0.are_items,
+        r1.are_items,
+        r2.are_items,
+        r3.are_items,
+        decided,
+    ))
 }
 
 /// Of each decision, whether it names a flow.

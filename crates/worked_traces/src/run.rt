@@ -15,7 +15,10 @@ use std::process::Abort;
 use std::sync::{Arc, Wait};
 use std::test::Fail;
 use std::thread::Threads;
-use uplink::{Input, ListDecisions, ListSource, Lists, NoTap, Outcome, Request, RunFault, Setup, Sources, Taps, run};
+use uplink::{
+    Input, ListDecisions, ListSource, Lists, NoTap, Outcome, Request, RunFault, Setup, Sources,
+    Taps, run,
+};
 
 type ListSources = Sources<ListSource, ListSource, ListSource, ListSource>;
 
