@@ -7,18 +7,18 @@ use crate::pieces::{CutFault, FillByte};
 use std::alloc::{AllocError, Global};
 use std::test::Fail;
 
-struct Fault {
-    name: &'static str,
-    frames: &'static [&'static [u8]],
+pub(super) struct Fault {
+    pub(super) name: &'static str,
+    pub(super) frames: &'static [&'static [u8]],
     /// For each piece its bytes and its fill.
-    pieces: &'static [(u16, u16)],
-    fault: CutFault,
+    pub(super) pieces: &'static [(u16, u16)],
+    pub(super) fault: CutFault,
 }
 
 /// Six bytes whose first four are all zero.
 const FILL: &[u8] = &[0, 0, 0, 0, 0x11, 0x11];
 
-const FAULTS: [Fault; 6] = [
+pub(super) const FAULTS: [Fault; 6] = [
     Fault {
         name: "a frame whose head is fill, and no pieces",
         frames: &[FILL],
@@ -70,7 +70,7 @@ fn reports_faults(rt: HostRuntime) -> Result<(), Fail> {
 }
 
 /// A frame of `6 + len` bytes that are zero after LEN, and the plain frame.
-fn long_and_plain(alloc: Global, len: u16) -> Result<Vec<Bytes>, AllocError> {
+pub(super) fn long_and_plain(alloc: Global, len: u16) -> Result<Vec<Bytes>, AllocError> {
     let mut long = vec![in alloc; 0, 0]?;
     long.extend_from_slice(&len.to_be_bytes())?;
     long.resize(6 + usize::from(len), 0)?;

@@ -1,4 +1,6 @@
-//! Calls that are refused memory, made again.
+//! Tests to be run with the Nth request for memory refused, and the one whose name ends in
+//! `without_memory` with all later ones refused too. Each says `refused` when a call was.
+use super::faults::{FAULTS, long_and_plain};
 use super::worked::{INSIDE_PIECES, INSIDE_SEGMENTS};
 use super::{EXTENDED, PLAIN, are, is, named, owned};
 use crate::buffer::Bytes;
@@ -6,7 +8,7 @@ use crate::cutter::{Cutter, cut};
 use crate::header_check::NoCheck;
 use crate::pieces::{CutFault, FillByte, Piece};
 use crate::segment::Segment;
-use std::alloc::Global;
+use std::alloc::{AllocError, Global};
 use std::test::Fail;
 
 /// Makes the two frames, and once more where the first call was refused memory.
@@ -63,6 +65,64 @@ fn next_again(rt: HostRuntime) -> Result<(), Fail> {
     for wanted in INSIDE_SEGMENTS {
         let segment = next_of(&rt, rt.alloc(), &mut cutter)?.ok_or("too few")?;
         assert!(rt; is(&segment, wanted), "{segment:?}");
+    }
+    Ok(())
+}
+
+/// Frames and pieces with a fault.
+#[derive(Drop)]
+struct Faulty {
+    name: &'static str,
+    frames: Vec<Bytes>,
+    pieces: Vec<Piece>,
+    fault: CutFault,
+}
+
+fn faulty_cuts(alloc: Global) -> Result<Vec<Faulty>, AllocError> {
+    let mut cuts = Vec::new(alloc);
+    for case in &FAULTS {
+        cuts.push(Faulty {
+            name: case.name,
+            frames: owned(alloc, case.frames)?,
+            pieces: named(alloc, case.pieces)?,
+            fault: case.fault,
+        })?;
+    }
+    cuts.push(Faulty {
+        name: "a pointer of 16,384",
+        frames: long_and_plain(alloc, 0x3ffb)?,
+        pieces: named(alloc, &[(1, 0), (16_392, 0)])?,
+        fault: CutFault::PointerTooFar(1),
+    })?;
+    Ok(cuts)
+}
+
+/// Faults are looked for before any memory is taken, and a cutter takes none when it is made. In
+/// the end the test asks for memory itself, so that a run is known in which nothing else did.
+#[test]
+fn faults_without_memory(rt: HostRuntime) -> Result<(), Fail> {
+    let cuts = faulty_cuts(rt.alloc());
+    let frames = owned(rt.alloc(), &[PLAIN, EXTENDED]);
+    let pieces = named(rt.alloc(), INSIDE_PIECES);
+    let (Ok(cuts), Ok(frames), Ok(pieces)) = (cuts, frames, pieces) else {
+        println!(rt; "refused")?;
+        return Ok(());
+    };
+    for Faulty {
+        name,
+        frames,
+        pieces,
+        fault,
+    } in &cuts {
+        let answer = cut(rt.alloc(), frames, pieces, 0, FillByte::Zero, &NoCheck);
+        assert_eq!(rt; answer.err(), Some(*fault), "{name}");
+        let cutter = Cutter::new(frames, pieces, 0, FillByte::Zero, &NoCheck);
+        assert_eq!(rt; cutter.err(), Some(*fault), "{name}, a segment at a time");
+    }
+    assert!(rt; Cutter::new(&frames, &pieces, 0, FillByte::Zero, &NoCheck).is_ok());
+    match Vec::<u8>::with_capacity(rt.alloc(), 1) {
+        Ok(_) => println!(rt; "memory after all calls")?,
+        Err(_) => println!(rt; "all calls were made without memory")?,
     }
     Ok(())
 }

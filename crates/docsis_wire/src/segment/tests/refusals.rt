@@ -17,7 +17,7 @@ fn reads_again(rt: HostRuntime) -> Result<(), Fail> {
 
 /// In the end it asks for memory itself, so that a run is known in which nothing else did.
 #[test]
-fn headers_and_pointers_without_memory(rt: HostRuntime) -> Result<(), Fail> {
+fn headers_and_faults_without_memory(rt: HostRuntime) -> Result<(), Fail> {
     let Ok(segments) = pointing_segments(rt.alloc()) else {
         println!(rt; "refused")?;
         return Ok(());
@@ -25,6 +25,7 @@ fn headers_and_pointers_without_memory(rt: HostRuntime) -> Result<(), Fail> {
     expect_readings(&rt);
     expect_writings(&rt);
     expect_pointings(&rt, &segments);
+    expect_faults(&rt, rt.alloc());
     match Vec::<u8>::with_capacity(rt.alloc(), 1) {
         Ok(_) => println!(rt; "memory after all calls")?,
         Err(_) => println!(rt; "all calls were made without memory")?,
