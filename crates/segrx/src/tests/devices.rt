@@ -1,16 +1,21 @@
 //! Engines and the program on devices that fail or are interrupted.
 use super::fitful::{FAILURES, FitfulReader, FitfulWriter, Full};
-use super::{FRAMES, FRAMES_AND_PIECES, REPORT, SEGMENTS, TRACE};
+use super::{FRAMES, FRAMES_AND_PIECES, LOST_REPORT, LOST_TRACE, REPORT, SEGMENTS, TRACE};
 use crate::cut::cut_text;
 use crate::device::Device;
 use crate::fault::EngineFault;
 use crate::join::join_text;
 use crate::program::program;
 use crate::replay::replay_text;
+use crate::run::run_text;
 use docsis_wire::FillByte;
 use std::alloc::Global;
 use std::io;
 use std::io::{ErrorKind, Read, Write};
+use std::sync::Wait;
+use std::test::Fail;
+use std::thread::Threads;
+use uplink::{NoTap, Taps};
 
 /// The engines, each of which is run on an input of its own.
 #[derive(Clone, Copy, Debug)]
@@ -18,9 +23,10 @@ enum Command {
     Join,
     Cut,
     Replay,
+    Run,
 }
 
-const COMMANDS: [Command; 3] = [Command::Join, Command::Cut, Command::Replay];
+const COMMANDS: [Command; 4] = [Command::Join, Command::Cut, Command::Replay, Command::Run];
 
 impl Command {
     fn input(self) -> &'static str {
@@ -28,15 +34,17 @@ impl Command {
             Command::Join => SEGMENTS,
             Command::Cut => FRAMES_AND_PIECES,
             Command::Replay => TRACE,
+            Command::Run => LOST_TRACE,
         }
     }
 
-    /// The text that stands for the input.
+    /// The text that stands for the input, in every schedule.
     fn text(self) -> &'static str {
         match self {
             Command::Join => FRAMES,
             Command::Cut => SEGMENTS,
             Command::Replay => REPORT,
+            Command::Run => LOST_REPORT,
         }
     }
 }
@@ -52,18 +60,25 @@ struct Ran {
 }
 
 /// Runs the engine of a command between a reader and a writer.
-fn run_between<R: Read + Drop, W: Write + Drop>(
-    alloc: Global,
-    command: Command,
-    reader: R,
-    writer: W,
-) -> Ran {
+fn run_between<T, R, W>(alloc: Global, rt: T, command: Command, reader: R, writer: W) -> Ran
+where
+    T: Threads + Wait + Copy + Send + 'static,
+    R: Read + Drop,
+    W: Write + Drop,
+{
     let mut reader = Device::new(reader);
     let mut writer = Device::new(writer);
     let done = match command {
         Command::Join => join_text(alloc, &mut reader, &mut writer),
         Command::Cut => cut_text(alloc, 0, FillByte::Zero, &mut reader, &mut writer),
         Command::Replay => replay_text(alloc, &mut reader, &mut writer),
+        Command::Run => {
+            let taps = Taps {
+                frames: NoTap,
+                requests: NoTap,
+            };
+            run_text(alloc, rt, 1, 1, taps, &mut reader, &mut writer)
+        }
     };
     let ran = Ran {
         done,
@@ -83,7 +98,7 @@ fn goes_on_after_interruptions(rt: HostRuntime) {
         let mut written = Vec::new(rt.alloc());
         let reader = FitfulReader::new(command.input().as_bytes(), None);
         let writer = FitfulWriter::new(&mut written, 1000, Full::TakesNothing);
-        let ran = run_between(rt.alloc(), command, reader, writer);
+        let ran = run_between(rt.alloc(), rt, command, reader, writer);
         assert_eq!(rt; ran.done, Ok(()), "{command:?}");
         assert_eq!(rt; ran.given, command.input().len() as u64, "{command:?}");
         assert!(rt;
@@ -110,7 +125,7 @@ fn reports_each_kind_of_failed_read(rt: HostRuntime) {
         for kind in FAILURES {
             let mut written = Vec::new(rt.alloc());
             let reader = FitfulReader::new(text.as_bytes(), Some(kind));
-            let ran = run_between(rt.alloc(), Command::Join, reader, &mut written);
+            let ran = run_between(rt.alloc(), rt, Command::Join, reader, &mut written);
             assert!(rt; is_read_fault(&ran), "{kind} after {text}");
             assert_eq!(rt; ran.given, text.len() as u64, "{kind} after {text}");
             assert_eq!(rt; written.len(), 0, "{kind} after {text}");
@@ -125,7 +140,7 @@ fn reports_a_read_that_fails_at_any_call(rt: HostRuntime) {
         for calls in 0..input.len() {
             let mut written = Vec::new(rt.alloc());
             let reader = FitfulReader::new(&input[..calls], Some(ErrorKind::Other));
-            let ran = run_between(rt.alloc(), command, reader, &mut written);
+            let ran = run_between(rt.alloc(), rt, command, reader, &mut written);
             assert!(rt; is_read_fault(&ran), "{command:?} after {calls}");
             assert_eq!(rt; written.len(), 0, "{command:?} after {calls}");
         }
@@ -143,7 +158,7 @@ fn reports_each_kind_of_failed_write(rt: HostRuntime) {
         for kind in FAILURES {
             let mut written = Vec::new(rt.alloc());
             let writer = FitfulWriter::new(&mut written, room, Full::Fails(kind));
-            let ran = run_between(rt.alloc(), Command::Join, SEGMENTS.as_bytes(), writer);
+            let ran = run_between(rt.alloc(), rt, Command::Join, SEGMENTS.as_bytes(), writer);
             assert!(rt; is_write_fault(&ran), "{kind} after {room}");
             assert!(rt; room <= FRAMES.len());
             assert_eq!(rt;
@@ -162,7 +177,7 @@ fn reports_a_write_that_fails_at_any_call(rt: HostRuntime) {
         for calls in 0..text.len() {
             let mut written = Vec::new(rt.alloc());
             let writer = FitfulWriter::new(&mut written, calls, Full::TakesNothing);
-            let ran = run_between(rt.alloc(), command, command.input().as_bytes(), writer);
+            let ran = run_between(rt.alloc(), rt, command, command.input().as_bytes(), writer);
             assert!(rt; is_write_fault(&ran), "{command:?} after {calls}");
             assert_eq!(rt;
                 written.as_slice(),
@@ -179,7 +194,7 @@ fn reports_each_kind_of_failed_flush(rt: HostRuntime) {
         for kind in FAILURES {
             let mut written = Vec::new(rt.alloc());
             let writer = FitfulWriter::fails_to_flush(&mut written, kind);
-            let ran = run_between(rt.alloc(), command, command.input().as_bytes(), writer);
+            let ran = run_between(rt.alloc(), rt, command, command.input().as_bytes(), writer);
             assert!(rt;
                 is_write_fault(&ran) && !ran.writer_flushed,
                 "{command:?}: {kind}"
@@ -198,23 +213,40 @@ fn does_not_write_an_empty_text(rt: HostRuntime) {
     let mut written = Vec::new(rt.alloc());
     let writer = FitfulWriter::fails_to_flush(&mut written, ErrorKind::BrokenPipe);
     let input = "# nothing to join\n".as_bytes();
-    let ran = run_between(rt.alloc(), Command::Join, input, writer);
+    let ran = run_between(rt.alloc(), rt, Command::Join, input, writer);
     assert_eq!(rt; ran.done, Ok(()));
     assert!(rt; !ran.writer_failed);
 }
 
+/// Whether an engine wrote what may stand for a front of its input, or reported a fault of the lines
+/// or of the cut and wrote nothing.
+fn is_answer_to_front(command: Command, done: Result<(), EngineFault>, written: &[u8]) -> bool {
+    match done {
+        Ok(()) => match command {
+            Command::Join | Command::Cut => command.text().as_bytes().starts_with(written),
+            Command::Replay | Command::Run => written.ends_with(b" refused -\n"),
+        },
+        Err(EngineFault::Trace(_) | EngineFault::Cut(_)) => written.is_empty(),
+        Err(_) => false,
+    }
+}
+
 #[test]
-fn replays_each_front_of_a_trace_or_reports_a_faulty_line(rt: HostRuntime) {
-    let trace = TRACE.as_bytes();
-    for bytes in 0..trace.len() {
-        let mut written = Vec::new(rt.alloc());
-        let ran = run_between(rt.alloc(), Command::Replay, &trace[..bytes], &mut written);
-        match ran.done {
-            Ok(()) => assert!(rt; written.ends_with(b" refused -\n"), "{bytes}"),
-            Err(EngineFault::Trace(_)) => assert_eq!(rt; written.len(), 0, "{bytes}"),
-            Err(fault) => assert!(rt; false, "{bytes}: {fault}"),
+fn takes_each_front_of_an_input_or_reports_its_fault(rt: HostRuntime) -> Result<(), Fail> {
+    for command in COMMANDS {
+        // Some fronts end inside a comment, before all other lines or after them.
+        let input = format!(in rt.alloc(); "# from here\n{}# to here", command.input())?;
+        let bytes = input.as_bytes();
+        for end in 0..bytes.len() {
+            let mut written = Vec::new(rt.alloc());
+            let ran = run_between(rt.alloc(), rt, command, &bytes[..end], &mut written);
+            assert!(rt;
+                is_answer_to_front(command, ran.done, &written),
+                "{command:?} of {end}"
+            );
         }
     }
+    Ok(())
 }
 
 #[test]

@@ -1,17 +1,20 @@
 //! An allocation that fails, or a thread that can't be started, at one place of each call. Each
 //! test takes out of memory as lawful there, says so by the word `refused`, and calls again; where
-//! nothing failed it says nothing.
+//! nothing failed it says nothing. Where the name of a test ends in `without_memory` all later
+//! allocations fail, too.
 use super::{FRAMES, FRAMES_AND_PIECES, LOST_REPORT, LOST_TRACE, REPORT, SEGMENTS, TRACE};
 use crate::command::{Command, UsageFault, read_words};
 use crate::cut::cut_text;
 use crate::device::Device;
-use crate::fault::EngineFault;
+use crate::fault::{EngineFault, TraceFault, TraceKind, WriteFault, status};
+use crate::fault_line::write_fault;
 use crate::join::join_text;
 use crate::program::program;
 use crate::replay::replay_text;
 use crate::run::run_text;
 use docsis_wire::FillByte;
 use std::alloc::Global;
+use std::io::Read;
 use std::process::Abort;
 use std::sync::Wait;
 use std::test::Fail;
@@ -19,7 +22,7 @@ use std::thread::Threads;
 use uplink::{NoTap, Taps};
 
 /// Joins the segments into an array that is just large enough for their frames.
-fn join(alloc: Global, text: &mut [u8]) -> Result<(), EngineFault> {
+fn join_into(alloc: Global, text: &mut [u8]) -> Result<(), EngineFault> {
     let mut reader = Device::new(SEGMENTS.as_bytes());
     let mut writer = Device::new(text);
     let done = join_text(alloc, &mut reader, &mut writer);
@@ -31,11 +34,11 @@ fn join(alloc: Global, text: &mut [u8]) -> Result<(), EngineFault> {
 #[test]
 fn join_text_is_refused(rt: HostRuntime) -> Result<(), Fail> {
     let mut text = [0u8; 36];
-    let mut done = join(rt.alloc(), &mut text);
+    let mut done = join_into(rt.alloc(), &mut text);
     if done == Err(EngineFault::OutOfMemory) {
         println!(rt; "refused")?;
         assert_eq!(rt; text.as_slice(), [0u8; 36].as_slice());
-        done = join(rt.alloc(), &mut text);
+        done = join_into(rt.alloc(), &mut text);
     }
     assert_eq!(rt; done, Ok(()));
     assert_eq!(rt; text.as_slice(), FRAMES.as_bytes());
@@ -43,7 +46,7 @@ fn join_text_is_refused(rt: HostRuntime) -> Result<(), Fail> {
 }
 
 /// Cuts the frames into an array that is just large enough for their segments.
-fn cut(alloc: Global, text: &mut [u8]) -> Result<(), EngineFault> {
+fn cut_into(alloc: Global, text: &mut [u8]) -> Result<(), EngineFault> {
     let mut reader = Device::new(FRAMES_AND_PIECES.as_bytes());
     let mut writer = Device::new(text);
     let done = cut_text(alloc, 0, FillByte::Zero, &mut reader, &mut writer);
@@ -55,11 +58,11 @@ fn cut(alloc: Global, text: &mut [u8]) -> Result<(), EngineFault> {
 #[test]
 fn cut_text_is_refused(rt: HostRuntime) -> Result<(), Fail> {
     let mut text = [0u8; 85];
-    let mut done = cut(rt.alloc(), &mut text);
+    let mut done = cut_into(rt.alloc(), &mut text);
     if done == Err(EngineFault::OutOfMemory) {
         println!(rt; "refused")?;
         assert_eq!(rt; text.as_slice(), [0u8; 85].as_slice());
-        done = cut(rt.alloc(), &mut text);
+        done = cut_into(rt.alloc(), &mut text);
     }
     assert_eq!(rt; done, Ok(()));
     assert_eq!(rt; text.as_slice(), SEGMENTS.as_bytes());
@@ -67,7 +70,7 @@ fn cut_text_is_refused(rt: HostRuntime) -> Result<(), Fail> {
 }
 
 /// Replays the trace into an array that is just large enough for its report.
-fn replay(alloc: Global, text: &mut [u8]) -> Result<(), EngineFault> {
+fn replay_into(alloc: Global, text: &mut [u8]) -> Result<(), EngineFault> {
     let mut reader = Device::new(TRACE.as_bytes());
     let mut writer = Device::new(text);
     let done = replay_text(alloc, &mut reader, &mut writer);
@@ -79,11 +82,11 @@ fn replay(alloc: Global, text: &mut [u8]) -> Result<(), EngineFault> {
 #[test]
 fn replay_text_is_refused(rt: HostRuntime) -> Result<(), Fail> {
     let mut text = [0u8; 233];
-    let mut done = replay(rt.alloc(), &mut text);
+    let mut done = replay_into(rt.alloc(), &mut text);
     if done == Err(EngineFault::OutOfMemory) {
         println!(rt; "refused")?;
         assert_eq!(rt; text.as_slice(), [0u8; 233].as_slice());
-        done = replay(rt.alloc(), &mut text);
+        done = replay_into(rt.alloc(), &mut text);
     }
     assert_eq!(rt; done, Ok(()));
     assert_eq!(rt; text.as_slice(), REPORT.as_bytes());
@@ -91,7 +94,7 @@ fn replay_text_is_refused(rt: HostRuntime) -> Result<(), Fail> {
 }
 
 /// Receives the trace on threads into an array that is just large enough for its report.
-fn receive<T>(alloc: Global, rt: T, text: &mut [u8]) -> Result<(), EngineFault>
+fn run_into<T>(alloc: Global, rt: T, text: &mut [u8]) -> Result<(), EngineFault>
 where
     T: Threads + Wait + Copy + Send + 'static,
 {
@@ -110,11 +113,11 @@ where
 #[test]
 fn run_text_is_refused(rt: HostRuntime) -> Result<(), Fail> {
     let mut text = [0u8; 208];
-    let mut done = receive(rt.alloc(), rt, &mut text);
+    let mut done = run_into(rt.alloc(), rt, &mut text);
     if done == Err(EngineFault::OutOfMemory) {
         println!(rt; "refused")?;
         assert_eq!(rt; text.as_slice(), [0u8; 208].as_slice());
-        done = receive(rt.alloc(), rt, &mut text);
+        done = run_into(rt.alloc(), rt, &mut text);
     }
     assert_eq!(rt; done, Ok(()));
     assert_eq!(rt; text.as_slice(), LOST_REPORT.as_bytes());
@@ -156,7 +159,7 @@ fn words_of_cut_are_refused(rt: HostRuntime) -> Result<(), Fail> {
 
 /// Runs the program on an input, again where an allocation fails, and looks at what it writes into
 /// an array that is just large enough for the text.
-fn run<T: Abort + AllocGlobal + Print + Threads + Wait + Copy + Send + 'static>(
+fn run_program<T: Abort + AllocGlobal + Print + Threads + Wait + Copy + Send + 'static>(
     rt: T,
     command: &str,
     input: &str,
@@ -195,15 +198,74 @@ fn run<T: Abort + AllocGlobal + Print + Threads + Wait + Copy + Send + 'static>(
 
 #[test]
 fn program_is_refused(rt: HostRuntime) -> Result<(), Fail> {
-    run(rt, "join", SEGMENTS, FRAMES, &mut [0u8; 36])
+    run_program(rt, "join", SEGMENTS, FRAMES, &mut [0u8; 36])
 }
 
 #[test]
 fn replaying_program_is_refused(rt: HostRuntime) -> Result<(), Fail> {
-    run(rt, "replay", TRACE, REPORT, &mut [0u8; 233])
+    run_program(rt, "replay", TRACE, REPORT, &mut [0u8; 233])
 }
 
 #[test]
 fn running_program_is_refused(rt: HostRuntime) -> Result<(), Fail> {
-    run(rt, "run", TRACE, REPORT, &mut [0u8; 233])
+    run_program(rt, "run", TRACE, REPORT, &mut [0u8; 233])
+}
+
+/// Reads two of three bytes from a device.
+#[test]
+fn devices_without_memory(rt: HostRuntime) -> Result<(), Fail> {
+    let mut reader = Device::new("abc".as_bytes());
+    assert!(rt; !reader.failed());
+    assert_eq!(rt; reader.given(), 0);
+    let mut room = [0u8; 2];
+    assert!(rt; matches!(reader.read(&mut room), Ok(2)));
+    assert_eq!(rt; room.as_slice(), b"ab".as_slice());
+    assert!(rt; !reader.failed());
+    assert_eq!(rt; reader.given(), 2);
+    assert_eq!(rt; reader.into_inner(), b"c".as_slice());
+    match Vec::<u8>::with_capacity(rt.alloc(), 1) {
+        Ok(_) => println!(rt; "memory after all calls")?,
+        Err(_) => println!(rt; "all calls were made without memory")?,
+    }
+    Ok(())
+}
+
+/// Writes the longest line of a fault into an array that is just large enough, and then into one
+/// that is too small.
+#[test]
+fn faults_without_memory(rt: HostRuntime) -> Result<(), Fail> {
+    let fault = EngineFault::Trace(TraceFault {
+        line: u64::MAX,
+        kind: TraceKind::FieldCount,
+    });
+    let mut line = [0u8; 57];
+    let mut writer = Device::new(&mut line[..]);
+    assert_eq!(rt; write_fault(&fault, &mut writer), Ok(()));
+    assert!(rt; !writer.failed());
+    writer.into_inner();
+    let text = "segrx: line 18446744073709551615: wrong number of fields\n";
+    assert_eq!(rt; line.as_slice(), text.as_bytes());
+
+    let mut front = [0u8; 3];
+    let mut writer = Device::new(&mut front[..]);
+    assert_eq!(rt; write_fault(&fault, &mut writer), Err(WriteFault));
+    assert!(rt; writer.failed());
+    writer.into_inner();
+    assert_eq!(rt; front.as_slice(), b"seg".as_slice());
+
+    let faults = [
+        (fault, 1),
+        (EngineFault::Usage, 2),
+        (EngineFault::OutOfMemory, 3),
+        (EngineFault::Read, 4),
+        (EngineFault::Write, 4),
+    ];
+    for (fault, code) in faults {
+        assert_eq!(rt; status(&fault), code);
+    }
+    match Vec::<u8>::with_capacity(rt.alloc(), 1) {
+        Ok(_) => println!(rt; "memory after all calls")?,
+        Err(_) => println!(rt; "all calls were made without memory")?,
+    }
+    Ok(())
 }

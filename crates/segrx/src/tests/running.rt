@@ -14,7 +14,7 @@ use std::thread::Threads;
 use uplink::{NoTap, Request, Tap, Taps};
 
 /// Receives a trace with room for one entry in each mailbox and ring, and writes the report.
-fn receive<F, Q, T>(
+fn run_with_room_for_one<F, Q, T>(
     alloc: Global,
     rt: T,
     trace: &str,
@@ -34,17 +34,34 @@ where
     done
 }
 
+/// The lanes of a report where nothing came in.
+const NOTHING_CAME: &str = "lane 0 admitted 0 refused -\nlane 1 admitted 0 refused -\n\
+lane 2 admitted 0 refused -\nlane 3 admitted 0 refused -\n";
+/// A decision for a flow of which nothing came in, and the report of that.
+const GAP_ALONE: &str = "flow 1 0 1 1\ngap 0\n";
+
+const NOTHING_LOST: &str = "flow 0 1 kept 0 late 0 repeat 0 beyond 0 lost 0 frames 0 skipped 0\n\
+lane 0 admitted 0 refused -\nlane 1 admitted 0 refused -\n\
+lane 2 admitted 0 refused -\nlane 3 admitted 0 refused -\n";
+
 #[test]
 fn reports_the_same_in_every_schedule(rt: HostRuntime) {
-    for _ in 0..100 {
-        let taps = Taps {
-            frames: NoTap,
-            requests: NoTap,
-        };
-        let mut report = Vec::new(rt.alloc());
-        let done = receive(rt.alloc(), rt, LOST_TRACE, taps, &mut report);
-        assert_eq!(rt; done, Ok(()));
-        assert_eq!(rt; report.as_slice(), LOST_REPORT.as_bytes());
+    let cases = [
+        (LOST_TRACE, LOST_REPORT),
+        ("", NOTHING_CAME),
+        (GAP_ALONE, NOTHING_LOST),
+    ];
+    for (trace, wanted) in cases {
+        for _ in 0..100 {
+            let taps = Taps {
+                frames: NoTap,
+                requests: NoTap,
+            };
+            let mut report = Vec::new(rt.alloc());
+            let done = run_with_room_for_one(rt.alloc(), rt, trace, taps, &mut report);
+            assert_eq!(rt; done, Ok(()), "{trace}");
+            assert_eq!(rt; report.as_slice(), wanted.as_bytes(), "{trace}");
+        }
     }
 }
 
@@ -104,7 +121,7 @@ fn frames_and_requests_are_taken_at_once(rt: HostRuntime) -> Result<(), Fail> {
         requests: Meets::at(&meeting)?,
     };
     let mut report = Vec::new(rt.alloc());
-    let done = receive(rt.alloc(), rt, FRAME_AND_REQUEST, taps, &mut report);
+    let done = run_with_room_for_one(rt.alloc(), rt, FRAME_AND_REQUEST, taps, &mut report);
     assert_eq!(rt; done, Ok(()));
     assert_eq!(rt; meeting.came.load(Ordering::SeqCst), 2);
     assert_eq!(rt; meeting.missed.load(Ordering::SeqCst), 0, "not met");
