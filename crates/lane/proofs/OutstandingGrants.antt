@@ -80,9 +80,6 @@ module _ (numbers : List ℕ) (different : Different numbers) where
 
   -- and without one of them
   module _ (k : ℕ) (within : k < length numbers) where
-    abbrev left_out : ℕ → ℕ
-    left_out d = get_or numbers k d
-
     -- a place of the list without it
     place-left : (j d : ℕ) → j < length (remove numbers k)
         → (i : ℕ) × (i < length numbers) × (i ≢ k) × (get_or (remove numbers k) j d ≡ get_or numbers i d)

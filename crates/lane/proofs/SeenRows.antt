@@ -46,15 +46,6 @@ module _ (table : List (List Bool)) (i j : ℕ) (i_within : i < length table) (j
       (λ set. inl (subst IsTrue is set), ⊎_elim (λ was. subst IsTrue (sym is) was) (λ same_place. absurd (apart same_place.0))))
       (cases_eq other i)
 
-  -- and no row is longer or shorter
-  pub as-long : (n : ℕ) → ((k : ℕ) → k < 4 → length (slice_index_or table k []) ≡ n) → (k : ℕ) → k < 4 → length (slice_index_or after k []) ≡ n
-  as-long n lengths k below =
-      ⊎_elim
-      (λ (same : k ≡ i). ap (λ t. length (slice_index_or after t [])) same ∙ ap length here ∙ length-set (slice_index_or table i []) j true
-      ∙ ap (λ t. length (slice_index_or table t [])) (sym same) ∙ lengths k below)
-      (λ (apart : k ≢ i). ap length (elsewhere k apart) ∙ lengths k below)
-      (cases_eq k i)
-
 -- a row of unset places has none that is set
 unset : (n j : ℕ) → slice_index_or (replicate n false) j false ≡ false
 unset zero j = refl
@@ -69,14 +60,6 @@ none-set n (suc zero) j = unset n j
 none-set n (suc (suc zero)) j = unset n j
 none-set n (suc (suc (suc zero))) j = unset n j
 none-set n (suc (suc (suc (suc i)))) j = refl
-
--- each of the four has so many places
-pub four-rows : (n i : ℕ) → i < 4 → length (slice_index_or (replicate n false ∷ replicate n false ∷ replicate n false ∷ replicate n false ∷ []) i []) ≡ n
-four-rows n zero h = length-replicate n false
-four-rows n (suc zero) h = length-replicate n false
-four-rows n (suc (suc zero)) h = length-replicate n false
-four-rows n (suc (suc (suc zero))) h = length-replicate n false
-four-rows n (suc (suc (suc (suc i)))) h = absurd (omega arith)
 
 -- the channel and the identifier stand in one of the first n rows
 abbrev pub IsAmongFirst : List SidRow → ℕ → ℕ → ℕ → Type 0

@@ -21,7 +21,7 @@ use Rattle.lane.specs.Report.{admitted_by, admitted_of, requests_of, IsLaneReque
 use Rattle.receiver.specs.Items.{IsItem, event_of_admitted, lane_setup}
 use Rattle.lane.specs.Stands.{StandsFor, TakesInput}
 use Rattle.lane.specs.Report.{Reports}
-use Rattle.receiver.specs.Received.{HasReceived, AdmitsWithin, NotesAnswer}
+use Rattle.receiver.specs.Inside.Received.{HasReceived, AdmitsWithin, NotesAnswer}
 use Rattle.lane.proofs.LaneTaking.{answered-last}
 use Rattle.lane.proofs.LaneReports.{admitted_of-append, requests_of-append}
 

@@ -15,7 +15,7 @@ use Rattle.receiver.specs.declared.flows.Assembler.{Assembler}
 use Rattle.receiver.specs.declared.outcome.FlowOutcome.{FlowOutcome}
 use Rattle.receiver.specs.Items.{events_at}
 use Rattle.receiver.specs.Outcome.{GivesAtItsClose, IsOutcomeOfFlow, AreOutcomesOfFlows}
-use Rattle.receiver.specs.Assembly.{GivesTheRest, HasAssembled, collected}
+use Rattle.receiver.specs.Inside.Assembly.{GivesTheRest, HasAssembled, collected}
 use Rattle.receiver.proofs.ItemsTaken.{another_drained, drained_at, running_at}
 
 -- the first of what is left of a list after its first k

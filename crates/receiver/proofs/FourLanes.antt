@@ -22,7 +22,7 @@ use Rattle.receiver.specs.Faults.{HasBadOrder}
 use Rattle.lane.specs.Report.{IsReportOf}
 use Rattle.receiver.specs.AdmittedOrder.{input_counts}
 use Rattle.lane.specs.Report.{admitted_by, requests_of}
-use Rattle.receiver.specs.Received.{HasReceived, HaveReceived, received_on, AreFlagsOf, left_of}
+use Rattle.receiver.specs.Inside.Received.{HasReceived, HaveReceived, received_on, AreFlagsOf, left_of}
 use Rattle.receiver.proofs.MergedLists.{length-of}
 use Rattle.receiver.proofs.Interleaving.{five, lawful-same, merge-same}
 

@@ -19,7 +19,7 @@ use Rattle.flow_core.specs.Flows.{flow_of, event_of, OthersStay, TakesEventAt, I
 use Rattle.flow_core.specs.Giving.{HasGiven, HasDrained, IsRunning, Drains}
 use Rattle.receiver.specs.Items.{events_at}
 use Rattle.receiver.specs.declared.flows.Assembler.{Assembler}
-use Rattle.receiver.specs.Assembly.{HasTaken, IsTaking, TakesItem, HasAssembled, collected}
+use Rattle.receiver.specs.Inside.Assembly.{HasTaken, IsTaking, TakesItem, HasAssembled, collected}
 
 -- the events of one item: it is one of its flow, and none of any other
 module _ (items : List Event) (event : Event) where

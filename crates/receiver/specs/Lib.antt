@@ -4,6 +4,5 @@ pub mod Intake
 pub mod Outcome
 pub mod AdmittedOrder
 pub mod Faults
-pub mod Assembly
-pub mod Received
 pub mod SameOutcome
+pub mod Inside

@@ -7,8 +7,8 @@ ghost use Rattle.flow_core.specs.Flows.{IsDrainedAt, OthersStay};
 ghost use Rattle.flow_core.specs.Giving.{IsRunning};
 ghost use Rattle.receiver.specs.Items.{IsItem};
 ghost use Rattle.receiver.specs.Outcome.{AreOutcomesOfFlows};
-ghost use Rattle.receiver.specs.Assembly.{IsTaking, TakesItem, GivesTheRest};
-ghost use Rattle.receiver.specs.Assembly.{HasAssembled, IsAssembling};
+ghost use Rattle.receiver.specs.Inside.Assembly.{IsTaking, TakesItem, GivesTheRest};
+ghost use Rattle.receiver.specs.Inside.Assembly.{HasAssembled, IsAssembling};
 
 use crate::outcome::FlowOutcome;
 use docsis_wire::{Bytes, HeaderCheck};

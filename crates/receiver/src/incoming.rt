@@ -3,7 +3,7 @@ ghost use Rattle.std.specs.Prelude.{◌≡◌, ℕ, List, [], IfOk, length};
 ghost use Rattle.lane.specs.Rows.{CanBeOpened};
 ghost use Rattle.lane.specs.Inputs.{AnsweredInput, AreAnswered, inputs_of};
 ghost use Rattle.receiver.specs.Items.{lane_setup};
-ghost use Rattle.receiver.specs.Received.{HasReceived, NotesAnswer};
+ghost use Rattle.receiver.specs.Inside.Received.{HasReceived, NotesAnswer};
 
 use crate::setup::Setup;
 use flow_core::Event;

@@ -9,7 +9,7 @@ ghost use Rattle.receiver.specs.Outcome.{IsOutcome, AreOutcomesOfFlows};
 ghost use Rattle.receiver.specs.AdmittedOrder.{IsAdmittedOrder, input_counts};
 ghost use Rattle.receiver.specs.Faults.{CanReceive};
 ghost use Rattle.receiver.specs.Faults.{IsFirstFault, IsReplayFault, IsTagsFault};
-ghost use Rattle.receiver.specs.Received.{HaveReceived, AreFlagsOf, left_of};
+ghost use Rattle.receiver.specs.Inside.Received.{HaveReceived, AreFlagsOf, left_of};
 
 use crate::flows::Assembler;
 use crate::incoming::{FourReceived, receive};

@@ -15,7 +15,7 @@ use Rattle.receiver.specs.declared.setup.Decision.{Decision}
 use Rattle.receiver.specs.declared.setup.Lists.{Lists}
 use Rattle.receiver.specs.Items.{inputs_on}
 use Rattle.lane.specs.Limits.{channel_limit}
-use Rattle.lane.specs.Seen.{HasSeen}
+use Rattle.lane.specs.Inside.Seen.{HasSeen}
 use Rattle.texts.specs.declared.fault.TraceKind.{TraceKind}
 use Rattle.texts.specs.declared.fault.TraceKind.TheVariants.{UnknownFlow, SameSid}
 use Rattle.texts.specs.declared.fault.LineFault.{LineFault}

@@ -15,8 +15,8 @@ use Rattle.uplink.specs.declared.assembler.Assembled.{Assembled}
 use Rattle.receiver.specs.Items.{IsItem, events_at}
 use Rattle.receiver.specs.Order.{senders}
 use Rattle.receiver.specs.Outcome.{GivesAtItsClose}
-use Rattle.receiver.specs.Assembly.{IsTaking}
-use Rattle.uplink.specs.Offering.{HasCollected, HasOfferedAll, HasAssembledSoFar, OffersItem, OffersTheRest, HasAssembledAll}
+use Rattle.receiver.specs.Inside.Assembly.{IsTaking}
+use Rattle.uplink.specs.Inside.Offering.{HasCollected, HasOfferedAll, HasAssembledSoFar, OffersItem, OffersTheRest, HasAssembledAll}
 use Rattle.uplink.proofs.ItemsCollected.{none_collected, one_collected, same_collected}
 
 -- where two lists are the same by some function of each element, an element of the one has its fellow in the other

@@ -11,7 +11,7 @@ use Rattle.delivery.specs.Takers.{is_closed}
 use Rattle.delivery.specs.declared.taker.Taker.{Taker}
 use Rattle.uplink.specs.declared.frame_worker.Consumed.{Consumed}
 use Rattle.uplink.specs.declared.frame_worker.Consuming.{Consuming}
-use Rattle.uplink.specs.Working.{HasConsumed, HaveConsumed, DidConsumeAll, consuming_of}
+use Rattle.uplink.specs.Inside.Working.{HasConsumed, HaveConsumed, DidConsumeAll, consuming_of}
 use Rattle.lane.proofs.LaneTaking.{from-pushed}
 
 -- one taker more is ready

@@ -11,8 +11,8 @@ use Rattle.flow_core.specs.declared.event.Event.{Event}
 use Rattle.flow_core.specs.Flows.{flow_of}
 use Rattle.flow_core.proofs.OneFlow.{written, written_other}
 use Rattle.receiver.specs.Items.{IsItem}
-use Rattle.receiver.specs.Assembly.{HasTaken, IsTaking, TakesItem}
-use Rattle.uplink.specs.Offering.{HasOfferedAll, OffersItem}
+use Rattle.receiver.specs.Inside.Assembly.{HasTaken, IsTaking, TakesItem}
+use Rattle.uplink.specs.Inside.Offering.{HasOfferedAll, OffersItem}
 
 -- what flow n has given, with these frames more, and all others as they had
 unfoldable with_more : (ℕ → List (List ℕ)) → ℕ → List (List ℕ) → ℕ → List (List ℕ)

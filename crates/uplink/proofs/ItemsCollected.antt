@@ -6,7 +6,7 @@ use Rattle.std.proofs.lemmas.List.{length_push}
 use Rattle.std.proofs.lemmas.List.Elements.{All-nil, All-push}
 use Rattle.flow_core.specs.declared.event.Event.{Event}
 use Rattle.receiver.specs.Order.{picked, senders}
-use Rattle.uplink.specs.Offering.{HasCollected}
+use Rattle.uplink.specs.Inside.Offering.{HasCollected}
 
 -- an item at the end is picked for its own sender
 picked-push : {T : Type 0} (s t : ℕ) (order : List ℕ) (x : T) (items : List T) → length order ≡ length items

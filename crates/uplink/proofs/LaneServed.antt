@@ -14,7 +14,7 @@ use Rattle.receiver.specs.Items.{event_of_admitted}
 use Rattle.lane.specs.Report.{IsReportOf}
 use Rattle.lane.specs.Stands.{TakesInput}
 use Rattle.lane.specs.Report.{Reports}
-use Rattle.uplink.specs.Working.{HasPosted, HasServedAll, DidLane}
+use Rattle.uplink.specs.Inside.Working.{HasPosted, HasServedAll, DidLane}
 use Rattle.lane.proofs.LaneReports.{admitted_of-append, requests_of-append}
 
 module _ {S : Type 0} where

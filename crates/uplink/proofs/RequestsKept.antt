@@ -7,7 +7,7 @@ use Rattle.std.proofs.lemmas.Bool.Decides.{nat_tests}
 use Rattle.std.proofs.lemmas.List.{map-set, length-map, get_or-map, get_or-set_same, get_or-set_other}
 use Rattle.lane.specs.declared.admitted.Request.{Request}
 use Rattle.lane.specs.Limits.{channel_limit}
-use Rattle.uplink.specs.Working.{kept_of, KeepsOneMore, HasKept}
+use Rattle.uplink.specs.Inside.Working.{kept_of, KeepsOneMore, HasKept}
 
 -- the requests of each sender
 abbrev Kept : Type 0

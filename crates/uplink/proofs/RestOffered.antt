@@ -15,8 +15,8 @@ use Rattle.flow_core.specs.Giving.{HasDrained, IsRunning}
 use Rattle.flow_core.proofs.OneFlow.{written, written_other}
 use Rattle.receiver.specs.Items.{events_at}
 use Rattle.receiver.specs.Outcome.{GivesAtItsClose}
-use Rattle.receiver.specs.Assembly.{HasTaken, IsTaking, GivesTheRest}
-use Rattle.uplink.specs.Offering.{OffersTheRest}
+use Rattle.receiver.specs.Inside.Assembly.{HasTaken, IsTaking, GivesTheRest}
+use Rattle.uplink.specs.Inside.Offering.{OffersTheRest}
 use Rattle.receiver.proofs.ItemsTaken.{still_drained, drained_at, running_at}
 use Rattle.lane.proofs.LaneTaking.{stays-behind}
 

@@ -19,7 +19,7 @@ use Rattle.flow_core.specs.declared.record.FlowRecord.{FlowRecord}
 use Rattle.uplink.specs.declared.frame_worker.Consumed.{Consumed}
 use Rattle.receiver.specs.declared.outcome.FlowOutcome.{FlowOutcome}
 use Rattle.receiver.specs.Order.{senders}
-use Rattle.uplink.specs.Running.{AreFlowsOf, all_posted}
+use Rattle.uplink.specs.Inside.Running.{AreFlowsOf, all_posted}
 use Rattle.uplink.proofs.AlikeLists.{alike_at}
 use Rattle.lane.proofs.LaneTaking.{from-pushed}
 

@@ -39,8 +39,8 @@ use Rattle.receiver.specs.Order.{senders, picked, IsMergeOf}
 use Rattle.receiver.specs.Outcome.{IsOutcome, GivesAtItsClose, IsOutcomeOfFlow, AreOutcomesOfFlows, requests_on}
 use Rattle.lane.specs.Report.{IsReportOf}
 use Rattle.lane.specs.Stands.{StandsFor}
-use Rattle.uplink.specs.Working.{HasPosted, HasServed, DidLane, kept_of}
-use Rattle.uplink.specs.Running.{IsOpened, HasEnded, CanSettle, HasConcluded, closed_arrivals, closed_requests, all_posted}
+use Rattle.uplink.specs.Inside.Working.{HasPosted, HasServed, DidLane, kept_of}
+use Rattle.uplink.specs.Inside.Running.{IsOpened, HasEnded, CanSettle, HasConcluded, closed_arrivals, closed_requests, all_posted}
 use Rattle.receiver.proofs.ChannelInputs.{items-admitted}
 use Rattle.receiver.proofs.Interleaving.{five}
 use Rattle.receiver.proofs.FourLanes.{four, decided-are_items}

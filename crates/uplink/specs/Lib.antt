@@ -1,5 +1,3 @@
 pub mod Faults
-pub mod Working
-pub mod Offering
-pub mod Running
 pub mod Headline
+pub mod Inside

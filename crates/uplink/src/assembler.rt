@@ -7,8 +7,8 @@ ghost use Rattle.flow_core.specs.Flows.{IsDrainedAt, OthersStay};
 ghost use Rattle.flow_core.specs.Giving.{IsRunning};
 ghost use Rattle.receiver.specs.Items.{IsItem};
 ghost use Rattle.receiver.specs.Order.{senders};
-ghost use Rattle.receiver.specs.Assembly.{IsTaking, GivesTheRest};
-ghost use Rattle.uplink.specs.Offering.{HasCollected, HasAssembledSoFar, OffersItem, OffersTheRest, HasAssembledAll};
+ghost use Rattle.receiver.specs.Inside.Assembly.{IsTaking, GivesTheRest};
+ghost use Rattle.uplink.specs.Inside.Offering.{HasCollected, HasAssembledSoFar, OffersItem, OffersTheRest, HasAssembledAll};
 
 use delivery::{ClosedFeeder, Feeder};
 use docsis_wire::{Bytes, HeaderCheck, SEQUENCE_MODULUS, ready};

@@ -1,6 +1,6 @@
 //! The worker of the decisions.
 ghost use Rattle.std.specs.Prelude.{◌≡◌, IfOk, IfSome};
-ghost use Rattle.uplink.specs.Working.{DidDecide};
+ghost use Rattle.uplink.specs.Inside.Working.{DidDecide};
 
 use crate::retry::{close_port, post_item};
 use crate::source::Decisions;

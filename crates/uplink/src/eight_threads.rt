@@ -9,7 +9,7 @@ ghost use Rattle.uplink.specs.Faults.{CanRun, IsRunFault};
 ghost use Rattle.uplink.specs.Headline.{KeepsTheHeadline};
 ghost use Rattle.receiver.specs.Items.{incoming_from};
 ghost use Rattle.receiver.specs.Outcome.{IsOutcome};
-ghost use Rattle.uplink.specs.Running.{CanStart, HasEnded};
+ghost use Rattle.uplink.specs.Inside.Running.{CanStart, HasEnded};
 
 use crate::assembler::{AssembledAll, assemble};
 use crate::decision_worker::DecidingWork;

@@ -4,7 +4,7 @@ ghost use Rattle.delivery.specs.Feeders.{closed_ring, closed_offered};
 ghost use Rattle.delivery.specs.Takers.{taker_ring, taken, is_closed};
 ghost use Rattle.delivery.specs.declared.feeder.ClosedFeeder.{ClosedFeeder};
 ghost use Rattle.uplink.specs.declared.frame_worker.Consumed.{Consumed};
-ghost use Rattle.uplink.specs.Running.{CanSettle, HasConcluded, AreFlowsOf};
+ghost use Rattle.uplink.specs.Inside.Running.{CanSettle, HasConcluded, AreFlowsOf};
 
 use crate::assembler::Assembled;
 use crate::frame_worker::Consumed;

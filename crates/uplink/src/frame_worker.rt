@@ -2,8 +2,8 @@
 ghost use Rattle.std.specs.Prelude.{◌≡◌, true, All, List, map, IfOk, IfSome};
 ghost use Rattle.delivery.specs.Takers.{is_closed};
 ghost use Rattle.delivery.specs.declared.taker.Taker.{Taker};
-ghost use Rattle.uplink.specs.Working.{HasConsumed, PushesFrame, HaveConsumed, DidConsumeAll};
-ghost use Rattle.uplink.specs.Working.{consuming_of};
+ghost use Rattle.uplink.specs.Inside.Working.{HasConsumed, PushesFrame, HaveConsumed, DidConsumeAll};
+ghost use Rattle.uplink.specs.Inside.Working.{consuming_of};
 
 use crate::start_word::StartWord;
 use crate::tap::Tap;

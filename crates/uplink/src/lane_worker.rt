@@ -3,7 +3,7 @@ ghost use Rattle.std.specs.Prelude.{◌≡◌, ◌++◌, map, IfOk, IfSome};
 ghost use Rattle.mailbox.specs.Ports.{address, posted};
 ghost use Rattle.lane.specs.Report.{admitted_in, requests_in};
 ghost use Rattle.receiver.specs.Items.{event_of_admitted};
-ghost use Rattle.uplink.specs.Working.{DidLane, HasServedAll};
+ghost use Rattle.uplink.specs.Inside.Working.{DidLane, HasServedAll};
 
 use crate::retry::{close_port, post_item};
 use crate::source::Source;

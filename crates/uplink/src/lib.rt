@@ -34,7 +34,8 @@ mod threads;
 
 pub use eight_threads::{RunFault, run};
 pub use lane::{
-    Admitted, Answer, CHANNELS, Input, Lane, LaneFault, LaneReport, Refusal, Request, SeenSids, SidRow,
+    Admitted, Answer, CHANNELS, Input, Lane, LaneFault, LaneReport, Refusal, Request, SeenSids,
+    SidRow,
 };
 pub use receiver::{
     BadSetup, Decision, FlowOutcome, Lists, Outcome, ReplayFault, Setup, admitted_order,

@@ -1,7 +1,7 @@
 //! What a receiver needs before its workers start.
 ghost use Rattle.std.specs.Prelude.{IfOk, length};
 ghost use Rattle.receiver.specs.Faults.{CanReceive};
-ghost use Rattle.uplink.specs.Running.{AreOpenLanes, AreOpenRings, IsOpenMailbox, IsOpened};
+ghost use Rattle.uplink.specs.Inside.Running.{AreOpenLanes, AreOpenRings, IsOpenMailbox, IsOpened};
 
 use delivery::{ClosedFeeder, Feeder, Taker, ring};
 use docsis_wire::HeaderCheck;
@@ -83,7 +83,7 @@ fn open_lanes(alloc: Global, setup: &Setup) -> Result<Lanes, AllocError>
 
 /// A ring for each flow.
 fn open_rings(alloc: Global, flows: &[FlowRecord]) -> Result<Rings, AllocError>
-    ensures { IfOk result (AreOpenRings (length flows.now)) }
+    ensures { IfOk result (AreOpenRings flows.now) }
 {
     let mut feeders = Vec::with_capacity(alloc, flows.len())?;
     let mut takers = Vec::with_capacity(alloc, flows.len())?;

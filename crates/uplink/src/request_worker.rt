@@ -1,6 +1,6 @@
 //! The worker that takes requests for the scheduler.
 ghost use Rattle.std.specs.Prelude.{◌≡◌, IfOk, IfSome, Some};
-ghost use Rattle.uplink.specs.Working.{DidSchedule, KeepsOneMore};
+ghost use Rattle.uplink.specs.Inside.Working.{DidSchedule, KeepsOneMore};
 
 use crate::start_word::StartWord;
 use crate::tap::Tap;

@@ -1,7 +1,7 @@
 //! Posting and closing until there is room.
 ghost use Rattle.std.specs.Prelude.{◌≡◌, ◌++◌, ◌∷◌, []};
 ghost use Rattle.mailbox.specs.Ports.{address, posted};
-ghost use Rattle.uplink.specs.Working.{HasPosted};
+ghost use Rattle.uplink.specs.Inside.Working.{HasPosted};
 
 use mailbox::{ClosedPort, Full, Port};
 use std::sync::Wait;

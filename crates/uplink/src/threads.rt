@@ -1,6 +1,6 @@
 //! The seven workers.
 ghost use Rattle.std.specs.Prelude.{◌≡◌, IfOk, IfSome};
-ghost use Rattle.uplink.specs.Working.{DidLane, DidDecide, DidSchedule, DidConsumeAll};
+ghost use Rattle.uplink.specs.Inside.Working.{DidLane, DidDecide, DidSchedule, DidConsumeAll};
 
 use crate::decision_worker::{self, Decider, DecidingWork};
 use crate::frame_worker::{self, Consumed, Consumers};

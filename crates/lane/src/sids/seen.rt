@@ -17,7 +17,7 @@ pub struct SeenSids {
 }
 
 impl SeenSids {
-    ghost use Rattle.lane.specs.Seen.{HasSeen};
+    ghost use Rattle.lane.specs.Inside.Seen.{HasSeen};
 
     /// None was seen yet.
     pub fn new() -> SeenSids

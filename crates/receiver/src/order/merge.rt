@@ -2,7 +2,7 @@
 ghost use Rattle.std.specs.Prelude.{◌≡◌, ◌≢◌, ◌<◌, ◌≤◌, ◌⊎◌, ◌∷◌, [], ℕ, MatchOption, IfSome};
 ghost use Rattle.std.specs.Vec.Iter.{into_iter_items};
 ghost use Rattle.receiver.specs.Order.{senders};
-ghost use Rattle.receiver.specs.Received.{left_of};
+ghost use Rattle.receiver.specs.Inside.Received.{left_of};
 
 use std::vec::IntoIter;
 

@@ -1,7 +1,7 @@
 -- What a reading of the code stands for: what the lines so far say.
 use Rattle.std.specs.Prelude.{◌≡◌, ◌<◌, ◌↔◌, ℕ, Result, MatchResult, map}
 use Rattle.lane.specs.Limits.{channel_limit, sid_limit}
-use Rattle.lane.specs.Seen.{HasSeen}
+use Rattle.lane.specs.Inside.Seen.{HasSeen}
 use Rattle.texts.specs.declared.fault.LineFault.{LineFault}
 use Rattle.texts.specs.declared.fault.TraceKind.{TraceKind}
 use Rattle.texts.specs.declared.trace.line.TraceLine.{TraceLine}

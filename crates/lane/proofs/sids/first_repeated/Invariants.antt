@@ -1,7 +1,7 @@
 -- No identifier so far stands in an earlier row, and those of the rows so far were seen.
 use Rattle.std.proofs.Common.{ℕ, ◌<◌, ◌↔◌}
 use Rattle.lane.specs.Rows.{IsSidRepeated}
-use Rattle.lane.specs.Seen.{HasSeen}
+use Rattle.lane.specs.Inside.Seen.{HasSeen}
 use Rattle.lane.proofs.SeenRows.{IsAmongFirst}
 use Rattle.lane.proofs.sids.first_repeated.Given as goal
 

@@ -5,8 +5,8 @@ use Rattle.flow_core.specs.declared.event.Event.{Event}
 use Rattle.receiver.specs.Items.{IsItem}
 use Rattle.receiver.specs.Order.{senders, IsMergeOf}
 use Rattle.receiver.specs.Outcome.{AreOutcomesOfFlows}
-use Rattle.receiver.specs.Received.{left_of}
-use Rattle.receiver.specs.Assembly.{HasAssembled}
+use Rattle.receiver.specs.Inside.Received.{left_of}
+use Rattle.receiver.specs.Inside.Assembly.{HasAssembled}
 use Rattle.receiver.proofs.Interleaving.{none-merged, next-comes, left-all, one-more, all-merged}
 use Rattle.receiver.proofs.one_thread.assemble.Goals as goal
 

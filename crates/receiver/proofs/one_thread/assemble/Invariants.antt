@@ -1,8 +1,8 @@
 -- Some items were taken in the order so far, and the flows have taken them.
 use Rattle.std.proofs.Common.{List}
 use Rattle.flow_core.specs.declared.event.Event.{Event}
-use Rattle.receiver.specs.Received.{left_of}
-use Rattle.receiver.specs.Assembly.{HasAssembled}
+use Rattle.receiver.specs.Inside.Received.{left_of}
+use Rattle.receiver.specs.Inside.Assembly.{HasAssembled}
 use Rattle.receiver.proofs.Interleaving.{IsMergedUpTo}
 use Rattle.receiver.proofs.one_thread.assemble.Given as goal
 

@@ -1,5 +1,5 @@
 use Rattle.std.proofs.Common.{vec_capacity, ap, arith}
-use Rattle.receiver.specs.Received.{left_of}
+use Rattle.receiver.specs.Inside.Received.{left_of}
 use Rattle.receiver.proofs.Interleaving.{next-comes, none-kept, kept-within, keeps-more, all-kept}
 use Rattle.receiver.proofs.one_thread.keep.Goals as goal
 use Rattle.receiver.proofs.one_thread.keep.Goals.{then-is_item, else-is_item}

@@ -1,6 +1,6 @@
 -- The flags so far are taken in the order of the tags, and there is room for every tag.
 use Rattle.std.proofs.Common.{◌≤◌, length, vec_capacity}
-use Rattle.receiver.specs.Received.{left_of}
+use Rattle.receiver.specs.Inside.Received.{left_of}
 use Rattle.receiver.proofs.Interleaving.{KeepsUpTo}
 use Rattle.receiver.proofs.one_thread.keep.Given as goal
 

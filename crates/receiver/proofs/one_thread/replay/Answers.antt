@@ -5,7 +5,7 @@ use Rattle.receiver.specs.declared.outcome.Outcome.{Outcome}
 use Rattle.receiver.specs.Items.{incoming_of, IsItem}
 use Rattle.receiver.specs.Order.{senders, IsOrderFault}
 use Rattle.receiver.specs.Outcome.{AreOutcomesOfFlows}
-use Rattle.receiver.specs.Received.{left_of}
+use Rattle.receiver.specs.Inside.Received.{left_of}
 use Rattle.receiver.proofs.FourLanes.{items-takable, bad-order, outcome-is}
 use Rattle.receiver.proofs.one_thread.replay.Goals as goal
 

@@ -5,7 +5,7 @@ use Rattle.mailbox.specs.Mouths.{taken}
 use Rattle.delivery.specs.Feeders.{offered, closed_offered}
 use Rattle.delivery.specs.declared.feeder.Feeder.{Feeder}
 use Rattle.flow_core.specs.declared.event.Event.{Event}
-use Rattle.uplink.specs.Offering.{HasCollected, HasAssembledAll}
+use Rattle.uplink.specs.Inside.Offering.{HasCollected, HasAssembledAll}
 use Rattle.uplink.proofs.AllAssembled.{assembled}
 use Rattle.uplink.proofs.assembler.assemble.Goals as goal
 

@@ -5,8 +5,8 @@ use Rattle.std.proofs.lemmas.Result.{on_ok_weaker}
 use Rattle.delivery.specs.Feeders.{feeder_ring, offered}
 use Rattle.delivery.specs.declared.feeder.Feeder.{Feeder}
 use Rattle.receiver.specs.Items.{IsItem}
-use Rattle.receiver.specs.Assembly.{TakesItem}
-use Rattle.uplink.specs.Offering.{OffersItem}
+use Rattle.receiver.specs.Inside.Assembly.{TakesItem}
+use Rattle.uplink.specs.Inside.Offering.{OffersItem}
 use Rattle.uplink.proofs.ItemOffered.{passed_over, item_offered}
 use Rattle.uplink.proofs.assembler.offer_item.Goals as goal
 

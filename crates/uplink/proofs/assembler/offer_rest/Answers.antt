@@ -1,7 +1,7 @@
 -- What the flow's close gives is offered to its feeder.
 use Rattle.std.proofs.Common.{ℕ, List, subst}
 use Rattle.delivery.specs.Feeders.{offered}
-use Rattle.receiver.specs.Assembly.{GivesTheRest}
+use Rattle.receiver.specs.Inside.Assembly.{GivesTheRest}
 use Rattle.uplink.proofs.RestOffered.{rest_after}
 use Rattle.uplink.proofs.assembler.offer_rest.Goals as goal
 

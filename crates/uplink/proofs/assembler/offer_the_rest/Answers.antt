@@ -7,7 +7,7 @@ use Rattle.delivery.specs.Feeders.{feeder_ring, offered}
 use Rattle.flow_core.specs.declared.counts.FlowCounts.{FlowCounts}
 use Rattle.flow_core.specs.Flows.{IsDrainedAt, OthersStay}
 use Rattle.flow_core.specs.Giving.{IsRunning}
-use Rattle.receiver.specs.Assembly.{GivesTheRest}
+use Rattle.receiver.specs.Inside.Assembly.{GivesTheRest}
 use Rattle.uplink.proofs.RestOffered.{AreOfferedBelow, none_offered, all_offered, next_is_drained, next_is_running, one_more_offered}
 use Rattle.uplink.proofs.assembler.offer_the_rest.Goals as goal
 

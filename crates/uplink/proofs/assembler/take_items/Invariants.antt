@@ -2,7 +2,7 @@
 use Rattle.std.proofs.Common.{◌≡◌, IfSome, map}
 use Rattle.mailbox.specs.Mouths.{places, taken}
 use Rattle.delivery.specs.Feeders.{feeder_ring}
-use Rattle.uplink.specs.Offering.{HasAssembledSoFar}
+use Rattle.uplink.specs.Inside.Offering.{HasAssembledSoFar}
 use Rattle.uplink.proofs.assembler.take_items.Given as goal
 
 abbrev pub invariant-loop : goal.invariant-loop

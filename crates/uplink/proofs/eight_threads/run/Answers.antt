@@ -1,7 +1,7 @@
 -- All that was opened is settled, and the outcome follows from what the threads have done.
 use Rattle.std.proofs.Common.{◌∷◌, [], length, sym, subst, ◌∙◌}
 use Rattle.receiver.specs.Items.{Incoming, incoming_from}
-use Rattle.uplink.specs.Running.{HasEnded, CanSettle, HasConcluded}
+use Rattle.uplink.specs.Inside.Running.{HasEnded, CanSettle, HasConcluded}
 use Rattle.uplink.proofs.RunOutcome.{can-settle, outcome-of-run}
 use Rattle.uplink.proofs.eight_threads.run.Given.{Over}
 use Rattle.uplink.proofs.eight_threads.run.Goals as goal

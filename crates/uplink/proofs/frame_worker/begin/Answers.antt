@@ -1,6 +1,6 @@
 -- One taker more is ready.
 use Rattle.std.proofs.Common.{◌++◌, ◌∷◌, [], rules, append_assoc, ap, sym, subst, ◌∙◌}
-use Rattle.uplink.specs.Working.{HaveConsumed}
+use Rattle.uplink.specs.Inside.Working.{HaveConsumed}
 use Rattle.uplink.proofs.FramesConsumed.{one_begun}
 use Rattle.uplink.proofs.frame_worker.begin.Goals as goal
 

@@ -2,7 +2,7 @@
 use Rattle.std.proofs.Common.{◌≡◌, ◌++◌, ◌≤◌, List, length, vec_capacity}
 use Rattle.std.specs.Vec.Iter.{into_iter_items}
 use Rattle.delivery.specs.declared.taker.Taker.{Taker}
-use Rattle.uplink.specs.Working.{HaveConsumed}
+use Rattle.uplink.specs.Inside.Working.{HaveConsumed}
 use Rattle.uplink.proofs.frame_worker.begin.Given as goal
 
 abbrev pub invariant-loop-taker : goal.invariant-loop-taker

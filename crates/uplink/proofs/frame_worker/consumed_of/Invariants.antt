@@ -1,7 +1,7 @@
 -- Those so far are finished, and the others are still to come.
 use Rattle.std.proofs.Common.{◌≡◌, ◌++◌, ◌≤◌, map, length, vec_capacity}
 use Rattle.std.specs.Vec.Iter.{into_iter_items}
-use Rattle.uplink.specs.Working.{consuming_of}
+use Rattle.uplink.specs.Inside.Working.{consuming_of}
 use Rattle.uplink.proofs.frame_worker.consumed_of.Given as goal
 
 abbrev pub invariant-loop-taker : goal.invariant-loop-taker

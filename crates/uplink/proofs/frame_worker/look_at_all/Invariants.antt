@@ -3,7 +3,7 @@ use Rattle.std.proofs.Common.{◌≡◌, true, List}
 use Rattle.std.specs.List.{AllWithin}
 use Rattle.delivery.specs.declared.taker.Taker.{Taker}
 use Rattle.delivery.specs.Takers.{is_closed}
-use Rattle.uplink.specs.Working.{HaveConsumed}
+use Rattle.uplink.specs.Inside.Working.{HaveConsumed}
 use Rattle.uplink.specs.declared.frame_worker.Look.TheVariants.{Closed}
 use Rattle.uplink.proofs.frame_worker.look_at_all.Given as goal
 

@@ -1,6 +1,6 @@
 use Rattle.std.proofs.Common.{List}
 use Rattle.delivery.specs.declared.taker.Taker.{Taker}
-use Rattle.uplink.specs.Working.{HaveConsumed}
+use Rattle.uplink.specs.Inside.Working.{HaveConsumed}
 use Rattle.uplink.proofs.frame_worker.take_frames.Given as goal
 
 abbrev pub invariant-loop : goal.invariant-loop

@@ -1,6 +1,6 @@
 -- All inputs are served.
 use Rattle.std.proofs.Common.{rules}
-use Rattle.uplink.specs.Working.{HasServedAll}
+use Rattle.uplink.specs.Inside.Working.{HasServedAll}
 use Rattle.uplink.proofs.LaneServed.{did_serve}
 use Rattle.uplink.proofs.lane_worker.serve_channel.Goals as goal
 

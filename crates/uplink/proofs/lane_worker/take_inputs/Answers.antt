@@ -2,7 +2,7 @@
 use Rattle.std.proofs.Common.{◌≡◌, List, ◌++◌, ◌∷◌, [], refl, sym, ap, append_assoc, ◌∙◌}
 use Rattle.lane.specs.declared.input.Input.{Input}
 use Rattle.uplink.proofs.LaneServed.{none_served, one_served, all_served}
-use Rattle.uplink.specs.Working.{HasServedAll}
+use Rattle.uplink.specs.Inside.Working.{HasServedAll}
 use Rattle.uplink.proofs.lane_worker.take_inputs.Given.{Over}
 use Rattle.uplink.proofs.lane_worker.take_inputs.Goals as goal
 use Rattle.uplink.proofs.lane_worker.take_inputs.Goals.{After-post_admitted}

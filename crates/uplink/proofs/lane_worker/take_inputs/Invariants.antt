@@ -1,7 +1,7 @@
 -- The inputs so far are served, and the others are still to come.
 use Rattle.std.proofs.Common.{◌≡◌, ◌++◌, List, length}
 use Rattle.lane.specs.declared.input.Input.{Input}
-use Rattle.uplink.specs.Working.{HasServedAll}
+use Rattle.uplink.specs.Inside.Working.{HasServedAll}
 use Rattle.uplink.proofs.lane_worker.take_inputs.Given as goal
 
 abbrev pub invariant-loop-input : goal.invariant-loop-input

@@ -2,7 +2,7 @@
 use Rattle.std.proofs.Common.{rules, List, [], length, refl, subst}
 use Rattle.flow_core.specs.declared.record.FlowRecord.{FlowRecord}
 use Rattle.flow_core.specs.Flows.{IsNewCore}
-use Rattle.uplink.specs.Running.{AreOpenRings}
+use Rattle.uplink.specs.Inside.Running.{AreOpenRings}
 use Rattle.receiver.proofs.ItemsTaken.{nothing_taken}
 use Rattle.uplink.proofs.open.open_all.Goals as goal
 
@@ -15,7 +15,7 @@ returns g c =
     record {
       lanes = c.in_ok-open_lanes.ensures;
       core = nothing_taken g.C.HeaderCheck.accepts c.args.check records core (λ k. []) c.requires.flows new (λ k. refl);
-      rings = subst (λ (of : List FlowRecord). AreOpenRings (length of) rings) c.deref-2.ensures.value c.in_ok-open_rings.ensures;
+      rings = subst (λ (of : List FlowRecord). AreOpenRings of rings) c.deref-2.ensures.value c.in_ok-open_rings.ensures;
       none_closed = c.in_ok-with_capacity.ensures.items;
       room = search rules;
       arrivals = c.in_ok-open_mailbox.ensures;

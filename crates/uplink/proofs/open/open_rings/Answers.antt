@@ -1,11 +1,12 @@
 -- One ring more.
-use Rattle.std.proofs.Common.{rules, ◌≡◌, ◌+◌, [], ◌∷◌, ◌++◌, map, length, ap, sym, ◌∙◌}
-use Rattle.std.proofs.lemmas.List.{length_push}
+use Rattle.std.proofs.Common.{rules, ◌≡◌, ◌+◌, [], ◌∷◌, ◌++◌, map, length, take, ap, sym, ◌∙◌}
+use Rattle.std.proofs.lemmas.List.{length_push, map-append, take_more}
 use Rattle.std.proofs.lemmas.List.Elements.{All-push, All-same}
-use Rattle.delivery.specs.Feeders.{feeder_ring, offered}
+use Rattle.delivery.specs.Feeders.{feeder_ring, offered, room}
 use Rattle.delivery.specs.Takers.{taker_ring, taken}
 use Rattle.delivery.specs.declared.feeder.Feeder.{Feeder}
 use Rattle.delivery.specs.declared.taker.Taker.{Taker}
+use Rattle.uplink.specs.Inside.Running.{ring_of}
 use Rattle.uplink.proofs.AlikeLists.{alike_pushed}
 use Rattle.uplink.proofs.open.open_rings.Goals as goal
 
@@ -14,6 +15,9 @@ loop-flow-preserved c =
     let was = c.loop-flow.invariant in
     let feeders = c.loop-flow.feeders.items in
     let takers = c.loop-flow.takers.items in
+    let flows = c.args.flows.now in
+    let n = c.loop-flow.flow-index in
+    let flow = c.flow-item.result in
     let feeder = c.in-Ok.feeder in
     let taker = c.in-Ok.taker in
     let first : c.push_reserved.new.self.items ≡ feeders ++ feeder ∷ [] = c.push_reserved.ensures.items in
@@ -24,6 +28,10 @@ loop-flow-preserved c =
       feeder_count = ap length first ∙ length_push feeders feeder ∙ ap (λ n. n + 1) was.feeder_count;
       taker_count = ap length second ∙ length_push takers taker ∙ ap (λ n. n + 1) was.taker_count;
       feeder_room = search rules;
+      rooms = ap (map room) first ∙ map-append room feeders (feeder ∷ []) ∙ ap (λ l. l ++ room feeder ∷ []) was.rooms
+          ∙ ap (λ entries. map ring_of (take n flows) ++ entries ∷ []) c.in-Ok.ensures.room
+          ∙ sym (ap (map ring_of) (take_more flows n flow c.loop-flow-test.true ∙ ap (λ f. take n flows ++ f ∷ []) (sym c.flow-item.is))
+          ∙ map-append ring_of (take n flows) (flow ∷ []));
       taker_room = search rules;
       same = ap (map feeder_ring) first ∙ alike_pushed feeder_ring taker_ring feeders takers feeder taker was.same c.in-Ok.ensures.ring
           ∙ sym (ap (map taker_ring) second);

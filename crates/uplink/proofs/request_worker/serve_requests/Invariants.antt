@@ -1,7 +1,7 @@
 -- What was taken since the beginning is kept, unless an allocation failed.
 use Rattle.std.proofs.Common.{◌≡◌, IfSome}
 use Rattle.mailbox.specs.Mouths.{places, taken}
-use Rattle.uplink.specs.Working.{HasKept}
+use Rattle.uplink.specs.Inside.Working.{HasKept}
 use Rattle.uplink.proofs.request_worker.serve_requests.Given as goal
 
 abbrev pub invariant-loop : goal.invariant-loop

@@ -8,7 +8,7 @@ use Rattle.std.proofs.lemmas.List.{length_push, length-drop}
 use Rattle.flow_core.specs.Flows.{IsDrainedAt, OthersStay}
 use Rattle.flow_core.specs.Giving.{IsRunning}
 use Rattle.receiver.specs.declared.outcome.FlowOutcome.{FlowOutcome}
-use Rattle.receiver.specs.Assembly.{GivesTheRest}
+use Rattle.receiver.specs.Inside.Assembly.{GivesTheRest}
 use Rattle.receiver.proofs.FlowsClosed.{AreClosedBelow, first_left, none_closed, all_closed, next_is_drained, next_is_running, one_more_closed}
 use Rattle.receiver.proofs.flows.Assembler.finish.Goals as goal
 

@@ -2,7 +2,7 @@
 use Rattle.std.proofs.Common.{◌≡◌, refl, subst, slice_index_or, slice_set}
 use Rattle.std.specs.Vec.{with_item}
 use Rattle.std.proofs.lemmas.Result.{IfOk-weaker}
-use Rattle.receiver.specs.Assembly.{TakesItem}
+use Rattle.receiver.specs.Inside.Assembly.{TakesItem}
 use Rattle.receiver.proofs.ItemsTaken.{item_collected}
 use Rattle.receiver.proofs.flows.Assembler.take.Goals as goal
 

@@ -7,7 +7,7 @@ use Rattle.mailbox.specs.Openings.{addresses, HaveCapacity, NonePosted, NoneTake
 use Rattle.mailbox.specs.Mouths.{places, taken, ended}
 use Rattle.mailbox.specs.Settling.{closed_addresses}
 use Rattle.mailbox.specs.declared.settling.ClosedPorts.{ClosedPorts}
-use Rattle.delivery.specs.Feeders.{feeder_ring, offered, closed_ring, closed_offered}
+use Rattle.delivery.specs.Feeders.{feeder_ring, offered, room, closed_ring, closed_offered}
 use Rattle.delivery.specs.Takers.{taker_ring, is_closed}
 use Rattle.delivery.specs.Takers as takers
 use Rattle.delivery.specs.declared.feeder.ClosedFeeder.{ClosedFeeder}
@@ -24,13 +24,13 @@ use Rattle.uplink.specs.declared.open.Opened.{Opened}
 use Rattle.uplink.specs.declared.open.Rings.{Rings}
 use Rattle.uplink.specs.declared.finish.Ended.{Ended}
 use Rattle.receiver.specs.declared.setup.Setup.{Setup}
-use Rattle.receiver.specs.Assembly.{HasTaken, IsTaking}
+use Rattle.receiver.specs.Inside.Assembly.{HasTaken, IsTaking}
 use Rattle.receiver.specs.Items.{Incoming, lane_setup}
 use Rattle.lane.specs.Limits.{channel_limit}
-use Rattle.uplink.specs.Offering.{HasCollected, HasAssembledAll}
+use Rattle.uplink.specs.Inside.Offering.{HasCollected, HasAssembledAll}
 use Rattle.receiver.specs.Order.{senders}
 use Rattle.lane.specs.Stands.{StandsFor}
-use Rattle.uplink.specs.Working.{HasPosted, DidLane, DidDecide, DidSchedule, DidConsumeAll}
+use Rattle.uplink.specs.Inside.Working.{HasPosted, DidLane, DidDecide, DidSchedule, DidConsumeAll}
 
 -- the four lanes stand for no inputs
 pub record AreOpenLanes (setup : Setup) (lanes : Lanes) : Type 0 where
@@ -39,10 +39,15 @@ pub record AreOpenLanes (setup : Setup) (lanes : Lanes) : Type 0 where
   pub l2 : StandsFor (lane_setup setup 2) lanes.l2 []
   pub l3 : StandsFor (lane_setup setup 3) lanes.l3 []
 
--- so many rings, with nothing offered and nothing taken
-pub record AreOpenRings (count : ℕ) (rings : Rings) : Type 0 where
+-- how many frames and end marks a flow's ring has room for, by its record
+abbrev pub ring_of : FlowRecord → ℕ
+ring_of flow_record = flow_record.ring
+
+-- a ring for each record, with the room that the record says, with nothing offered and nothing taken
+pub record AreOpenRings (records : List FlowRecord) (rings : Rings) : Type 0 where
   pub same : map feeder_ring rings.feeders.items ≡ map taker_ring rings.takers.items
-  pub count_is : length rings.feeders.items ≡ count
+  pub count_is : length rings.feeders.items ≡ length records
+  pub rooms : map room rings.feeders.items ≡ map ring_of records
   pub none_offered : All (λ feeder. offered feeder ≡ []) rings.feeders.items
   pub none_taken : All (λ taker. takers.taken taker ≡ []) rings.takers.items
 
@@ -57,7 +62,7 @@ pub record IsOpenMailbox {T : Type 0} (entries : ℕ) (mailbox : OpenMailbox T) 
 pub record IsOpened {C : Type 0} (accepts : C → List ℕ → Bool) (accepted : List ℕ → Bool) (setup : Setup) (opened : Opened C) : Type 0 where
   pub lanes : AreOpenLanes setup opened.lanes
   pub core : HasTaken accepts opened.core accepted setup.flows.items [] (λ k. [])
-  pub rings : AreOpenRings (length setup.flows.items) opened.rings
+  pub rings : AreOpenRings setup.flows.items opened.rings
   pub none_closed : opened.closed.items ≡ []
   pub room : length setup.flows.items ≤ opened.closed.cap
   pub arrivals : IsOpenMailbox setup.mailbox opened.arrivals

@@ -11,7 +11,7 @@ use Rattle.uplink.specs.declared.assembler.Taking.{Taking}
 use Rattle.receiver.specs.Items.{IsItem, events_at}
 use Rattle.receiver.specs.Order.{picked, senders}
 use Rattle.receiver.specs.Outcome.{GivesAtItsClose}
-use Rattle.receiver.specs.Assembly.{HasTaken, IsTaking}
+use Rattle.receiver.specs.Inside.Assembly.{HasTaken, IsTaking}
 
 -- what was taken of each sender since the beginning is what the order gives to it, of these items
 pub record HasCollected (before now : ℕ → List Event) (order : List ℕ) (items : List Event) : Type 0 where
