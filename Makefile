@@ -4,7 +4,7 @@
 run: # proves and builds the program, crates side by side, runs it on the sample and leaves it at crates/segrx/out/segrx
 	@scripts/build
 
-try: # runs the program on the sample without a proof
+try: # replays an example without a proof
 	@scripts/try
 
 quick: # looks at the program that was built last: the table of runs and generated inputs

@@ -1,4 +1,4 @@
-"""Reads the table of runs in runs/. runs/README.md says how a run is written."""
+"""Reads the table of runs in runs/, and the examples. runs/README.md says how a run is written."""
 
 import copy
 import glob
@@ -69,7 +69,22 @@ def input_of(run, maker):
     return subprocess.run(["bash", "-c", maker], capture_output=True, check=True).stdout if maker else run.input
 
 
+def read_examples():
+    """A replay of each trace in examples/, whose report stands beside it."""
+    for trace in sorted(glob.glob(path("examples", "*.trace"))):
+        run = Run("examples", os.path.basename(trace))
+        run.commands.append("segrx replay")
+        run.input, run.output = contents(trace), contents(trace.removesuffix(".trace") + ".report")
+        yield run
+
+
+def contents(file):
+    with open(file, "rb") as opened:
+        return opened.read()
+
+
 def read_table():
     """All runs, each of one command."""
-    runs = [run for path in sorted(glob.glob(path("runs", "*.txt"))) for run in read_runs(path)]
+    runs = [run for file in sorted(glob.glob(path("runs", "*.txt"))) for run in read_runs(file)]
+    runs += read_examples()
     return [of_command(run, command) for run in runs for command in run.commands]
