@@ -5,7 +5,9 @@ use crate::traces::*;
 use docsis_wire::NoCheck;
 use flow_core::{FlowCounts, FlowRecord, SetupFault};
 use std::test::Fail;
-use uplink::{Decision, LaneFault, Lists, ReplayFault, Request, Setup, SidRow, admitted_order, replay};
+use uplink::{
+    Decision, LaneFault, Lists, ReplayFault, Request, Setup, SidRow, admitted_order, replay,
+};
 
 /// A trace of the one flow, its admitted order and what comes of it in that order.
 #[derive(Drop)]

@@ -1,9 +1,15 @@
 //! What no clause says: that a running receiver ends, at little room too, and that its workers run
 //! beside each other.
+mod backlogs;
+mod count;
 mod held_up;
+mod living;
 mod meeting;
 mod numbered;
 mod refusals;
+mod repeated;
+mod request_first;
+mod told_flows;
 
 use crate::traces::*;
 use docsis_wire::NoCheck;
@@ -15,7 +21,10 @@ use std::process::Abort;
 use std::sync::{Arc, Wait};
 use std::test::Fail;
 use std::thread::Threads;
-use uplink::{Input, ListDecisions, ListSource, Lists, NoTap, Outcome, Request, RunFault, Setup, Sources, Taps, run};
+use uplink::{
+    Input, ListDecisions, ListSource, Lists, NoTap, Outcome, Request, RunFault, Setup, Sources,
+    Taps, run,
+};
 
 type ListSources = Sources<ListSource, ListSource, ListSource, ListSource>;
 
