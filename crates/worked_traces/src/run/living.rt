@@ -1,4 +1,4 @@
-//! Sources, decisions and taps that are counted as long as a run has not let them go.
+//! Sources, decisions and taps that are counted until they are dropped.
 use super::count::Count;
 use std::alloc::{AllocError, Global};
 use std::sync::Arc;
