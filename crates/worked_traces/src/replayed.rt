@@ -3,7 +3,7 @@ mod refusals;
 
 use crate::traces::*;
 use docsis_wire::NoCheck;
-use flow_core::{FlowCounts, FlowRecord};
+use flow_core::{FlowCounts, FlowRecord, SetupFault};
 use std::test::Fail;
 use uplink::{
     Decision, LaneFault, Lists, ReplayFault, Request, Setup, SidRow, admitted_order, replay,

@@ -1,9 +1,15 @@
 //! What no clause says: that a running receiver ends, at little room too, and that its workers run
 //! beside each other.
+mod backlogs;
+mod count;
 mod held_up;
+mod living;
 mod meeting;
 mod numbered;
 mod refusals;
+mod repeated;
+mod request_first;
+mod told_flows;
 
 use crate::traces::*;
 use docsis_wire::NoCheck;

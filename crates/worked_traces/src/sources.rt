@@ -1,4 +1,6 @@
 //! Sources and decisions of lists, through their traits.
+mod refusals;
+
 use std::test::Fail;
 use uplink::{Decision, Decisions, Input, ListDecisions, ListSource, Source, Sources};
 

@@ -1,7 +1,17 @@
 //! Taps that don't look.
+mod refusals;
+
 use docsis_wire::Bytes;
 use std::test::Fail;
 use uplink::{NoTap, Request, Tap, Taps};
+
+const REQUEST: Request = Request {
+    channel: 3,
+    flow: 63,
+    cluster: 7,
+    units: 65_535,
+    sequence: 8191,
+};
 
 /// Shows one item to a tap.
 fn show<T, X: Tap<T>>(tap: &mut X, item: &T) {
@@ -14,15 +24,8 @@ fn no_tap_looks_at_frames_and_at_requests(rt: HostRuntime) -> Result<(), Fail> {
         frames: NoTap,
         requests: NoTap,
     };
-    let request = Request {
-        channel: 3,
-        flow: 63,
-        cluster: 7,
-        units: 65_535,
-        sequence: 8191,
-    };
     show(&mut taps.frames, &Bytes::from(Vec::new(rt.alloc())));
-    show(&mut taps.requests, &request);
+    show(&mut taps.requests, &REQUEST);
     assert_eq!(rt; taps.frames, NoTap);
     assert_eq!(rt; taps.requests, NoTap);
     Ok(())

@@ -5,6 +5,7 @@ use docsis_wire::Bytes;
 use flow_core::{FlowCounts, FlowRecord};
 use std::alloc::{AllocError, Global};
 use std::process::Abort;
+use std::test::Fail;
 use uplink::{Decision, Input, Lists, Outcome, Request, Setup, SidRow};
 
 /// A line of a trace.
@@ -205,6 +206,15 @@ pub fn tags_of(alloc: Global, lines: &[Line]) -> Result<Vec<u8>, AllocError> {
         })?;
     }
     Ok(tags)
+}
+
+/// Asks for memory, so that a run is known in which nothing else did.
+pub fn say_whether_refused(rt: &impl Print, alloc: Global) -> Result<(), Fail> {
+    match Vec::<u8>::with_capacity(alloc, 1) {
+        Ok(_) => println!(rt; "memory after all calls")?,
+        Err(_) => println!(rt; "refused")?,
+    }
+    Ok(())
 }
 
 /// Compares what came of a trace of the one flow.

@@ -99,9 +99,5 @@ fn faults_without_memory(rt: HostRuntime) -> Result<(), Fail> {
         let admitted = admitted_order(rt.alloc(), setup, &faulty.lists, &[]);
         assert_eq!(rt; admitted.err(), Some(wanted));
     }
-    match Vec::<u8>::with_capacity(rt.alloc(), 1) {
-        Ok(_) => println!(rt; "memory after the faults")?,
-        Err(_) => println!(rt; "the faults were reported without memory")?,
-    }
-    Ok(())
+    say_whether_refused(&rt, rt.alloc())
 }

@@ -6,7 +6,7 @@ use std::process::Abort;
 use uplink::{Input, Lists, Outcome, Setup, SidRow};
 
 /// The service identifier of a channel is one more than its index.
-const FOUR_ROWS: [SidRow; 4] = [
+pub const FOUR_ROWS: [SidRow; 4] = [
     SidRow {
         channel: 0,
         sid: 1,
@@ -44,11 +44,23 @@ fn frame_of(number: u16) -> [u8; 7] {
     [0, 0, 0, 1, 0x11, 0x11, low]
 }
 
-/// A segment that holds its whole frame.
-fn segment_of(number: u16) -> [u8; 15] {
+/// A segment that holds its whole frame, with a request of so many units.
+pub fn segment_of(number: u16, units: u8) -> [u8; 15] {
     let [high, low] = (number << 3).to_be_bytes();
     let [f0, f1, f2, f3, f4, f5, f6] = frame_of(number);
-    [0x80, 0, high, low, 0, 0, 0, 0, f0, f1, f2, f3, f4, f5, f6]
+    [
+        0x80, 0, high, low, 0, units, 0, 0, f0, f1, f2, f3, f4, f5, f6,
+    ]
+}
+
+/// So many segments on channel 0, each in a grant of its size and with a request of so many units.
+pub fn inputs_on_channel_0(alloc: Global, all: u16, units: u8) -> Result<Vec<Input>, AllocError> {
+    let mut inputs = Vec::new(alloc);
+    for number in 0..all {
+        let grant = u32::from(number);
+        push_segment(alloc, &mut inputs, grant, 1, &segment_of(number, units))?;
+    }
+    Ok(inputs)
 }
 
 /// The first segment of a channel and every fourth behind it, each in a grant of its size.
@@ -56,7 +68,7 @@ fn inputs_of(alloc: Global, sid: u16, first: u16, all: u16) -> Result<Vec<Input>
     let mut inputs = Vec::new(alloc);
     for number in (first..all).step_by(4) {
         let grant = u32::from(number);
-        push_segment(alloc, &mut inputs, grant, sid, &segment_of(number))?;
+        push_segment(alloc, &mut inputs, grant, sid, &segment_of(number, 0))?;
     }
     Ok(inputs)
 }
@@ -75,7 +87,7 @@ pub fn lists(alloc: Global, all: u16) -> Result<Lists, AllocError> {
 }
 
 /// All frames came in the order of their numbers, whatever the order of the segments.
-pub fn expect_all(rt: &impl Abort, outcome: &Outcome, all: u16) {
+pub fn expect_frames(rt: &impl Abort, outcome: &Outcome, all: u16) {
     assert_eq!(rt; outcome.flows.len(), 1);
     let flow = &outcome.flows[0];
     assert_eq!(rt; flow.frames.len(), usize::from(all));
@@ -91,7 +103,12 @@ pub fn expect_all(rt: &impl Abort, outcome: &Outcome, all: u16) {
             ..NO_COUNTS
         }
     );
-    let each = usize::from(all / 4);
     assert_eq!(rt; outcome.order.len(), usize::from(all));
+}
+
+/// All frames came, and a fourth of the segments on each channel.
+pub fn expect_all(rt: &impl Abort, outcome: &Outcome, all: u16) {
+    expect_frames(rt, outcome, all);
+    let each = usize::from(all / 4);
     assert_eq!(rt; senders_of(&outcome.order), [each, each, each, each, 0]);
 }

@@ -1,16 +1,20 @@
 //! Tests to be run with the Nth request for memory or for a thread refused, and the one whose name
 //! ends in `without_memory` with all later ones refused too. Each says `refused` when a call was.
+use super::living::{Living, LivingTap, Watch};
 use super::meeting::Meeting;
-use super::numbered::expect_all;
+use super::numbered::{FOUR_ROWS, expect_all, segment_of};
 use super::{receive, receive_in_company};
 use crate::traces::*;
+use docsis_wire::{Bytes, NoCheck};
 use flow_core::{FlowRecord, SetupFault};
-use std::alloc::Global;
+use std::alloc::{AllocError, Global};
 use std::process::Abort;
-use std::sync::Wait;
+use std::sync::{Arc, Wait};
 use std::test::Fail;
 use std::thread::Threads;
-use uplink::{LaneFault, Outcome, RunFault, SidRow};
+use uplink::{
+    Input, LaneFault, ListDecisions, ListSource, Outcome, RunFault, SidRow, Sources, Taps, run,
+};
 
 /// Receives four segments whose senders meet. If no memory was refused, they all met.
 fn try_to_meet<R>(alloc: Global, rt: R) -> Result<Outcome, RunFault>
@@ -61,6 +65,92 @@ fn run_without_the_first_refused(rt: HostRuntime) -> Result<(), Fail> {
     Ok(())
 }
 
+/// A burst without a grant, whose refusal is noted, then a grant, and a burst with a frame and a
+/// request.
+fn refused_and_admitted(alloc: Global, channel: u8) -> Result<Vec<Input>, AllocError> {
+    let mut inputs = Vec::new(alloc);
+    inputs.push(Input::Burst {
+        grant: 9,
+        hcs_ok: true,
+        bytes: Bytes::from(Vec::new(alloc)),
+    })?;
+    let number = u16::from(channel);
+    let segment = segment_of(number, 1);
+    push_segment(alloc, &mut inputs, 1, number + 1, &segment)?;
+    Ok(inputs)
+}
+
+/// A source that gives these inputs of a channel, and is counted.
+fn living(
+    alloc: Global,
+    channel: u8,
+    watch: &Arc<Watch, Global>,
+) -> Result<Living<ListSource>, AllocError> {
+    let inputs = refused_and_admitted(alloc, channel)?;
+    Living::new(ListSource::new(inputs), watch)
+}
+
+/// Receives those inputs on four channels while both taps are held up. The frames have room in the
+/// ring, so that the assembler ends all the same, and the requests and one end mark fill their
+/// mailbox, so that the lanes of three channels still wait for room then.
+fn receive_watched<R>(alloc: Global, rt: R, watch: &Arc<Watch, Global>) -> Result<Outcome, RunFault>
+where
+    R: Threads + Wait + Copy + Send + 'static,
+{
+    let sources = Sources {
+        s0: living(alloc, 0, watch)?,
+        s1: living(alloc, 1, watch)?,
+        s2: living(alloc, 2, watch)?,
+        s3: living(alloc, 3, watch)?,
+    };
+    let decisions = Living::new(ListDecisions::new(Vec::new(alloc)), watch)?;
+    let taps = Taps {
+        frames: LivingTap::new(watch)?,
+        requests: LivingTap::new(watch)?,
+    };
+    let flow = FlowRecord { ring: 16, ..FLOW };
+    let mut setup = setup_of(alloc, &[flow], &FOUR_ROWS)?;
+    setup.mailbox = 4;
+    run(alloc, rt, setup, sources, decisions, taps, NoCheck)
+}
+
+/// When a run has returned, no source and no tap is in use any more. Each of the four sources was
+/// asked four times, but that of a lane whose allocation failed, which was asked for no more, or
+/// none was asked.
+fn try_to_outlive<R>(alloc: Global, rt: R) -> Result<Outcome, RunFault>
+where
+    R: Abort + Threads + Wait + Copy + Send + 'static,
+{
+    let watch = Watch::new(alloc)?;
+    let answer = receive_watched(alloc, rt, &watch);
+    assert_eq!(rt; watch.alive(), 0, "still in use");
+    watch.has_returned();
+    let asked = watch.asked();
+    match &answer {
+        Ok(_) => assert_eq!(rt; asked, 16),
+        Err(_) => assert!(rt; asked == 0 || 13 <= asked && asked <= 16, "{asked}"),
+    }
+    answer
+}
+
+#[test]
+fn run_leaves_nothing_in_use_refused(rt: HostRuntime) -> Result<(), Fail> {
+    let outcome = match try_to_outlive(rt.alloc(), rt) {
+        Ok(outcome) => outcome,
+        Err(fault) => {
+            assert_eq!(rt; fault, RunFault::OutOfMemory);
+            println!(rt; "refused")?;
+            try_to_outlive(rt.alloc(), rt)?
+        }
+    };
+    expect_all(&rt, &outcome, 4);
+    for lane in &outcome.lanes {
+        assert_eq!(rt; lane.admitted, 1);
+        assert_eq!(rt; lane.refused.as_slice(), [6].as_slice());
+    }
+    Ok(())
+}
+
 /// Faults of the flows come before those of the lanes, and these before that of the mailboxes. Each
 /// is reported before any memory is taken.
 #[test]
@@ -98,9 +188,5 @@ fn faults_without_memory(rt: HostRuntime) -> Result<(), Fail> {
         let answer = receive(rt.alloc(), rt, setup, lists);
         assert_eq!(rt; answer.err(), Some(fault));
     }
-    match Vec::<u8>::with_capacity(rt.alloc(), 1) {
-        Ok(_) => println!(rt; "memory after the faults")?,
-        Err(_) => println!(rt; "the faults were reported without memory")?,
-    }
-    Ok(())
+    say_whether_refused(&rt, rt.alloc())
 }

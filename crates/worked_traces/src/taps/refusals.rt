@@ -1,0 +1,20 @@
+//! A test to be run with the Nth request for memory and all later ones refused. It says `refused`
+//! when a call was.
+use super::{REQUEST, show};
+use crate::traces::say_whether_refused;
+use docsis_wire::Bytes;
+use std::test::Fail;
+use uplink::NoTap;
+
+#[test]
+fn no_tap_without_memory(rt: HostRuntime) -> Result<(), Fail> {
+    let Ok(frame) = Vec::from_slice(rt.alloc(), &[0, 0, 0, 0, 0x11, 0x11]) else {
+        println!(rt; "refused")?;
+        return Ok(());
+    };
+    let mut tap = NoTap;
+    show(&mut tap, &Bytes::from(frame));
+    show(&mut tap, &REQUEST);
+    assert_eq!(rt; tap, NoTap);
+    say_whether_refused(&rt, rt.alloc())
+}
