@@ -1,7 +1,10 @@
 //! What a receiver needs before its workers start.
-ghost use Rattle.std.specs.Prelude.{IfOk, length};
+ghost use Rattle.std.specs.Prelude.{◌≡◌, [], IfOk};
+ghost use Rattle.delivery.specs.Feeders.{feeder_ring, offered, room};
+ghost use Rattle.delivery.specs.Takers.{taker_ring, taken};
 ghost use Rattle.receiver.specs.Faults.{CanReceive};
 ghost use Rattle.uplink.specs.Inside.Running.{AreOpenLanes, AreOpenRings, IsOpenMailbox, IsOpened};
+ghost use Rattle.uplink.specs.Inside.Running.{ring_of};
 
 use delivery::{ClosedFeeder, Feeder, Taker, ring};
 use docsis_wire::HeaderCheck;
@@ -88,13 +91,24 @@ fn open_rings(alloc: Global, flows: &[FlowRecord]) -> Result<Rings, AllocError>
     let mut feeders = Vec::with_capacity(alloc, flows.len())?;
     let mut takers = Vec::with_capacity(alloc, flows.len())?;
     for flow in flows {
-        let Ok((feeder, taker)) = ring(alloc, flow.ring) else {
-            return Err(AllocError);
-        };
+        let (feeder, taker) = open_ring(alloc, flow)?;
         feeders.push_reserved(feeder);
         takers.push_reserved(taker);
     }
     Ok(Rings { feeders, takers })
+}
+
+/// The two ends of the ring of a flow, with the room that its record says.
+fn open_ring(alloc: Global, flow: &FlowRecord) -> Result<(Feeder, Taker), AllocError>
+    ensures ring { IfOk result (λ ends. feeder_ring ends.0 ≡ taker_ring ends.1) }
+    ensures room { IfOk result (λ ends. room ends.0 ≡ ring_of flow.now) }
+    ensures offered { IfOk result (λ ends. offered ends.0 ≡ []) }
+    ensures taken { IfOk result (λ ends. taken ends.1 ≡ []) }
+{
+    let Ok(ends) = ring(alloc, flow.ring) else {
+        return Err(AllocError);
+    };
+    Ok(ends)
 }
 
 /// A mailbox with room for so many entries, into which nothing was posted.
