@@ -1,5 +1,5 @@
 -- All is open, and nothing has happened to it.
-use Rattle.std.proofs.Common.{rules, List, [], length, refl, subst}
+use Rattle.std.proofs.Common.{rules, List, [], refl, subst}
 use Rattle.flow_core.specs.declared.record.FlowRecord.{FlowRecord}
 use Rattle.flow_core.specs.Flows.{IsNewCore}
 use Rattle.uplink.specs.Inside.Running.{AreOpenRings}
