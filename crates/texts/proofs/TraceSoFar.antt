@@ -7,7 +7,7 @@ use Rattle.std.proofs.Math.ListN.{set}
 use Rattle.std.proofs.lemmas.List.{length-map, map-append, map-set, get_or-set_same, get_or-set_other, get_or-map}
 use Rattle.std.proofs.lemmas.List.Elements.{filter_map-append}
 use Rattle.std.proofs.lemmas.Bool.{cases_eq, false≢true}
-use Rattle.docsis_wire.proofs.Places.{slice_get-at}
+use Rattle.docsis_wire.proofs.StreamPlaces.{slice_get-at}
 use Rattle.lane.specs.declared.input.Input.{Input}
 use Rattle.lane.specs.declared.sids.SidRow.{SidRow}
 use Rattle.lane.specs.declared.sids.seen.SeenSids.{SeenSids}
