@@ -1,6 +1,5 @@
 -- The outcome of a trace whose inputs came from four sources.
-use Rattle.std.proofs.Common.{◌≡◌, ℕ, zero, suc, ◌<◌, Bool, Vec, Global, List, [], ◌∷◌, Result, Ok, Err, length, get_or, refl, sym, subst, ap, ◌∙◌, arith}
-use Rattle.std.proofs.lemmas.List.{get_or-map}
+use Rattle.std.proofs.Common.{◌≡◌, ℕ, zero, suc, ◌<◌, Bool, List, [], ◌∷◌, Result, Ok, Err, length, refl, subst, arith}
 use Rattle.std.specs.Prelude.{IfOk, IfErr, slice_index_or}
 use Rattle.lane.specs.declared.input.Input.{Input}
 use Rattle.receiver.specs.declared.outcome.Outcome.{Outcome}
