@@ -3,8 +3,9 @@ ghost use Rattle.std.specs.Prelude.{◌≡◌, ◌++◌, ◌∷◌, [], ℕ, Boo
 ghost use Rattle.flow_core.specs.declared.record.FlowRecord.{FlowRecord};
 ghost use Rattle.flow_core.specs.declared.event.Event.{Event};
 ghost use Rattle.flow_core.specs.Setup.{CanBeSetUp};
-ghost use Rattle.flow_core.specs.Flows.{IsDrainedAt, OthersStay};
-ghost use Rattle.flow_core.specs.Giving.{IsRunning};
+ghost use Rattle.flow_core.specs.declared.flow.Flow.{Flow};
+ghost use Rattle.flow_core.specs.Flows.{flow_of, HasFlow, IsDrainedAt, OthersStay};
+ghost use Rattle.flow_core.specs.Giving.{IsRunning, ClosesFlow};
 ghost use Rattle.receiver.specs.Items.{IsItem};
 ghost use Rattle.receiver.specs.Outcome.{AreOutcomesOfFlows};
 ghost use Rattle.receiver.specs.Inside.Assembly.{IsTaking, TakesItem, GivesTheRest};
@@ -23,7 +24,7 @@ pub struct Assembler<C> {
 }
 
 /// Takes an item, and appends the frames that its flow then gives. Where an allocation failed
-/// nothing is promised of the flow and of the list.
+/// nothing is promised of its flow and of the list.
 pub fn take_item<C: HeaderCheck + Drop>(
     alloc: Global,
     core: &mut Core<C>,
@@ -32,8 +33,9 @@ pub fn take_item<C: HeaderCheck + Drop>(
 ) -> Result<(), AllocError>
     requires item { IsItem (length core.old.flows.items) event }
     requires taking { IsTaking C.accepts core.old }
-    ensures { IfOk result (λ _.
+    ensures takes { IfOk result (λ _.
         TakesItem C.accepts core.old event frames.old.items core.new frames.new.items) }
+    ensures others { OthersStay core.old core.new (flow_of event) }
 {
     let flow = event.flow();
     core.apply(event);
@@ -52,6 +54,10 @@ pub fn close_flow<C: HeaderCheck + Drop>(
     requires drained { IsDrainedAt core.old flow }
     ensures gives { IfOk result (λ counts.
         GivesTheRest C.accepts core.old flow frames.old.items frames.new.items counts) }
+    ensures closed { IfOk result (λ _.
+        ClosesFlow C.accepts core.old flow frames.old.items core.new frames.new.items) }
+    ensures counts { IfOk result
+        (λ counts. (one : Flow) → HasFlow core.new flow one → counts ≡ one.counts) }
     ensures others { OthersStay core.old core.new flow }
 {
     laws::drained_flow_has_its_outcome();

@@ -96,6 +96,8 @@ pub fn admitted_order(
         IsAdmittedOrder setup.now (incoming_of lists.now) tags.now order.items) }
     ensures can_receive { IfOk result (λ _. CanReceive setup.now) }
     ensures fault { IfErr result (IsTagsFault setup.now (incoming_of lists.now) tags.now) }
+    ensures memory { result ≡ Err ReplayFault.OutOfMemory
+        → IsLawfulOrder (input_counts (incoming_of lists.now)) tags.now }
 {
     setup.check()?;
     if let Err(place) = check_order(input_counts(lists), tags) {

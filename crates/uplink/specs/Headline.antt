@@ -1,5 +1,5 @@
 -- The headline: what each flow's consumer took, where the flow's segments are those of a modem.
-use Rattle.std.specs.Prelude.{◌≡◌, ◌<◌, ℕ, Bool, Some, List, ◌++◌, replicate, slice_get}
+use Rattle.std.specs.Prelude.{◌≡◌, ◌<◌, ℕ, Bool, Some, List, ◌++◌, length, replicate, slice_get}
 use Rattle.docsis_wire.specs.declared.segment.Segment.{Segment}
 use Rattle.docsis_wire.specs.Cut.{IsLawfulCut}
 use Rattle.ccf.specs.Filter.{FiltersTo}
@@ -32,11 +32,12 @@ pub record TookTheDeliverySequence (frames chunks : List (List ℕ)) (flow_recor
   pub all_kept : FiltersTo (IsAllKept frames chunks fates) frames taken
 
 -- The headline, of what a receiver gave for what came in, in this order. The order is a lawful one of all that each channel admits and all decisions that
--- name a flow. What each flow's consumer took is the flow's whole delivery sequence, if the flow's segments are those of one lawful cut of a modem's frames
+-- name a flow. There are as many flows as records. What each flow's consumer took is the flow's whole delivery sequence, if the flow's segments are those of one lawful cut of a modem's frames
 -- and its events in that order are near. And the requests of each channel are those of its admitted segments, each once and in their order.
 pub record KeepsTheHeadline (check : List ℕ → Bool) (setup : Setup) (incoming : Incoming) (order : List ℕ) (outcome : Outcome) : Type 0 where
   pub intake : IsIntake setup incoming order
   pub lawful : IsLawfulOrder (lengths_of (items_of setup incoming intake.answered)) order
+  pub flow_count : length outcome.flows.items ≡ length setup.flows.items
   pub delivered : (k fill : ℕ) (flow_record : FlowRecord) (flow : FlowOutcome) (frames chunks : List (List ℕ)) (segments : List Segment)
       → slice_get setup.flows.items k ≡ Some flow_record → slice_get outcome.flows.items k ≡ Some flow
       → IsLawfulCut check frames flow_record.first fill chunks segments

@@ -32,7 +32,7 @@ returns-clause-offers g c =
     let is = c.flow-flow.ensures in
     let fits : IsItem (length core.flows.items) item = search rules in
     let none = c.new-frames.ensures.items in
-    let takes = subst (λ (frames : List (List ℕ)). TakesItem accepts core item frames core' more) none c.in_ok-take_item.ensures in
+    let takes = subst (λ (frames : List (List ℕ)). TakesItem accepts core item frames core' more) none c.in_ok-take_item.ensures.takes in
     on_ok_weaker c.offer_all.result
     (λ offers.
     subst (λ k. OffersItem accepts core feeders item core' (slice_set feeders k feeder')) (sym is)

@@ -15,6 +15,7 @@ returns-clause-headline c = λ check setup incoming order outcome is.
     record {
       intake = is.intake;
       lawful = merge-lawful (items_of setup incoming is.intake.answered) order is.intake.items is.intake.merged;
+      flow_count = is.flows.count;
       delivered = λ k fill flow_record flow frames chunks segments at given cut near.
           let events = events_at k is.intake.items in
           let found = is.flows.each k flow_record at in

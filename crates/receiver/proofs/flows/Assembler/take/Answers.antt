@@ -20,4 +20,4 @@ returns g c =
     c.requires.item.flow_exists
     (subst (λ k. frames ≡ slice_index_or self.frames.items k frames) is c.index_mut.ensures.value)
     (subst (λ k. slice_set self.frames.items n grown ≡ slice_set self.frames.items k grown) is refl))
-    c.take_item.ensures
+    c.take_item.ensures.takes
