@@ -23,7 +23,8 @@ use lane::LaneFault;
 use std::alloc::{AllocError, Global};
 use thiserror::Error;
 
-/// Why nothing is replayed. The first of these is reported.
+/// Why nothing is replayed. The first of these is reported; a replay may report that an allocation
+/// failed in place of a bad order.
 #[derive(Clone, Copy, Debug, PartialEq, Eq, Error)]
 pub enum ReplayFault {
     /// The flows can't be set up. It is never `SetupFault::OutOfMemory`.
