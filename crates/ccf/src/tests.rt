@@ -8,7 +8,7 @@ use std::alloc::Global;
 use std::process::Abort;
 use std::test::Fail;
 
-mod refusals;
+mod failed_allocations;
 
 /// A frame of eight bytes without an extended header.
 const PLAIN: &[u8] = &[0, 0, 0, 2, 0x11, 0x11, 0xaa, 0xbb];

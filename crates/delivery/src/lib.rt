@@ -37,6 +37,6 @@ pub use settling::settle;
 pub use taker::{Taker, Took};
 
 #[cfg(test)]
-mod refusals;
+mod failed_allocations;
 #[cfg(test)]
 mod tests;

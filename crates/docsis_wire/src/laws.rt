@@ -2,7 +2,7 @@
 //! first fault.
 //!
 //! Each function states a law in its contract; its body is empty or only calls other laws.
-ghost use Rattle.std.specs.Prelude.{◌≡◌, ◌≢◌, ◌<◌, ◌≤◌, ◌↔◌, ℕ, Bool, true, Option, Some, IsSome, IfSome, All, List, [], ◌∷◌, ◌++◌, length, take};
+ghost use Rattle.std.specs.Prelude.{◌≡◌, ◌≢◌, ◌<◌, ◌≤◌, ◌↔◌, ℕ, Bool, Option, Some, IsSome, IfSome, All, List, [], ◌∷◌, ◌++◌, length, take};
 ghost use Rattle.docsis_wire.specs.declared.header.SegmentHeader.{SegmentHeader};
 ghost use Rattle.docsis_wire.specs.declared.header_check.NoCheck.{NoCheck};
 ghost use Rattle.docsis_wire.specs.declared.pieces.Piece.{Piece};

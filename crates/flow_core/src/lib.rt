@@ -30,13 +30,13 @@
 
 mod counts;
 mod event;
+#[cfg(test)]
+mod failed_allocations;
 mod flow;
 mod flows;
 pub mod laws;
 mod ready;
 mod record;
-#[cfg(test)]
-mod refusals;
 mod sequence;
 #[cfg(test)]
 mod tests;

@@ -216,6 +216,6 @@ fn flows_of(
 }
 
 #[cfg(test)]
-mod refusals;
+mod failed_allocations;
 #[cfg(test)]
 mod tests;

@@ -42,6 +42,6 @@ pub use settling::{ClosedPorts, Settled, settle};
 pub use taken::Taken;
 
 #[cfg(test)]
-mod refusals;
+mod failed_allocations;
 #[cfg(test)]
 mod tests;

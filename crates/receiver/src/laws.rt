@@ -1,5 +1,6 @@
-//! Laws about the definitions: what is admitted are items of the flows, lists have at most one merge
-//! in an order, the admitted order is lawful, and a replay has at most one outcome and one fault.
+//! Laws about the definitions: what is admitted are items of the flows, lists have at most one
+//! merge in an order, the admitted order is lawful, and a replay has at most one outcome and one
+//! fault.
 //!
 //! Each function states a law in its contract; its body is empty or only calls other laws.
 ghost use Rattle.std.specs.Prelude.{◌≡◌, ◌≢◌, ℕ, ◌<◌, Bool};

@@ -1,5 +1,5 @@
 //! A receiver on one thread, for inputs that were recorded.
-ghost use Rattle.std.specs.Prelude.{◌≡◌, ◌↔◌, ◌<◌, ℕ, Bool, List, IfOk, IfErr, Ok, Err, All, length, map, filter, ◌∷◌, []};
+ghost use Rattle.std.specs.Prelude.{◌≡◌, ◌<◌, ℕ, Bool, List, IfOk, IfErr, Err, All, length, map, filter, ◌∷◌, []};
 ghost use Rattle.flow_core.specs.declared.event.Event.{Event};
 ghost use Rattle.flow_core.specs.Setup.{CanBeSetUp};
 ghost use Rattle.receiver.specs.declared.one_thread.ReplayFault.{ReplayFault};
@@ -8,7 +8,7 @@ ghost use Rattle.receiver.specs.Order.{senders, lengths_of, kept_places, IsLawfu
 ghost use Rattle.receiver.specs.Outcome.{IsOutcome, AreOutcomesOfFlows};
 ghost use Rattle.receiver.specs.AdmittedOrder.{IsAdmittedOrder, input_counts};
 ghost use Rattle.receiver.specs.Faults.{CanReceive};
-ghost use Rattle.receiver.specs.Faults.{IsFirstFault, IsReplayFault, IsTagsFault};
+ghost use Rattle.receiver.specs.Faults.{IsReplayFault, IsTagsFault};
 ghost use Rattle.receiver.specs.Inside.Received.{HaveReceived, AreFlagsOf, left_of};
 
 use crate::flows::Assembler;

@@ -34,7 +34,8 @@ pub fn passed_is_late<T>()
         → IsVerdict (after_calls w calls) (number_ahead w.expected passed) item verdict
         → verdict ≡ Verdict.Late item }
     ensures ahead_again { (w : WindowView T) (calls : List (Call T)) (passed : ℕ) (item : T)
-        → IsLawful w → passed + numbers_ahead < numbers_passed calls → numbers_passed calls ≤ passed + modulus
+        → IsLawful w → passed + numbers_ahead < numbers_passed calls
+        → numbers_passed calls ≤ passed + modulus
         → ¬ (IsVerdict (after_calls w calls) (number_ahead w.expected passed) item
         (Verdict.Late item)) }
 {}

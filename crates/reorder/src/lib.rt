@@ -44,6 +44,6 @@ pub(crate) const NUMBERS_AHEAD: u16 = MODULUS / 2;
 pub const WIDTH_MAX: u16 = NUMBERS_AHEAD;
 
 #[cfg(test)]
-mod refusals;
+mod failed_allocations;
 #[cfg(test)]
 mod tests;

@@ -15,7 +15,6 @@ pub mod NumberFields
 pub mod FirstBytes
 pub mod NumberedLines
 pub mod OutOfMemoryAlone
-pub mod TraceFromSources
 pub mod TraceFields
 pub mod OneTraceLine
 pub mod LastElement

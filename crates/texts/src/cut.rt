@@ -1,5 +1,5 @@
 //! The text of `cut`: the segments that an input's frames are cut into, one a line.
-ghost use Rattle.std.specs.Prelude.{◌≡◌, ◌≢◌, ◌<◌, ◌++◌, min, false, flat_map, IfOk, IfErr, IfSome, OnOk};
+ghost use Rattle.std.specs.Prelude.{◌≡◌, ◌<◌, ◌++◌, min, IfOk, IfErr, OnOk};
 ghost use Rattle.docsis_wire.specs.Header.{header_bytes};
 ghost use Rattle.docsis_wire.specs.Limits.{sequence_modulus};
 ghost use Rattle.hex.specs.Hex.{encode_lower};
@@ -88,7 +88,8 @@ fn text_length(read: &CutInput) -> usize
 
 /// Appends the digits of a segment's header to a text.
 fn append_header(alloc: Global, text: &mut Vec<u8>, head: &SegmentHeader) -> Result<(), AllocError>
-    ensures { OnOk result (text.new.items ≡ text.old.items ++ encode_lower (header_bytes head.now)) }
+    ensures { OnOk result (text.new.items
+        ≡ text.old.items ++ encode_lower (header_bytes head.now)) }
 {
     append_hex(alloc, text, &write_segment(head))
 }

@@ -1,5 +1,5 @@
-//! Why an input was not read: the faults of a line and of an input, to which a failed allocation and
-//! the faults of a segment and of a cut convert by `?`.
+//! Why an input was not read: the faults of a line and of an input, to which a failed allocation
+//! and the faults of a segment and of a cut convert by `?`.
 ghost use Rattle.std.specs.Prelude.{◌≡◌};
 ghost use Rattle.texts.specs.Kinds.{kind_text};
 ghost use Rattle.texts.specs.declared.fault.LineFault.TheVariants as line_fault;

@@ -1,5 +1,5 @@
 //! The text of `join`: the frames that an input's segments join to, one a line.
-ghost use Rattle.std.specs.Prelude.{◌≡◌, ◌≢◌, ◌++◌, false, flat_map, IfOk, IfErr, IfSome, OnOk};
+ghost use Rattle.std.specs.Prelude.{◌≡◌, ◌++◌, flat_map, IfOk, IfErr, OnOk};
 ghost use Rattle.texts.specs.Join.{IsJoined, IsJoinFault, frame_line};
 
 mod line;

@@ -123,9 +123,9 @@ pub fn replay_has_one_text()
     ensures { (input text other : List ℕ)
         → IsReplayed input text → IsReplayed input other → text ≡ other }
 {
-    uplink::laws::lane_has_at_most_one_answer_to_each_input();
-    uplink::laws::lists_have_one_merge::<bool>();
-    uplink::laws::replay_has_one_outcome();
+    lane::laws::lane_has_at_most_one_answer_to_each_input();
+    receiver::laws::lists_have_one_merge::<bool>();
+    receiver::laws::replay_has_one_outcome();
     input_is_one_trace();
     trace_passes_the_checks();
 }

@@ -8,10 +8,10 @@
 //!   segments; it may also report the first fault of the cut. [`join_lines`] joins segments, one a
 //!   line, and answers their frames.
 //! - [`replay_lines`] plays a trace in the order of its lines on the caller's thread, and answers
-//!   the report of what each flow gave. [`run_lines`] receives it on threads, with [`Capacities`]
-//!   between them, and answers the report for one of the lawful orders.
+//!   the report of what each flow gave.
 //! - For a receiver of one's own, [`parse_trace`] reads a trace into the setup, the lists and the
-//!   tags that `uplink` takes, and [`report`] prints its outcome.
+//!   tags that `receiver` and `uplink` take, and [`report`] prints its outcome; [`read_trace`]
+//!   also frees what it has read. So the crate `engines` receives a trace on threads.
 //! - [`read_number`] reads a number field as all of these do, with [`DEFAULT_CAPACITY`] for a
 //!   command line.
 //!
@@ -31,11 +31,8 @@ pub mod laws;
 mod lines;
 mod number;
 mod receiver_fault;
-#[cfg(test)]
-mod refusals;
 mod replay;
 mod report_lines;
-mod run;
 mod trace;
 mod words;
 
@@ -46,5 +43,4 @@ pub use join::join_lines;
 pub use number::read_number;
 pub use replay::replay_lines;
 pub use report_lines::report;
-pub use run::run_lines;
-pub use trace::{Trace, parse_trace};
+pub use trace::{Trace, parse_trace, read_trace};

@@ -1,5 +1,5 @@
 //! The lines of an input, numbered from 1, and the one walk over them.
-ghost use Rattle.std.specs.Prelude.{◌≡◌, ◌<◌, [], ◌∷◌, List, length, position, OnOk, IfErr};
+ghost use Rattle.std.specs.Prelude.{◌≡◌, ◌<◌, [], ◌∷◌, length, position, OnOk, IfErr};
 ghost use Rattle.texts.specs.Inside.LineFault.{IsLineFault};
 ghost use Rattle.texts.specs.Format.{Format, IsRead, IsReadingFault};
 ghost use Rattle.texts.specs.Lines.{lines_of, words_of, fields_of, is_line_feed};

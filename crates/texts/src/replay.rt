@@ -1,35 +1,19 @@
 //! The text of `replay`: the report of a trace.
-ghost use Rattle.std.specs.Prelude.{◌≤◌, IfOk, IfErr};
+ghost use Rattle.std.specs.Prelude.{IfOk, IfErr};
 ghost use Rattle.receiver.specs.Items.{incoming_of};
 ghost use Rattle.receiver.specs.Faults.{CanReceive};
 ghost use Rattle.receiver.specs.AdmittedOrder.{input_counts, IsAdmittedOrder};
 ghost use Rattle.receiver.specs.Order.{IsLawfulOrder};
-ghost use Rattle.texts.specs.Trace.{IsTrace, IsTraceFault};
-ghost use Rattle.texts.specs.Replay.{default_capacity, IsPlayed, IsReplayed, IsReplayFault};
+ghost use Rattle.texts.specs.Replay.{IsPlayed, IsReplayed, IsReplayFault};
 
 use crate::capacities::{Capacities, DEFAULT_CAPACITY};
-use crate::fault::{ParseFault, TextFault};
+use crate::fault::TextFault;
 use crate::receiver_fault::unless_out_of_memory;
 use crate::report_lines::report;
-use crate::trace::{Trace, parse_trace};
+use crate::trace::{Trace, read_trace};
 use docsis_wire::NoCheck;
+use receiver::{Outcome, admitted_order, replay};
 use std::alloc::{AllocError, Global};
-use uplink::{Outcome, admitted_order, replay};
-
-/// The trace of an input, which is freed, with rings and mailboxes of these capacities, each at
-/// least 1.
-pub fn read_trace(
-    alloc: Global,
-    input: Vec<u8>,
-    capacities: Capacities,
-) -> Result<Trace, ParseFault>
-    requires ring { 1 ≤ capacities.ring }
-    requires mailbox { 1 ≤ capacities.mailbox }
-    ensures trace { IfOk result (IsTrace capacities.ring capacities.mailbox input.items) }
-    ensures fault { IfErr result (IsTraceFault capacities.ring input.items) }
-{
-    parse_trace(alloc, &input, capacities.ring, capacities.mailbox)
-}
 
 /// The senders of what a trace's lines say that was admitted, in the order of the lines.
 fn order_of(alloc: Global, trace: &Trace) -> Result<Vec<u8>, AllocError>
@@ -39,8 +23,8 @@ fn order_of(alloc: Global, trace: &Trace) -> Result<Vec<u8>, AllocError>
     ensures { IfOk result (λ order. IsAdmittedOrder
         trace.now.setup (incoming_of trace.now.lists) trace.now.tags.items order.items) }
 {
-    uplink::laws::rows_have_one_first_fault();
-    uplink::laws::lawful_order_has_no_fault();
+    lane::laws::rows_have_one_first_fault();
+    receiver::laws::lawful_order_has_no_fault();
     let order = admitted_order(alloc, &trace.setup, &trace.lists, &trace.tags);
     unless_out_of_memory(order)
 }
@@ -52,8 +36,8 @@ fn replay_trace(alloc: Global, trace: Trace) -> Result<Outcome, AllocError>
         trace.tags.items }
     ensures { IfOk result (IsPlayed trace) }
 {
-    uplink::laws::rows_have_one_first_fault();
-    uplink::laws::admitted_order_is_lawful();
+    lane::laws::rows_have_one_first_fault();
+    receiver::laws::admitted_order_is_lawful();
     let order = order_of(alloc, &trace)?;
     let answer = replay(alloc, &trace.setup, &trace.lists, &order, NoCheck);
     unless_out_of_memory(answer)

@@ -8,8 +8,9 @@ use crate::field::append_hex;
 use docsis_wire::Bytes;
 use flow_core::FlowCounts;
 use itoa::Buffer;
+use lane::{LaneReport, Request};
+use receiver::{FlowOutcome, Outcome};
 use std::alloc::{AllocError, Global};
-use uplink::{FlowOutcome, LaneReport, Outcome, Request};
 
 /// Appends a word to a text.
 fn append_word(text: &mut Vec<u8>, word: &str) -> Result<(), AllocError>

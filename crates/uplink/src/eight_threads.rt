@@ -90,15 +90,16 @@ fn check_setup(setup: &Setup) -> Result<(), RunFault>
 /// **The headline is its contract** (`headline`): that order is a lawful one, the requests of each
 /// channel are those of its admitted segments, each once and in order, and what each flow's
 /// consumer took is the flow's whole delivery sequence, if the flow's segments are those of one
-/// lawful cut of a modem's frames and its events are near.
+/// lawful cut of a modem's frames and its events are near. The outcome is the one that one thread
+/// gives for that order (`answer`).
 ///
 /// `Setup` and `Lane`: the first fault of the setup. `NoCapacity`: it has none, and the capacity of
 /// the mailboxes is 0. `OutOfMemory`: an allocation failed, in whichever thread, or a thread could
 /// not be started. Before all threads are started no source is asked. Later the worker of a channel
 /// whose allocation failed asks its source for nothing more, all others go on to their end, and
-/// nothing of the outcome is given. What is handed in doesn't come back, on any answer. The check is
-/// used by the caller's thread alone. The call waits for its threads, and they for the sources: it
-/// returns only if these end.
+/// nothing of the outcome is given. What is handed in doesn't come back, on any answer. The check
+/// is used by the caller's thread alone. The call waits for its threads, and they for the sources:
+/// it returns only if these end.
 pub fn run<S0, S1, S2, S3, D, F, Q, C, R>(
     alloc: Global,
     rt: R,

@@ -45,8 +45,8 @@ pub use receiver::laws::{
 /// order in which the receiver took the items, are near. At an earlier moment it is a prefix:
 /// where a feeder was offered whatever part of what a flow gave for the events so far, in order,
 /// and is then closed, what its taker has taken is a prefix of the delivery sequence after those
-/// events and any more; the flow may be drained (`prefix`) or not yet (`prefix_before_drained`). The
-/// order is a lawful one of all that is admitted and all decisions that name a flow, and the
+/// events and any more; the flow may be drained (`prefix`) or not yet (`prefix_before_drained`).
+/// The order is a lawful one of all that is admitted and all decisions that name a flow, and the
 /// scheduler gets the request of each admitted segment once, in its channel's order. That events
 /// stay near with the gaps of a close is
 /// [`gaps_after_keep_events_near`](flow_core::laws::gaps_after_keep_events_near).

@@ -1,5 +1,5 @@
 //! Puts items that came in any order into the order of their numbers, by `reorder`'s window.
-ghost use Rattle.std.specs.Prelude.{◌≡◌, ◌<◌, ◌≤◌, All, IfOk};
+ghost use Rattle.std.specs.Prelude.{◌<◌, ◌≤◌, All, IfOk};
 ghost use Rattle.uses.specs.Window.{IsRunOf};
 
 use reorder::Window;

@@ -1,5 +1,5 @@
 //! Traces whose one-thread answers were worked out by hand.
-mod refusals;
+mod failed_allocations;
 
 use crate::traces::*;
 use docsis_wire::NoCheck;

@@ -2,11 +2,11 @@
 //! beside each other.
 mod backlogs;
 mod count;
+mod failed_allocations;
 mod held_up;
 mod living;
 mod meeting;
 mod numbered;
-mod refusals;
 mod repeated;
 mod request_first;
 mod told_flows;

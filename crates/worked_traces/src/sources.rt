@@ -1,5 +1,5 @@
 //! Sources and decisions of lists, through their traits.
-mod refusals;
+mod failed_allocations;
 
 use std::test::Fail;
 use uplink::{Decision, Decisions, Input, ListDecisions, ListSource, Source, Sources};

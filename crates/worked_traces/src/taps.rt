@@ -1,5 +1,5 @@
 //! Taps that don't look.
-mod refusals;
+mod failed_allocations;
 
 use docsis_wire::Bytes;
 use std::test::Fail;

@@ -1,8 +1,8 @@
 //! Frames cut into segments: worked examples, the definition of a lawful cut tried on them, the
 //! faults, and the greatest sizes.
+mod failed_allocations;
 mod faults;
 mod lawful;
-mod refusals;
 mod sizes;
 mod worked;
 

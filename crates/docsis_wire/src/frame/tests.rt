@@ -4,7 +4,7 @@ use crate::header_check::NoCheck;
 use std::process::Abort;
 use std::test::Fail;
 
-mod refusals;
+mod failed_allocations;
 
 const HEADS: [(&str, &[u8], HeadRead); 11] = [
     (

@@ -3,7 +3,7 @@ use super::*;
 use std::process::Abort;
 use std::test::Fail;
 
-mod refusals;
+mod failed_allocations;
 
 struct Reading {
     name: &'static str,

@@ -1,5 +1,5 @@
 //! Draining and closing a flow.
-ghost use Rattle.std.specs.Prelude.{◌<◌, IfOk, length};
+ghost use Rattle.std.specs.Prelude.{◌<◌, IfOk};
 ghost use Rattle.flow_core.specs.Flows.{IsDrainedAt, OthersStay};
 ghost use Rattle.flow_core.specs.Giving.{IsRunning, Drains, ClosesFlow};
 

@@ -14,8 +14,9 @@ use crate::number::read_number_in;
 use crate::words::{only_four_words, only_three_words, only_two_words, only_word};
 use docsis_wire::Bytes;
 use flow_core::FlowRecord;
+use lane::{Input, SidRow};
+use receiver::Decision;
 use std::alloc::Global;
-use uplink::{Decision, Input, SidRow};
 
 /// The greatest number of a channel.
 const CHANNEL_MAX: u32 = 3;

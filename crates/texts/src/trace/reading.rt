@@ -9,8 +9,9 @@ use super::line::{TraceLine, read_trace_line};
 use crate::fault::{LineFault, ParseFault, TraceKind};
 use crate::lines::{TakeLine, take_lines};
 use flow_core::FlowRecord;
+use lane::{Input, SeenSids, SidRow};
+use receiver::{Decision, Lists, Setup};
 use std::alloc::{AllocError, Global};
-use uplink::{Decision, Input, Lists, SeenSids, Setup, SidRow};
 
 /// How many flows a trace may have.
 const FLOWS_MAX: usize = 64;

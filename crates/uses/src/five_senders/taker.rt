@@ -1,5 +1,5 @@
 //! Taking what five senders post.
-ghost use Rattle.std.specs.Prelude.{◌≡◌, ◌<◌, ◌+◌, ℕ, true, IfSome};
+ghost use Rattle.std.specs.Prelude.{◌≡◌, ◌<◌, ℕ, true, IfSome};
 ghost use Rattle.mailbox.specs.Mouths.{places, taken, ended};
 ghost use Rattle.uses.specs.FiveSenders.{Adds, Collects};
 

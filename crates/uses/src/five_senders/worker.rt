@@ -1,6 +1,6 @@
 //! A thread that posts a list.
 ghost use Rattle.std.specs.Prelude.{◌≡◌, [], ◌∷◌, ◌++◌, IfOk};
-ghost use Rattle.mailbox.specs.Ports.{address, posted, closed_address, closed_posted};
+ghost use Rattle.mailbox.specs.Ports.{address, posted};
 ghost use Rattle.uses.specs.FiveSenders.{HasPosted};
 
 use mailbox::{ClosedPort, Full, Port};

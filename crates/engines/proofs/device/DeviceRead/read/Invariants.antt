@@ -1,0 +1,11 @@
+use Rattle.std.proofs.Common.{◌≡◌}
+use Rattle.std.specs.Io.KnownBytes.{Keeps}
+use Rattle.engines.proofs.device.DeviceRead.read.Given as goal
+
+abbrev pub invariant-loop : goal.invariant-loop
+invariant-loop g l = record {
+  kept : Keeps (g.R.Read.remaining l.fn.self.inner) (g.R.Read.remaining l.self.inner);
+  failed : l.self.failed ≡ l.fn.self.failed;
+  given : l.self.given ≡ l.fn.self.given;
+  flushed : l.self.flushed ≡ l.fn.self.flushed;
+}

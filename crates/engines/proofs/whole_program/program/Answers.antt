@@ -1,0 +1,47 @@
+use Rattle.engines.proofs.ExitStatuses.{SaysOfWords-run}
+use Rattle.engines.proofs.whole_program.program.Goals as goal
+
+pub returns-clause-outcome : goal.returns-clause-outcome
+returns-clause-outcome g c =
+    let ran = c.run_words-status.ensures in (
+      ran.outcome,
+      ran.ends,
+      record {
+        input = c.new-reader.result;
+        input' = c.run_words-status.new.reader;
+        output = c.new-out.result;
+        output' = c.run_words-status.new.out;
+        errors = c.new-err.result;
+        errors' = c.run_words-status.new.err;
+        reads = c.new-reader.ensures.inner;
+        writes = c.new-out.ensures.inner;
+        reports = c.new-err.ensures.inner;
+        fresh = (c.new-reader.ensures.fresh, c.new-out.ensures.fresh, c.new-err.ensures.fresh);
+        obeyed = ran.obeyed;
+        report = ran.report;
+      },
+    )
+
+pub returns-clause-status : goal.returns-clause-status
+returns-clause-status g c = (SaysOfWords-run c.new-reader.ensures.inner c.run_words-status.ensures).status
+
+pub returns-clause-join : goal.returns-clause-join
+returns-clause-join g c = (SaysOfWords-run c.new-reader.ensures.inner c.run_words-status.ensures).join
+
+pub returns-clause-join_is_known : goal.returns-clause-join_is_known
+returns-clause-join_is_known g c = (SaysOfWords-run c.new-reader.ensures.inner c.run_words-status.ensures).join_is_known
+
+pub returns-clause-cut : goal.returns-clause-cut
+returns-clause-cut g c = (SaysOfWords-run c.new-reader.ensures.inner c.run_words-status.ensures).cut
+
+pub returns-clause-usage : goal.returns-clause-usage
+returns-clause-usage g c = (SaysOfWords-run c.new-reader.ensures.inner c.run_words-status.ensures).usage
+
+pub returns-clause-replay : goal.returns-clause-replay
+returns-clause-replay g c = (SaysOfWords-run c.new-reader.ensures.inner c.run_words-status.ensures).replay
+
+pub returns-clause-replay_is_known : goal.returns-clause-replay_is_known
+returns-clause-replay_is_known g c = (SaysOfWords-run c.new-reader.ensures.inner c.run_words-status.ensures).replay_is_known
+
+pub returns-clause-run : goal.returns-clause-run
+returns-clause-run g c = (SaysOfWords-run c.new-reader.ensures.inner c.run_words-status.ensures).run

@@ -1,0 +1,21 @@
+-- What a command does.
+use Rattle.std.specs.Prelude.{ℕ, List, Option, Result, string_bytes}
+use Rattle.engines.specs.declared.command.Command.{Command}
+use Rattle.engines.specs.declared.command.Command.TheVariants.{Join, Cut, Replay, Run, Help}
+use Rattle.engines.specs.declared.device.Device.{Device}
+use Rattle.engines.specs.declared.fault.EngineFault.{EngineFault}
+use Rattle.engines.specs.Engine.{RunsEngine}
+use Rattle.engines.specs.Program.{WritesHelp}
+use Rattle.texts.specs.Join.{IsJoined, IsJoinFault}
+use Rattle.texts.specs.Cut.{IsCutText, IsCutFault}
+use Rattle.texts.specs.Replay.{IsReplayed, IsReplayFault, IsReportFault}
+use Rattle.texts.specs.Run.{IsRunText}
+
+-- what a command does: its engine runs, or the text of help is written
+abbrev pub Performs : {R W : Type 0} → (R → Option (List ℕ)) → (W → Option (List ℕ)) → Command → Device R → Device R → Device W → Device W → Result (Unit {0}) EngineFault → Type 0
+Performs remaining contents Join reader reader' writer writer' result = RunsEngine remaining contents IsJoined IsJoinFault reader reader' writer writer' result
+Performs remaining contents (Cut first fill) reader reader' writer writer' result = RunsEngine remaining contents (IsCutText first fill) IsCutFault reader reader' writer writer' result
+Performs remaining contents Replay reader reader' writer writer' result = RunsEngine remaining contents IsReplayed IsReplayFault reader reader' writer writer' result
+Performs remaining contents (Run mailbox ring) reader reader' writer writer' result =
+    RunsEngine remaining contents (IsRunText ring mailbox) (IsReportFault ring) reader reader' writer writer' result
+Performs remaining contents (Help text) reader reader' writer writer' result = WritesHelp contents (string_bytes text) reader reader' writer writer' result

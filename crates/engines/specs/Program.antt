@@ -1,0 +1,146 @@
+-- What the program does with its arguments, and what its exit status says of its input.
+use Rattle.std.specs.Prelude.{◌≡◌, ◌≢◌, ◌⊎◌, ◌<◌, ◌≤◌, ℕ, List, [], Option, Result, Ok, Err, true, false, IfErr, OnOk, OnErr}
+use Rattle.std.specs.Io.KnownBytes.{Appends}
+use Rattle.docsis_wire.specs.declared.pieces.FillByte.{FillByte}
+use Rattle.docsis_wire.specs.Limits.{sequence_modulus}
+use Rattle.engines.specs.declared.device.Device.{Device}
+use Rattle.engines.specs.declared.fault.WriteFault.{WriteFault}
+use Rattle.engines.specs.declared.fault.EngineFault.{EngineFault}
+use Rattle.engines.specs.declared.fault.EngineFault.TheVariants.{OutOfMemory, Read, Write, Usage}
+use Rattle.texts.specs.declared.fault.TextFault.{TextFault}
+use Rattle.engines.specs.Device.{inner_of, has_failed, is_flushed, IsFresh}
+use Rattle.engines.specs.Transfer.{AppendsFront, IsLeftFlushed, IsReadFault, IsRead}
+use Rattle.engines.specs.Fault.{status_of, exit_status_of, fault_line}
+use Rattle.engines.specs.Engine.{engine_fault, RunsEngine}
+use Rattle.engines.specs.Command.{AsksToJoin, AsksToCut, AsksToReplay, AsksToRun, AsksForAnEngine, AsksForHelp, HasNoHelpWord}
+use Rattle.texts.specs.Join.{IsJoined, IsJoinFault}
+use Rattle.texts.specs.Cut.{IsCutText, IsCutFault}
+use Rattle.texts.specs.Replay.{IsReplayed, IsReplayFault, IsReportFault}
+use Rattle.texts.specs.Run.{IsRunText}
+
+-- the words ask to cut and not for help
+abbrev pub AsksToCutOnly : List (List ℕ) → Type 0
+AsksToCutOnly words = AsksToCut words × ¬ AsksForHelp words
+
+-- the words ask to run and not for help
+abbrev pub AsksToRunOnly : List (List ℕ) → Type 0
+AsksToRunOnly words = AsksToRun words × ¬ AsksForHelp words
+
+-- the words ask for nothing
+abbrev pub AsksForNothing : List (List ℕ) → Type 0
+AsksForNothing words = ¬ AsksForAnEngine words × ¬ AsksForHelp words
+
+-- the words were not obeyed, and neither device was used
+pub record IsRefused {R W : Type 0} (reader reader' : Device R) (writer writer' : Device W) (result : Result (Unit {0}) EngineFault) : Type 0 where
+  pub fault : (result ≡ Err Usage) ⊎ (result ≡ Err OutOfMemory)
+  pub unread : reader' ≡ reader
+  pub unwritten : writer' ≡ writer
+
+-- a text was written and flushed, or the writer failed and a front of it went out
+pub record Writes {W E : Type 0} (contents : W → Option (List ℕ)) (text : List ℕ) (writer writer' : Device W) (result : Result (Unit {0}) E) : Type 0 where
+  pub written : OnOk result (Appends (contents (inner_of writer)) (contents (inner_of writer')) text)
+  pub flushed : OnOk result (text ≢ [] → is_flushed writer' ≡ true)
+  pub sound : OnOk result (has_failed writer' ≡ has_failed writer)
+  pub front : OnErr result (AppendsFront (contents (inner_of writer)) (contents (inner_of writer')) text)
+  pub failed : OnErr result (has_failed writer' ≡ true)
+
+-- a text of help was written, or the writer failed and that is reported; the reader was not used
+pub record WritesHelp {R W : Type 0} (contents : W → Option (List ℕ)) (text : List ℕ) (reader reader' : Device R) (writer writer' : Device W) (result : Result (Unit {0}) EngineFault) : Type 0 where
+  pub unread : reader' ≡ reader
+  pub writes : Writes contents text writer writer' result
+  pub left_flushed : OnOk result (IsLeftFlushed writer writer')
+  pub only : IfErr result (λ fault. fault ≡ Write)
+
+-- some text of help was written
+abbrev pub Helps : {R W : Type 0} → (W → Option (List ℕ)) → Device R → Device R → Device W → Device W → Result (Unit {0}) EngineFault → Type 0
+Helps contents reader reader' writer writer' result = (text : List ℕ) × WritesHelp contents text reader reader' writer writer' result
+
+-- the engine of `cut` ran, from the number of some segment and with some fill
+abbrev pub RunsCut : {R W : Type 0} → (R → Option (List ℕ)) → (W → Option (List ℕ)) → Device R → Device R → Device W → Device W → Result (Unit {0}) EngineFault → Type 0
+RunsCut remaining contents reader reader' writer writer' result =
+    (first : ℕ) × (fill : FillByte) × (first < sequence_modulus) × RunsEngine remaining contents (IsCutText first fill) IsCutFault reader reader' writer writer' result
+
+-- the engine of `run` ran, with room in its mailboxes and rings
+abbrev pub RunsRun : {R W : Type 0} → (R → Option (List ℕ)) → (W → Option (List ℕ)) → Device R → Device R → Device W → Device W → Result (Unit {0}) EngineFault → Type 0
+RunsRun remaining contents reader reader' writer writer' result =
+    (mailbox ring : ℕ) × (1 ≤ mailbox) × (1 ≤ ring)
+    × RunsEngine remaining contents (IsRunText ring mailbox) (IsReportFault ring) reader reader' writer writer' result
+
+-- what comes of words, the program's name first, over a fresh reader and a fresh writer: `remaining` are the bytes that a reader is known
+-- to have left, `contents` those that a writer is known to hold
+pub record Obeys {R W : Type 0} (remaining : R → Option (List ℕ)) (contents : W → Option (List ℕ)) (words : List (List ℕ))
+    (reader reader' : Device R) (writer writer' : Device W) (result : Result (Unit {0}) EngineFault) : Type 0 where
+  -- an engine keeps all its promises, words that ask for nothing do nothing, and where a word asks for help no engine runs
+  pub join : AsksToJoin words → RunsEngine remaining contents IsJoined IsJoinFault reader reader' writer writer' result
+  pub cut : AsksToCutOnly words → RunsCut remaining contents reader reader' writer writer' result ⊎ IsRefused reader reader' writer writer' result
+  pub replay : AsksToReplay words → RunsEngine remaining contents IsReplayed IsReplayFault reader reader' writer writer' result
+  pub run : AsksToRunOnly words → RunsRun remaining contents reader reader' writer writer' result ⊎ IsRefused reader reader' writer writer' result
+  pub nothing : AsksForNothing words → IsRefused reader reader' writer writer' result
+  pub help : ¬ AsksToJoin words → ¬ HasNoHelpWord words → Helps contents reader reader' writer writer' result ⊎ IsRefused reader reader' writer writer' result
+  -- where the work was done all that was written is flushed
+  pub flushed : OnOk result (IsLeftFlushed writer writer')
+  -- each failed device has its fault, also where help is written
+  pub no_cause : OnOk result (has_failed writer' ≡ false)
+  pub read_fault : result ≡ Err Read → IsReadFault reader'
+  pub write_fault : result ≡ Err Write → has_failed writer' ≡ true
+  pub read_first : IfErr result (λ fault. fault ≢ Read → IsRead reader')
+
+-- an outcome was reported: the line of its fault was written and flushed, or the writer failed and a front of it went out; without a fault
+-- the writer was not used
+abbrev pub IsReported : {W : Type 0} → (W → Option (List ℕ)) → Device W → Device W → Result (Unit {0}) EngineFault → Type 0
+IsReported contents writer writer' (Ok done) = writer' ≡ writer
+IsReported contents writer writer' (Err fault) = (written : Result (Unit {0}) WriteFault) × Writes contents (fault_line fault) writer writer' written
+
+-- words, the program's name first, were obeyed over a fresh reader and a fresh writer; what came of it was reported to a third device, and
+-- the status is that of what came of it
+pub record RunsWords {R W E : Type 0} (remaining : R → Option (List ℕ)) (contents : W → Option (List ℕ)) (reported : E → Option (List ℕ)) (words : List (List ℕ))
+    (reader reader' : Device R) (writer writer' : Device W) (err err' : Device E) (status : ℕ) : Type 0 where
+  pub outcome : Result (Unit {0}) EngineFault
+  pub obeyed : Obeys remaining contents words reader reader' writer writer' outcome
+  pub report : IsReported reported err err' outcome
+  pub ends : status ≡ exit_status_of outcome
+
+-- the words were obeyed over a fresh device on this reader and one on this writer, and this came of it, which was reported to a fresh device on a third
+pub record ComesOf {R W E : Type 0} (remaining : R → Option (List ℕ)) (contents : W → Option (List ℕ)) (reported : E → Option (List ℕ)) (words : List (List ℕ))
+    (reader : R) (writer : W) (err : E) (result : Result (Unit {0}) EngineFault) : Type 0 where
+  pub input : Device R
+  pub input' : Device R
+  pub output : Device W
+  pub output' : Device W
+  pub errors : Device E
+  pub errors' : Device E
+  pub reads : inner_of input ≡ reader
+  pub writes : inner_of output ≡ writer
+  pub reports : inner_of errors ≡ err
+  pub fresh : IsFresh input × IsFresh output × IsFresh errors
+  pub obeyed : Obeys remaining contents words input input' output output' result
+  pub report : IsReported reported errors errors' result
+
+-- the program did its work, or reports a fault
+abbrev pub IsStatus : ℕ → Type 0
+IsStatus n = (n ≡ 0) ⊎ ((fault : EngineFault) × (n ≡ status_of fault))
+
+-- some text stands for an input of `join`
+abbrev pub HasJoinedText : List ℕ → Type 0
+HasJoinedText input = (text : List ℕ) × IsJoined input text
+
+-- some text stands for an input of `cut`
+abbrev pub HasCutText : List ℕ → Type 0
+HasCutText input = (first : ℕ) × (fill : FillByte) × (text : List ℕ) × (first < sequence_modulus) × IsCutText first fill input text
+
+-- some text stands for an input of `replay`
+abbrev pub HasReport : List ℕ → Type 0
+HasReport input = (text : List ℕ) × IsReplayed input text
+
+-- some text may stand for an input of `run`
+abbrev pub HasRunReport : List ℕ → Type 0
+HasRunReport input = (mailbox ring : ℕ) × (text : List ℕ) × (1 ≤ mailbox) × (1 ≤ ring) × IsRunText ring mailbox input text
+
+-- an input of `run` has this fault
+abbrev pub HasRunFault : List ℕ → TextFault → Type 0
+HasRunFault input fault = (ring : ℕ) × (1 ≤ ring) × IsReportFault ring input fault
+
+-- what a status says of an input: with 0 it has a text, with 1 a fault of that status
+pub record SaysOf (HasText : List ℕ → Type 0) (IsFault : List ℕ → TextFault → Type 0) (status : ℕ) (input : List ℕ) : Type 0 where
+  pub done : status ≡ 0 → HasText input
+  pub faulty : status ≡ 1 → (fault : TextFault) × (status_of (engine_fault fault) ≡ 1) × IsFault input fault

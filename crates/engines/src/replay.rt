@@ -1,0 +1,44 @@
+//! The command `replay`: a trace becomes the report of what a receiver gives for it.
+ghost use Rattle.engines.specs.Device.{IsFresh};
+ghost use Rattle.engines.specs.Engine.{RunsEngine};
+ghost use Rattle.texts.specs.Replay.{IsReplayed, IsReplayFault};
+
+use crate::device::Device;
+use crate::engine::{Engine, run_engine};
+use crate::fault::EngineFault;
+use std::alloc::Global;
+use std::io::{Read, Write};
+use texts::{TextFault, replay_lines};
+
+/// The engine of `replay`.
+#[derive(Drop)]
+pub struct ReplayEngine;
+
+impl Engine for ReplayEngine {
+    ghost is_text = { λ _. IsReplayed };
+
+    ghost is_fault = { λ _. IsReplayFault };
+
+    fn make_text(self, alloc: Global, input: Vec<u8>) -> Result<Vec<u8>, TextFault> {
+        replay_lines(alloc, input)
+    }
+}
+
+/// Replays the trace that a reader gives, in the order of its lines, and writes the report of it.
+/// It reads all, at most 268,435,456 bytes, then makes the whole text, and then writes it.
+///
+/// `Read`: the reader failed or gave more. `Trace`: the first faulty line, any kind but `TooShort`
+/// and `PointerPast`. `OutOfMemory`: an allocation failed. Up to here nothing was written. `Write`:
+/// the writer failed, and a front of the text may have gone out.
+pub fn replay_text<R: Read, W: Write>(
+    alloc: Global,
+    reader: &mut Device<R>,
+    writer: &mut Device<W>,
+) -> Result<(), EngineFault>
+    requires reader { IsFresh reader.old }
+    requires writer { IsFresh writer.old }
+    ensures { RunsEngine R.remaining W.contents IsReplayed IsReplayFault
+        reader.old reader.new writer.old writer.new result }
+{
+    run_engine(alloc, ReplayEngine, reader, writer)
+}

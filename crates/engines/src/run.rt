@@ -1,0 +1,54 @@
+//! The command `run`: a trace is received on threads, and becomes the report of what that gave.
+ghost use Rattle.std.specs.Prelude.{◌≤◌};
+ghost use Rattle.engines.specs.Device.{IsFresh};
+ghost use Rattle.engines.specs.Engine.{RunsEngine};
+ghost use Rattle.texts.specs.Replay.{IsReportFault};
+ghost use Rattle.texts.specs.Run.{IsRunText};
+
+use crate::device::Device;
+use crate::fault::EngineFault;
+use crate::run_lines::run_lines;
+use crate::transfer::{read_input, write_text};
+use docsis_wire::Bytes;
+use std::alloc::Global;
+use std::io::{Read, Write};
+use std::sync::Wait;
+use std::thread::Threads;
+use texts::Capacities;
+use uplink::{Request, Tap, Taps};
+
+/// Receives the trace that a reader gives, each channel's inputs and the decisions on a thread of
+/// their own, and writes the report of it. Items of different channels are taken in the order in
+/// which they happen to come. `mailbox` and `ring` are the capacities of the two mailboxes and of
+/// each flow's ring, at least 1. It reads all, at most 268,435,456 bytes, then makes the whole
+/// text, and then writes it.
+///
+/// `Read`: the reader failed or gave more. `Trace`: the first faulty line, any kind but `TooShort`
+/// and `PointerPast`. `OutOfMemory`: an allocation failed, or a thread could not be started. Up to
+/// here nothing was written. `Write`: the writer failed, and a front of the text may have gone out.
+pub fn run_text<F, Q, T, R: Read, W: Write>(
+    alloc: Global,
+    rt: T,
+    mailbox: u16,
+    ring: u16,
+    taps: Taps<F, Q>,
+    reader: &mut Device<R>,
+    writer: &mut Device<W>,
+) -> Result<(), EngineFault>
+where
+    F: Tap<Bytes> + Drop + Send + 'static,
+    Q: Tap<Request> + Drop + Send + 'static,
+    T: Threads + Wait + Copy + Send + 'static,
+    requires mailbox { 1 ≤ mailbox }
+    requires ring { 1 ≤ ring }
+    requires reader { IsFresh reader.old }
+    requires writer { IsFresh writer.old }
+    ensures { RunsEngine R.remaining W.contents (IsRunText ring mailbox) (IsReportFault ring)
+        reader.old reader.new writer.old writer.new result }
+{
+    let input = read_input(alloc, reader)?;
+    let capacities = Capacities { mailbox, ring };
+    let text = run_lines(alloc, rt, input, capacities, taps)?;
+    write_text(writer, &text)?;
+    Ok(())
+}

@@ -1,0 +1,151 @@
+//! The whole program, over any reader and any two writers.
+ghost use Rattle.std.specs.Prelude.{◌≡◌, ◌≢◌, ◌⊎◌, map, Result, IfSome};
+ghost use Rattle.engines.specs.declared.fault.EngineFault.{EngineFault};
+ghost use Rattle.engines.specs.Device.{IsFresh};
+ghost use Rattle.engines.specs.Fault.{exit_status_of};
+ghost use Rattle.engines.specs.Command.{AsksToJoin, AsksToReplay};
+ghost use Rattle.engines.specs.Inside.Command.{IsInRange};
+ghost use Rattle.texts.specs.Join.{IsJoinFault};
+ghost use Rattle.texts.specs.Cut.{IsCutFault};
+ghost use Rattle.texts.specs.Replay.{IsReplayFault};
+ghost use Rattle.engines.specs.Program.{AsksToCutOnly, AsksToRunOnly, AsksForNothing, Obeys, IsReported, RunsWords, ComesOf};
+ghost use Rattle.engines.specs.Inside.Program.{Performs};
+ghost use Rattle.engines.specs.Program.{IsStatus, HasJoinedText, HasCutText, HasReport, HasRunReport, HasRunFault, SaysOf};
+
+use crate::command::{Command, read_words};
+use crate::cut::cut_text;
+use crate::device::Device;
+use crate::fault::{EngineFault, exit_status};
+use crate::fault_line::write_fault;
+use crate::join::join_text;
+use crate::replay::replay_text;
+use crate::run::run_text;
+use crate::transfer::write_text;
+use std::alloc::Global;
+use std::convert::AsStr;
+use std::io::{Read, Write};
+use std::sync::Wait;
+use std::thread::Threads;
+use uplink::{NoTap, Taps};
+
+/// Does what a command asks for: runs its engine between the reader and the writer, or writes the
+/// text of help.
+fn perform<T: Threads + Wait + Copy + Send + 'static, R: Read, W: Write>(
+    alloc: Global,
+    rt: T,
+    command: Command,
+    reader: &mut Device<R>,
+    out: &mut Device<W>,
+) -> Result<(), EngineFault>
+    requires first { IsInRange command }
+    requires reader { IsFresh reader.old }
+    requires out { IsFresh out.old }
+    ensures { Performs R.remaining W.contents command
+        reader.old reader.new out.old out.new result }
+{
+    match command {
+        Command::Join => join_text(alloc, reader, out),
+        Command::Cut { first, fill } => cut_text(alloc, first, fill, reader, out),
+        Command::Replay => replay_text(alloc, reader, out),
+        Command::Run { mailbox, ring } => {
+            let taps = Taps {
+                frames: NoTap,
+                requests: NoTap,
+            };
+            run_text(alloc, rt, mailbox, ring, taps, reader, out)
+        }
+        Command::Help(text) => Ok(write_text(out, text.as_bytes())?),
+    }
+}
+
+/// Does what the words ask for.
+fn obey<S: AsStr, T: Threads + Wait + Copy + Send + 'static, R: Read, W: Write>(
+    alloc: Global,
+    rt: T,
+    words: &[S],
+    reader: &mut Device<R>,
+    out: &mut Device<W>,
+) -> Result<(), EngineFault>
+    requires reader { IsFresh reader.old }
+    requires out { IsFresh out.old }
+    ensures { Obeys R.remaining W.contents (map S.text words.now)
+        reader.old reader.new out.old out.new result }
+{
+    let command = read_words(alloc, words)?;
+    perform(alloc, rt, command, reader, out)
+}
+
+/// Answers the exit status of an outcome, and writes the line of its fault, if it has one. That the
+/// line cannot be written changes nothing.
+pub fn report_outcome<E: Write>(outcome: &Result<(), EngineFault>, err: &mut Device<E>) -> u8
+    ensures report { IsReported E.contents err.old err.new outcome.now }
+    ensures status { result ≡ exit_status_of outcome.now }
+{
+    if let Err(fault) = outcome {
+        let _ = write_fault(fault, err);
+    }
+    exit_status(outcome)
+}
+
+/// Does what the words ask for between a reader and a writer that were not used yet, reports a
+/// fault to `err`, and answers the exit status.
+pub fn run_words<S, T, R, O, E>(
+    alloc: Global,
+    rt: T,
+    words: &[S],
+    reader: &mut Device<R>,
+    out: &mut Device<O>,
+    err: &mut Device<E>,
+) -> u8
+where
+    S: AsStr,
+    T: Threads + Wait + Copy + Send + 'static,
+    R: Read,
+    O: Write,
+    E: Write,
+    requires reader { IsFresh reader.old }
+    requires out { IsFresh out.old }
+    ensures { RunsWords R.remaining O.contents E.contents (map S.text words.now)
+        reader.old reader.new out.old out.new err.old err.new result }
+{
+    let outcome = obey(alloc, rt, words, reader, out);
+    report_outcome(&outcome, err)
+}
+
+/// The whole program: it does what the words ask for, its name first, and answers the exit status:
+/// 0 where it was done, also for help, which goes to `out`; 1 for a fault of a line or of the cut,
+/// 2 for usage, 3 for out of memory, 4 for a failed read or write. A fault's line goes to `err`.
+pub fn program<S, T, R, O, E>(alloc: Global, rt: T, words: &[S], reader: R, out: O, err: E) -> u8
+where
+    S: AsStr,
+    T: Threads + Wait + Copy + Send + 'static,
+    R: Read + Drop,
+    O: Write + Drop,
+    E: Write + Drop,
+    // The status is that of what came of the words.
+    ensures outcome { (outcome : Result (Unit {0}) EngineFault) × (result ≡ exit_status_of outcome)
+        × ComesOf R.remaining O.contents E.contents (map S.text words.now) reader out err outcome }
+    ensures status { IsStatus result }
+
+    // What the status says of the reader's bytes, where they are known.
+    ensures join { AsksToJoin (map S.text words.now)
+        → IfSome (R.remaining reader) (SaysOf HasJoinedText IsJoinFault result) }
+    ensures join_is_known { AsksToJoin (map S.text words.now) → result ≢ 2 }
+    ensures cut { AsksToCutOnly (map S.text words.now)
+        → IfSome (R.remaining reader) (SaysOf HasCutText IsCutFault result) }
+    ensures replay { AsksToReplay (map S.text words.now)
+        → IfSome (R.remaining reader) (SaysOf HasReport IsReplayFault result) }
+    ensures replay_is_known { AsksToReplay (map S.text words.now) → result ≢ 2 }
+    ensures run { AsksToRunOnly (map S.text words.now)
+        → IfSome (R.remaining reader) (SaysOf HasRunReport HasRunFault result) }
+    ensures usage { AsksForNothing (map S.text words.now) → (result ≡ 2) ⊎ (result ≡ 3) }
+{
+    let mut reader = Device::new(reader);
+    let mut out = Device::new(out);
+    let mut err = Device::new(err);
+    let status = run_words(alloc, rt, words, &mut reader, &mut out, &mut err);
+    reader.into_inner();
+    out.into_inner();
+    err.into_inner();
+    status
+}

@@ -1,5 +1,0 @@
-pub mod WrittenFront
-pub mod ExitStatuses
-pub mod FailedWriter
-pub mod ObeyedWords
-pub mod AskedWords
