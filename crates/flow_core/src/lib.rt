@@ -33,7 +33,6 @@ mod event;
 mod flow;
 mod flows;
 pub mod laws;
-mod ready;
 mod record;
 #[cfg(test)]
 mod refusals;
