@@ -8,8 +8,9 @@
 //! The calls, in the order of use:
 //!
 //! 1. [`Segment::read`] makes a segment of a burst's bytes, or says that they are too few or that
-//!    the pointer leads past the payload. [`ready`] asks the same of a segment that is there.
-//!    [`read_segment`] and [`write_segment`] read and write the header alone.
+//!    the pointer leads past the payload. [`ready`] asks the same of a segment that is there, and
+//!    a [`ReadySegment`] keeps the answer. [`read_segment`] and [`write_segment`] read and write
+//!    the header alone.
 //! 2. [`read_head`] tells from the front of some bytes how long a frame is, whatever follows it,
 //!    and [`well_formed`] whether bytes are one whole frame. A [`HeaderCheck`] may be handed in
 //!    that looks at a frame's header; [`NoCheck`] lets each pass.
@@ -42,4 +43,6 @@ pub use frame::{HeadFault, HeadRead, read_head, well_formed};
 pub use header::{SEQUENCE_MODULUS, SegmentHeader};
 pub use header_check::{HeaderCheck, NoCheck};
 pub use pieces::{CutFault, FillByte, Piece};
-pub use segment::{HEADER_BYTES, Segment, SegmentFault, read_segment, ready, write_segment};
+pub use segment::{
+    HEADER_BYTES, ReadySegment, Segment, SegmentFault, read_segment, ready, write_segment,
+};

@@ -126,6 +126,13 @@ impl Segment {
     }
 }
 
+/// A segment whose pointer, where it means anything, stays within its payload.
+#[derive(Debug, Drop)]
+pub struct ReadySegment {
+    pub segment: Segment,
+    ghost ready: { IsReady segment },
+}
+
 /// Whether the segment's pointer, where it means anything, stays within the payload.
 pub fn ready(segment: &Segment) -> bool
     ensures { IsTrue result ↔ IsReady segment.now }

@@ -4,6 +4,7 @@ use Rattle.std.specs.Option.{option_map}
 use Rattle.std.specs.FinMap as map
 use Rattle.std.proofs.lemmas.Bool.{cases_eq}
 use Rattle.docsis_wire.specs.declared.segment.Segment.{Segment}
+use Rattle.docsis_wire.specs.declared.segment.ReadySegment.{ReadySegment}
 use Rattle.reorder.specs.Number.{offset}
 use Rattle.reorder.specs.View.{WindowView, offset_in, IsHeld, IsLawful, with_item}
 use Rattle.reorder.specs.Verdicts.{IsVerdict, after_offer}
@@ -12,7 +13,6 @@ use Rattle.reorder.specs.declared.verdict.Verdict.{Verdict}
 use Rattle.reorder.specs.declared.verdict.Verdict.TheVariants.{Late, Beyond, Repeat, Kept}
 use Rattle.flow_core.specs.declared.record.FlowRecord.{FlowRecord}
 use Rattle.flow_core.specs.declared.flow.Flow.{Flow}
-use Rattle.flow_core.specs.declared.ready.ReadySegment.{ReadySegment}
 use Rattle.flow_core.specs.declared.event.Applied.TheVariants.{Arrival}
 use Rattle.flow_core.specs.Fates.{Fates, number_of, IsKept, IsLost}
 use Rattle.flow_core.specs.Events.{arrives, IsAhead, IsVerdictOn, Keeps}

@@ -3,6 +3,7 @@ use Rattle.std.proofs.Common.{◌≡◌, ◌≢◌, ℕ, ◌+◌, ◌<◌, ◌�
 use Rattle.std.specs.Option.{option_map, option_flatten}
 use Rattle.std.specs.FinMap as map
 use Rattle.std.proofs.lemmas.Bool.{cases_eq, cases_lt}
+use Rattle.docsis_wire.specs.declared.segment.ReadySegment.{ReadySegment}
 use Rattle.reorder.specs.Number.{offset, number_ahead}
 use Rattle.reorder.specs.View.{WindowView, offset_in, IsHeld, IsLawful, moved_on_by}
 use Rattle.reorder.specs.Verdicts.{IsDeclared, after_declare, declared_count}
@@ -13,7 +14,6 @@ use Rattle.reorder.proofs.AgreeingWindows.{free-none_held}
 use Rattle.flow_core.specs.declared.record.FlowRecord.{FlowRecord}
 use Rattle.flow_core.specs.declared.flow.Flow.{Flow}
 use Rattle.flow_core.specs.declared.sequence.SequenceNumber.{SequenceNumber}
-use Rattle.flow_core.specs.declared.ready.ReadySegment.{ReadySegment}
 use Rattle.flow_core.specs.declared.event.Applied.{Applied}
 use Rattle.flow_core.specs.declared.event.Applied.TheVariants.{Decision, DecisionTo}
 use Rattle.flow_core.specs.Fates.{Fates, number_of, kept_at, IsKept, IsLost, HasLaterKept}

@@ -8,6 +8,7 @@ use Rattle.std.proofs.lemmas.List.Folds.{concat-append}
 use Rattle.std.proofs.lemmas.List.Sums.{sum_by_push}
 use Rattle.std.proofs.lemmas.Option.{slice_get_within}
 use Rattle.docsis_wire.specs.declared.segment.Segment.{Segment}
+use Rattle.docsis_wire.specs.declared.segment.ReadySegment.{ReadySegment}
 use Rattle.ccf.specs.Feed.{Feeds}
 use Rattle.ccf.proofs.OneJoining.{Joins-append}
 use Rattle.reorder.specs.Number.{number_ahead, following}
@@ -16,7 +17,6 @@ use Rattle.reorder.specs.View.{WindowView, held_at, IsLawful, next_taken, moved_
 use Rattle.flow_core.specs.declared.record.FlowRecord.{FlowRecord}
 use Rattle.flow_core.specs.declared.counts.FlowCounts.{FlowCounts}
 use Rattle.flow_core.specs.declared.flow.Flow.{Flow}
-use Rattle.flow_core.specs.declared.ready.ReadySegment.{ReadySegment}
 use Rattle.flow_core.specs.declared.sequence.SequenceNumber.{SequenceNumber}
 use Rattle.flow_core.specs.declared.event.Applied.{Applied}
 use Rattle.flow_core.specs.Fates.{Fates, number_of, IsKeptAs}

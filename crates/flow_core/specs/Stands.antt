@@ -3,11 +3,11 @@ use Rattle.std.specs.Prelude.{◌≡◌, ℕ, ◌+◌, ◌<◌, ◌≤◌, ◌�
 use Rattle.std.specs.Option.{option_map}
 use Rattle.docsis_wire.specs.Limits.{sequence_modulus}
 use Rattle.docsis_wire.specs.declared.segment.Segment.{Segment}
+use Rattle.docsis_wire.specs.declared.segment.ReadySegment.{ReadySegment}
 use Rattle.ccf.specs.Join.{Joins}
 use Rattle.reorder.specs.View.{WindowView, held_at, IsLawful}
 use Rattle.flow_core.specs.declared.record.FlowRecord.{FlowRecord}
 use Rattle.flow_core.specs.declared.flow.Flow.{Flow}
-use Rattle.flow_core.specs.declared.ready.ReadySegment.{ReadySegment}
 use Rattle.flow_core.specs.declared.event.Applied.{Applied}
 use Rattle.flow_core.specs.declared.event.Step.{Step}
 use Rattle.flow_core.specs.declared.event.Step.TheVariants.{Frames, Nothing}

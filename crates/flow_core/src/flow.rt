@@ -14,11 +14,10 @@ ghost use Rattle.flow_core.specs.declared.event.Step.{Step};
 
 use crate::counts::FlowCounts;
 use crate::event::Step;
-use crate::ready::ReadySegment;
 use crate::record::FlowRecord;
 use crate::sequence::SequenceNumber;
 use ccf::Joiner;
-use docsis_wire::{HeaderCheck, Segment};
+use docsis_wire::{HeaderCheck, ReadySegment, Segment};
 use reorder::{Declared, Verdict, Window, laws};
 use std::alloc::{AllocError, Global};
 

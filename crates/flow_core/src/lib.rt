@@ -35,7 +35,6 @@ mod failed_allocations;
 mod flow;
 mod flows;
 pub mod laws;
-mod ready;
 mod record;
 mod sequence;
 #[cfg(test)]

@@ -12,11 +12,12 @@ use Rattle.flow_core.specs.declared.flows.Core.{Core}
 use Rattle.flow_core.specs.declared.event.Event.{Event}
 use Rattle.uplink.specs.declared.assembler.Taking.{Taking}
 use Rattle.uplink.specs.declared.assembler.Assembled.{Assembled}
-use Rattle.receiver.specs.Items.{IsItem, events_at}
+use Rattle.uplink.specs.declared.item.Item.{Item}
+use Rattle.receiver.specs.Items.{events_at}
 use Rattle.receiver.specs.Order.{senders}
 use Rattle.receiver.specs.Outcome.{GivesAtItsClose}
 use Rattle.receiver.specs.Inside.Assembly.{IsTaking}
-use Rattle.uplink.specs.Inside.Offering.{HasCollected, HasOfferedAll, HasAssembledSoFar, OffersItem, OffersTheRest, HasAssembledAll}
+use Rattle.uplink.specs.Inside.Offering.{HasCollected, NamesOneOf, HasOfferedAll, HasAssembledSoFar, OffersItem, OffersTheRest, HasAssembledAll}
 use Rattle.uplink.proofs.ItemsCollected.{none_collected, one_collected, same_collected}
 
 -- where two lists are the same by some function of each element, an element of the one has its fellow in the other
@@ -58,12 +59,12 @@ module _ {C : Type 0} (accepts : C → List ℕ → Bool) (core0 : Core C) (feed
         was.2 ∙ has.offered_are k one0 was.0 at0 was.1;
   }
 
-  module _ (before : ℕ → List Event) where
-    abbrev SoFar : (ℕ → List Event) → List Feeder → Taking C → Type 0
+  module _ (before : ℕ → List Item) where
+    abbrev SoFar : (ℕ → List Item) → List Feeder → Taking C → Type 0
     SoFar = HasAssembledSoFar accepts core0 feeders0 before
 
     -- what was made was made of what was there
-    made_of : (now : ℕ → List Event) (feeders : List Feeder) (taking : Option (Taking C)) (made : Taking C) → taking ≡ Some made
+    made_of : (now : ℕ → List Item) (feeders : List Feeder) (taking : Option (Taking C)) (made : Taking C) → taking ≡ Some made
         → IfSome taking (SoFar now feeders) → SoFar now feeders made
     made_of now feeders taking made is so_far = subst (λ (o : Option (Taking C)). IfSome o (SoFar now feeders)) is so_far
 
@@ -76,12 +77,12 @@ module _ {C : Type 0} (accepts : C → List ℕ → Bool) (core0 : Core C) (feed
       taking = subst (λ (core : Core C). IsTaking accepts core) (sym is) taking;
     }
 
-    module _ (old new : ℕ → List Event) (feeders after : List Feeder) where
+    module _ (old new : ℕ → List Item) (feeders after : List Feeder) where
       -- one item was taken
-      pub item_made : (from : ℕ) (item : Event) (was now : Option (Taking C)) → from < senders
+      pub item_made : (from : ℕ) (item : Item) (was now : Option (Taking C)) → from < senders
           → ((sender : ℕ) → new sender ≡ (if sender == from then old sender ++ item ∷ [] else old sender))
           → IfSome now (λ n. (w : Taking C) × (was ≡ Some w) × (n.order.items ≡ w.order.items ++ from ∷ [])
-          × OffersItem accepts w.core feeders item n.core after)
+          × OffersItem accepts w.core feeders item.event n.core after)
           → IfSome was (SoFar old feeders) → IfSome now (SoFar new after)
       item_made from item was None named takes offers so_far = tt
       item_made from item was (Some n) named takes offers so_far =
@@ -89,8 +90,8 @@ module _ {C : Type 0} (accepts : C → List ℕ → Bool) (core0 : Core C) (feed
           let made : SoFar old feeders w = made_of old feeders was w offers.1 so_far in
           let one = one_collected before old new w.order.items made.items made.has_collected from item named takes in
           record {
-            items = made.items ++ item ∷ [];
-            has_collected = subst (λ (order : List ℕ). HasCollected before new order (made.items ++ item ∷ [])) (sym offers.2) one;
+            items = made.items ++ item.event ∷ [];
+            has_collected = subst (λ (order : List ℕ). HasCollected before new order (made.items ++ item.event ∷ [])) (sym offers.2) one;
             has_offered = offers.3.offers core0 feeders0 made.items made.has_offered;
             taking = offers.3.taking;
           }
@@ -107,7 +108,7 @@ module _ {C : Type 0} (accepts : C → List ℕ → Bool) (core0 : Core C) (feed
       }
 
     -- there are as many flows as feeders
-    pub flows_as_feeders : (now : ℕ → List Event) (feeders : List Feeder) (taking : Option (Taking C)) → length core0.flows.items ≡ length feeders0
+    pub flows_as_feeders : (now : ℕ → List Item) (feeders : List Feeder) (taking : Option (Taking C)) → length core0.flows.items ≡ length feeders0
         → map feeder_ring feeders ≡ map feeder_ring feeders0 → IfSome taking (SoFar now feeders)
         → IfSome taking (λ made. length made.core.flows.items ≡ length feeders)
     flows_as_feeders now feeders taking count rings so_far =
@@ -121,25 +122,25 @@ module _ {C : Type 0} (accepts : C → List ℕ → Bool) (core0 : Core C) (feed
     pub all_made : HasAssembledAll accepts core0 items feeders0 closed counts
     all_made = record {
       count = count;
-      gives = λ accepted records k r feeder one new fit of_flow at0 at.
+      gives = λ accepted records k r feeder one new all of_flow at0 at.
           let its = fellow closed_offered offered closed after k one same at in
           let within = slice_get_within feeders0 k feeder at0 in
           let between = element_at feeders k (omega arith) in
           let taken = has.takes accepted records new in
           let close = rest.gives accepted records has.passed has.given k r between.0 its.0 taken of_flow between.1 its.1 in
-          let all : List (List ℕ) = has.given k ++ close.0 in
-          let fits : All (IsItem (length core0.flows.items)) items = subst (λ n. All (IsItem n) items) (sym new.count) fit in (
-            all,
+          let frames : List (List ℕ) = has.given k ++ close.0 in
+          let exist : All (NamesOneOf (length core0.flows.items)) items = subst (λ n. All (NamesOneOf n) items) (sym new.count) all in (
+            frames,
             close.1,
             close.2,
             its.2 ∙ close.3 ∙ ap (λ l. l ++ close.0) (has.offered_are k feeder between.0 at0 between.1)
                 ∙ append_assoc (offered feeder) (has.given k) close.0,
-            subst (λ (l : List Event). GivesAtItsClose accepted r (events_at k l) all close.1) (has.all_passed fits) close.4,
+            subst (λ (l : List Event). GivesAtItsClose accepted r (events_at k l) frames close.1) (has.all_passed exist) close.4,
           );
     }
 
   -- where nothing failed, what was assembled is what the flows give at last
-  module _ (before now : ℕ → List Event) (feeders after : List Feeder) (closed : List ClosedFeeder) (taking : Option (Taking C))
+  module _ (before now : ℕ → List Item) (feeders after : List Feeder) (closed : List ClosedFeeder) (taking : Option (Taking C))
       (rings : map feeder_ring feeders ≡ map feeder_ring feeders0) (so_far : IfSome taking (HasAssembledSoFar accepts core0 feeders0 before now feeders))
       (same : map closed_offered closed ≡ map offered after) where
     pub assembled : (done : Option Assembled) → IfSome done (λ d. length d.counts.items ≡ length feeders)

@@ -1,5 +1,5 @@
 -- What one more item makes of what was offered.
-use Rattle.std.proofs.Common.{◌≡◌, ◌≢◌, ℕ, ◌<◌, ◌==◌, ⊎_elim, Bool, Some, List, [], ◌∷◌, ◌++◌, cond, length, slice_get, slice_index_or, slice_set, refl, ap, sym, subst, ◌∙◌, append_assoc}
+use Rattle.std.proofs.Common.{◌≡◌, ◌≢◌, ℕ, ◌<◌, ◌≤◌, ◌==◌, ⊎_elim, Bool, Some, List, [], ◌∷◌, ◌++◌, cond, length, slice_get, slice_index_or, slice_set, refl, ap, sym, subst, ◌∙◌, append_assoc, arith}
 use Rattle.std.proofs.lemmas.Bool.{cases_eq, eq-eqb, ne_eqb}
 use Rattle.std.proofs.lemmas.List.Elements.{All-pop}
 use Rattle.std.proofs.lemmas.Option.{slice_get_read, same_Some}
@@ -10,9 +10,8 @@ use Rattle.flow_core.specs.declared.flows.Core.{Core}
 use Rattle.flow_core.specs.declared.event.Event.{Event}
 use Rattle.flow_core.specs.Flows.{flow_of}
 use Rattle.flow_core.proofs.OneFlow.{written, written_other}
-use Rattle.receiver.specs.Items.{IsItem}
 use Rattle.receiver.specs.Inside.Assembly.{HasTaken, IsTaking, TakesItem}
-use Rattle.uplink.specs.Inside.Offering.{HasOfferedAll, OffersItem}
+use Rattle.uplink.specs.Inside.Offering.{NamesOneOf, HasOfferedAll, OffersItem}
 
 -- what flow n has given, with these frames more, and all others as they had
 unfoldable with_more : (ℕ → List (List ℕ)) → ℕ → List (List ℕ) → ℕ → List (List ℕ)
@@ -28,17 +27,17 @@ module _ (given : ℕ → List (List ℕ)) (n : ℕ) (more : List (List ℕ)) wh
   gave_the_same k apart = ap (λ b. cond b (given k ++ more) (given k)) (ne_eqb k n apart)
 
 module _ {C : Type 0} (accepts : C → List ℕ → Bool) (core : Core C) (feeders : List Feeder) (item : Event) (taking : IsTaking accepts core) where
-  -- an item that no flow can take is passed over
-  pub passed_over : ¬ (IsItem (length core.flows.items) item) → OffersItem accepts core feeders item core feeders
-  passed_over unfit = record {
+  -- an item of a flow that there isn't is passed over
+  pub passed_over : length core.flows.items ≤ flow_of item → OffersItem accepts core feeders item core feeders
+  passed_over past = record {
     taking = taking;
     flow_count = refl;
     offers = λ core0 feeders0 items has. record {
       given = has.given;
       passed = has.passed;
       all_passed = λ all.
-          let fits = (All-pop (IsItem (length core0.flows.items)) (items ++ item ∷ []) items (Some item) refl all).1 in
-          absurd (unfit (subst (λ n. IsItem n item) (sym has.flow_count) fits));
+          let exists = (All-pop (NamesOneOf (length core0.flows.items)) (items ++ item ∷ []) items (Some item) refl all).1 in
+          absurd (omega (arith, exists, has.flow_count, past));
       flow_count = has.flow_count;
       takes = has.takes;
       offered_are = has.offered_are;
@@ -103,7 +102,7 @@ module _ {C : Type 0} (accepts : C → List ℕ → Bool) (core : Core C) (feede
         given = gave has.given;
         passed = has.passed ++ item ∷ [];
         all_passed = λ all.
-            ap (λ l. l ++ item ∷ []) (has.all_passed (All-pop (IsItem (length core0.flows.items)) (items ++ item ∷ []) items (Some item) refl all).0);
+            ap (λ l. l ++ item ∷ []) (has.all_passed (All-pop (NamesOneOf (length core0.flows.items)) (items ++ item ∷ []) items (Some item) refl all).0);
         flow_count = as_many ∙ has.flow_count;
         takes = λ accepted records new. has_taken accepted records has.passed has.given (has.takes accepted records new);
         offered_are = one_offered core0 feeders0 items has;

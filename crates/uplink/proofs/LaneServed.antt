@@ -1,12 +1,12 @@
 -- What a channel's worker has posted and reported.
 use Rattle.std.proofs.Common.{◌≡◌, List, [], ◌∷◌, ◌++◌, map, refl, sym, ap, ◌∙◌, append_assoc}
 use Rattle.std.proofs.lemmas.List.{map-append, append-nil}
-use Rattle.flow_core.specs.declared.event.Event.{Event}
 use Rattle.mailbox.specs.Ports.{address, posted}
 use Rattle.mailbox.specs.declared.port.ClosedPort.{ClosedPort}
 use Rattle.lane.specs.declared.admitted.Request.{Request}
 use Rattle.lane.specs.declared.input.Input.{Input}
 use Rattle.lane.specs.declared.report.LaneReport.{LaneReport}
+use Rattle.uplink.specs.declared.item.Item.{Item}
 use Rattle.uplink.specs.declared.lane_worker.LaneWork.{LaneWork}
 use Rattle.lane.specs.Inputs.{Answer, AnsweredInput}
 use Rattle.lane.specs.Report.{admitted_in, requests_in, admitted_of, requests_of}
@@ -14,6 +14,7 @@ use Rattle.receiver.specs.Items.{event_of_admitted}
 use Rattle.lane.specs.Report.{IsReportOf}
 use Rattle.lane.specs.Stands.{TakesInput}
 use Rattle.lane.specs.Report.{Reports}
+use Rattle.uplink.specs.Inside.Carried.{carried}
 use Rattle.uplink.specs.Inside.Working.{HasPosted, HasServedAll, DidLane}
 use Rattle.lane.proofs.LaneReports.{admitted_of-append, requests_of-append}
 
@@ -27,7 +28,7 @@ module _ {S : Type 0} where
       answered = [];
       inputs_are = refl;
       stands = stands;
-      arrivals_are = sym (append-nil (posted work.arrivals));
+      arrivals_are = sym (append-nil (carried (posted work.arrivals)));
       requests_are = sym (append-nil (posted work.requests));
       report_is = of;
     };
@@ -37,7 +38,7 @@ module _ {S : Type 0} where
   pub one_served : (inputs : List Input) (input : Input) (answer : Answer) (work before after : LaneWork S) (report report' : LaneReport)
       → HasServedAll inputs work before report → TakesInput before.lane input answer after.lane → Reports report answer report'
       → address after.arrivals ≡ address before.arrivals → address after.requests ≡ address before.requests
-      → posted after.arrivals ≡ posted before.arrivals ++ map event_of_admitted (admitted_in answer)
+      → carried (posted after.arrivals) ≡ carried (posted before.arrivals) ++ map event_of_admitted (admitted_in answer)
       → posted after.requests ≡ posted before.requests ++ requests_in answer
       → HasServedAll (inputs ++ input ∷ []) work after report'
   one_served inputs input answer work before after report report' has takes reports arrivals_same requests_same arrivals requests = record {
@@ -53,8 +54,8 @@ module _ {S : Type 0} where
           stands = takes setup is.answered is.stands;
           arrivals_are =
               arrivals ∙ ap (λ t. t ++ map event_of_admitted (admitted_in answer)) is.arrivals_are
-              ∙ append_assoc (posted work.arrivals) events (map event_of_admitted (admitted_in answer))
-              ∙ ap (λ t. posted work.arrivals ++ t)
+              ∙ append_assoc (carried (posted work.arrivals)) events (map event_of_admitted (admitted_in answer))
+              ∙ ap (λ t. carried (posted work.arrivals) ++ t)
               (sym (ap (map event_of_admitted) (admitted_of-append is.answered (one ∷ []))
               ∙ map-append event_of_admitted (admitted_of is.answered) (admitted_in answer)));
           requests_are =
@@ -87,7 +88,7 @@ module _ {S : Type 0} where
       }
 
   -- all inputs were served, and the ports closed
-  pub did_serve : (inputs : List Input) (work now : LaneWork S) (report : LaneReport) (arrivals : ClosedPort Event) (requests : ClosedPort Request)
+  pub did_serve : (inputs : List Input) (work now : LaneWork S) (report : LaneReport) (arrivals : ClosedPort Item) (requests : ClosedPort Request)
       → HasServedAll inputs work now report → HasPosted now.arrivals [] arrivals → HasPosted now.requests [] requests
       → DidLane work.lane work.arrivals work.requests inputs (record { arrivals = arrivals; requests = requests; report = report })
   did_serve inputs work now report arrivals requests has closes closes' = record {
@@ -99,7 +100,7 @@ module _ {S : Type 0} where
           record {
             arrivals_are = record {
               address_is = closes.address_is ∙ has.arrivals_same;
-              posted_is = closes.posted_is ∙ append-nil (posted now.arrivals) ∙ is.arrivals_are;
+              sent_is = ap carried (closes.posted_is ∙ append-nil (posted now.arrivals)) ∙ is.arrivals_are;
             };
             requests_are = record {
               address_is = closes'.address_is ∙ has.requests_same;

@@ -1,7 +1,7 @@
 -- What is known of a running receiver before its start, after its end, and of its outcome.
 use Rattle.std.proofs.Common.{◌≡◌, ℕ, suc, ◌<◌, ◌==◌, Bool, true, false, Some, All, List, [], ◌∷◌, ◌++◌, map, filter, length, get_or, slice_get, option_map, if◌then◌else◌, Vec, Global, eq-eqb, refl, sym, ap, subst, ◌∙◌, arith}
 use Rattle.std.proofs.lemmas.List.{length-map}
-use Rattle.std.proofs.lemmas.List.Elements.{All-nil, All-cons, All-head, All-tail, All-same, All-get_or}
+use Rattle.std.proofs.lemmas.List.Elements.{All-nil, All-cons, All-head, All-tail, All-same, All-weaker, All-get_or}
 use Rattle.std.proofs.lemmas.Option.{slice_get_within, get_or_from_slice_get, same_Some, slice_get-map}
 use Rattle.docsis_wire.proofs.StreamPlaces.{element_at}
 use Rattle.docsis_wire.specs.declared.buffer.Bytes.{Bytes}
@@ -23,6 +23,7 @@ use Rattle.flow_core.specs.declared.event.Event.{Event}
 use Rattle.flow_core.specs.declared.record.FlowRecord.{FlowRecord}
 use Rattle.lane.specs.declared.admitted.Request.{Request}
 use Rattle.uplink.specs.declared.frame_worker.Consumed.{Consumed}
+use Rattle.uplink.specs.declared.item.Item.{Item}
 use Rattle.uplink.specs.declared.lane_worker.LaneDone.{LaneDone}
 use Rattle.lane.specs.declared.lane.Lane.{Lane}
 use Rattle.receiver.specs.declared.outcome.FlowOutcome.{FlowOutcome}
@@ -39,7 +40,9 @@ use Rattle.receiver.specs.Order.{senders, picked, IsMergeOf}
 use Rattle.receiver.specs.Outcome.{IsOutcome, GivesAtItsClose, IsOutcomeOfFlow, AreOutcomesOfFlows, requests_on}
 use Rattle.lane.specs.Report.{IsReportOf}
 use Rattle.lane.specs.Stands.{StandsFor}
-use Rattle.uplink.specs.Inside.Working.{HasPosted, HasServed, DidLane, kept_of}
+use Rattle.uplink.specs.Inside.Carried.{carried}
+use Rattle.uplink.specs.Inside.Working.{HasPosted, HasSent, HasServed, DidLane, kept_of}
+use Rattle.uplink.specs.Inside.Offering.{NamesOneOf}
 use Rattle.uplink.specs.Inside.Running.{IsOpened, HasEnded, CanSettle, HasConcluded, closed_arrivals, closed_requests, all_posted}
 use Rattle.receiver.proofs.ChannelInputs.{items-admitted}
 use Rattle.receiver.proofs.Interleaving.{five}
@@ -99,14 +102,19 @@ module _ {T : Type 0} where
       ∙ ap (λ a. address ports.p0 ∷ address ports.p1 ∷ address ports.p2 ∷ a ∷ closed_address closed.p4 ∷ []) a3
       ∙ ap (λ a. address ports.p0 ∷ address ports.p1 ∷ address ports.p2 ∷ address ports.p3 ∷ a ∷ []) a4
 
+-- a port that had posted nothing has posted items with these events
+sent-first : (port : Port Item) (events : List Event) (closed : ClosedPort Item) → HasSent port events closed
+    → posted port ≡ [] → carried (closed_posted closed) ≡ events
+sent-first port events closed has none = has.sent_is ∙ ap (λ items. carried items ++ events) none
+
 -- what the worker of a channel did, with the answers to the channel's inputs
-record HasDone (setup : Setup) (incoming : Incoming) (channel : ℕ) (arrivals : Port Event) (requests : Port Request) (done : LaneDone) : Type 0 where
+record HasDone (setup : Setup) (incoming : Incoming) (channel : ℕ) (arrivals : Port Item) (requests : Port Request) (done : LaneDone) : Type 0 where
   pub answered : List AnsweredInput
   pub lane : IsLaneOf setup incoming channel answered
   pub served : HasServed arrivals requests answered done
 
 -- a worker whose lane was open did its channel's inputs
-done-on : (setup : Setup) (incoming : Incoming) (channel : ℕ) (lane : Lane) (arrivals : Port Event) (requests : Port Request) (done : LaneDone)
+done-on : (setup : Setup) (incoming : Incoming) (channel : ℕ) (lane : Lane) (arrivals : Port Item) (requests : Port Request) (done : LaneDone)
     → StandsFor (lane_setup setup channel) lane [] → DidLane lane arrivals requests (incoming.inputs channel) done
     → HasDone setup incoming channel arrivals requests done
 done-on setup incoming channel lane arrivals requests done stands did =
@@ -123,7 +131,7 @@ module _ {C : Type 0} (accepts : C → List ℕ → Bool) (accepted : List ℕ �
 
   module _ (incoming : Incoming) (end : Ended) (has : HasEnded accepts (length setup.flows.items) incoming opened end) where
     -- what each channel's worker did
-    abbrev DidOn : ℕ → Port Event → Port Request → LaneDone → Type 0
+    abbrev DidOn : ℕ → Port Item → Port Request → LaneDone → Type 0
     DidOn = HasDone setup incoming
 
     done-0 : DidOn 0 opened.arrivals.ports.p0 opened.requests.ports.p0 end.done.l0
@@ -187,18 +195,18 @@ module _ {C : Type 0} (accepts : C → List ℕ → Bool) (accepted : List ℕ �
     lanes-answered = four (λ channel. IsLaneOf setup incoming channel (answered channel)) done-0.lane done-1.lane done-2.lane done-3.lane
 
     -- the items of each sender were posted
-    items-posted : (sender : ℕ) → sender < senders → all_posted (closed_arrivals end) sender ≡ items_of setup incoming answered sender
+    items-posted : (sender : ℕ) → sender < senders → carried (all_posted (closed_arrivals end) sender) ≡ items_of setup incoming answered sender
     items-posted =
         let none = is.arrivals.none_posted in
         let ports = opened.arrivals.ports in
         let admitted : List AnsweredInput → List Event = λ taken. map event_of_admitted (admitted_of taken) in
         let decided : List Event = map event_of_decision (filter (names_a_flow (length setup.flows.items)) incoming.decisions) in
-        five (λ sender. all_posted (closed_arrivals end) sender ≡ items_of setup incoming answered sender)
-        (posted-first ports.p0 (admitted done-0.answered) end.done.l0.arrivals done-0.served.arrivals_are none.p0)
-        (posted-first ports.p1 (admitted done-1.answered) end.done.l1.arrivals done-1.served.arrivals_are none.p1)
-        (posted-first ports.p2 (admitted done-2.answered) end.done.l2.arrivals done-2.served.arrivals_are none.p2)
-        (posted-first ports.p3 (admitted done-3.answered) end.done.l3.arrivals done-3.served.arrivals_are none.p3)
-        (posted-first ports.p4 decided end.done.decided has.decided none.p4)
+        five (λ sender. carried (all_posted (closed_arrivals end) sender) ≡ items_of setup incoming answered sender)
+        (sent-first ports.p0 (admitted done-0.answered) end.done.l0.arrivals done-0.served.arrivals_are none.p0)
+        (sent-first ports.p1 (admitted done-1.answered) end.done.l1.arrivals done-1.served.arrivals_are none.p1)
+        (sent-first ports.p2 (admitted done-2.answered) end.done.l2.arrivals done-2.served.arrivals_are none.p2)
+        (sent-first ports.p3 (admitted done-3.answered) end.done.l3.arrivals done-3.served.arrivals_are none.p3)
+        (sent-first ports.p4 decided end.done.decided has.decided none.p4)
 
     -- and so were the requests of each channel
     requests-posted : (channel : ℕ) → channel < channel_limit → all_posted (closed_requests end) channel ≡ requests_of (answered channel)
@@ -226,19 +234,20 @@ module _ {C : Type 0} (accepts : C → List ℕ → Bool) (accepted : List ℕ �
       items-taken : (sender : ℕ) → sender < senders → picked sender end.assembled.order.items has.items ≡ items_of setup incoming answered sender
       items-taken sender below =
           sym (has.has_collected.taken_is sender
-          ∙ ap (λ l. l ++ picked sender end.assembled.order.items has.items) (is.arrivals.none_taken.taken_is sender))
-          ∙ concluded.arrivals sender below ∙ items-posted sender below
+          ∙ ap (λ items. carried items ++ picked sender end.assembled.order.items has.items) (is.arrivals.none_taken.taken_is sender))
+          ∙ ap carried (concluded.arrivals sender below) ∙ items-posted sender below
 
       -- so they were merged
       merged : IsMergeOf (items_of setup incoming answered) end.assembled.order.items has.items
       merged = record { named = has.has_collected.named; paired = has.has_collected.paired; lists_are = items-taken }
 
-      -- and a flow can take each
-      all-fit : All (IsItem (length setup.flows.items)) has.items
-      all-fit =
+      -- and each names one of the flows
+      all-exist : All (NamesOneOf (length setup.flows.items)) has.items
+      all-exist =
           let Fits = IsItem (length setup.flows.items) in
-          all-merged Fits end.assembled.order.items has.items merged.named merged.paired
-          (λ sender below. All-same Fits _ _ (items-taken sender below) (items-fit sender below))
+          All-weaker Fits (NamesOneOf (length setup.flows.items)) (λ item fits. fits.flow_exists) has.items
+          (all-merged Fits end.assembled.order.items has.items merged.named merged.paired
+          (λ sender below. All-same Fits _ _ (items-taken sender below) (items-fit sender below)))
 
       -- the requests that were kept of each channel
       requests-kept : (channel : ℕ) → channel < channel_limit → requests_on outcome channel ≡ requests_of (answered channel)
@@ -262,7 +271,7 @@ module _ {C : Type 0} (accepts : C → List ℕ → Bool) (accepted : List ℕ �
           → slice_get end.feeders.items k ≡ Some closed → slice_get opened.rings.takers.items k ≡ Some taker → DidFlow k flow_record
       gave-through k flow_record feeder closed taker of_flow at_feeder at_closed at_taker =
           let its = has.consumed.each k taker at_taker in
-          let gave = has.has_assembled.gives accepted setup.flows.items k flow_record feeder closed is.core all-fit of_flow at_feeder at_closed in
+          let gave = has.has_assembled.gives accepted setup.flows.items k flow_record feeder closed is.core all-exist of_flow at_feeder at_closed in
           let none_offered = all-at (λ f. offered f ≡ []) opened.rings.feeders.items k feeder is.rings.none_offered at_feeder in
           let none_taken = all-at (λ t. takers.taken t ≡ []) opened.rings.takers.items k taker is.rings.none_taken at_taker in
           let given : closed_offered closed ≡ gave.0 = gave.3 ∙ ap (λ l. l ++ gave.0) none_offered in

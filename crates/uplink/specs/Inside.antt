@@ -1,3 +1,5 @@
+pub mod Takable
+pub mod Carried
 pub mod Working
 pub mod Offering
 pub mod Running

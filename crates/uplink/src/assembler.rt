@@ -1,18 +1,18 @@
 //! The assembler, which is the caller of a running receiver.
-ghost use Rattle.std.specs.Prelude.{◌≡◌, ◌↔◌, ◌<◌, ◌≤◌, ◌++◌, ◌∷◌, [], ℕ, List, Some, true, IsTrue, IfSome, IfOk, OnOk, length, map};
+ghost use Rattle.std.specs.Prelude.{◌≡◌, ◌<◌, ◌≤◌, ◌++◌, ◌∷◌, [], ℕ, List, Some, true, IfSome, IfOk, OnOk, length, map};
 ghost use Rattle.mailbox.specs.Mouths.{places, taken, ended};
 ghost use Rattle.delivery.specs.Feeders.{feeder_ring, offered, closed_ring, closed_offered};
 ghost use Rattle.flow_core.specs.declared.event.Event.{Event};
 ghost use Rattle.flow_core.specs.Flows.{IsDrainedAt, OthersStay};
 ghost use Rattle.flow_core.specs.Giving.{IsRunning};
-ghost use Rattle.receiver.specs.Items.{IsItem};
 ghost use Rattle.receiver.specs.Order.{senders};
 ghost use Rattle.receiver.specs.Inside.Assembly.{IsTaking, GivesTheRest};
 ghost use Rattle.uplink.specs.Inside.Offering.{HasCollected, HasAssembledSoFar, OffersItem, OffersTheRest, HasAssembledAll};
 
+use crate::item::Item;
 use delivery::{ClosedFeeder, Feeder};
-use docsis_wire::{Bytes, HeaderCheck, SEQUENCE_MODULUS, ready};
-use flow_core::{Core, Event, FlowCounts};
+use docsis_wire::{Bytes, HeaderCheck};
+use flow_core::{Core, FlowCounts};
 use mailbox::{Mouth, Taken};
 use receiver::{close_flow, take_item};
 use std::alloc::{AllocError, Global};
@@ -37,7 +37,7 @@ pub struct Assembled {
 /// unless an allocation failed, what it assembled.
 #[derive(Drop)]
 pub struct AssembledAll {
-    pub mouth: Mouth<Event>,
+    pub mouth: Mouth<Item>,
     pub feeders: Vec<ClosedFeeder>,
     pub done: Option<Assembled>,
 }
@@ -49,7 +49,7 @@ pub fn assemble<C: HeaderCheck + Drop, R: Wait>(
     alloc: Global,
     rt: &R,
     core: Core<C>,
-    mouth: Mouth<Event>,
+    mouth: Mouth<Item>,
     feeders: Vec<Feeder>,
     closed: Vec<ClosedFeeder>,
 ) -> AssembledAll
@@ -83,7 +83,7 @@ fn take_items<C: HeaderCheck + Drop, R: Wait>(
     alloc: Global,
     rt: &R,
     core: Core<C>,
-    mouth: &mut Mouth<Event>,
+    mouth: &mut Mouth<Item>,
     feeders: &mut [Feeder],
 ) -> Option<Taking<C>>
     requires taking { IsTaking C.accepts core }
@@ -123,14 +123,14 @@ fn with_item<C: HeaderCheck + Drop>(
     taking: Option<Taking<C>>,
     feeders: &mut [Feeder],
     from: u8,
-    item: Event,
+    item: Item,
 ) -> Option<Taking<C>>
     requires taking { IfSome taking (λ t. IsTaking C.accepts t.core) }
     requires flows { IfSome taking (λ t. length t.core.flows.items ≡ length feeders.old) }
     ensures rings { map feeder_ring feeders.new ≡ map feeder_ring feeders.old }
     ensures order { IfSome result (λ now. (was : _) × (taking ≡ Some was)
         × (now.order.items ≡ was.order.items ++ from ∷ [])
-        × OffersItem C.accepts was.core feeders.old item now.core feeders.new) }
+        × OffersItem C.accepts was.core feeders.old item.event now.core feeders.new) }
 {
     let Taking {
         mut core,
@@ -141,39 +141,27 @@ fn with_item<C: HeaderCheck + Drop>(
     Some(Taking { core, order })
 }
 
-/// Takes an item that a flow can take, and offers the frames that the flow then gives. Any other is
-/// passed over.
+/// Has an item's flow take its event, and offers the frames that the flow then gives. An item of a
+/// flow that there isn't is passed over; none that is posted is such.
 fn offer_item<C: HeaderCheck + Drop>(
     alloc: Global,
     core: &mut Core<C>,
     feeders: &mut [Feeder],
-    item: Event,
+    item: Item,
 ) -> Result<(), AllocError>
     requires taking { IsTaking C.accepts core.old }
     requires flows { length core.old.flows.items ≡ length feeders.old }
     ensures rings { map feeder_ring feeders.new ≡ map feeder_ring feeders.old }
     ensures offers { OnOk result
-        (OffersItem C.accepts core.old feeders.old item core.new feeders.new) }
+        (OffersItem C.accepts core.old feeders.old item.event core.new feeders.new) }
 {
-    if !is_item(&item, core.flow_count()) {
+    let flow = item.event.flow();
+    if flow >= core.flow_count() {
         return Ok(());
     }
-    let flow = item.flow();
     let mut frames = Vec::new(alloc);
-    take_item(alloc, core, item, &mut frames)?;
+    take_item(alloc, core, item.event, &mut frames)?;
     offer_all(&mut feeders[flow], frames)
-}
-
-/// Whether one of so many flows can take the item. All items that are posted are such.
-fn is_item(item: &Event, flow_count: usize) -> bool
-    ensures { IsTrue result ↔ IsItem flow_count item.now }
-{
-    item.flow() < flow_count
-        && match item {
-            Event::Arrive { segment, .. } => ready(segment),
-            Event::Gap { .. } => true,
-            Event::GapTo { number, .. } => *number < SEQUENCE_MODULUS,
-        }
 }
 
 /// Offers frames to a feeder, in order.

@@ -2,10 +2,10 @@
 ghost use Rattle.std.specs.Prelude.{◌≡◌, IfOk, IfSome};
 ghost use Rattle.uplink.specs.Inside.Working.{DidDecide};
 
+use crate::item::Item;
 use crate::retry::{close_port, post_item};
 use crate::source::Decisions;
 use crate::start_word::StartWord;
-use flow_core::Event;
 use mailbox::{ClosedPort, Port};
 use std::alloc::AllocError;
 use std::snapshot::Snapshot;
@@ -17,7 +17,7 @@ use std::thread::{Promise, PromisedHandle, Threads};
 #[derive(Drop)]
 pub struct DecidingWork<D> {
     pub flow_count: usize,
-    pub arrivals: Port<Event>,
+    pub arrivals: Port<Item>,
     pub decisions: D,
 }
 
@@ -25,12 +25,12 @@ pub struct DecidingWork<D> {
 #[derive(Drop)]
 pub struct DecidingPromise<D>(pub Snapshot<DecidingWork<D>>);
 
-impl<D: Decisions> Promise<Option<ClosedPort<Event>>> for DecidingPromise<D> {
+impl<D: Decisions> Promise<Option<ClosedPort<Item>>> for DecidingPromise<D> {
     ghost kept_by = { λ promise result. IfSome result (DidDecide promise.0.value.flow_count
         promise.0.value.arrivals (D.decides promise.0.value.decisions)) };
 }
 
-pub type Decider<D> = PromisedHandle<Option<ClosedPort<Event>>, DecidingPromise<D>>;
+pub type Decider<D> = PromisedHandle<Option<ClosedPort<Item>>, DecidingPromise<D>>;
 
 /// Starts the worker of the decisions.
 pub fn start<D, R>(
@@ -55,7 +55,7 @@ fn serve_decisions<D: Decisions + Drop, R: Wait>(
     rt: &R,
     start: &StartWord,
     work: DecidingWork<D>,
-) -> Option<ClosedPort<Event>>
+) -> Option<ClosedPort<Item>>
     ensures { IfSome result
         (DidDecide work.flow_count work.arrivals (D.decides work.decisions)) }
 {
@@ -69,7 +69,8 @@ fn serve_decisions<D: Decisions + Drop, R: Wait>(
     }
     while let Some(decision) = decisions.next() {
         if decision.names_a_flow(flow_count) {
-            post_item(rt, &mut arrivals, decision.event());
+            let event = decision.event();
+            post_item(rt, &mut arrivals, Item { event });
         }
     }
     Some(close_port(rt, arrivals))

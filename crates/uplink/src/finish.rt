@@ -8,9 +8,10 @@ ghost use Rattle.uplink.specs.Inside.Running.{CanSettle, HasConcluded, AreFlowsO
 
 use crate::assembler::Assembled;
 use crate::frame_worker::Consumed;
+use crate::item::Item;
 use crate::threads::Done;
 use delivery::{ClosedFeeder, settle as settle_ring};
-use flow_core::{Event, FlowCounts, FlowRecord};
+use flow_core::{FlowCounts, FlowRecord};
 use lane::Request;
 use mailbox::{ClosedPort, ClosedPorts, Mouth, settle};
 use receiver::{FlowOutcome, Outcome};
@@ -23,7 +24,7 @@ pub struct Ended {
     pub done: Done,
     /// The fifth port of the requests, which posted nothing.
     pub unused_port: ClosedPort<Request>,
-    pub mouth: Mouth<Event>,
+    pub mouth: Mouth<Item>,
     pub feeders: Vec<ClosedFeeder>,
     pub assembled: Assembled,
 }

@@ -3,8 +3,10 @@ ghost use Rattle.std.specs.Prelude.{◌≡◌, ◌++◌, map, IfOk, IfSome};
 ghost use Rattle.mailbox.specs.Ports.{address, posted};
 ghost use Rattle.lane.specs.Report.{admitted_in, requests_in};
 ghost use Rattle.receiver.specs.Items.{event_of_admitted};
+ghost use Rattle.uplink.specs.Inside.Carried.{carried};
 ghost use Rattle.uplink.specs.Inside.Working.{DidLane, HasServedAll};
 
+use crate::item::Item;
 use crate::retry::{close_port, post_item};
 use crate::source::Source;
 use crate::start_word::StartWord;
@@ -21,14 +23,14 @@ use std::thread::{Promise, PromisedHandle, Threads};
 #[derive(Drop)]
 pub struct LaneWork<S> {
     pub lane: Lane,
-    pub arrivals: Port<Event>,
+    pub arrivals: Port<Item>,
     pub requests: Port<Request>,
     pub source: S,
 }
 
 impl<S> LaneWork<S> {
     /// What the worker of a channel with this lane and source works with.
-    pub fn new(lane: Lane, arrivals: Port<Event>, requests: Port<Request>, source: S) -> LaneWork<S>
+    pub fn new(lane: Lane, arrivals: Port<Item>, requests: Port<Request>, source: S) -> LaneWork<S>
         ensures { result
             ≡ record { lane = lane; arrivals = arrivals; requests = requests; source = source } }
     {
@@ -44,7 +46,7 @@ impl<S> LaneWork<S> {
 /// A channel's closed ports, and what became of its inputs.
 #[derive(Drop)]
 pub struct LaneDone {
-    pub arrivals: ClosedPort<Event>,
+    pub arrivals: ClosedPort<Item>,
     pub requests: ClosedPort<Request>,
     pub report: LaneReport,
 }
@@ -133,14 +135,14 @@ fn take_inputs<S: Source, R: Wait>(
 /// Posts what an answer admits, its request first.
 fn post_admitted<R: Wait>(
     rt: &R,
-    arrivals: &mut Port<Event>,
+    arrivals: &mut Port<Item>,
     requests: &mut Port<Request>,
     answer: Answer,
 )
     ensures arrivals_same { address arrivals.new ≡ address arrivals.old }
     ensures requests_same { address requests.new ≡ address requests.old }
-    ensures arrivals { posted arrivals.new
-        ≡ posted arrivals.old ++ map event_of_admitted (admitted_in answer) }
+    ensures arrivals { carried (posted arrivals.new)
+        ≡ carried (posted arrivals.old) ++ map event_of_admitted (admitted_in answer) }
     ensures requests { posted requests.new ≡ posted requests.old ++ requests_in answer }
 {
     let Some(admitted) = admitted_segment(answer) else {
@@ -154,5 +156,6 @@ fn post_admitted<R: Wait>(
     if let Some(request) = request {
         post_item(rt, requests, request);
     }
-    post_item(rt, arrivals, Event::Arrive { flow, segment });
+    let event = Event::Arrive { flow, segment };
+    post_item(rt, arrivals, Item { event });
 }

@@ -22,6 +22,7 @@ mod decision_worker;
 mod eight_threads;
 mod finish;
 mod frame_worker;
+mod item;
 mod lane_worker;
 pub mod laws;
 mod open;

@@ -6,9 +6,10 @@ ghost use Rattle.receiver.specs.Faults.{CanReceive};
 ghost use Rattle.uplink.specs.Inside.Running.{AreOpenLanes, AreOpenRings, IsOpenMailbox, IsOpened};
 ghost use Rattle.uplink.specs.Inside.Running.{ring_of};
 
+use crate::item::Item;
 use delivery::{ClosedFeeder, Feeder, Taker, ring};
 use docsis_wire::HeaderCheck;
-use flow_core::{Core, Event, FlowRecord};
+use flow_core::{Core, FlowRecord};
 use lane::{Lane, Request};
 use mailbox::{Mouth, Ports, open};
 use receiver::Setup;
@@ -45,7 +46,7 @@ pub struct Opened<C> {
     pub core: Core<C>,
     pub rings: Rings,
     pub closed: Vec<ClosedFeeder>,
-    pub arrivals: OpenMailbox<Event>,
+    pub arrivals: OpenMailbox<Item>,
     pub requests: OpenMailbox<Request>,
 }
 

@@ -4,6 +4,7 @@ ghost use Rattle.uplink.specs.Inside.Working.{DidLane, DidDecide, DidSchedule, D
 
 use crate::decision_worker::{self, Decider, DecidingWork};
 use crate::frame_worker::{self, Consumed, Consumers};
+use crate::item::Item;
 use crate::lane_worker::{self, LaneDone, LaneWork, LaneWorker};
 use crate::request_worker::{self, Scheduled, Scheduler};
 use crate::source::{Decisions, Source};
@@ -11,7 +12,6 @@ use crate::start_word::StartWord;
 use crate::tap::{Tap, Taps};
 use delivery::Taker;
 use docsis_wire::Bytes;
-use flow_core::Event;
 use lane::Request;
 use mailbox::{ClosedPort, Mouth};
 use std::alloc::{AllocError, Global};
@@ -50,7 +50,7 @@ pub struct Done {
     pub l1: LaneDone,
     pub l2: LaneDone,
     pub l3: LaneDone,
-    pub decided: ClosedPort<Event>,
+    pub decided: ClosedPort<Item>,
     pub scheduled: Scheduled,
     pub consumed: Vec<Consumed>,
 }

@@ -4,12 +4,9 @@ ghost use Rattle.std.specs.Prelude.{◌<◌, ◌≤◌, Some, [], List, ℕ, All
 ghost use Rattle.ccf.specs.Join.{Joins};
 ghost use Rattle.uses.specs.Flow.{ComesOutAs};
 
-mod ready;
-
 use crate::window::in_order;
 use ccf::{Joiner, laws};
-use docsis_wire::{Bytes, HeaderCheck};
-pub use ready::ReadySegment;
+use docsis_wire::{Bytes, HeaderCheck, ReadySegment};
 use std::alloc::{AllocError, Global};
 
 /// Joins segments, in their order and none of them lost.

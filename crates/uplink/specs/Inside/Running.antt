@@ -16,6 +16,7 @@ use Rattle.flow_core.specs.declared.event.Event.{Event}
 use Rattle.flow_core.specs.declared.record.FlowRecord.{FlowRecord}
 use Rattle.lane.specs.declared.admitted.Request.{Request}
 use Rattle.uplink.specs.declared.frame_worker.Consumed.{Consumed}
+use Rattle.uplink.specs.declared.item.Item.{Item}
 use Rattle.receiver.specs.declared.outcome.FlowOutcome.{FlowOutcome}
 use Rattle.receiver.specs.declared.outcome.Outcome.{Outcome}
 use Rattle.uplink.specs.declared.open.Lanes.{Lanes}
@@ -94,7 +95,7 @@ pub record HasEnded {C : Type 0} (accepts : C → List ℕ → Bool) (flow_count
   pub has_assembled : HasAssembledAll accepts opened.core items opened.rings.feeders.items end.feeders.items end.assembled.counts.items
 
 -- the closed ports of the two mailboxes
-abbrev pub closed_arrivals : Ended → ClosedPorts Event
+abbrev pub closed_arrivals : Ended → ClosedPorts Item
 closed_arrivals end =
     record { p0 = end.done.l0.arrivals; p1 = end.done.l1.arrivals; p2 = end.done.l2.arrivals; p3 = end.done.l3.arrivals; p4 = end.done.decided }
 

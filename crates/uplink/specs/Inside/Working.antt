@@ -16,6 +16,7 @@ use Rattle.lane.specs.declared.admitted.Request.{Request}
 use Rattle.lane.specs.declared.input.Input.{Input}
 use Rattle.receiver.specs.declared.setup.Decision.{Decision}
 use Rattle.lane.specs.declared.lane.Lane.{Lane}
+use Rattle.uplink.specs.declared.item.Item.{Item}
 use Rattle.uplink.specs.declared.lane_worker.LaneDone.{LaneDone}
 use Rattle.uplink.specs.declared.request_worker.Scheduled.{Scheduled}
 use Rattle.uplink.specs.declared.frame_worker.Consumed.{Consumed}
@@ -29,15 +30,21 @@ use Rattle.receiver.specs.Items.{names_a_flow, event_of_admitted, event_of_decis
 use Rattle.receiver.specs.Order.{senders}
 use Rattle.lane.specs.Report.{IsReportOf}
 use Rattle.lane.specs.Stands.{StandsFor}
+use Rattle.uplink.specs.Inside.Carried.{carried}
 
 -- the port posted these items more, and is closed
 pub record HasPosted {T : Type 0} (port : Port T) (items : List T) (closed : ClosedPort T) : Type 0 where
   pub address_is : closed_address closed ≡ address port
   pub posted_is : closed_posted closed ≡ posted port ++ items
 
+-- the port posted items with these events more, and is closed
+pub record HasSent (port : Port Item) (events : List Event) (closed : ClosedPort Item) : Type 0 where
+  pub address_is : closed_address closed ≡ address port
+  pub sent_is : carried (closed_posted closed) ≡ carried (posted port) ++ events
+
 -- what the inputs with these answers admitted was posted, and their requests, and this is their report
-pub record HasServed (arrivals : Port Event) (requests : Port Request) (answered : List AnsweredInput) (done : LaneDone) : Type 0 where
-  pub arrivals_are : HasPosted arrivals (map event_of_admitted (admitted_of answered)) done.arrivals
+pub record HasServed (arrivals : Port Item) (requests : Port Request) (answered : List AnsweredInput) (done : LaneDone) : Type 0 where
+  pub arrivals_are : HasSent arrivals (map event_of_admitted (admitted_of answered)) done.arrivals
   pub requests_are : HasPosted requests (requests_of answered) done.requests
   pub report_is : IsReportOf answered done.report
 
@@ -46,7 +53,7 @@ pub record IsServing {S : Type 0} (setup : LaneSetup) (inputs : List Input) (wor
   pub answered : List AnsweredInput
   pub inputs_are : inputs_of answered ≡ inputs
   pub stands : StandsFor setup now.lane answered
-  pub arrivals_are : posted now.arrivals ≡ posted work.arrivals ++ map event_of_admitted (admitted_of answered)
+  pub arrivals_are : carried (posted now.arrivals) ≡ carried (posted work.arrivals) ++ map event_of_admitted (admitted_of answered)
   pub requests_are : posted now.requests ≡ posted work.requests ++ requests_of answered
   pub report_is : IsReportOf answered report
 
@@ -57,13 +64,13 @@ pub record HasServedAll {S : Type 0} (inputs : List Input) (work now : LaneWork 
   pub serves : (setup : LaneSetup) → StandsFor setup work.lane [] → IsServing setup inputs work now report
 
 -- A channel's worker took all these inputs: if its lane stood for no inputs yet, then it posted what these admit, and their requests.
-pub record DidLane (lane : Lane) (arrivals : Port Event) (requests : Port Request) (inputs : List Input) (done : LaneDone) : Type 0 where
+pub record DidLane (lane : Lane) (arrivals : Port Item) (requests : Port Request) (inputs : List Input) (done : LaneDone) : Type 0 where
   pub did : (setup : LaneSetup) → StandsFor setup lane []
       → (answered : List AnsweredInput) × AreAnswered setup answered × (inputs_of answered ≡ inputs) × HasServed arrivals requests answered done
 
 -- the decisions' worker posted those of these decisions that name one of so many flows
-abbrev pub DidDecide : ℕ → Port Event → List Decision → ClosedPort Event → Type 0
-DidDecide flow_count port decisions closed = HasPosted port (map event_of_decision (filter (names_a_flow flow_count) decisions)) closed
+abbrev pub DidDecide : ℕ → Port Item → List Decision → ClosedPort Item → Type 0
+DidDecide flow_count port decisions closed = HasSent port (map event_of_decision (filter (names_a_flow flow_count) decisions)) closed
 
 -- the requests that were kept of this channel
 abbrev pub kept_of : List (Vec Request Global) → ℕ → List Request

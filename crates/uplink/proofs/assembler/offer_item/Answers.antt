@@ -1,19 +1,20 @@
 -- What the item's flow gives is offered to its feeder, or the item is passed over.
-use Rattle.std.proofs.Common.{rules, arith, ◌≡◌, ◌++◌, ◌∙◌, ap, ℕ, List, length, slice_index_or, slice_set, sym, subst}
+use Rattle.std.proofs.Common.{rules, arith, ◌≡◌, ◌≤◌, ◌++◌, ◌∙◌, ap, ℕ, List, length, slice_index_or, slice_set, sym, subst}
 use Rattle.std.proofs.Math.Seq.{map-set_same}
 use Rattle.std.proofs.lemmas.Result.{on_ok_weaker}
 use Rattle.delivery.specs.Feeders.{feeder_ring, offered}
 use Rattle.delivery.specs.declared.feeder.Feeder.{Feeder}
+use Rattle.flow_core.specs.Flows.{flow_of}
 use Rattle.receiver.specs.Items.{IsItem}
 use Rattle.receiver.specs.Inside.Assembly.{TakesItem}
 use Rattle.uplink.specs.Inside.Offering.{OffersItem}
 use Rattle.uplink.proofs.ItemOffered.{passed_over, item_offered}
 use Rattle.uplink.proofs.assembler.offer_item.Goals as goal
 
-pub returns-then-not-is_item-clause-offers : goal.returns-then-not-is_item-clause-offers
-returns-then-not-is_item-clause-offers g c =
-    let unfit : ¬ (IsItem (length c.args.core.now.flows.items) c.args.item) = search rules in
-    passed_over g.C.HeaderCheck.accepts c.args.core.now c.args.feeders.now c.args.item c.requires.taking unfit
+pub returns-then-flow-flow_count-clause-offers : goal.returns-then-flow-flow_count-clause-offers
+returns-then-flow-flow_count-clause-offers g c =
+    let past : length c.args.core.now.flows.items ≤ flow_of c.args.item.event = search rules in
+    passed_over g.C.HeaderCheck.accepts c.args.core.now c.args.feeders.now c.args.item.event c.requires.taking past
 
 pub returns-clause-rings : goal.returns-clause-rings
 returns-clause-rings g c =
@@ -27,7 +28,7 @@ returns-clause-offers g c =
     let feeders = c.args.feeders.now in
     let feeder = c.index-feeders-flow.result in
     let feeder' = c.offer_all.new.feeder in
-    let item = c.args.item in
+    let item = c.args.item.event in
     let more = c.take_item.new.frames.items in
     let is = c.flow-flow.ensures in
     let fits : IsItem (length core.flows.items) item = search rules in

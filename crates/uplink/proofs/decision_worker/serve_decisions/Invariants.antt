@@ -2,13 +2,14 @@
 use Rattle.std.proofs.Common.{◌≡◌, ◌++◌, length, map, filter}
 use Rattle.mailbox.specs.Ports.{address, posted}
 use Rattle.receiver.specs.Items.{names_a_flow, event_of_decision}
+use Rattle.uplink.specs.Inside.Carried.{carried}
 use Rattle.uplink.proofs.decision_worker.serve_decisions.Given as goal
 
 abbrev pub invariant-loop-decision : goal.invariant-loop-decision
 invariant-loop-decision g l =
     (address l.arrivals ≡ address l.fn.work.arrivals)
-    × (posted l.arrivals ++ map event_of_decision (filter (names_a_flow l.flow_count) (g.D.Decisions.decides l.decisions))
-    ≡ posted l.fn.work.arrivals ++ map event_of_decision (filter (names_a_flow l.flow_count) (g.D.Decisions.decides l.fn.work.decisions)))
+    × (carried (posted l.arrivals) ++ map event_of_decision (filter (names_a_flow l.flow_count) (g.D.Decisions.decides l.decisions))
+    ≡ carried (posted l.fn.work.arrivals) ++ map event_of_decision (filter (names_a_flow l.flow_count) (g.D.Decisions.decides l.fn.work.decisions)))
 
 abbrev pub decreases-loop-decision : goal.decreases-loop-decision
 decreases-loop-decision g l = length (g.D.Decisions.decides l.decisions)
