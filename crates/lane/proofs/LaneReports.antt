@@ -13,7 +13,7 @@ use Rattle.lane.specs.declared.refusal.Refusal.TheVariants.{GrantOutOfMemory, Bu
 use Rattle.lane.specs.Inputs.{Answer, AnsweredInput}
 use Rattle.lane.specs.Report.{refusal_number, admitted_by, refused_by, admitted_of, requests_of, refusal_numbers, admitted_count}
 use Rattle.lane.specs.Stands.{IsOutOfMemory}
-use Rattle.lane.specs.Report.{Reports}
+use Rattle.lane.specs.Report.{AddsAnswer, Reports}
 
 module _ (taken others : List AnsweredInput) where
   -- what lists of inputs give, one after the other
@@ -48,6 +48,21 @@ reports before after answer admitted refused answered input is =
     }
 
 module _ (before after : LaneReport) (answer : Answer) where
+  -- an answer that is no refusal is added
+  pub adds-ok : (admitted : Option Admitted) (one : Bool) → answer ≡ Ok admitted → one ≡ is_some admitted
+      → after.admitted ≡ (if one then counted (before.admitted + 1) else before.admitted) → after.refused.items ≡ before.refused.items
+      → AddsAnswer before answer after
+  adds-ok admitted one is one_is count refused =
+      subst (λ a. AddsAnswer before a after) (sym is) record {
+        admitted = subst (λ b. after.admitted ≡ (if b then counted (before.admitted + 1) else before.admitted)) one_is count;
+        refused = refused ∙ sym (append-nil before.refused.items);
+      }
+
+  -- so is a refusal
+  pub adds-refusal : (refusal : Refusal) → answer ≡ Err refusal → after.admitted ≡ before.admitted
+      → after.refused.items ≡ before.refused.items ++ refusal_number refusal ∷ [] → AddsAnswer before answer after
+  adds-refusal refusal is count refused = subst (λ a. AddsAnswer before a after) (sym is) record { admitted = count; refused = refused }
+
   -- a grant is accepted, or a segment is admitted
   pub reports-ok : (admitted : Option Admitted) (one : Bool) → answer ≡ Ok admitted → one ≡ is_some admitted
       → after.admitted ≡ (if one then counted (before.admitted + 1) else before.admitted) → after.refused.items ≡ before.refused.items

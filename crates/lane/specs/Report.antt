@@ -1,5 +1,5 @@
 -- What a lane admits, asks for and reports, of the whole list of its inputs with their answers.
-use Rattle.std.specs.Prelude.{◌≡◌, ℕ, ◌<◌, Option, Some, None, Ok, Err, List, [], ◌∷◌, ◌++◌, length, filter_map, slice_get}
+use Rattle.std.specs.Prelude.{◌≡◌, ℕ, ◌<◌, ◌+◌, Option, Some, None, Ok, Err, List, [], ◌∷◌, ◌++◌, length, is_some, filter_map, slice_get, if◌then◌else◌}
 use Rattle.docsis_wire.specs.Limits.{sequence_modulus}
 use Rattle.flow_core.specs.Counts.{counted}
 use Rattle.flow_core.specs.declared.record.FlowRecord.{FlowRecord}
@@ -69,6 +69,11 @@ refusal_numbers taken = filter_map (λ one. refused_by one.answer) taken
 pub record IsReportOf (answered : List AnsweredInput) (report : LaneReport) : Type 0 where
   pub admitted : report.admitted ≡ admitted_count answered
   pub refused : report.refused.items ≡ refusal_numbers answered
+
+-- one answer more is added: a segment that it admits is counted, and its refusal is appended
+pub record AddsAnswer (report : LaneReport) (answer : Answer) (after : LaneReport) : Type 0 where
+  pub admitted : after.admitted ≡ (if is_some (admitted_by answer) then counted (report.admitted + 1) else report.admitted)
+  pub refused : after.refused.items ≡ report.refused.items ++ filter_map refused_by (answer ∷ [])
 
 -- Whatever inputs a report was of, with one more at the end that has this answer they have the report after it.
 abbrev pub Reports : LaneReport → Answer → LaneReport → Type 0

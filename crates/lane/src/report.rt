@@ -1,6 +1,6 @@
 //! What a lane answers, and what became of all inputs of a channel.
 ghost use Rattle.std.specs.Prelude.{◌≡◌, [], IfOk, OnErr};
-ghost use Rattle.lane.specs.Report.{admitted_by, IsReportOf, Reports};
+ghost use Rattle.lane.specs.Report.{admitted_by, AddsAnswer, IsReportOf, Reports};
 
 use crate::admitted::Admitted;
 use crate::refusal::Refusal;
@@ -44,6 +44,7 @@ impl LaneReport {
     /// Notes what was answered to one input more. Where an allocation failed the report is as it
     /// was.
     pub fn note(&mut self, answer: &Answer) -> Result<(), AllocError>
+        ensures added { IfOk result (λ _. AddsAnswer self.old answer.now self.new) }
         ensures noted { IfOk result (λ _. Reports self.old answer.now self.new) }
         ensures unchanged { OnErr result ((self.new.admitted ≡ self.old.admitted)
             × (self.new.refused.items ≡ self.old.refused.items)) }

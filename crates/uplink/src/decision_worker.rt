@@ -30,14 +30,14 @@ impl<D: Decisions> Promise<Option<ClosedPort<Item>>> for DecidingPromise<D> {
         promise.0.value.arrivals (D.decides promise.0.value.decisions)) };
 }
 
-pub type Decider<D> = PromisedHandle<Option<ClosedPort<Item>>, DecidingPromise<D>>;
+pub type DecisionWorker<D> = PromisedHandle<Option<ClosedPort<Item>>, DecidingPromise<D>>;
 
 /// Starts the worker of the decisions.
 pub fn start<D, R>(
     rt: &R,
     start: &StartWord,
     work: DecidingWork<D>,
-) -> Result<Decider<D>, AllocError>
+) -> Result<DecisionWorker<D>, AllocError>
 where
     D: Decisions + Drop + Send + 'static,
     R: Threads + Wait + Copy + Send + 'static,

@@ -19,7 +19,7 @@ use crate::open::{Opened, open_all};
 use crate::retry::close_port;
 use crate::source::{Decisions, Source, Sources};
 use crate::tap::{Tap, Taps};
-use crate::threads::{Work, start_team};
+use crate::team::{Work, start_team};
 use docsis_wire::{Bytes, HeaderCheck};
 use flow_core::SetupFault;
 use lane::{LaneFault, Request};

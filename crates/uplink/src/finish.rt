@@ -9,7 +9,7 @@ ghost use Rattle.uplink.specs.Inside.Running.{CanSettle, HasConcluded, AreFlowsO
 use crate::assembler::Assembled;
 use crate::frame_worker::Consumed;
 use crate::item::Item;
-use crate::threads::Done;
+use crate::team::Done;
 use delivery::{ClosedFeeder, settle as settle_ring};
 use flow_core::{FlowCounts, FlowRecord};
 use lane::Request;

@@ -102,7 +102,7 @@ impl Promise<Option<Vec<Consumed>>> for ConsumersPromise {
         (λ done. DidConsumeAll promise.0.value.items done.items) };
 }
 
-pub type Consumers = PromisedHandle<Option<Vec<Consumed>>, ConsumersPromise>;
+pub type FrameWorker = PromisedHandle<Option<Vec<Consumed>>, ConsumersPromise>;
 
 /// Starts the consumers' worker.
 pub fn start<F, R>(
@@ -111,7 +111,7 @@ pub fn start<F, R>(
     start: &StartWord,
     takers: Vec<Taker>,
     tap: F,
-) -> Result<Consumers, AllocError>
+) -> Result<FrameWorker, AllocError>
 where
     F: Tap<Bytes> + Drop + Send + 'static,
     R: Threads + Wait + Copy + Send + 'static,

@@ -31,7 +31,7 @@ mod retry;
 mod source;
 mod start_word;
 mod tap;
-mod threads;
+mod team;
 
 pub use eight_threads::{RunFault, run};
 pub use lane::{

@@ -28,7 +28,7 @@ impl Promise<Option<Scheduled>> for SchedulingPromise {
     ghost kept_by = { λ promise result. IfSome result (DidSchedule promise.0.value) };
 }
 
-pub type Scheduler = PromisedHandle<Option<Scheduled>, SchedulingPromise>;
+pub type RequestWorker = PromisedHandle<Option<Scheduled>, SchedulingPromise>;
 
 /// Starts the scheduler's worker.
 pub fn start<Q, R>(
@@ -37,7 +37,7 @@ pub fn start<Q, R>(
     start: &StartWord,
     mouth: Mouth<Request>,
     tap: Q,
-) -> Result<Scheduler, AllocError>
+) -> Result<RequestWorker, AllocError>
 where
     Q: Tap<Request> + Drop + Send + 'static,
     R: Threads + Wait + Copy + Send + 'static,

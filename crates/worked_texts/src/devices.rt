@@ -212,8 +212,8 @@ fn does_not_write_an_empty_text(rt: HostRuntime) {
     assert!(rt; !ran.writer_failed);
 }
 
-/// Whether an engine wrote what may stand for a front of its input, or reported a fault of the lines
-/// or of the cut and wrote nothing.
+/// Whether an engine wrote what may stand for a front of its input, or reported a fault of the
+/// lines or of the cut and wrote nothing.
 fn is_answer_to_front(command: Command, done: Result<(), EngineFault>, written: &[u8]) -> bool {
     match done {
         Ok(()) => match command {

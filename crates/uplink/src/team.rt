@@ -2,11 +2,11 @@
 ghost use Rattle.std.specs.Prelude.{◌≡◌, IfOk, IfSome};
 ghost use Rattle.uplink.specs.Inside.Working.{DidLane, DidDecide, DidSchedule, DidConsumeAll};
 
-use crate::decision_worker::{self, Decider, DecidingWork};
-use crate::frame_worker::{self, Consumed, Consumers};
+use crate::decision_worker::{self, DecidingWork, DecisionWorker};
+use crate::frame_worker::{self, Consumed, FrameWorker};
 use crate::item::Item;
 use crate::lane_worker::{self, LaneDone, LaneWork, LaneWorker};
-use crate::request_worker::{self, Scheduled, Scheduler};
+use crate::request_worker::{self, RequestWorker, Scheduled};
 use crate::source::{Decisions, Source};
 use crate::start_word::StartWord;
 use crate::tap::{Tap, Taps};
@@ -38,9 +38,9 @@ pub struct Team<S0: Source, S1: Source, S2: Source, S3: Source, D: Decisions> {
     pub l1: LaneWorker<S1>,
     pub l2: LaneWorker<S2>,
     pub l3: LaneWorker<S3>,
-    pub decider: Decider<D>,
-    pub scheduler: Scheduler,
-    pub consumers: Consumers,
+    pub decider: DecisionWorker<D>,
+    pub scheduler: RequestWorker,
+    pub consumers: FrameWorker,
 }
 
 /// What the workers have done.
