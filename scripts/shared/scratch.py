@@ -23,15 +23,23 @@ def remove(room):
 
 
 @contextlib.contextmanager
+def room():
+    """An empty folder, for what is run by others."""
+    made = tempfile.mkdtemp(prefix="segrx-")
+    try:
+        yield made
+    finally:
+        remove(made)
+
+
+@contextlib.contextmanager
 def folder():
     """An empty folder. Before it is taken away all that was run is killed."""
-    with children.guarded():
-        room = tempfile.mkdtemp(prefix="segrx-")
+    with children.guarded(), room() as made:
         try:
-            yield room
+            yield made
         finally:
             children.end_all()
-            remove(room)
 
 
 def with_those_below(crates):
