@@ -6,7 +6,7 @@ import re
 from collections import namedtuple
 
 from shared.antt import Place
-from shared.tree import below, crate_lines, path, read, sources
+from shared.tree import below, crate_lines, path, read, shown, sources
 
 Clause = namedtuple("Clause", "kind name text first last")
 Contract = namedtuple("Contract", "name place head clauses is_public")
@@ -102,6 +102,20 @@ def rust_type(module):
         if place is not None:
             return own[at], place
     return own[at], None
+
+
+@functools.cache
+def type_named(file, name):
+    """Where the struct or enum of these crates stands that a file of code means by a name, or None."""
+    own = shown(file).split(os.sep)[1]
+    imported = re.findall(r"^(?:pub )?use (\w+)::([\w:{}, \n]+);", read(file), re.M)
+    crate = next((first for first, names in imported if re.search(rf"\b{name}\b", names)), own)
+    crate = own if crate in ("crate", "self", "super") else crate
+    for source in sorted(sources([crate])) if crate in crate_lines() else []:
+        place = rust_item(source, "struct|enum", name) if "tests" not in source else None
+        if place is not None:
+            return place
+    return None
 
 
 def traits_with(crate, bounds, name):
