@@ -6,4 +6,5 @@ pub mod LaidOut
 pub mod WindowFields
 pub mod OpenNumbers
 pub mod DeclaredCount
+pub mod SkippedCount
 pub mod Passing

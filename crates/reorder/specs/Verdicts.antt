@@ -62,3 +62,9 @@ module _ {T : Type 0} where
   -- behind, or nothing is held; else those that are open before it.
   abbrev pub declared_count : WindowView T → ℕ → ℕ
   declared_count w number = (if has_gap_to w number then open_before w number else 0)
+
+  -- How many numbers are skipped up to a number, whether or not something is held: none where it is
+  -- the expected one or lies behind; else those that are open before it.
+  abbrev pub skipped_count : WindowView T → ℕ → ℕ
+  skipped_count w number =
+      (if nat_lt (offset_in w number) numbers_ahead then open_before w number else 0)
