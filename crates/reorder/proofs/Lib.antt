@@ -4,5 +4,7 @@ pub mod LawfulWindow
 pub mod AgreeingWindows
 pub mod LaidOut
 pub mod WindowFields
+pub mod OpenNumbers
 pub mod DeclaredCount
+pub mod SkippedCount
 pub mod Passing

@@ -34,6 +34,10 @@ number_ahead-offset e n h k = omega arith
 pub number_ahead-zero : (e : ℕ) → e < 8192 → number_ahead e 0 ≡ e
 number_ahead-zero e h = omega arith
 
+-- the number after one that lies ahead lies one further ahead
+pub following-number_ahead : (e d : ℕ) → following (number_ahead e d) ≡ number_ahead e (d + 1)
+following-number_ahead e d = omega arith
+
 -- one number more, and from the next number one less
 pub number_ahead-following : (e d : ℕ) → number_ahead (following e) d ≡ number_ahead e (d + 1)
 number_ahead-following e d = omega arith

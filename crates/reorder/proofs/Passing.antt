@@ -4,7 +4,7 @@ use Rattle.std.proofs.lemmas.List.Sums.{sum_by-cons}
 use Rattle.reorder.specs.Number.{offset, number_ahead}
 use Rattle.reorder.specs.View.{WindowView, IsLawful}
 use Rattle.reorder.specs.Verdicts.{IsVerdict}
-use Rattle.reorder.specs.Calls.{Call, offer, take_next, declare, declare_to, after_call, after_calls, passed_by, numbers_passed}
+use Rattle.reorder.specs.Calls.{Call, offer, take_next, declare, declare_to, skip_to, after_call, after_calls, passed_by, numbers_passed}
 use Rattle.reorder.specs.declared.verdict.Verdict.{Verdict}
 use Rattle.reorder.specs.declared.verdict.Verdict.TheVariants.{Late, Beyond, Repeat, Kept}
 use Rattle.reorder.specs.declared.verdict.Declared.TheVariants.{NextIsHere, NothingHeld, Lost}
@@ -38,6 +38,7 @@ module _ {T : Type 0} where
   after_call-expected w (declare NextIsHere) h = stays_put w.expected h
   after_call-expected w (declare NothingHeld) h = stays_put w.expected h
   after_call-expected w (declare_to number count) h = refl
+  after_call-expected w (skip_to number count) h = refl
 
   -- a call leaves the width alone
   after_call-width : (w : WindowView T) (call : Call T) → (after_call w call).width ≡ w.width
@@ -51,6 +52,7 @@ module _ {T : Type 0} where
   after_call-width w (declare NextIsHere) = refl
   after_call-width w (declare NothingHeld) = refl
   after_call-width w (declare_to number count) = refl
+  after_call-width w (skip_to number count) = refl
 
   -- so do all calls together
   pub after_calls-expected : (w : WindowView T) (calls : List (Call T)) → w.expected < 8192 → (after_calls w calls).expected ≡ (w.expected + numbers_passed calls) % 8192

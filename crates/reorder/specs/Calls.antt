@@ -1,6 +1,6 @@
 -- Calls of a window one after another, and what two windows agree on.
 use Rattle.std.specs.Prelude.{◌≡◌, ℕ, zero, suc, List, [], ◌∷◌, sum_by, Option, None, Some}
-use Rattle.reorder.specs.View.{WindowView, held_at, moved_on_by}
+use Rattle.reorder.specs.View.{WindowView, held_at, IsHeld, moved_on, moved_on_by}
 use Rattle.reorder.specs.Verdicts.{after_offer, after_take_next, IsDeclared, after_declare}
 use Rattle.reorder.specs.declared.verdict.Verdict.{Verdict}
 use Rattle.reorder.specs.declared.verdict.Declared.{Declared}
@@ -12,6 +12,7 @@ pub data Call (T : Type 0) : Type 0 where
   take_next : Option T → Call T
   declare : Declared → Call T
   declare_to : ℕ → ℕ → Call T
+  skip_to : ℕ → ℕ → Call T
 
 module _ {T : Type 0} where
   -- the window after the call
@@ -20,13 +21,14 @@ module _ {T : Type 0} where
   after_call w (take_next taken) = after_take_next w taken
   after_call w (declare declared) = after_declare w declared
   after_call w (declare_to number count) = moved_on_by w count
+  after_call w (skip_to number count) = moved_on_by w count
 
   -- the window after the calls, made in turn
   abbrev pub after_calls : WindowView T → List (Call T) → WindowView T
   after_calls w [] = w
   after_calls w (call ∷ calls) = after_calls (after_call w call) calls
 
-  -- a number passes when its item is taken or it is declared lost
+  -- a number passes when its item is taken, or it is declared lost or skipped
   abbrev pub passed_by : Call T → ℕ
   passed_by (offer _ _ _) = 0
   passed_by (take_next (Some _)) = 1
@@ -35,6 +37,7 @@ module _ {T : Type 0} where
   passed_by (declare NextIsHere) = 0
   passed_by (declare NothingHeld) = 0
   passed_by (declare_to _ count) = count
+  passed_by (skip_to _ count) = count
 
   -- how many numbers passed in all
   abbrev pub numbers_passed : List (Call T) → ℕ
@@ -51,3 +54,8 @@ module _ {T : Type 0} where
   LosesInTurn w zero after = after ≡ w
   LosesInTurn w (suc count) after =
       IsDeclared w (Lost w.expected) × LosesInTurn (after_declare w (Lost w.expected)) count after
+
+  -- the window moved on so many times, its expected number not held each time, and became this window
+  abbrev pub PassesInTurn : WindowView T → ℕ → WindowView T → Type 0
+  PassesInTurn w zero after = after ≡ w
+  PassesInTurn w (suc count) after = ¬ (IsHeld w w.expected) × PassesInTurn (moved_on w) count after

@@ -48,15 +48,23 @@ module _ {T : Type 0} where
   after_declare w (Lost _) = moved_on w
   after_declare w _ = w
 
+  -- How many numbers from the expected one on are open before a number: as many as come before both
+  -- it and the nearest held one.
+  abbrev pub open_before : WindowView T → ℕ → ℕ
+  open_before w number = min (offset_in w number) (least_offset w.expected (map.keys w.held))
+
   -- the number lies ahead of the expected one, and something is held
   abbrev pub has_gap_to : WindowView T → ℕ → Bool
   has_gap_to w number =
       nat_lt 0 (offset_in w number) && nat_lt (offset_in w number) numbers_ahead && nat_lt 0 (map.len w.held)
 
   -- How many numbers are declared lost up to a number: none where it is the expected one or lies
-  -- behind, or nothing is held; else as many as come before both it and the nearest held number.
+  -- behind, or nothing is held; else those that are open before it.
   abbrev pub declared_count : WindowView T → ℕ → ℕ
-  declared_count w number =
-      (if has_gap_to w number
-      then min (offset_in w number) (least_offset w.expected (map.keys w.held))
-      else 0)
+  declared_count w number = (if has_gap_to w number then open_before w number else 0)
+
+  -- How many numbers are skipped up to a number, whether or not something is held: none where it is
+  -- the expected one or lies behind; else those that are open before it.
+  abbrev pub skipped_count : WindowView T → ℕ → ℕ
+  skipped_count w number =
+      (if nat_lt (offset_in w number) numbers_ahead then open_before w number else 0)

@@ -39,6 +39,8 @@ fn fill_and_empty(rt: &impl Abort, window: &mut Window<u16>) {
     assert_eq!(rt; window.declare(), Declared::Lost(4095));
     assert_eq!(rt; window.declare_to(4098), 1);
     assert_eq!(rt; window.take_next(), Some(7));
+    assert_eq!(rt; window.skip_to(1), 4095);
+    assert_eq!(rt; window.expected(), 1);
 }
 
 /// In the end it asks for memory itself, so that a run is known in which nothing else did.

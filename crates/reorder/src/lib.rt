@@ -12,7 +12,8 @@
 //! 3. [`Window::take_next`] gives the item whose turn it is and expects the next number;
 //!    [`Window::next`] only looks at it.
 //! 4. [`Window::declare`] gives the expected number up as lost, if a later one is held, and
-//!    [`Window::declare_to`] all before a number. When to do so is for the caller to decide.
+//!    [`Window::declare_to`] all before a number. [`Window::skip_to`] gives up all before a number
+//!    whether or not a later one is held. When to do so is for the caller to decide.
 //! 5. [`Window::expected`] and [`Window::held`] tell the state.
 //!
 //! Contracts see a window as its expected number, its width and a finite map from the held numbers

@@ -5,6 +5,8 @@ use std::fmt::Debug;
 use std::process::Abort;
 use std::test::Fail;
 
+mod giving_up;
+
 /// A call, with the expected answer. An item is a number that differs from offer to offer.
 #[derive(Clone, Copy)]
 enum Step {
@@ -13,6 +15,7 @@ enum Step {
     TakeNext(Option<u8>),
     Declare(Declared),
     DeclareTo(u16, u16),
+    SkipTo(u16, u16),
     Expected(u16),
     Held(usize),
 }
@@ -30,6 +33,10 @@ fn play(rt: &impl Abort, name: &str, window: &mut Window<u8>, steps: &[Step]) {
             Step::DeclareTo(number, count) => {
                 assert!(rt; number < MODULUS);
                 assert_eq!(rt; window.declare_to(number), count, "{name}: to {number}");
+            }
+            Step::SkipTo(number, count) => {
+                assert!(rt; number < MODULUS);
+                assert_eq!(rt; window.skip_to(number), count, "{name}: to {number}");
             }
             Step::Expected(number) => assert_eq!(rt; window.expected(), number, "{name}"),
             Step::Held(count) => assert_eq!(rt; window.held(), count, "{name}"),
@@ -182,111 +189,32 @@ fn declared_to_held_numbers_one_after_another(rt: HostRuntime) -> Result<(), Fai
     Ok(())
 }
 
-/// A window that waits for `first` and holds one item under each of `held`, a number that it is
-/// declared to, how many numbers that declares lost, and the expected number then.
-#[derive(Clone, Copy)]
-struct DeclaredTo {
-    name: &'static str,
-    first: u16,
-    width: u16,
-    held: &'static [u16],
-    number: u16,
-    count: u16,
-    expected: u16,
-}
-
-const fn declared_to(
-    name: &'static str,
-    (first, width): (u16, u16),
-    held: &'static [u16],
-    number: u16,
-    (count, expected): (u16, u16),
-) -> DeclaredTo {
-    DeclaredTo {
-        name,
-        first,
-        width,
-        held,
-        number,
-        count,
-        expected,
-    }
-}
-
-fn declares_to(rt: &impl Abort, alloc: Global, case: &DeclaredTo) -> Result<(), Fail> {
-    let name = case.name;
-    assert!(rt; case.first < MODULUS && case.number < MODULUS);
-    assert!(rt; 1 <= case.width && case.width <= NUMBERS_AHEAD);
-    let mut window = Window::new(alloc, case.first, case.width)?;
-    for number in case.held {
-        assert!(rt; *number < MODULUS);
-        assert_eq!(rt; window.offer(*number, *number), Verdict::Kept, "{name}");
-    }
-    assert_eq!(rt; window.declare_to(case.number), case.count, "{name}");
-    assert_eq!(rt; window.expected(), case.expected, "{name}");
-    assert_eq!(rt; window.held(), case.held.len(), "{name}");
-    let next = case
-        .held
-        .iter()
-        .copied()
-        .find(|number| *number == case.expected);
-    assert_eq!(rt; window.next().copied(), next, "{name}");
-    Ok(())
-}
-
+/// After an outage that is longer than the window all that comes lies beyond it.
 #[test]
-fn declares_to_a_number(rt: HostRuntime) -> Result<(), Fail> {
-    let cases = [
-        declared_to("behind", (10, 16), &[12], 9, (0, 10)),
-        declared_to("far behind", (10, 16), &[12], 4106, (0, 10)),
-        declared_to("at the expected number", (10, 16), &[12], 10, (0, 10)),
-        declared_to("nothing held", (10, 16), &[], 13, (0, 10)),
-        declared_to("one held below", (10, 16), &[12], 14, (2, 12)),
-        declared_to("one held just below", (10, 16), &[13], 14, (3, 13)),
-        declared_to("one held at the number", (10, 16), &[14], 14, (4, 14)),
-        declared_to("one held above", (10, 16), &[15], 14, (4, 14)),
-        declared_to("two held below", (10, 16), &[13, 12], 14, (2, 12)),
-        declared_to("held below and above", (10, 16), &[20, 12], 14, (2, 12)),
-        declared_to("the expected number held", (10, 16), &[10, 15], 14, (0, 10)),
-        declared_to("the next number", (10, 16), &[15], 11, (1, 11)),
-        declared_to("beyond the width", (10, 16), &[25], 40, (15, 25)),
-        declared_to("to 8191", (8190, 16), &[3], 8191, (1, 8191)),
-        declared_to("to 0", (8190, 16), &[3], 0, (2, 0)),
-        declared_to("across 8191", (8190, 16), &[3], 1, (3, 1)),
-        declared_to("held across 8191", (8190, 16), &[0], 2, (2, 0)),
-        declared_to(
-            "the greatest offset",
-            (0, 4096),
-            &[4095],
-            4095,
-            (4095, 4095),
-        ),
-        declared_to(
-            "the same across 8191",
-            (8190, 4096),
-            &[4093],
-            4093,
-            (4095, 4093),
-        ),
-        declared_to(
-            "the same past a held one",
-            (8190, 16),
-            &[13],
-            4093,
-            (15, 13),
-        ),
-        declared_to("4,096 ahead", (0, 4096), &[4095], 4096, (0, 0)),
-        declared_to(
-            "the same across 8191",
-            (8190, 4096),
-            &[4093],
-            4094,
-            (0, 8190),
-        ),
+fn skipped_over_an_outage(rt: HostRuntime) -> Result<(), Fail> {
+    let steps = [
+        Step::Offer(20, 1, Verdict::Beyond(1)),
+        Step::DeclareTo(20, 0),
+        Step::SkipTo(5, 7),
+        Step::Offer(20, 2, Verdict::Kept),
+        Step::Offer(4, 3, Verdict::Late(3)),
+        Step::SkipTo(21, 15),
+        Step::SkipTo(21, 0),
+        Step::Held(1),
+        Step::TakeNext(Some(2)),
+        Step::SkipTo(21, 0),
+        Step::SkipTo(22, 1),
+        Step::Expected(22),
+        Step::Offer(21, 4, Verdict::Late(4)),
+        Step::Offer(22, 5, Verdict::Kept),
+        Step::TakeNext(Some(5)),
     ];
-    for case in &cases {
-        declares_to(&rt, rt.alloc(), case)?;
-    }
+    play(
+        &rt,
+        "skipped over an outage",
+        &mut Window::new(rt.alloc(), 8190, 16)?,
+        &steps,
+    );
     Ok(())
 }
 

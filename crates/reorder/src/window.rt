@@ -6,7 +6,7 @@ ghost use Rattle.reorder.specs.Limits.{modulus, width_max};
 ghost use Rattle.reorder.specs.Number.{offset, following};
 ghost use Rattle.reorder.specs.View.{IsLawful, held_at, empty_window, next_taken, moved_on_by};
 ghost use Rattle.reorder.specs.Verdicts.{IsVerdict, after_offer, after_take_next};
-ghost use Rattle.reorder.specs.Verdicts.{IsDeclared, after_declare, declared_count};
+ghost use Rattle.reorder.specs.Verdicts.{IsDeclared, after_declare, declared_count, skipped_count};
 
 use crate::verdict::{Declared, Verdict};
 use crate::{MODULUS, NUMBERS_AHEAD};
@@ -159,6 +159,31 @@ impl<T> Window<T> {
             }
         }
         ahead
+    }
+
+    /// Gives up as lost, one after another, the expected number and those after it, whether or not
+    /// anything is held, until the next item is held or `number`, 0 to 8191, is expected. It
+    /// answers how many it gave up: 0 if `number` is the expected one or lies behind.
+    pub fn skip_to(&mut self, number: u16) -> u16
+        requires { number < modulus }
+        ensures count { result ≡ skipped_count self.old number }
+        ensures after { self.new ≡ moved_on_by self.old result }
+        ensures lawful { IsLawful self.new }
+    {
+        let distance = offset_of(self.expected, number);
+        if distance >= NUMBERS_AHEAD {
+            return 0;
+        }
+        for count in 0..distance {
+            if self.next().is_some() {
+                return count;
+            }
+            match self.advance() {
+                None => {}
+                Some(_taken) => unreachable!(),
+            }
+        }
+        distance
     }
 
     /// The number of the next item to be given out, 0 to 8191.

@@ -1,0 +1,26 @@
+use Rattle.std.proofs.Common.{◌≡◌, ap, sym, subst, ◌∙◌, arith, rules}
+use Rattle.reorder.specs.View.{WindowView, offset_in, IsHeld, IsLawful}
+use Rattle.reorder.proofs.OpenNumbers.{next_taken-moved_on_by, next_taken-AreOpen}
+use Rattle.reorder.proofs.SkippedCount.{skipped_count-reached, skipped_count-at_held}
+use Rattle.reorder.proofs.window.Window.skip_to.Goals as goal
+
+pub loop-count-preserved : goal.loop-count-preserved
+loop-count-preserved g c = record {
+  moved = c.advance.ensures.after ∙ next_taken-moved_on_by c.args.self.now _ c.loop-count.count c.loop-count.invariant.moved c.in-None.ensures.item;
+  lawful = c.advance.ensures.lawful;
+  free = next_taken-AreOpen c.args.self.now _ c.loop-count.count c.loop-count.invariant.moved c.in-None.ensures.item c.loop-count.invariant.free;
+}
+
+pub returns-then-is_some-clause-count : goal.returns-then-is_some-clause-count
+returns-then-is_some-clause-count g c =
+    let lawful : IsLawful c.args.self.now = subst (λ (w : WindowView _). IsLawful w) c.self.view_is c.self.invariant.lawful in
+    let is : c.offset_of-distance.result ≡ offset_in c.args.self.now c.args.number = c.offset_of-distance.ensures ∙ ap (λ (w : WindowView _). offset_in w c.args.number) c.self.view_is in
+    let held : IsHeld c.loop-count.self c.loop-count.self.expected = search rules in
+    skipped_count-at_held c.args.self.now c.args.number lawful c.loop-count.count c.loop-count.invariant.free (omega arith) (omega arith) (subst (λ (w : WindowView _). IsHeld w w.expected) c.loop-count.invariant.moved held)
+
+pub returns-clause-count : goal.returns-clause-count
+returns-clause-count g c =
+    let lawful : IsLawful c.args.self.now = subst (λ (w : WindowView _). IsLawful w) c.self.view_is c.self.invariant.lawful in
+    let is : c.offset_of-distance.result ≡ offset_in c.args.self.now c.args.number = c.offset_of-distance.ensures ∙ ap (λ (w : WindowView _). offset_in w c.args.number) c.self.view_is in
+    let all : c.loop-count.count ≡ c.offset_of-distance.result = omega arith in
+    sym all ∙ skipped_count-reached c.args.self.now c.args.number lawful c.loop-count.count c.loop-count.invariant.free (all ∙ is) (omega arith)
