@@ -7,6 +7,10 @@
 #[cfg(test)]
 mod orders;
 #[cfg(test)]
+mod outcomes;
+#[cfg(test)]
+mod refused;
+#[cfg(test)]
 mod replayed;
 #[cfg(test)]
 mod run;

@@ -1,245 +1,187 @@
 //! Traces whose one-thread answers were worked out by hand.
+mod cases;
 mod failed_allocations;
 
+use crate::outcomes::*;
 use crate::traces::*;
+use cases::{CASES, Case};
 use docsis_wire::NoCheck;
 use flow_core::{FlowCounts, FlowRecord, SetupFault};
+use std::alloc::{AllocError, Global};
+use std::process::Abort;
 use std::test::Fail;
 use uplink::{
-    Decision, LaneFault, Lists, ReplayFault, Request, Setup, SidRow, admitted_order, replay,
+    Decision, Input, LaneFault, Lists, ReplayFault, Setup, SidRow, admitted_order, replay,
 };
 
-/// A trace of the one flow, its admitted order and what comes of it in that order.
-#[derive(Drop)]
-struct Case {
-    name: &'static str,
-    lines: &'static [Line],
-    expected: Expected,
+/// Replays a case in the order that is admitted of its lines.
+fn expect_case(rt: &impl Abort, alloc: Global, case: &Case) -> Result<(), ReplayFault> {
+    let Trace { setup, lists } = trace_of(alloc, &[FLOW], &ROWS, case.lines)?;
+    let tags = tags_of(alloc, case.lines)?;
+    let order = admitted_order(alloc, &setup, &lists, &tags)?;
+    let is_admitted = order.as_slice() == case.expected.order;
+    expect_part(rt, case.name, "admitted order", is_admitted);
+    let outcome = replay(alloc, &setup, &lists, &order, NoCheck)?;
+    expect_outcome(rt, case.name, &outcome, &case.expected);
+    Ok(())
 }
-
-/// A request of the second SID cluster in the segment with number 1.
-const SEVEN_UNITS: Request = Request {
-    channel: 0,
-    flow: 0,
-    cluster: 1,
-    units: 7,
-    sequence: 1,
-};
-
-const FIVE_UNITS: Request = Request {
-    units: 5,
-    ..SEVEN_UNITS
-};
-
-const CASES: [Case; 6] = [
-    Case {
-        name: "nothing",
-        lines: &[],
-        expected: Expected {
-            frames: &[],
-            counts: NO_COUNTS,
-            requests: [&[]; 4],
-            lanes: [(0, &[]); 4],
-            order: &[],
-        },
-    },
-    Case {
-        name: "the second segment first",
-        lines: &SECOND_FIRST,
-        expected: BOTH_FRAMES,
-    },
-    Case {
-        name: "a close without the first segment",
-        lines: &FIRST_LOST,
-        expected: SECOND_FRAME,
-    },
-    Case {
-        name: "decisions that name no flow before one that does",
-        lines: &[
-            Line::Gap(1, None),
-            Line::Grant(1, 1, 2, 15),
-            Line::Burst(1, 1, SECOND),
-            Line::Gap(0, Some(8192)),
-            Line::Gap(0, None),
-            Line::Gap(1, Some(0)),
-            Line::Grant(0, 1, 1, 13),
-            Line::Burst(0, 1, FIRST),
-            Line::Grant(0, 2, 1, 13),
-            Line::Burst(0, 2, THIRD),
-        ],
-        expected: Expected {
-            frames: &[EXTENDED],
-            counts: FlowCounts {
-                late: 1,
-                ..ONLY_EXTENDED
-            },
-            requests: [&[]; 4],
-            lanes: [(2, &[]), (1, &[]), (0, &[]), (0, &[])],
-            order: &[1, 4, 0, 0],
-        },
-    },
-    Case {
-        name: "a decision up to a number",
-        lines: &[
-            Line::Grant(0, 1, 1, 13),
-            Line::Burst(0, 1, FIRST),
-            Line::Gap(0, Some(2)),
-            Line::Grant(0, 2, 1, 13),
-            Line::Burst(0, 2, THIRD),
-        ],
-        expected: Expected {
-            frames: &[],
-            counts: FlowCounts {
-                kept: 2,
-                lost: 1,
-                skipped: 10,
-                ..NO_COUNTS
-            },
-            requests: [&[]; 4],
-            lanes: [(2, &[]), (0, &[]), (0, &[]), (0, &[])],
-            order: &[0, 4, 0],
-        },
-    },
-    Case {
-        name: "requests and refusals",
-        lines: &[
-            Line::Burst(3, 9, &[]),
-            Line::Grant(0, 1, 1, 8),
-            Line::Grant(3, 1, 1, 7),
-            Line::Burst(0, 1, &[0; 8]),
-            Line::Grant(0, 2, 1, 8),
-            Line::Burst(0, 2, &[0, 0, 0, 9, 0, 7, 0, 0]),
-            Line::Grant(3, 1, 1, 8),
-            Line::Grant(0, 3, 1, 8),
-            Line::Burst(0, 3, &[0, 0, 0, 0x12, 0, 9, 0, 0]),
-            Line::Grant(0, 4, 1, 8),
-            Line::Burst(0, 4, &[0, 0, 0, 9, 0, 5, 0, 0]),
-        ],
-        expected: Expected {
-            frames: &[],
-            counts: FlowCounts {
-                kept: 3,
-                late: 1,
-                ..NO_COUNTS
-            },
-            requests: [&[SEVEN_UNITS, FIVE_UNITS], &[], &[], &[]],
-            lanes: [(4, &[]), (0, &[]), (0, &[]), (0, &[6, 1, 3])],
-            order: &[0, 0, 0, 0],
-        },
-    },
-];
 
 #[test]
 fn replays_in_the_admitted_order(rt: HostRuntime) -> Result<(), Fail> {
-    let setup = setup_of(rt.alloc(), &[FLOW], &ROWS)?;
-    for Case {
-        name,
-        lines,
-        expected,
-    } in &CASES {
-        let lists = lists_of(rt.alloc(), lines)?;
-        let tags = tags_of(rt.alloc(), lines)?;
-        let order = admitted_order(rt.alloc(), &setup, &lists, &tags)?;
-        assert_eq!(rt; order.as_slice(), expected.order, "{name}");
-        let outcome = replay(rt.alloc(), &setup, &lists, &order, NoCheck)?;
-        expect_outcome(&rt, name, &outcome, expected);
+    for case in &CASES {
+        expect_case(&rt, rt.alloc(), case)?;
     }
     Ok(())
+}
+
+/// Orders of the three segments, and the first place of each that is bad.
+const BAD_ORDERS: [(&[u8], usize); 6] = [
+    (&[0, 0], 2),
+    (&[0, 0, 0], 2),
+    (&[5], 0),
+    (&[], 0),
+    (&[1, 0, 0, 4], 3),
+    (&[1, 0, 0, 2, 5], 3),
+];
+
+/// Tags of their lines, and the first place.
+const BAD_TAGS: [(&[u8], usize); 5] = [
+    (&[1, 0, 0], 3),
+    (&[0, 1, 0, 1, 0, 0, 0], 6),
+    (&[0, 1, 0, 1, 0, 4], 5),
+    (&[0, 7], 1),
+    (&[2], 0),
+];
+
+/// Ends the test if an order or tags have another fault than this first bad place.
+fn expect_bad_place(rt: &impl Abort, senders: &[u8], fault: Option<ReplayFault>, place: usize) {
+    assert_eq!(rt; fault, Some(ReplayFault::BadOrder(place)), "{senders:?}");
+}
+
+fn expect_bad_orders(rt: &impl Abort, alloc: Global, trace: &Trace) {
+    for (order, place) in &BAD_ORDERS {
+        let replayed = replay(alloc, &trace.setup, &trace.lists, order, NoCheck);
+        expect_bad_place(rt, order, replayed.err(), *place);
+    }
+}
+
+fn expect_bad_tags(rt: &impl Abort, alloc: Global, trace: &Trace) {
+    for (tags, place) in &BAD_TAGS {
+        let admitted = admitted_order(alloc, &trace.setup, &trace.lists, tags);
+        expect_bad_place(rt, tags, admitted.err(), *place);
+    }
 }
 
 #[test]
 fn finds_the_first_bad_place(rt: HostRuntime) -> Result<(), Fail> {
-    let setup = setup_of(rt.alloc(), &[FLOW], &ROWS)?;
-    let lists = lists_of(rt.alloc(), &SECOND_FIRST)?;
-    let orders: [(&[u8], usize); 6] = [
-        (&[0, 0], 2),
-        (&[0, 0, 0], 2),
-        (&[5], 0),
-        (&[], 0),
-        (&[1, 0, 0, 4], 3),
-        (&[1, 0, 0, 2, 5], 3),
-    ];
-    for (order, place) in &orders {
-        let fault = replay(rt.alloc(), &setup, &lists, order, NoCheck).err();
-        assert_eq!(rt; fault, Some(ReplayFault::BadOrder(*place)), "{order:?}");
-    }
-    let tags: [(&[u8], usize); 5] = [
-        (&[1, 0, 0], 3),
-        (&[0, 1, 0, 1, 0, 0, 0], 6),
-        (&[0, 1, 0, 1, 0, 4], 5),
-        (&[0, 7], 1),
-        (&[2], 0),
-    ];
-    for (tags, place) in &tags {
-        let fault = admitted_order(rt.alloc(), &setup, &lists, tags).err();
-        assert_eq!(rt; fault, Some(ReplayFault::BadOrder(*place)), "{tags:?}");
-    }
+    let trace = trace_of(rt.alloc(), &[FLOW], &ROWS, &SECOND_FIRST)?;
+    expect_bad_orders(&rt, rt.alloc(), &trace);
+    expect_bad_tags(&rt, rt.alloc(), &trace);
     Ok(())
+}
+
+/// A flow without a window.
+const CLOSED: FlowRecord = FlowRecord { window: 0, ..FLOW };
+
+/// The same service identifier twice.
+const REPEATED: [SidRow; 2] = [ROW_0, ROW_0];
+
+const FAULTS: [(&[FlowRecord], &[SidRow], ReplayFault); 5] = [
+    (&[CLOSED], &ROWS, ReplayFault::Setup(SetupFault::BadFlow(0))),
+    (
+        &[CLOSED],
+        &REPEATED,
+        ReplayFault::Setup(SetupFault::BadFlow(0)),
+    ),
+    (
+        &[FLOW, FLOW],
+        &ROWS,
+        ReplayFault::Setup(SetupFault::SameSfid(1)),
+    ),
+    (&[FLOW], &REPEATED, ReplayFault::Lane(LaneFault::SameSid(1))),
+    (&[], &ROWS, ReplayFault::Lane(LaneFault::UnknownFlow(0))),
+];
+
+/// Ends the test if another fault of a setup is reported, by a replay or of tags.
+fn expect_fault(
+    rt: &impl Abort,
+    alloc: Global,
+    setup: &Setup,
+    lists: &Lists,
+    senders: &[u8],
+    fault: ReplayFault,
+) {
+    let replayed = replay(alloc, setup, lists, senders, NoCheck).err();
+    let admitted = admitted_order(alloc, setup, lists, senders).err();
+    assert_eq!(rt; [replayed, admitted], [Some(fault), Some(fault)]);
 }
 
 /// Faults of the flows come before those of the lanes, and these before those of an order.
 #[test]
 fn finds_the_first_fault(rt: HostRuntime) -> Result<(), Fail> {
-    let closed = FlowRecord { window: 0, ..FLOW };
-    let repeated = [ROWS[0], ROWS[0]];
-    let cases: [(&[FlowRecord], &[SidRow], ReplayFault); 5] = [
-        (&[closed], &ROWS, ReplayFault::Setup(SetupFault::BadFlow(0))),
-        (
-            &[closed],
-            &repeated,
-            ReplayFault::Setup(SetupFault::BadFlow(0)),
-        ),
-        (
-            &[FLOW, FLOW],
-            &ROWS,
-            ReplayFault::Setup(SetupFault::SameSfid(1)),
-        ),
-        (&[FLOW], &repeated, ReplayFault::Lane(LaneFault::SameSid(1))),
-        (&[], &ROWS, ReplayFault::Lane(LaneFault::UnknownFlow(0))),
-    ];
     let lists = lists_of(rt.alloc(), &SECOND_FIRST)?;
-    for (flows, sids, fault) in &cases {
+    for (flows, sids, fault) in &FAULTS {
         let setup = setup_of(rt.alloc(), flows, sids)?;
-        let replayed = replay(rt.alloc(), &setup, &lists, &[5], NoCheck);
-        assert_eq!(rt; replayed.err(), Some(*fault));
-        let admitted = admitted_order(rt.alloc(), &setup, &lists, &[5]);
-        assert_eq!(rt; admitted.err(), Some(*fault));
+        expect_fault(&rt, rt.alloc(), &setup, &lists, &[5], *fault);
     }
     Ok(())
 }
 
+/// How many segments make long lists.
+const MANY: u32 = 70_000;
+
+/// That many without a frame, one after another.
+fn many_segments(alloc: Global) -> Result<Vec<Input>, AllocError> {
+    let mut inputs = Vec::new(alloc);
+    for number in 0..MANY {
+        let [_, _, high, low] = (number % 8192 << 3).to_be_bytes();
+        let header = [0, 0, high, low, 0, 0, 0, 0];
+        push_segment(alloc, &mut inputs, number, 1, &header)?;
+    }
+    Ok(inputs)
+}
+
+/// Each of them has a decision behind it that changes nothing.
+fn long_lists(alloc: Global) -> Result<Lists, AllocError> {
+    let nothing = Decision {
+        flow: 0,
+        upto: None,
+    };
+    let decisions = vec![in alloc; nothing; MANY as usize]?;
+    let none = || Vec::new(alloc);
+    Ok(Lists {
+        inputs: [many_segments(alloc)?, none(), none(), none()],
+        decisions,
+    })
+}
+
+/// A grant, its burst and a decision, again and again.
+fn long_tags(alloc: Global) -> Result<Vec<u8>, AllocError> {
+    let mut tags = Vec::new(alloc);
+    for _ in 0..MANY {
+        tags.extend_from_slice(&[0, 0, 4])?;
+    }
+    Ok(tags)
+}
+
+/// What comes of long lists.
+const MANY_KEPT: Gives = Gives {
+    counts: FlowCounts {
+        kept: 70_000,
+        ..NO_COUNTS
+    },
+    ..NOTHING
+};
+
 /// Many segments, each with a decision behind it that changes nothing.
 #[test]
 fn replays_long_lists(rt: HostRuntime) -> Result<(), Fail> {
-    let mut inputs = Vec::new(rt.alloc());
-    let mut decisions = Vec::new(rt.alloc());
-    let mut tags = Vec::new(rt.alloc());
-    for number in 0_u32..70_000 {
-        let [_, _, high, low] = (number % 8192 << 3).to_be_bytes();
-        let header = [0, 0, high, low, 0, 0, 0, 0];
-        push_segment(rt.alloc(), &mut inputs, number, 1, &header)?;
-        decisions.push(Decision {
-            flow: 0,
-            upto: None,
-        })?;
-        tags.extend_from_slice(&[0, 0, 4])?;
-    }
-    let none = || Vec::new(rt.alloc());
-    let lists = Lists {
-        inputs: [inputs, none(), none(), none()],
-        decisions,
-    };
     let setup = setup_of(rt.alloc(), &[FLOW], &ROWS)?;
+    let lists = long_lists(rt.alloc())?;
+    let tags = long_tags(rt.alloc())?;
     let order = admitted_order(rt.alloc(), &setup, &lists, &tags)?;
     assert_eq!(rt; order.len(), 140_000);
     let outcome = replay(rt.alloc(), &setup, &lists, &order, NoCheck)?;
-    assert_eq!(rt; outcome.flows.len(), 1);
-    assert_eq!(rt;
-        outcome.flows[0].counts,
-        FlowCounts {
-            kept: 70_000,
-            ..NO_COUNTS
-        }
-    );
+    assert!(rt; all_gave(&outcome.flows, &[MANY_KEPT]));
     Ok(())
 }

@@ -7,54 +7,38 @@ mod held_up;
 mod living;
 mod meeting;
 mod numbered;
+mod receivers;
 mod repeated;
 mod request_first;
 mod told_flows;
 
+use crate::outcomes::*;
 use crate::traces::*;
 use docsis_wire::NoCheck;
 use flow_core::FlowCounts;
 use held_up::{Calls, Counting, HeldUp};
 use meeting::{Arriving, Attending, Meeting};
-use std::alloc::Global;
-use std::process::Abort;
+use receivers::{Four, no_taps, receive, receive_on_channel_0, sources_of};
+use std::alloc::{AllocError, Global};
 use std::sync::{Arc, Wait};
 use std::test::Fail;
 use std::thread::Threads;
 use uplink::{
-    Input, ListDecisions, ListSource, Lists, NoTap, Outcome, Request, RunFault, Setup, Sources,
-    Taps, run,
+    Input, ListDecisions, ListSource, Lists, NoTap, Outcome, Request, RunFault, Sources, Taps, run,
 };
 
-type ListSources = Sources<ListSource, ListSource, ListSource, ListSource>;
-
-/// The inputs of each channel as a source.
-fn sources_of(inputs: [Vec<Input>; 4]) -> ListSources {
-    let [i0, i1, i2, i3] = inputs;
-    Sources {
-        s0: ListSource::new(i0),
-        s1: ListSource::new(i1),
-        s2: ListSource::new(i2),
-        s3: ListSource::new(i3),
-    }
-}
-
-fn no_taps() -> Taps<NoTap, NoTap> {
-    Taps {
-        frames: NoTap,
-        requests: NoTap,
-    }
-}
-
-/// Receives lists, and looks at nothing meanwhile.
-fn receive<R>(alloc: Global, rt: R, setup: Setup, lists: Lists) -> Result<Outcome, RunFault>
-where
-    R: Threads + Wait + Copy + Send + 'static,
-{
-    let Lists { inputs, decisions } = lists;
-    let decisions = ListDecisions::new(decisions);
-    let sources = sources_of(inputs);
-    run(alloc, rt, setup, sources, decisions, no_taps(), NoCheck)
+/// Four segments on four channels, whose sources come to the meeting before they give anything.
+fn attending(
+    inputs: [Vec<Input>; 4],
+    meeting: &Arc<Meeting, Global>,
+) -> Result<Four<Attending<ListSource>>, AllocError> {
+    let Sources { s0, s1, s2, s3 } = sources_of(inputs);
+    Ok(Sources {
+        s0: Attending::new(s0, 0, meeting)?,
+        s1: Attending::new(s1, 0, meeting)?,
+        s2: Attending::new(s2, 0, meeting)?,
+        s3: Attending::new(s3, 0, meeting)?,
+    })
 }
 
 /// Receives four segments on four channels. Each source, and the decisions, comes to the meeting
@@ -68,13 +52,7 @@ where
     R: Threads + Wait + Copy + Send + 'static,
 {
     let Lists { inputs, decisions } = numbered::lists(alloc, 4)?;
-    let Sources { s0, s1, s2, s3 } = sources_of(inputs);
-    let sources = Sources {
-        s0: Attending::new(s0, 0, meeting)?,
-        s1: Attending::new(s1, 0, meeting)?,
-        s2: Attending::new(s2, 0, meeting)?,
-        s3: Attending::new(s3, 0, meeting)?,
-    };
+    let sources = attending(inputs, meeting)?;
     let decisions = Attending::new(ListDecisions::new(decisions), 0, meeting)?;
     let setup = numbered::narrow(alloc, 16)?;
     run(alloc, rt, setup, sources, decisions, no_taps(), NoCheck)
@@ -85,7 +63,7 @@ fn all_senders_run_at_once(rt: HostRuntime) -> Result<(), Fail> {
     let meeting = Meeting::of(rt.alloc(), 5)?;
     let outcome = receive_in_company(rt.alloc(), rt, &meeting)?;
     numbered::expect_all(&rt, &outcome, 4);
-    assert_eq!(rt; meeting.missed(), 0, "not met");
+    meeting.expect_met(&rt);
     Ok(())
 }
 
@@ -115,123 +93,146 @@ const SEVEN_UNITS: Request = Request {
 
 /// What comes of the two frames.
 const TOOK_BOTH: Expected = Expected {
-    frames: &[&[0, 0, 0, 1, 0x11, 0x11, 0], &[0, 0, 0, 1, 0x11, 0x11, 1]],
-    counts: FlowCounts {
-        kept: 2,
-        frames: 2,
-        ..NO_COUNTS
-    },
+    flows: &[Gives {
+        counts: FlowCounts {
+            kept: 2,
+            frames: 2,
+            ..NO_COUNTS
+        },
+        frames: &[&[0, 0, 0, 1, 0x11, 0x11, 0], &[0, 0, 0, 1, 0x11, 0x11, 1]],
+        ..NOTHING
+    }],
     requests: [&[SEVEN_UNITS], &[], &[], &[]],
     lanes: [(2, &[]), (0, &[]), (0, &[]), (0, &[])],
     order: &[0, 0],
 };
 
+/// Receives the two frames. The source comes to the meeting before it gives what follows the first
+/// two inputs, and each tap when it is first shown an item.
+fn receive_two_frames<R>(
+    alloc: Global,
+    rt: R,
+    meeting: &Arc<Meeting, Global>,
+) -> Result<Outcome, RunFault>
+where
+    R: Threads + Wait + Copy + Send + 'static,
+{
+    let inputs = inputs_of(alloc, &TWO_FRAMES, 0)?;
+    let source = Attending::new(ListSource::new(inputs), 2, meeting)?;
+    let taps = Taps {
+        frames: Arriving::new(meeting)?,
+        requests: Arriving::new(meeting)?,
+    };
+    receive_on_channel_0(alloc, rt, source, taps)
+}
+
 /// A source gives no more inputs until a frame and a request that it gave were taken.
 #[test]
 fn takes_while_a_source_still_gives(rt: HostRuntime) -> Result<(), Fail> {
     let meeting = Meeting::of(rt.alloc(), 3)?;
-    let Lists { inputs, decisions } = lists_of(rt.alloc(), &TWO_FRAMES)?;
-    let Sources { s0, s1, s2, s3 } = sources_of(inputs);
-    let s0 = Attending::new(s0, 2, &meeting)?;
-    let sources = Sources { s0, s1, s2, s3 };
-    let decisions = ListDecisions::new(decisions);
-    let taps = Taps {
-        frames: Arriving::new(&meeting)?,
-        requests: Arriving::new(&meeting)?,
-    };
-    let setup = numbered::narrow(rt.alloc(), 16)?;
-    let outcome = run(rt.alloc(), rt, setup, sources, decisions, taps, NoCheck)?;
+    let outcome = receive_two_frames(rt.alloc(), rt, &meeting)?;
     expect_outcome(&rt, "two frames", &outcome, &TOOK_BOTH);
-    assert_eq!(rt; meeting.missed(), 0, "not met");
+    meeting.expect_met(&rt);
     Ok(())
+}
+
+/// Eight segments without a frame, each with a request of one unit.
+fn eight_requests(alloc: Global) -> Result<Vec<Input>, AllocError> {
+    let mut inputs = Vec::new(alloc);
+    for number in 0_u8..8 {
+        let header = [0, 0, 0, number << 3, 0, 1, 0, 0];
+        push_segment(alloc, &mut inputs, u32::from(number), 1, &header)?;
+    }
+    Ok(inputs)
+}
+
+/// Receives them, and counts how often the source is asked, while the scheduler is held up.
+fn receive_held_up<R>(alloc: Global, rt: R, calls: &Arc<Calls, Global>) -> Result<Outcome, RunFault>
+where
+    R: Threads + Wait + Copy + Send + 'static,
+{
+    let inputs = eight_requests(alloc)?;
+    let source = Counting::new(ListSource::new(inputs), calls)?;
+    let taps = Taps {
+        frames: NoTap,
+        requests: HeldUp::new(calls)?,
+    };
+    receive_on_channel_0(alloc, rt, source, taps)
 }
 
 /// A source is asked for no more than there is room for: two inputs for each request that was
 /// taken, lies in the mailbox, or waits for room.
 #[test]
 fn asks_for_no_more_than_there_is_room_for(rt: HostRuntime) -> Result<(), Fail> {
-    let mut inputs = Vec::new(rt.alloc());
-    for number in 0_u8..8 {
-        let header = [0, 0, 0, number << 3, 0, 1, 0, 0];
-        push_segment(rt.alloc(), &mut inputs, u32::from(number), 1, &header)?;
-    }
-    let none = || Vec::new(rt.alloc());
-    let Sources { s0, s1, s2, s3 } = sources_of([inputs, none(), none(), none()]);
     let calls = Calls::none(rt.alloc())?;
-    let s0 = Counting::new(s0, &calls)?;
-    let sources = Sources { s0, s1, s2, s3 };
-    let taps = Taps {
-        frames: NoTap,
-        requests: HeldUp::new(&calls)?,
-    };
-    let setup = numbered::narrow(rt.alloc(), 16)?;
-    let decisions = ListDecisions::new(Vec::new(rt.alloc()));
-    let outcome = run(rt.alloc(), rt, setup, sources, decisions, taps, NoCheck)?;
+    let outcome = receive_held_up(rt.alloc(), rt, &calls)?;
     let seen = calls.seen();
     assert!(rt; 2 <= seen && seen <= 6, "{seen}");
-    expect_eight_requests(&rt, &outcome);
+    assert!(rt; all_gave(&outcome.flows, &[EIGHT_KEPT]));
+    let [requests, ..] = &outcome.requests;
+    assert!(rt; are_eight(requests));
     Ok(())
 }
 
-/// Eight segments without a frame, each with a request of one unit.
-fn expect_eight_requests(rt: &impl Abort, outcome: &Outcome) {
-    assert_eq!(rt; outcome.flows.len(), 1);
-    assert_eq!(rt; outcome.flows[0].frames.len(), 0);
-    assert_eq!(rt;
-        outcome.flows[0].counts,
-        FlowCounts {
-            kept: 8,
-            ..NO_COUNTS
-        }
-    );
-    let [requests, ..] = &outcome.requests;
-    assert_eq!(rt; requests.len(), 8);
-    for (sequence, request) in (0_u16..8).zip(requests) {
-        let units = 1;
-        assert_eq!(rt;
-            *request,
-            Request {
-                units,
-                sequence,
-                ..SEVEN_UNITS
-            }
-        );
-    }
+/// What comes of the eight segments.
+const EIGHT_KEPT: Gives = Gives {
+    counts: FlowCounts {
+        kept: 8,
+        ..NO_COUNTS
+    },
+    ..NOTHING
+};
+
+/// Whether these are the requests of the eight segments, in order.
+fn are_eight(requests: &[Request]) -> bool {
+    requests.len() == 8
+        && (0_u16..8).zip(requests).all(|(sequence, request)| {
+            let units = 1;
+            *request
+                == Request {
+                    units,
+                    sequence,
+                    ..SEVEN_UNITS
+                }
+        })
 }
 
 #[test]
 fn ends_with_little_room(rt: HostRuntime) -> Result<(), Fail> {
     let setup = numbered::narrow(rt.alloc(), 4096)?;
     let lists = numbered::lists(rt.alloc(), 1024)?;
-    let outcome = receive(rt.alloc(), rt, setup, lists)?;
+    let outcome = receive(rt.alloc(), rt, Trace { setup, lists })?;
     numbered::expect_all(&rt, &outcome, 1024);
     Ok(())
 }
 
 #[test]
 fn runs_without_a_flow(rt: HostRuntime) -> Result<(), Fail> {
-    let mut setup = setup_of(rt.alloc(), &[], &[])?;
-    setup.mailbox = 1;
-    let lists = lists_of(rt.alloc(), &[Line::Gap(0, None), Line::Gap(5, None)])?;
-    let outcome = receive(rt.alloc(), rt, setup, lists)?;
-    assert_eq!(rt; outcome.flows.len(), 0);
-    assert_eq!(rt; outcome.order.len(), 0);
-    for lane in &outcome.lanes {
-        assert_eq!(rt; lane.admitted, 0);
-        assert_eq!(rt; lane.refused.len(), 0);
-    }
+    let lines = [Line::Gap(0, None), Line::Gap(5, None)];
+    let mut trace = trace_of(rt.alloc(), &[], &[], &lines)?;
+    trace.setup.mailbox = 1;
+    let outcome = receive(rt.alloc(), rt, trace)?;
+    expect_outcome(&rt, "no flow", &outcome, &NO_FLOW);
     Ok(())
 }
+
+/// The second of three segments first, and decisions that name no flow, or no number.
+const NAMING_NOTHING: [Line; 8] = [
+    Line::Grant(0, 1, 1, 13),
+    Line::Grant(1, 1, 2, 15),
+    Line::Grant(0, 2, 1, 13),
+    Line::Gap(1, Some(2)),
+    Line::Burst(1, 1, SECOND),
+    Line::Burst(0, 1, FIRST),
+    Line::Gap(0, Some(8192)),
+    Line::Burst(0, 2, THIRD),
+];
 
 /// Decisions that name no flow, or no number, are passed over.
 #[test]
 fn passes_over_decisions_that_name_nothing(rt: HostRuntime) -> Result<(), Fail> {
-    let [l0, l1, l2, l3, l4, l5] = SECOND_FIRST;
-    let unflow = Line::Gap(1, Some(2));
-    let unnumber = Line::Gap(0, Some(8192));
-    let lines = [l0, l1, l2, unflow, l3, l4, unnumber, l5];
-    let setup = setup_of(rt.alloc(), &[FLOW], &ROWS)?;
-    let outcome = receive(rt.alloc(), rt, setup, lists_of(rt.alloc(), &lines)?)?;
+    let trace = trace_of(rt.alloc(), &[FLOW], &ROWS, &NAMING_NOTHING)?;
+    let outcome = receive(rt.alloc(), rt, trace)?;
     expect_in_any_order(&rt, "decisions that name nothing", &outcome, &BOTH_FRAMES);
     Ok(())
 }

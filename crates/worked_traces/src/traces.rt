@@ -1,12 +1,10 @@
-//! Traces that tests replay, and what comes of one of them.
+//! Traces that tests replay and run.
 ghost use Rattle.std.specs.Prelude.{◌<◌, length};
 
 use docsis_wire::Bytes;
-use flow_core::{FlowCounts, FlowRecord};
+use flow_core::FlowRecord;
 use std::alloc::{AllocError, Global};
-use std::process::Abort;
-use std::test::Fail;
-use uplink::{Decision, Input, Lists, Outcome, Request, Setup, SidRow};
+use uplink::{Decision, Input, Lists, Setup, SidRow};
 
 /// A line of a trace.
 #[derive(Clone, Copy)]
@@ -40,16 +38,34 @@ pub const FLOW: FlowRecord = FlowRecord {
     ring: 1,
 };
 
-/// Its service identifiers.
-pub const ROWS: [SidRow; 2] = [
+/// Its service identifier on channel 0.
+pub const ROW_0: SidRow = SidRow {
+    channel: 0,
+    sid: 1,
+    flow: 0,
+};
+
+/// That on channel 1.
+pub const ROW_1: SidRow = SidRow {
+    channel: 1,
+    sid: 2,
+    flow: 0,
+};
+
+pub const ROWS: [SidRow; 2] = [ROW_0, ROW_1];
+
+/// Those of all channels: each is one more than the channel's index.
+pub const FOUR_ROWS: [SidRow; 4] = [
+    ROW_0,
+    ROW_1,
     SidRow {
-        channel: 0,
-        sid: 1,
+        channel: 2,
+        sid: 3,
         flow: 0,
     },
     SidRow {
-        channel: 1,
-        sid: 2,
+        channel: 3,
+        sid: 4,
         flow: 0,
     },
 ];
@@ -64,27 +80,6 @@ pub const SECOND_FIRST: [Line; 6] = [
     Line::Burst(0, 2, THIRD),
 ];
 
-pub const NO_COUNTS: FlowCounts = FlowCounts {
-    kept: 0,
-    late: 0,
-    repeat: 0,
-    beyond: 0,
-    lost: 0,
-    frames: 0,
-    skipped: 0,
-};
-
-/// What comes of a trace of the one flow.
-#[derive(Drop)]
-pub struct Expected {
-    pub frames: &'static [&'static [u8]],
-    pub counts: FlowCounts,
-    pub requests: [&'static [Request]; 4],
-    /// How many bursts each channel admitted, and the numbers of its refusals.
-    pub lanes: [(u64, &'static [u8]); 4],
-    pub order: &'static [u8],
-}
-
 /// The first of the three segments doesn't come.
 pub const FIRST_LOST: [Line; 4] = [
     Line::Grant(0, 2, 1, 13),
@@ -93,35 +88,25 @@ pub const FIRST_LOST: [Line; 4] = [
     Line::Burst(0, 2, THIRD),
 ];
 
-pub const ONLY_EXTENDED: FlowCounts = FlowCounts {
-    kept: 2,
-    lost: 1,
-    frames: 1,
-    skipped: 3,
-    ..NO_COUNTS
-};
+/// A setup, and what comes in.
+#[derive(Drop)]
+pub struct Trace {
+    pub setup: Setup,
+    pub lists: Lists,
+}
 
-/// What comes of a flow without its first segment.
-pub const SECOND_FRAME: Expected = Expected {
-    frames: &[EXTENDED],
-    counts: ONLY_EXTENDED,
-    requests: [&[]; 4],
-    lanes: [(1, &[]), (1, &[]), (0, &[]), (0, &[])],
-    order: &[1, 0],
-};
-
-/// What comes of the second segment first.
-pub const BOTH_FRAMES: Expected = Expected {
-    frames: &[PLAIN, EXTENDED],
-    counts: FlowCounts {
-        kept: 3,
-        frames: 2,
-        ..NO_COUNTS
-    },
-    requests: [&[]; 4],
-    lanes: [(2, &[]), (1, &[]), (0, &[]), (0, &[])],
-    order: &[1, 0, 0],
-};
+/// The setup of these flows, and the inputs and decisions of these lines.
+pub fn trace_of(
+    alloc: Global,
+    flows: &[FlowRecord],
+    sids: &[SidRow],
+    lines: &[Line],
+) -> Result<Trace, AllocError> {
+    Ok(Trace {
+        setup: setup_of(alloc, flows, sids)?,
+        lists: lists_of(alloc, lines)?,
+    })
+}
 
 pub fn setup_of(alloc: Global, flows: &[FlowRecord], sids: &[SidRow]) -> Result<Setup, AllocError> {
     Ok(Setup {
@@ -132,7 +117,7 @@ pub fn setup_of(alloc: Global, flows: &[FlowRecord], sids: &[SidRow]) -> Result<
 }
 
 /// The grants and bursts of a channel.
-fn inputs_of(alloc: Global, lines: &[Line], channel: u8) -> Result<Vec<Input>, AllocError> {
+pub fn inputs_of(alloc: Global, lines: &[Line], channel: u8) -> Result<Vec<Input>, AllocError> {
     let mut inputs = Vec::new(alloc);
     for line in lines {
         match *line {
@@ -206,60 +191,4 @@ pub fn tags_of(alloc: Global, lines: &[Line]) -> Result<Vec<u8>, AllocError> {
         })?;
     }
     Ok(tags)
-}
-
-/// Asks for memory, so that a run is known in which nothing else did.
-pub fn say_whether_refused(rt: &impl Print, alloc: Global) -> Result<(), Fail> {
-    match Vec::<u8>::with_capacity(alloc, 1) {
-        Ok(_) => println!(rt; "memory after all calls")?,
-        Err(_) => println!(rt; "refused")?,
-    }
-    Ok(())
-}
-
-/// Compares what came of a trace of the one flow.
-pub fn expect_outcome(rt: &impl Abort, name: &str, outcome: &Outcome, expected: &Expected) {
-    expect_all_but_order(rt, name, outcome, expected);
-    assert_eq!(rt; outcome.order.as_slice(), expected.order, "{name}");
-}
-
-/// How many items of an order came from each sender, 4 the decisions.
-pub fn senders_of(order: &[u8]) -> [usize; 5] {
-    let mut counts = [0; 5];
-    for (sender, count) in counts.iter_mut().enumerate() {
-        *count = order
-            .iter()
-            .filter(|from| usize::from(**from) == sender)
-            .count();
-    }
-    counts
-}
-
-/// Compares what came of a trace of the one flow whose items may come in any order.
-pub fn expect_in_any_order(rt: &impl Abort, name: &str, outcome: &Outcome, expected: &Expected) {
-    expect_all_but_order(rt, name, outcome, expected);
-    assert_eq!(rt; outcome.order.len(), expected.order.len(), "{name}");
-    assert_eq!(rt;
-        senders_of(&outcome.order),
-        senders_of(expected.order),
-        "{name}"
-    );
-}
-
-fn expect_all_but_order(rt: &impl Abort, name: &str, outcome: &Outcome, expected: &Expected) {
-    assert_eq!(rt; outcome.flows.len(), 1, "{name}");
-    let flow = &outcome.flows[0];
-    assert_eq!(rt; flow.sfid, FLOW.sfid, "{name}");
-    assert_eq!(rt; flow.counts, expected.counts, "{name}");
-    assert_eq!(rt; flow.frames.len(), expected.frames.len(), "{name}");
-    for (frame, want) in flow.frames.iter().zip(expected.frames) {
-        assert_eq!(rt; frame.as_slice(), *want, "{name}");
-    }
-    for (requests, want) in outcome.requests.iter().zip(&expected.requests) {
-        assert_eq!(rt; requests.as_slice(), *want, "{name}");
-    }
-    for (lane, (admitted, refused)) in outcome.lanes.iter().zip(&expected.lanes) {
-        assert_eq!(rt; lane.admitted, *admitted, "{name}");
-        assert_eq!(rt; lane.refused.as_slice(), *refused, "{name}");
-    }
 }

@@ -1,64 +1,67 @@
 //! Tests to be run with the Nth request for memory refused, and those whose names end in
 //! `without_memory` with all later ones refused too. Each says `refused` when a call was.
+use super::{CLOSED, REPEATED, expect_fault};
+use crate::outcomes::{BOTH_FRAMES, expect_outcome};
+use crate::refused::{expect_refused, say_refused, say_whether_refused};
 use crate::traces::*;
 use docsis_wire::NoCheck;
-use flow_core::{FlowRecord, SetupFault};
+use flow_core::SetupFault;
 use std::alloc::{AllocError, Global};
 use std::test::Fail;
-use uplink::{LaneFault, Lists, ReplayFault, Setup, admitted_order, replay};
-
-/// A setup, and what comes in.
-#[derive(Drop)]
-struct Trace {
-    setup: Setup,
-    lists: Lists,
-}
+use uplink::{LaneFault, Lists, Outcome, ReplayFault, Setup, admitted_order, replay};
 
 /// The second of three segments comes first, and a decision names no flow.
-fn second_first(alloc: Global) -> Result<Trace, AllocError> {
-    let [l0, l1, l2, l3, l4, l5] = SECOND_FIRST;
-    let lines = [l0, l1, l2, Line::Gap(1, None), l3, l4, l5];
-    Ok(Trace {
-        setup: setup_of(alloc, &[FLOW], &ROWS)?,
-        lists: lists_of(alloc, &lines)?,
-    })
-}
+const LINES: [Line; 7] = [
+    Line::Grant(0, 1, 1, 13),
+    Line::Grant(1, 1, 2, 15),
+    Line::Grant(0, 2, 1, 13),
+    Line::Gap(1, None),
+    Line::Burst(1, 1, SECOND),
+    Line::Burst(0, 1, FIRST),
+    Line::Burst(0, 2, THIRD),
+];
 
 /// Makes the trace, and once more where memory was refused.
-fn second_first_again(rt: &impl Print, alloc: Global) -> Result<Trace, Fail> {
-    if let Ok(first) = second_first(alloc) {
+fn made_again(rt: &impl Print, alloc: Global) -> Result<Trace, Fail> {
+    if let Ok(first) = trace_of(alloc, &[FLOW], &ROWS, &LINES) {
         return Ok(first);
     }
-    println!(rt; "refused")?;
-    Ok(second_first(alloc)?)
+    say_refused(rt)?;
+    Ok(trace_of(alloc, &[FLOW], &ROWS, &LINES)?)
+}
+
+fn try_replay(alloc: Global, trace: &Trace) -> Result<Outcome, ReplayFault> {
+    let order = BOTH_FRAMES.order;
+    replay(alloc, &trace.setup, &trace.lists, order, NoCheck)
 }
 
 #[test]
 fn replay_refused(rt: HostRuntime) -> Result<(), Fail> {
-    let Trace { setup, lists } = second_first_again(&rt, rt.alloc())?;
-    let order = BOTH_FRAMES.order;
-    let outcome = match replay(rt.alloc(), &setup, &lists, order, NoCheck) {
+    let trace = made_again(&rt, rt.alloc())?;
+    let outcome = match try_replay(rt.alloc(), &trace) {
         Ok(outcome) => outcome,
         Err(fault) => {
-            assert_eq!(rt; fault, ReplayFault::OutOfMemory);
-            println!(rt; "refused")?;
-            replay(rt.alloc(), &setup, &lists, order, NoCheck)?
+            expect_refused(&rt, fault, ReplayFault::OutOfMemory)?;
+            try_replay(rt.alloc(), &trace)?
         }
     };
     expect_outcome(&rt, "a replay", &outcome, &BOTH_FRAMES);
     Ok(())
 }
 
+fn try_order(alloc: Global, trace: &Trace) -> Result<Vec<u8>, ReplayFault> {
+    let tags = [0, 1, 0, 4, 1, 0, 0];
+    admitted_order(alloc, &trace.setup, &trace.lists, &tags)
+}
+
 #[test]
 fn admitted_order_refused(rt: HostRuntime) -> Result<(), Fail> {
-    let Trace { setup, lists } = second_first_again(&rt, rt.alloc())?;
-    let tags = [0, 1, 0, 4, 1, 0, 0];
-    let order = match admitted_order(rt.alloc(), &setup, &lists, &tags) {
+    let trace = made_again(&rt, rt.alloc())?;
+    let order = match try_order(rt.alloc(), &trace) {
         Ok(order) => order,
         Err(fault) => {
-            assert_eq!(rt; fault, ReplayFault::OutOfMemory);
-            println!(rt; "refused")?;
-            admitted_order(rt.alloc(), &setup, &lists, &tags)?
+            expect_refused(&rt, fault, ReplayFault::OutOfMemory)?;
+            try_order(rt.alloc(), &trace)?
         }
     };
     assert_eq!(rt; order.as_slice(), BOTH_FRAMES.order);
@@ -74,10 +77,9 @@ struct Faulty {
 }
 
 fn make_faulty(alloc: Global) -> Result<Faulty, AllocError> {
-    let closed = FlowRecord { window: 0, ..FLOW };
     Ok(Faulty {
-        flows: setup_of(alloc, &[closed], &ROWS)?,
-        lanes: setup_of(alloc, &[FLOW], &[ROWS[0], ROWS[0]])?,
+        flows: setup_of(alloc, &[CLOSED], &ROWS)?,
+        lanes: setup_of(alloc, &[FLOW], &REPEATED)?,
         lists: lists_of(alloc, &SECOND_FIRST)?,
     })
 }
@@ -85,19 +87,19 @@ fn make_faulty(alloc: Global) -> Result<Faulty, AllocError> {
 /// Faults of a setup are reported before any memory is taken.
 #[test]
 fn faults_without_memory(rt: HostRuntime) -> Result<(), Fail> {
-    let Ok(faulty) = make_faulty(rt.alloc()) else {
-        println!(rt; "refused")?;
-        return Ok(());
+    let Ok(
+        Faulty {
+            flows,
+            lanes,
+            lists,
+        },
+    ) = make_faulty(rt.alloc())
+    else {
+        return say_refused(&rt);
     };
-    let cases = [
-        (&faulty.flows, ReplayFault::Setup(SetupFault::BadFlow(0))),
-        (&faulty.lanes, ReplayFault::Lane(LaneFault::SameSid(1))),
-    ];
-    for (setup, wanted) in cases {
-        let replayed = replay(rt.alloc(), setup, &faulty.lists, &[], NoCheck);
-        assert_eq!(rt; replayed.err(), Some(wanted));
-        let admitted = admitted_order(rt.alloc(), setup, &faulty.lists, &[]);
-        assert_eq!(rt; admitted.err(), Some(wanted));
-    }
+    let fault = ReplayFault::Setup(SetupFault::BadFlow(0));
+    expect_fault(&rt, rt.alloc(), &flows, &lists, &[], fault);
+    let fault = ReplayFault::Lane(LaneFault::SameSid(1));
+    expect_fault(&rt, rt.alloc(), &lanes, &lists, &[], fault);
     say_whether_refused(&rt, rt.alloc())
 }

@@ -1,11 +1,13 @@
 //! Frames that lie in a backlog while nothing comes.
 use super::count::Count;
-use super::{numbered, sources_of};
-use docsis_wire::{Bytes, NoCheck};
+use super::numbered;
+use super::receivers::receive_on_channel_0;
+use docsis_wire::Bytes;
 use std::alloc::{AllocError, Global};
-use std::sync::Arc;
+use std::sync::{Arc, Wait};
 use std::test::Fail;
-use uplink::{Input, ListDecisions, ListSource, NoTap, Source, Sources, Tap, Taps, run};
+use std::thread::Threads;
+use uplink::{Input, ListSource, NoTap, Outcome, RunFault, Source, Tap, Taps};
 
 /// How many segments come, each with a frame: more than the ring and the mailbox hold.
 const SEGMENTS: u16 = 8;
@@ -71,6 +73,25 @@ impl Tap<Bytes> for BeginningLate {
     }
 }
 
+/// Receives the segments while their source and the tap of their frames wait for each other.
+fn receive_late<R>(
+    alloc: Global,
+    rt: R,
+    used_up: &Arc<Count, Global>,
+    shown: &Arc<Count, Global>,
+) -> Result<Outcome, RunFault>
+where
+    R: Threads + Wait + Copy + Send + 'static,
+{
+    let inputs = numbered::inputs_on_channel_0(alloc, SEGMENTS, 0)?;
+    let source = EndingLate::new(ListSource::new(inputs), used_up, shown)?;
+    let taps = Taps {
+        frames: BeginningLate::new(used_up, shown)?,
+        requests: NoTap,
+    };
+    receive_on_channel_0(alloc, rt, source, taps)
+}
+
 /// When the list is used up, all segments but one at least were assembled, and of their frames one
 /// is held up and one is in the ring. The others come only if the backlog is moved on while the
 /// source still waits.
@@ -78,20 +99,9 @@ impl Tap<Bytes> for BeginningLate {
 fn backlog_is_moved_on_while_nothing_comes(rt: HostRuntime) -> Result<(), Fail> {
     let used_up = Count::shared(rt.alloc())?;
     let shown = Count::shared(rt.alloc())?;
-    let inputs = numbered::inputs_on_channel_0(rt.alloc(), SEGMENTS, 0)?;
-    let none = || Vec::new(rt.alloc());
-    let Sources { s0, s1, s2, s3 } = sources_of([inputs, none(), none(), none()]);
-    let s0 = EndingLate::new(s0, &used_up, &shown)?;
-    let sources = Sources { s0, s1, s2, s3 };
-    let taps = Taps {
-        frames: BeginningLate::new(&used_up, &shown)?,
-        requests: NoTap,
-    };
-    let setup = numbered::narrow(rt.alloc(), 16)?;
-    let decisions = ListDecisions::new(Vec::new(rt.alloc()));
-    let outcome = run(rt.alloc(), rt, setup, sources, decisions, taps, NoCheck)?;
+    let outcome = receive_late(rt.alloc(), rt, &used_up, &shown)?;
     numbered::expect_frames(&rt, &outcome, SEGMENTS);
-    assert_eq!(rt; used_up.missed(), 0, "the source's end was not met");
-    assert_eq!(rt; shown.missed(), 0, "the frames were not met");
+    used_up.expect_met(&rt, "the source's end");
+    shown.expect_met(&rt, "the frames");
     Ok(())
 }

@@ -1,5 +1,6 @@
 //! Counts that the threads of a run share with the test that runs them.
 use std::alloc::{AllocError, Global};
+use std::process::Abort;
 use std::sync::Arc;
 use std::sync::atomic::{AtomicU64, Ordering};
 use std::thread;
@@ -61,8 +62,9 @@ impl Count {
         }
     }
 
-    /// How many threads never saw what they looked for.
-    pub fn missed(&self) -> u64 {
-        self.missed.load(Ordering::SeqCst)
+    /// Ends the test if a thread never saw what it looked for.
+    pub fn expect_met(&self, rt: &impl Abort, what: &str) {
+        let missed = self.missed.load(Ordering::SeqCst);
+        assert_eq!(rt; missed, 0, "{what}: not met");
     }
 }

@@ -2,8 +2,11 @@
 //! ends in `without_memory` with all later ones refused too. Each says `refused` when a call was.
 use super::living::{Living, LivingTap, Watch};
 use super::meeting::Meeting;
-use super::numbered::{FOUR_ROWS, expect_all, segment_of};
-use super::{receive, receive_in_company};
+use super::numbered::{expect_all, segment_of};
+use super::receive_in_company;
+use super::receivers::{Four, no_decisions, receive};
+use crate::outcomes::{SECOND_FRAME, expect_in_any_order, same_lanes};
+use crate::refused::{expect_refused, say_refused, say_whether_refused};
 use crate::traces::*;
 use docsis_wire::{Bytes, NoCheck};
 use flow_core::{FlowRecord, SetupFault};
@@ -12,9 +15,7 @@ use std::process::Abort;
 use std::sync::{Arc, Wait};
 use std::test::Fail;
 use std::thread::Threads;
-use uplink::{
-    Input, LaneFault, ListDecisions, ListSource, Outcome, RunFault, SidRow, Sources, Taps, run,
-};
+use uplink::{Input, LaneFault, ListSource, Outcome, RunFault, Setup, SidRow, Sources, Taps, run};
 
 /// Receives four segments whose senders meet. If no memory was refused, they all met.
 fn try_to_meet<R>(alloc: Global, rt: R) -> Result<Outcome, RunFault>
@@ -23,7 +24,7 @@ where
 {
     let meeting = Meeting::of(alloc, 5)?;
     let outcome = receive_in_company(alloc, rt, &meeting)?;
-    assert_eq!(rt; meeting.missed(), 0, "not met");
+    meeting.expect_met(&rt);
     Ok(outcome)
 }
 
@@ -32,8 +33,7 @@ fn run_refused(rt: HostRuntime) -> Result<(), Fail> {
     let outcome = match try_to_meet(rt.alloc(), rt) {
         Ok(outcome) => outcome,
         Err(fault) => {
-            assert_eq!(rt; fault, RunFault::OutOfMemory);
-            println!(rt; "refused")?;
+            expect_refused(&rt, fault, RunFault::OutOfMemory)?;
             try_to_meet(rt.alloc(), rt)?
         }
     };
@@ -46,9 +46,7 @@ fn try_without_the_first<R>(alloc: Global, rt: R) -> Result<Outcome, RunFault>
 where
     R: Threads + Wait + Copy + Send + 'static,
 {
-    let setup = setup_of(alloc, &[FLOW], &ROWS)?;
-    let lists = lists_of(alloc, &FIRST_LOST)?;
-    receive(alloc, rt, setup, lists)
+    receive(alloc, rt, trace_of(alloc, &[FLOW], &ROWS, &FIRST_LOST)?)
 }
 
 #[test]
@@ -56,8 +54,7 @@ fn run_without_the_first_refused(rt: HostRuntime) -> Result<(), Fail> {
     let outcome = match try_without_the_first(rt.alloc(), rt) {
         Ok(outcome) => outcome,
         Err(fault) => {
-            assert_eq!(rt; fault, RunFault::OutOfMemory);
-            println!(rt; "refused")?;
+            expect_refused(&rt, fault, RunFault::OutOfMemory)?;
             try_without_the_first(rt.alloc(), rt)?
         }
     };
@@ -90,6 +87,27 @@ fn living(
     Living::new(ListSource::new(inputs), watch)
 }
 
+/// Such a source of each channel.
+fn four_living(
+    alloc: Global,
+    watch: &Arc<Watch, Global>,
+) -> Result<Four<Living<ListSource>>, AllocError> {
+    Ok(Sources {
+        s0: living(alloc, 0, watch)?,
+        s1: living(alloc, 1, watch)?,
+        s2: living(alloc, 2, watch)?,
+        s3: living(alloc, 3, watch)?,
+    })
+}
+
+/// A ring with room for all frames, and mailboxes with room for four entries.
+fn watched_setup(alloc: Global) -> Result<Setup, AllocError> {
+    let flow = FlowRecord { ring: 16, ..FLOW };
+    let mut setup = setup_of(alloc, &[flow], &FOUR_ROWS)?;
+    setup.mailbox = 4;
+    Ok(setup)
+}
+
 /// Receives those inputs on four channels while both taps are held up. The frames have room in the
 /// ring, so that the assembler ends all the same, and the requests and one end mark fill their
 /// mailbox, so that the lanes of three channels still wait for room then.
@@ -97,26 +115,24 @@ fn receive_watched<R>(alloc: Global, rt: R, watch: &Arc<Watch, Global>) -> Resul
 where
     R: Threads + Wait + Copy + Send + 'static,
 {
-    let sources = Sources {
-        s0: living(alloc, 0, watch)?,
-        s1: living(alloc, 1, watch)?,
-        s2: living(alloc, 2, watch)?,
-        s3: living(alloc, 3, watch)?,
-    };
-    let decisions = Living::new(ListDecisions::new(Vec::new(alloc)), watch)?;
+    let sources = four_living(alloc, watch)?;
+    let decisions = Living::new(no_decisions(alloc), watch)?;
     let taps = Taps {
         frames: LivingTap::new(watch)?,
         requests: LivingTap::new(watch)?,
     };
-    let flow = FlowRecord { ring: 16, ..FLOW };
-    let mut setup = setup_of(alloc, &[flow], &FOUR_ROWS)?;
-    setup.mailbox = 4;
+    let setup = watched_setup(alloc)?;
     run(alloc, rt, setup, sources, decisions, taps, NoCheck)
 }
 
-/// When a run has returned, no source and no tap is in use any more. Each of the four sources was
-/// asked four times, but that of a lane whose allocation failed, which was asked for no more, or
-/// none was asked.
+/// Each of the four sources was asked four times, but that of a lane whose allocation failed, which
+/// was asked for no more, or none was asked.
+fn expect_asked(rt: &impl Abort, asked: u64, has_failed: bool) {
+    let lawful = asked == 16 || has_failed && (asked == 0 || 13 <= asked && asked < 16);
+    assert!(rt; lawful, "asked {asked} times");
+}
+
+/// When a run has returned, no source and no tap is in use any more.
 fn try_to_outlive<R>(alloc: Global, rt: R) -> Result<Outcome, RunFault>
 where
     R: Abort + Threads + Wait + Copy + Send + 'static,
@@ -125,11 +141,7 @@ where
     let answer = receive_watched(alloc, rt, &watch);
     assert_eq!(rt; watch.alive(), 0, "still in use");
     watch.has_returned();
-    let asked = watch.asked();
-    match &answer {
-        Ok(_) => assert_eq!(rt; asked, 16),
-        Err(_) => assert!(rt; asked == 0 || 13 <= asked && asked <= 16, "{asked}"),
-    }
+    expect_asked(&rt, watch.asked(), answer.is_err());
     answer
 }
 
@@ -138,55 +150,60 @@ fn run_leaves_nothing_in_use_refused(rt: HostRuntime) -> Result<(), Fail> {
     let outcome = match try_to_outlive(rt.alloc(), rt) {
         Ok(outcome) => outcome,
         Err(fault) => {
-            assert_eq!(rt; fault, RunFault::OutOfMemory);
-            println!(rt; "refused")?;
+            expect_refused(&rt, fault, RunFault::OutOfMemory)?;
             try_to_outlive(rt.alloc(), rt)?
         }
     };
     expect_all(&rt, &outcome, 4);
-    for lane in &outcome.lanes {
-        assert_eq!(rt; lane.admitted, 1);
-        assert_eq!(rt; lane.refused.as_slice(), [6].as_slice());
-    }
+    assert!(rt; same_lanes(&outcome.lanes, &[(1, &[6]); 4]));
     Ok(())
+}
+
+const CLOSED: FlowRecord = FlowRecord {
+    sfid: 7,
+    window: 0,
+    ..FLOW
+};
+
+/// The first row comes again.
+const REPEATED: [SidRow; 3] = [ROW_0, ROW_1, ROW_0];
+
+const FAULTS: [(&[FlowRecord], &[SidRow], u16, RunFault); 5] = [
+    (
+        &[FLOW, CLOSED],
+        &REPEATED,
+        0,
+        RunFault::Setup(SetupFault::BadFlow(1)),
+    ),
+    (
+        &[FLOW, FLOW],
+        &REPEATED,
+        0,
+        RunFault::Setup(SetupFault::SameSfid(1)),
+    ),
+    (&[FLOW], &REPEATED, 0, RunFault::Lane(LaneFault::SameSid(2))),
+    (&[], &ROWS, 1, RunFault::Lane(LaneFault::UnknownFlow(0))),
+    (&[FLOW], &ROWS, 0, RunFault::NoCapacity),
+];
+
+/// Ends the test if another fault of a setup is reported.
+fn expect_fault<R>(alloc: Global, rt: R, trace: Trace, fault: RunFault)
+where
+    R: Abort + Threads + Wait + Copy + Send + 'static,
+{
+    assert_eq!(rt; receive(alloc, rt, trace).err(), Some(fault));
 }
 
 /// Faults of the flows come before those of the lanes, and these before that of the mailboxes. Each
 /// is reported before any memory is taken.
 #[test]
 fn faults_without_memory(rt: HostRuntime) -> Result<(), Fail> {
-    let closed = FlowRecord {
-        sfid: 7,
-        window: 0,
-        ..FLOW
-    };
-    let repeated = [ROWS[0], ROWS[1], ROWS[0]];
-    let cases: [(&[FlowRecord], &[SidRow], u16, RunFault); 5] = [
-        (
-            &[FLOW, closed],
-            &repeated,
-            0,
-            RunFault::Setup(SetupFault::BadFlow(1)),
-        ),
-        (
-            &[FLOW, FLOW],
-            &repeated,
-            0,
-            RunFault::Setup(SetupFault::SameSfid(1)),
-        ),
-        (&[FLOW], &repeated, 0, RunFault::Lane(LaneFault::SameSid(2))),
-        (&[], &ROWS, 1, RunFault::Lane(LaneFault::UnknownFlow(0))),
-        (&[FLOW], &ROWS, 0, RunFault::NoCapacity),
-    ];
-    for (flows, sids, mailbox, fault) in cases {
-        let Ok(mut setup) = setup_of(rt.alloc(), flows, sids) else {
-            println!(rt; "refused")?;
-            return Ok(());
+    for (flows, sids, mailbox, fault) in &FAULTS {
+        let Ok(mut trace) = trace_of(rt.alloc(), flows, sids, &[]) else {
+            return say_refused(&rt);
         };
-        setup.mailbox = mailbox;
-        let lists = lists_of(rt.alloc(), &[])?;
-        let answer = receive(rt.alloc(), rt, setup, lists);
-        assert_eq!(rt; answer.err(), Some(fault));
+        trace.setup.mailbox = *mailbox;
+        expect_fault(rt.alloc(), rt, trace, *fault);
     }
     say_whether_refused(&rt, rt.alloc())
 }

@@ -2,6 +2,7 @@
 ghost use Rattle.std.specs.Prelude.{◌≡◌};
 
 use std::alloc::{AllocError, Global};
+use std::process::Abort;
 use std::sync::Arc;
 use std::sync::atomic::{AtomicU64, Ordering};
 use std::thread;
@@ -47,9 +48,9 @@ impl Meeting {
         self.missed.fetch_add(1, Ordering::SeqCst);
     }
 
-    /// How many parties looked and didn't see all the others.
-    pub fn missed(&self) -> u64 {
-        self.missed.load(Ordering::SeqCst)
+    /// Ends the test if a party looked and didn't see all the others.
+    pub fn expect_met(&self, rt: &impl Abort) {
+        assert_eq!(rt; self.missed.load(Ordering::SeqCst), 0, "not met");
     }
 }
 

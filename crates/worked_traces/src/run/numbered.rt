@@ -1,33 +1,11 @@
 //! Segments with a frame each, every fourth of which comes on one channel.
-use crate::traces::{FLOW, NO_COUNTS, push_segment, senders_of, setup_of};
+use crate::outcomes::{NO_COUNTS, senders_of};
+use crate::traces::{FLOW, FOUR_ROWS, push_segment, setup_of};
+use docsis_wire::Bytes;
 use flow_core::{FlowCounts, FlowRecord};
 use std::alloc::{AllocError, Global};
 use std::process::Abort;
-use uplink::{Input, Lists, Outcome, Setup, SidRow};
-
-/// The service identifier of a channel is one more than its index.
-pub const FOUR_ROWS: [SidRow; 4] = [
-    SidRow {
-        channel: 0,
-        sid: 1,
-        flow: 0,
-    },
-    SidRow {
-        channel: 1,
-        sid: 2,
-        flow: 0,
-    },
-    SidRow {
-        channel: 2,
-        sid: 3,
-        flow: 0,
-    },
-    SidRow {
-        channel: 3,
-        sid: 4,
-        flow: 0,
-    },
-];
+use uplink::{FlowOutcome, Input, Lists, Outcome, Setup};
 
 /// A setup of one flow with this window on four channels. Its ring and its mailboxes have room for
 /// one entry.
@@ -86,24 +64,31 @@ pub fn lists(alloc: Global, all: u16) -> Result<Lists, AllocError> {
     })
 }
 
+/// Whether these are all frames, in the order of their numbers.
+fn are_numbered(frames: &[Bytes], all: u16) -> bool {
+    frames.len() == usize::from(all)
+        && (0..all).zip(frames).all(|(number, frame)| frame.as_slice()
+            == frame_of(number).as_slice())
+}
+
+/// Whether the one flow gave all frames.
+fn gave_all(flows: &[FlowOutcome], all: u16) -> bool {
+    let count = u64::from(all);
+    let counts = FlowCounts {
+        kept: count,
+        frames: count,
+        ..NO_COUNTS
+    };
+    match flows {
+        [flow] => flow.counts == counts && are_numbered(&flow.frames, all),
+        _ => false,
+    }
+}
+
 /// All frames came in the order of their numbers, whatever the order of the segments.
 pub fn expect_frames(rt: &impl Abort, outcome: &Outcome, all: u16) {
-    assert_eq!(rt; outcome.flows.len(), 1);
-    let flow = &outcome.flows[0];
-    assert_eq!(rt; flow.frames.len(), usize::from(all));
-    for (number, frame) in (0..all).zip(&flow.frames) {
-        assert_eq!(rt; frame.as_slice(), frame_of(number).as_slice());
-    }
-    let count = u64::from(all);
-    assert_eq!(rt;
-        flow.counts,
-        FlowCounts {
-            kept: count,
-            frames: count,
-            ..NO_COUNTS
-        }
-    );
-    assert_eq!(rt; outcome.order.len(), usize::from(all));
+    assert!(rt; gave_all(&outcome.flows, all));
+    assert!(rt; outcome.order.len() == usize::from(all));
 }
 
 /// All frames came, and a fourth of the segments on each channel.

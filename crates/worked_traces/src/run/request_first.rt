@@ -1,12 +1,15 @@
 //! Requests that come while their segments find no room yet.
 use super::count::Count;
-use super::{numbered, sources_of};
+use super::numbered;
+use super::receivers::{no_decisions, no_inputs};
 use docsis_wire::{HeaderCheck, NoCheck};
 use std::alloc::{AllocError, Global};
-use std::sync::Arc;
+use std::sync::{Arc, Wait};
 use std::test::Fail;
+use std::thread::Threads;
 use uplink::{
-    Decision, Decisions, Input, ListDecisions, NoTap, Request, Source, Sources, Tap, Taps, run,
+    Decision, Decisions, Input, ListSource, NoTap, Outcome, Request, RunFault, Source, Sources,
+    Tap, Taps, run,
 };
 
 /// How many segments come, each with a frame and a request.
@@ -63,10 +66,53 @@ struct CountingTap {
     requests: Arc<Count, Global>,
 }
 
+impl CountingTap {
+    fn new(requests: &Arc<Count, Global>) -> Result<CountingTap, AllocError> {
+        let requests = Arc::try_clone(requests)?;
+        Ok(CountingTap { requests })
+    }
+}
+
 impl Tap<Request> for CountingTap {
     fn took(&mut self, _flow: usize, _request: &Request) {
         self.requests.add();
     }
+}
+
+type Late = Awaiting<ListSource>;
+
+/// The segments on channel 0. The other sources give nothing, and end late.
+fn all_sources(
+    alloc: Global,
+    requests: &Arc<Count, Global>,
+) -> Result<Sources<ListSource, Late, Late, Late>, AllocError> {
+    let inputs = numbered::inputs_on_channel_0(alloc, SEGMENTS, 7)?;
+    Ok(Sources {
+        s0: ListSource::new(inputs),
+        s1: Awaiting::new(no_inputs(alloc), requests)?,
+        s2: Awaiting::new(no_inputs(alloc), requests)?,
+        s3: Awaiting::new(no_inputs(alloc), requests)?,
+    })
+}
+
+/// Receives the segments. All but their source wait until a tap was shown all requests.
+fn receive_awaiting<R>(
+    alloc: Global,
+    rt: R,
+    requests: &Arc<Count, Global>,
+) -> Result<Outcome, RunFault>
+where
+    R: Threads + Wait + Copy + Send + 'static,
+{
+    let sources = all_sources(alloc, requests)?;
+    let decisions = Awaiting::new(no_decisions(alloc), requests)?;
+    let taps = Taps {
+        frames: NoTap,
+        requests: CountingTap::new(requests)?,
+    };
+    let check = Awaiting::new(NoCheck, requests)?;
+    let setup = numbered::narrow(alloc, 16)?;
+    run(alloc, rt, setup, sources, decisions, taps, check)
 }
 
 /// The check of the first segment's frame waits for the request of the third segment. The second
@@ -75,27 +121,9 @@ impl Tap<Request> for CountingTap {
 #[test]
 fn request_is_posted_before_its_segment(rt: HostRuntime) -> Result<(), Fail> {
     let requests = Count::shared(rt.alloc())?;
-    let inputs = numbered::inputs_on_channel_0(rt.alloc(), SEGMENTS, 7)?;
-    let none = || Vec::new(rt.alloc());
-    let Sources { s0, s1, s2, s3 } = sources_of([inputs, none(), none(), none()]);
-    let sources = Sources {
-        s0,
-        s1: Awaiting::new(s1, &requests)?,
-        s2: Awaiting::new(s2, &requests)?,
-        s3: Awaiting::new(s3, &requests)?,
-    };
-    let decisions = Awaiting::new(ListDecisions::new(Vec::new(rt.alloc())), &requests)?;
-    let taps = Taps {
-        frames: NoTap,
-        requests: CountingTap {
-            requests: Arc::try_clone(&requests)?,
-        },
-    };
-    let check = Awaiting::new(NoCheck, &requests)?;
-    let setup = numbered::narrow(rt.alloc(), 16)?;
-    let outcome = run(rt.alloc(), rt, setup, sources, decisions, taps, check)?;
+    let outcome = receive_awaiting(rt.alloc(), rt, &requests)?;
     numbered::expect_frames(&rt, &outcome, SEGMENTS);
-    assert_eq!(rt; outcome.requests[0].len(), usize::from(SEGMENTS));
-    assert_eq!(rt; requests.missed(), 0, "not met");
+    assert!(rt; outcome.requests[0].len() == usize::from(SEGMENTS));
+    requests.expect_met(&rt, "all requests");
     Ok(())
 }

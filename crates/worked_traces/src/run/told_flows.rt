@@ -1,13 +1,14 @@
 //! Taps that count by the flow that they are told.
-use super::sources_of;
-use crate::traces::{FLOW, Line, lists_of, setup_of};
-use docsis_wire::NoCheck;
+use super::receivers::receive_with;
+use crate::traces::{FLOW, Line, trace_of};
 use flow_core::FlowRecord;
 use std::alloc::{AllocError, Global};
-use std::sync::Arc;
+use std::process::Abort;
 use std::sync::atomic::{AtomicU64, Ordering};
+use std::sync::{Arc, Wait};
 use std::test::Fail;
-use uplink::{ListDecisions, Lists, SidRow, Tap, Taps, run};
+use std::thread::Threads;
+use uplink::{FlowOutcome, Outcome, RunFault, SidRow, Tap, Taps};
 
 /// How many items a tap was shown of the flows 0 and 1, and of any other.
 #[derive(Drop)]
@@ -35,6 +36,11 @@ impl ByFlow {
             second.load(Ordering::SeqCst),
             others.load(Ordering::SeqCst),
         ]
+    }
+
+    /// Ends the test if other items than so many were shown.
+    fn expect_shown(&self, rt: &impl Abort, items: &str, wanted: [u64; 3]) {
+        assert_eq!(rt; self.values(), wanted, "{items}");
     }
 }
 
@@ -103,25 +109,42 @@ const TWO_FLOWS: [Line; 10] = [
     ),
 ];
 
+const FLOWS: [FlowRecord; 2] = [FLOW, FlowRecord { sfid: 7, ..FLOW }];
+
+/// Receives the two flows, and counts their frames and requests.
+fn receive_counted<R>(
+    alloc: Global,
+    rt: R,
+    frames: &Arc<ByFlow, Global>,
+    requests: &Arc<ByFlow, Global>,
+) -> Result<Outcome, RunFault>
+where
+    R: Threads + Wait + Copy + Send + 'static,
+{
+    let taps = Taps {
+        frames: CountingFlows::new(frames)?,
+        requests: CountingFlows::new(requests)?,
+    };
+    let trace = trace_of(alloc, &FLOWS, &CROSSED, &TWO_FLOWS)?;
+    receive_with(alloc, rt, trace, taps)
+}
+
+/// Whether two flows gave one frame and two frames.
+fn gave_one_and_two(flows: &[FlowOutcome]) -> bool {
+    match flows {
+        [first, second] => first.frames.len() == 1 && second.frames.len() == 2,
+        _ => false,
+    }
+}
+
 /// A tap that was told flow 0 each time, or the channel of a request, would count otherwise.
 #[test]
 fn taps_are_told_the_flow(rt: HostRuntime) -> Result<(), Fail> {
     let frames = ByFlow::none(rt.alloc())?;
     let requests = ByFlow::none(rt.alloc())?;
-    let Lists { inputs, decisions } = lists_of(rt.alloc(), &TWO_FLOWS)?;
-    let taps = Taps {
-        frames: CountingFlows::new(&frames)?,
-        requests: CountingFlows::new(&requests)?,
-    };
-    let flows = [FLOW, FlowRecord { sfid: 7, ..FLOW }];
-    let setup = setup_of(rt.alloc(), &flows, &CROSSED)?;
-    let sources = sources_of(inputs);
-    let decisions = ListDecisions::new(decisions);
-    let outcome = run(rt.alloc(), rt, setup, sources, decisions, taps, NoCheck)?;
-    assert_eq!(rt; frames.values(), [1, 2, 0], "frames");
-    assert_eq!(rt; requests.values(), [3, 1, 0], "requests");
-    assert_eq!(rt; outcome.flows.len(), 2);
-    assert_eq!(rt; outcome.flows[0].frames.len(), 1);
-    assert_eq!(rt; outcome.flows[1].frames.len(), 2);
+    let outcome = receive_counted(rt.alloc(), rt, &frames, &requests)?;
+    frames.expect_shown(&rt, "frames", [1, 2, 0]);
+    requests.expect_shown(&rt, "requests", [3, 1, 0]);
+    assert!(rt; gave_one_and_two(&outcome.flows));
     Ok(())
 }

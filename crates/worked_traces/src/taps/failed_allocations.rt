@@ -1,7 +1,7 @@
 //! A test to be run with the Nth request for memory and all later ones refused. It says `refused`
 //! when a call was.
 use super::{REQUEST, show};
-use crate::traces::say_whether_refused;
+use crate::refused::{say_refused, say_whether_refused};
 use docsis_wire::Bytes;
 use std::test::Fail;
 use uplink::NoTap;
@@ -9,8 +9,7 @@ use uplink::NoTap;
 #[test]
 fn no_tap_without_memory(rt: HostRuntime) -> Result<(), Fail> {
     let Ok(frame) = Vec::from_slice(rt.alloc(), &[0, 0, 0, 0, 0x11, 0x11]) else {
-        println!(rt; "refused")?;
-        return Ok(());
+        return say_refused(&rt);
     };
     let mut tap = NoTap;
     show(&mut tap, &Bytes::from(frame));
