@@ -70,7 +70,7 @@ class Flow:
     def __init__(self, first, window):
         self.first, self.window = first, window
         self.kept = {}  # the kept indexes, each with its segment
-        self.declared = set()  # the indexes that were declared lost
+        self.declared = set()  # the indexes that were declared lost or skipped
         self.expected = 0  # the least index in neither
 
     def index(self, number):
@@ -96,6 +96,13 @@ class Flow:
         end = self.expected + 1 if number is None else self.index(number)
         last = max(self.kept, default=-1)
         lost = [index for index in range(self.expected, min(end, last)) if index not in self.kept]
+        self.declared.update(lost)
+        self.pass_settled()
+        return bool(lost)
+
+    def skip(self, number):
+        """Skips all that is missing before the index that has the number, and answers whether anything was."""
+        lost = [index for index in range(self.expected, self.index(number)) if index not in self.kept]
         self.declared.update(lost)
         self.pass_settled()
         return bool(lost)

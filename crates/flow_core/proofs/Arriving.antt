@@ -1,6 +1,5 @@
 -- A segment that arrives at a drained flow.
 use Rattle.std.proofs.Common.{◌≡◌, ◌≢◌, ℕ, ◌+◌, ◌<◌, ⊎_elim, Option, None, Some, [], ◌∷◌, ◌++◌, refl, sym, ap, subst, ◌∙◌, arith}
-use Rattle.std.specs.Option.{option_map}
 use Rattle.std.specs.FinMap as map
 use Rattle.std.proofs.lemmas.Bool.{cases_eq}
 use Rattle.docsis_wire.specs.declared.segment.Segment.{Segment}
@@ -13,6 +12,7 @@ use Rattle.reorder.specs.declared.verdict.Verdict.{Verdict}
 use Rattle.reorder.specs.declared.verdict.Verdict.TheVariants.{Late, Beyond, Repeat, Kept}
 use Rattle.flow_core.specs.declared.record.FlowRecord.{FlowRecord}
 use Rattle.flow_core.specs.declared.flow.Flow.{Flow}
+use Rattle.flow_core.specs.declared.up_to.UpTo.{UpTo}
 use Rattle.flow_core.specs.declared.event.Applied.TheVariants.{Arrival}
 use Rattle.flow_core.specs.Fates.{Fates, number_of, IsKept, IsLost}
 use Rattle.flow_core.specs.Events.{arrives, IsAhead, IsVerdictOn, Keeps}
@@ -103,10 +103,10 @@ module _ (r : FlowRecord) (fates : Fates) (y : ℕ) (w : WindowView ReadySegment
       (window-keeps r fates y w from_y index ready (omega arith) (omega arith) (subst (λ n. IsLawful (with_item w n ready)) (sym numbered) lawful))
 
 -- a flow that remembers nothing goes on so, where no index is lost anew
-remembered-on : (first y : ℕ) (fates after : Fates) (declared_to : Option ℕ) → ¬ (IsKept fates y) → ((i : ℕ) → IsLost after i → IsLost fates i)
-    → IsRemembered first fates y declared_to → IsRemembered first after y declared_to
+remembered-on : (first y : ℕ) (fates after : Fates) (going_on : Option UpTo) → ¬ (IsKept fates y) → ((i : ℕ) → IsLost after i → IsLost fates i)
+    → IsRemembered first fates y going_on → IsRemembered first after y going_on
 remembered-on first y fates after None free stays remembered = λ i from lost. remembered i from (stays i lost)
-remembered-on first y fates after (Some number) free stays remembered = absurd (free remembered.3)
+remembered-on first y fates after (Some u) free stays remembered = absurd (free remembered.3)
 
 lost-before : (fates : Fates) (k : ℕ) (segment : Segment) (verdict : Verdict ReadySegment) (i : ℕ) → IsLost (after_verdict fates k segment verdict) i → IsLost fates i
 lost-before fates k segment (Late back) i lost = lost
@@ -125,10 +125,10 @@ pub arrives-taken : (flow after : Flow) (ready : ReadySegment) (verdict : Verdic
     → after.window ≡ after_offer flow.window ready.segment.head.sequence ready verdict
     → IsLawful after.window
     → after.joiner ≡ flow.joiner
-    → after.declared_to ≡ flow.declared_to
+    → after.going_on ≡ flow.going_on
     → after.counts ≡ answered flow.counts (Arrival (said (λ back. back.segment) verdict))
     → TakesEvent flow (arrives ready.segment) (Arrival (said (λ back. back.segment) verdict)) after
-arrives-taken flow after ready verdict drained is window lawful joiner declared counts check r events answers y given s =
+arrives-taken flow after ready verdict drained is window lawful joiner memory counts check r events answers y given s =
     let fates = s.fates in
     let answer = Arrival (said (λ back. back.segment) verdict) in
     let i = index r fates y flow.window s.window ready in
@@ -137,7 +137,7 @@ arrives-taken flow after ready verdict drained is window lawful joiner declared 
       stands-next check r flow after events answers y given (arrives ready.segment) answer (after_verdict fates i ready.segment verdict) s drained
           (verdict-on r fates y flow.window s.window ready verdict is, keeps r fates y flow.window s.window ready verdict)
           (subst (λ w. IsWindowFrom r (after_verdict fates i ready.segment verdict) y w) (sym window) (window-after r fates y flow.window s.window ready verdict is (subst IsLawful window lawful)))
-          (subst (λ d. IsRemembered r.first (after_verdict fates i ready.segment verdict) y (option_map (λ sequence. sequence.number) d)) (sym declared)
+          (subst (IsRemembered r.first (after_verdict fates i ready.segment verdict) y) (sym memory)
           (remembered-on r.first y fates (after_verdict fates i ready.segment verdict) _ (λ kept. open-kept fates y sound.expected.open_itself kept) (lost-before fates i ready.segment verdict) s.remembered))
           joiner
           (subst (λ k. AreCounts (answers ++ answer ∷ []) s.settled given flow.joiner k) (sym counts) (counts-answered answers answer s.settled given flow.joiner flow.counts s.counts)),

@@ -7,7 +7,7 @@ use Rattle.reorder.specs.declared.verdict.Declared.{Declared}
 use Rattle.reorder.specs.declared.verdict.Declared.TheVariants.{NextIsHere, NothingHeld, Lost}
 use Rattle.reorder.proofs.Items.{get-insert_same, get-insert_other}
 use Rattle.flow_core.specs.declared.event.Applied.{Applied}
-use Rattle.flow_core.specs.declared.event.Applied.TheVariants.{Arrival, Decision, DecisionTo}
+use Rattle.flow_core.specs.declared.event.Applied.TheVariants.{Arrival, Decision, DecisionTo, DecisionSkip}
 use Rattle.flow_core.specs.Fates.{Fates, no_fates, number_of, IsKept, IsOpen, IsExpected, HasLaterKept}
 use Rattle.flow_core.specs.Events.{FlowEvent, gap, Changes, Declares, Leads, IsAfter}
 use Rattle.flow_core.specs.Closing.{IsClosed, Closes, says_lost}
@@ -29,6 +29,7 @@ gap-cases first width x (Decision NextIsHere) fates after changes = absurd chang
 gap-cases first width x (Decision NothingHeld) fates after changes = inr (changes.0, changes.1, refl)
 gap-cases first width x (Decision (Lost number)) fates after changes = inl (changes.0, changes.2, refl)
 gap-cases first width x (DecisionTo declared) fates after changes = absurd changes
+gap-cases first width x (DecisionSkip skipped) fates after changes = absurd changes
 
 -- in one way
 gap-once : (first width x : ℕ) (a b : Applied) (fates after other : Fates) → Changes first width x gap a fates after → Changes first width x gap b fates other → after ≡ other

@@ -5,7 +5,7 @@ use Rattle.std.specs.FinMap as map
 use Rattle.docsis_wire.specs.declared.segment.Segment.{Segment}
 use Rattle.reorder.proofs.Items.{get-insert_same, get-insert_other}
 use Rattle.flow_core.specs.Fates.{Fates, IsKept, IsOpen, HasLaterKept, number_of}
-use Rattle.flow_core.specs.Events.{IsAhead, IsDeclaredTo}
+use Rattle.flow_core.specs.Events.{IsAhead, IsDeclaredTo, IsSkippedTo}
 
 -- a fact that holds or does not
 abbrev pub Decided : Type 0 → Type 0
@@ -90,23 +90,39 @@ ahead_or_behind first x number =
       | inr none ↦ inr (λ i ahead. none i ahead.to ahead)
     ]
 
--- an index is declared lost by a loss up to a number, or not
-pub IsDeclaredTo-decided : (first x number : ℕ) (fates : Fates) (bound i : ℕ) → ((j : ℕ) → IsKept fates j → j < bound) → Decided (IsDeclaredTo first x number fates i)
-IsDeclaredTo-decided first x number fates bound i within =
+-- an index is lost by a skip up to a number, or not
+pub IsSkippedTo-decided : (first x number : ℕ) (fates : Fates) (i : ℕ) → Decided (IsSkippedTo first x number fates i)
+IsSkippedTo-decided first x number fates i =
     elim (ahead_or_behind first x number) [
-      | inr none ↦ inr (λ declared. none declared.end declared.ahead)
+      | inr none ↦ inr (λ skipped. none skipped.end skipped.ahead)
       | inl end ↦ elim (le-decided x i) [
-        | inr not_so ↦ inr (λ declared. not_so declared.from)
+        | inr not_so ↦ inr (λ skipped. not_so skipped.from)
         | inl from ↦ elim (below-decided i end.0) [
-          | inr not_so ↦ inr (λ declared. not_so (subst (λ e. i < e) (IsAhead-once first x number declared.end end.0 declared.ahead end.1) declared.before))
+          | inr not_so ↦ inr (λ skipped. not_so (subst (λ e. i < e) (IsAhead-once first x number skipped.end end.0 skipped.ahead end.1) skipped.before))
           | inl before ↦ elim (IsOpen-decided fates i) [
-            | inr not_so ↦ inr (λ declared. not_so declared.open_itself)
-            | inl free ↦ elim (HasLaterKept-decided fates bound i within) [
-              | inr not_so ↦ inr (λ declared. not_so declared.later_kept)
-              | inl later_kept ↦ inl record { end = end.0; ahead = end.1; from = from; before = before; open_itself = free; later_kept = later_kept }
-            ]
+            | inr not_so ↦ inr (λ skipped. not_so skipped.open_itself)
+            | inl free ↦ inl record { end = end.0; ahead = end.1; from = from; before = before; open_itself = free }
           ]
         ]
+      ]
+    ]
+
+-- a loss up to a number is declared of what a skip loses and has a later kept segment
+pub skipped-declared : (first x number : ℕ) (fates : Fates) (i : ℕ) → IsSkippedTo first x number fates i → HasLaterKept fates i → IsDeclaredTo first x number fates i
+skipped-declared first x number fates i p later_kept =
+    record { end = p.end; ahead = p.ahead; from = p.from; before = p.before; open_itself = p.open_itself; later_kept = later_kept }
+
+pub declared-skipped : (first x number : ℕ) (fates : Fates) (i : ℕ) → IsDeclaredTo first x number fates i → IsSkippedTo first x number fates i
+declared-skipped first x number fates i p = record { end = p.end; ahead = p.ahead; from = p.from; before = p.before; open_itself = p.open_itself }
+
+-- so of an index it is, or not
+pub IsDeclaredTo-decided : (first x number : ℕ) (fates : Fates) (bound i : ℕ) → ((j : ℕ) → IsKept fates j → j < bound) → Decided (IsDeclaredTo first x number fates i)
+IsDeclaredTo-decided first x number fates bound i within =
+    elim (IsSkippedTo-decided first x number fates i) [
+      | inr not_so ↦ inr (λ declared. not_so (declared-skipped first x number fates i declared))
+      | inl skipped ↦ elim (HasLaterKept-decided fates bound i within) [
+        | inr not_so ↦ inr (λ declared. not_so declared.later_kept)
+        | inl later_kept ↦ inl (skipped-declared first x number fates i skipped later_kept)
       ]
     ]
 

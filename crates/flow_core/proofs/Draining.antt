@@ -15,29 +15,38 @@ use Rattle.flow_core.specs.Events.{FlowEvent, IsDeclaredTo, Declares, DeclaresTo
 use Rattle.flow_core.specs.Delivery.{IsDelivered, IsDeliverySequence}
 use Rattle.flow_core.specs.Stands.{StandsFor}
 use Rattle.flow_core.specs.Flows.{IsLoss}
-use Rattle.flow_core.specs.Closing.{IsClosed, IsAllKept}
+use Rattle.flow_core.specs.Closing.{IsClosed, IsAllKept, HaveNoSkip}
 use Rattle.flow_core.proofs.Deciding.{IsAhead-once}
-use Rattle.flow_core.proofs.Outcome.{expected-unique, sound-after}
+use Rattle.flow_core.proofs.Outcome.{expected-unique}
+use Rattle.flow_core.proofs.LaterKept.{later-after}
 use Rattle.flow_core.proofs.Giving.{same_fates}
 use Rattle.flow_core.proofs.Standing.{settled-cases, open-kept, expected-after}
 
--- the index that a flow has come to is at most the width of the window behind the expected one
-pub draining-ends : (check : List ℕ → Bool) (flow_record : FlowRecord) (flow : Flow) (events : List FlowEvent) (answers : List Applied) (x y : ℕ) (given : List (List ℕ)) (fates : Fates)
-    → StandsFor check flow_record flow events answers y given → IsAfter flow_record.first flow_record.window events answers fates → IsExpected fates x
-    → (y ≤ x) × (x ≤ y + flow_record.window)
-draining-ends check flow_record flow events answers x y given fates s is expected =
-    let same = same_fates check flow_record flow events answers y given s fates is in
-    let here : IsExpected s.fates x = subst (λ (f : Fates). IsExpected f x) (sym same) expected in
-    let sound = sound-after flow_record.first flow_record.window events answers s.fates x s.after here in
-    let i : ℕ = y + flow_record.window in
-    let near : x ≤ i = elim (cases_lt i x) [
-      | inr near ↦ near
-      | inl beyond ↦ elim (settled-cases s.fates i (here.settled i beyond)) [
-        | inl kept ↦ absurd (omega (arith, s.window.within i kept))
-        | inr lost ↦ let later_kept = sound.lost_have_later i lost in absurd (omega (arith, later_kept.1, s.window.within later_kept.0 later_kept.2))
+module _ (check : List ℕ → Bool) (flow_record : FlowRecord) (flow : Flow) (events : List FlowEvent) (answers : List Applied) (y : ℕ) (given : List (List ℕ)) (fates : Fates)
+    (s : StandsFor check flow_record flow events answers y given) (is : IsAfter flow_record.first flow_record.window events answers fates) where
+  -- the index that a flow has come to is not after the expected one
+  pub draining-onward : (x : ℕ) → IsExpected fates x → y ≤ x
+  draining-onward x expected =
+      let same = same_fates check flow_record flow events answers y given s fates is in
+      expected-after s.fates x y s.settled (subst (λ (f : Fates). IsExpected f x) (sym same) expected) s.below
+
+  -- and all that was kept lies less than the width of the window after it
+  pub draining-ends : (i : ℕ) → IsKept fates i → i < y + flow_record.window
+  draining-ends i kept = s.window.within i (subst (λ (f : Fates). IsKept f i) (sym (same_fates check flow_record flow events answers y given s fates is)) kept)
+
+  -- without a skip also the expected index does
+  pub draining-near : (x : ℕ) → IsExpected fates x → HaveNoSkip events → x ≤ y + flow_record.window
+  draining-near x expected none =
+      let i : ℕ = y + flow_record.window in
+      elim (cases_lt i x) [
+        | inr near ↦ near
+        | inl beyond ↦ elim (settled-cases fates i (expected.settled i beyond)) [
+          | inl kept ↦ absurd (omega (arith, draining-ends i kept))
+          | inr lost ↦
+              let later = later-after flow_record.first flow_record.window events answers fates is none i lost in
+              absurd (omega (arith, later.1, draining-ends later.0 later.2))
+        ]
       ]
-    ] in
-    (expected-after s.fates x y s.settled here s.below, near)
 
 -- a closed flow has come past all that was kept
 pub past-kept : (fates : Fates) (x i : ℕ) → IsClosed fates → IsExpected fates x → IsKept fates i → i < x

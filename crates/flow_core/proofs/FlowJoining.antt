@@ -12,23 +12,23 @@ use Rattle.docsis_wire.specs.declared.segment.ReadySegment.{ReadySegment}
 use Rattle.ccf.specs.Feed.{Feeds}
 use Rattle.ccf.proofs.OneJoining.{Joins-append}
 use Rattle.reorder.specs.Number.{number_ahead, following}
-use Rattle.reorder.specs.Verdicts.{declared_count}
 use Rattle.reorder.specs.View.{WindowView, held_at, IsLawful, next_taken, moved_on_by}
 use Rattle.flow_core.specs.declared.record.FlowRecord.{FlowRecord}
 use Rattle.flow_core.specs.declared.counts.FlowCounts.{FlowCounts}
 use Rattle.flow_core.specs.declared.flow.Flow.{Flow}
-use Rattle.flow_core.specs.declared.sequence.SequenceNumber.{SequenceNumber}
+use Rattle.flow_core.specs.declared.up_to.UpTo.{UpTo}
 use Rattle.flow_core.specs.declared.event.Applied.{Applied}
 use Rattle.flow_core.specs.Fates.{Fates, number_of, IsKeptAs}
 use Rattle.flow_core.specs.Events.{FlowEvent}
 use Rattle.flow_core.specs.Counts.{payload_bytes, AreCounts}
-use Rattle.flow_core.specs.Inside.Losses.{after_losses, GoesOn, GoesOnTo}
+use Rattle.flow_core.specs.Inside.Losses.{after_passing, count_to, GoesOn, GoesOnTo}
 use Rattle.flow_core.specs.Stands.{IsRemembered, StandsFor, AreLost, Gives}
 use Rattle.flow_core.proofs.Windows.{kept-from-segment, window-taken}
 use Rattle.flow_core.proofs.Standing.{stands}
 use Rattle.flow_core.proofs.Losing.{HasComeTo, come-same, settled-more, losses-window, losses-memory}
 use Rattle.flow_core.proofs.IndexNumbers.{following-index, ahead-index}
-use Rattle.flow_core.proofs.FlowDeclaring.{IsToGoOn, Stops, passed-lost, comes-further, forgotten, still-remembered}
+use Rattle.flow_core.proofs.Stopping.{held-CanLose, Stops, stops-everywhere}
+use Rattle.flow_core.proofs.FlowDeclaring.{IsToGoOn, passed-lost, comes-further, forgotten, still-remembered}
 
 -- the counts after a segment was joined
 abbrev pub fed_counts : FlowCounts → List (List ℕ) → ℕ → FlowCounts
@@ -96,9 +96,9 @@ module _ (check : List ℕ → Bool) (r : FlowRecord) (flow : Flow) (events : Li
         counts = counts-fed answers s.settled given frames flow.joiner after flow.counts ready.segment skipped s.counts balance;
       }
 
-  to-go-on : (remembered : Option ℕ) → IsRemembered r.first s.fates y remembered → IsToGoOn r.first s.fates (y + 1) remembered
+  to-go-on : (remembered : Option UpTo) → IsRemembered r.first s.fates y remembered → IsToGoOn r.first s.fates (y + 1) remembered
   to-go-on None memory = λ i from. memory i (omega arith)
-  to-go-on (Some number) memory =
+  to-go-on (Some u) memory =
       let end = memory.0 in
       let ahead = memory.1 in
       let to = ahead.to in
@@ -106,69 +106,64 @@ module _ (check : List ℕ → Bool) (r : FlowRecord) (flow : Flow) (events : Li
       (end, omega arith, omega arith, ahead.numbered, λ i from. memory.4 i (omega arith))
 
   whole : (z : ℕ) → y < z → (after_flow : Flow) → HasComeTo check r s.fates answers z (given ++ frames) after_flow
-      → IsRemembered r.first s.fates z (option_map (λ sequence. sequence.number) after_flow.declared_to) → AreLost s.fates (y + 1) z
+      → IsRemembered r.first s.fates z after_flow.going_on → AreLost s.fates (y + 1) z
       → (z : ℕ) × (y < z) × (stands : StandsFor check r after_flow events answers z (given ++ frames)) × AreLost stands.fates (y + 1) z
   whole z past after_flow come remembered lost =
       let put = stands check r after_flow events answers z (given ++ frames) s.fates s.x come.settled s.after s.expected come.window remembered come.below come.joined come.counts in
       (z, past, put.0, subst (λ f. AreLost f (y + 1) z) (sym put.1) lost)
 
-  -- The flow goes on to declare what it remembers.
-  module _ (law : (w : WindowView ReadySegment) (number : ℕ) → IsLawful w → Stops w number (declared_count w number)) (gone : Flow) (gone_lawful : IsLawful gone.window) where
-    goes-on-to : (number : ℕ) → GoesOnTo number fed_flow gone → IsToGoOn r.first s.fates (y + 1) (Some number)
-        → (option_map (λ sequence. sequence.number) flow.declared_to ≡ Some number)
+  -- The flow goes on with the decision that it remembers.
+  module _ (gone : Flow) (gone_lawful : IsLawful gone.window) where
+    goes-on-to : (u : UpTo) → GoesOnTo u fed_flow gone → IsToGoOn r.first s.fates (y + 1) (Some u) → flow.going_on ≡ Some u
         → (z : ℕ) × (y < z) × (stands : StandsFor check r gone events answers z (given ++ frames)) × AreLost stands.fates (y + 1) z
-    goes-on-to number goes to_do is =
-        let count : ℕ = declared_count (next_taken flow.window) number in
+    goes-on-to u goes to_do is =
+        let count : ℕ = count_to (next_taken flow.window) u in
         let moved : Flow = record fed_flow { window = moved_on_by (next_taken flow.window) count } in
-        let lost_flow : Flow = after_losses count moved in
+        let passed_flow : Flow = after_passing count fed_flow in
         let end = to_do.0 in
         let numbered = to_do.3 in
-        let stops : Stops (next_taken flow.window) (number_of r.first end) count = subst (λ n. Stops (next_taken flow.window) n count) (sym numbered) (law (next_taken flow.window) number lawful) in
-        let window_is : lost_flow.window ≡ moved_on_by (next_taken flow.window) count = losses-window count moved in
+        let stops : Stops u (next_taken flow.window) count = stops-everywhere u (next_taken flow.window) lawful in
+        let window_is : passed_flow.window ≡ moved_on_by (next_taken flow.window) count = losses-window count moved in
         let at : number_ahead (next_taken flow.window).expected count ≡ number_of r.first (y + 1 + count) =
         ap (λ e. number_ahead (following e) count) s.window.number ∙ ap (λ e. number_ahead e count) (following-index r.first y) ∙ ahead-index r.first (y + 1) count in
-        let gone_to : lost_flow.window.expected ≡ number_of r.first (y + 1 + count) = ap (λ (w : WindowView ReadySegment). w.expected) window_is ∙ at in
-        let passed = passed-lost check r s.fates answers (y + 1) (given ++ frames) fed_flow fed-come end count to_do.1 to_do.2 to_do.4 stops in
+        let gone_to : passed_flow.window.expected ≡ number_of r.first (y + 1 + count) = ap (λ (w : WindowView ReadySegment). w.expected) window_is ∙ at in
+        let passed = passed-lost check r s.fates answers (y + 1) (given ++ frames) fed_flow fed-come u end count numbered to_do.1 to_do.2 to_do.4 stops in
         ⊎_elim
         (λ done.
-        let gone_window : gone.window ≡ lost_flow.window = ap (λ (one : Flow). one.window) done.1 in
-        let come = comes-further check r s.fates answers (y + 1) (given ++ frames) fed_flow fed-come end count to_do.1 to_do.2 to_do.4 stops (subst IsLawful (gone_window ∙ window_is) gone_lawful) in
+        let gone_window : gone.window ≡ passed_flow.window = ap (λ (one : Flow). one.window) done.1 in
+        let come = comes-further check r s.fates answers (y + 1) (given ++ frames) fed_flow fed-come u end count numbered to_do.1 to_do.2 to_do.4 stops (subst IsLawful (gone_window ∙ window_is) gone_lawful) in
         whole (y + 1 + count) (omega arith) gone
         (subst (λ one. HasComeTo check r s.fates answers (y + 1 + count) (given ++ frames) one) (sym done.1)
-        (come-same check r s.fates answers (y + 1 + count) (given ++ frames) lost_flow (record lost_flow { declared_to = None }) come refl refl refl))
-        (subst (λ (one : Flow). IsRemembered r.first s.fates (y + 1 + count) (option_map (λ sequence. sequence.number) one.declared_to)) (sym done.1)
-        (forgotten check r s.fates answers (y + 1) (given ++ frames) fed_flow fed-come end count to_do.1 to_do.2 to_do.4 stops
+        (come-same check r s.fates answers (y + 1 + count) (given ++ frames) passed_flow (record passed_flow { going_on = None }) come refl refl refl))
+        (subst (λ (one : Flow). IsRemembered r.first s.fates (y + 1 + count) one.going_on) (sym done.1)
+        (forgotten check r s.fates answers (y + 1) (given ++ frames) fed_flow fed-come u end count numbered to_do.1 to_do.2 to_do.4 stops
         (⊎_elim
         (λ (empty : map.len (next_taken flow.window).held ≡ 0). inl empty)
-        (λ reached. inr (sym gone_to ∙ reached ∙ sym numbered))
+        (λ reached. inr (sym gone_to ∙ reached))
         done.0)))
         passed)
         (λ on.
-        let gone_window : gone.window ≡ lost_flow.window = ap (λ (one : Flow). one.window) on.2 in
-        let come = comes-further check r s.fates answers (y + 1) (given ++ frames) fed_flow fed-come end count to_do.1 to_do.2 to_do.4 stops (subst IsLawful (gone_window ∙ window_is) gone_lawful) in
+        let gone_window : gone.window ≡ passed_flow.window = ap (λ (one : Flow). one.window) on.2 in
+        let come = comes-further check r s.fates answers (y + 1) (given ++ frames) fed_flow fed-come u end count numbered to_do.1 to_do.2 to_do.4 stops (subst IsLawful (gone_window ∙ window_is) gone_lawful) in
         whole (y + 1 + count) (omega arith) gone
         (subst (λ one. HasComeTo check r s.fates answers (y + 1 + count) (given ++ frames) one) (sym on.2) come)
-        (subst (λ (one : Flow). IsRemembered r.first s.fates (y + 1 + count) (option_map (λ sequence. sequence.number) one.declared_to)) (sym on.2)
-        (subst (IsRemembered r.first s.fates (y + 1 + count)) (sym (ap (option_map (λ (sequence : SequenceNumber). sequence.number)) (losses-memory count moved) ∙ is))
-        (subst (λ n. IsRemembered r.first s.fates (y + 1 + count) (Some n)) numbered
-        (still-remembered check r s.fates answers (y + 1) (given ++ frames) fed_flow fed-come end count to_do.1 to_do.2 to_do.4 stops on.0
-        (λ same. on.1 (gone_to ∙ same ∙ numbered))))))
+        (subst (λ (one : Flow). IsRemembered r.first s.fates (y + 1 + count) one.going_on) (sym on.2)
+        (subst (IsRemembered r.first s.fates (y + 1 + count)) (sym (losses-memory count moved ∙ is))
+        (still-remembered check r s.fates answers (y + 1) (given ++ frames) fed_flow fed-come u end count numbered to_do.1 to_do.2 to_do.4 stops
+        (held-CanLose u (next_taken flow.window) on.0)
+        (λ same. on.1 (gone_to ∙ same)))))
         passed)
         goes
 
-    goes-on : (declared_to : Option SequenceNumber) → flow.declared_to ≡ declared_to → GoesOn declared_to fed_flow gone
+    goes-on : (going_on : Option UpTo) → flow.going_on ≡ going_on → GoesOn going_on fed_flow gone
         → (z : ℕ) × (y < z) × (stands : StandsFor check r gone events answers z (given ++ frames)) × AreLost stands.fates (y + 1) z
     goes-on None is goes =
         whole (y + 1) (omega arith) gone
         (subst (λ one. HasComeTo check r s.fates answers (y + 1) (given ++ frames) one) (sym goes) fed-come)
-        (subst (λ (one : Flow). IsRemembered r.first s.fates (y + 1) (option_map (λ sequence. sequence.number) one.declared_to)) (sym goes)
-        (subst (IsRemembered r.first s.fates (y + 1)) (sym (ap (option_map (λ (sequence : SequenceNumber). sequence.number)) is))
-        (to-go-on None (subst (IsRemembered r.first s.fates y) (ap (option_map (λ (sequence : SequenceNumber). sequence.number)) is) s.remembered))))
+        (subst (λ (one : Flow). IsRemembered r.first s.fates (y + 1) one.going_on) (sym goes)
+        (subst (IsRemembered r.first s.fates (y + 1)) (sym is) (to-go-on None (subst (IsRemembered r.first s.fates y) is s.remembered))))
         (λ i from to. absurd (omega arith))
-    goes-on (Some sequence) is goes =
-        goes-on-to sequence.number goes
-        (to-go-on (Some sequence.number) (subst (IsRemembered r.first s.fates y) (ap (option_map (λ (one : SequenceNumber). one.number)) is) s.remembered))
-        (ap (option_map (λ (one : SequenceNumber). one.number)) is)
+    goes-on (Some u) is goes = goes-on-to u goes (to-go-on (Some u) (subst (IsRemembered r.first s.fates y) is s.remembered)) is
 
 -- A step of a flow that isn't drained gives the frames that the next segment completes.
 pub step-gives : (check : List ℕ → Bool) (flow gone : Flow) (ready : ReadySegment) (frames : List (List ℕ)) (after : List ℕ) (skipped : ℕ)
@@ -176,9 +171,8 @@ pub step-gives : (check : List ℕ → Bool) (flow gone : Flow) (ready : ReadySe
     → Feeds check flow.joiner ready.segment frames after
     → skipped + length (concat frames) + length after ≡ length flow.joiner + length ready.segment.payload
     → IsLawful (next_taken flow.window)
-    → ((w : WindowView ReadySegment) (number : ℕ) → IsLawful w → Stops w number (declared_count w number))
-    → GoesOn flow.declared_to (record flow { window = next_taken flow.window; joiner = after; counts = fed_counts flow.counts frames skipped }) gone
+    → GoesOn flow.going_on (record flow { window = next_taken flow.window; joiner = after; counts = fed_counts flow.counts frames skipped }) gone
     → IsLawful gone.window
     → Gives check flow frames gone
-step-gives check flow gone ready frames after skipped next feeds balance lawful law goes gone_lawful r events answers y given s =
-    goes-on check r flow events answers y given s ready next frames after skipped feeds balance lawful law gone gone_lawful flow.declared_to refl goes
+step-gives check flow gone ready frames after skipped next feeds balance lawful goes gone_lawful r events answers y given s =
+    goes-on check r flow events answers y given s ready next frames after skipped feeds balance lawful gone gone_lawful flow.going_on refl goes

@@ -1,10 +1,9 @@
 -- What a flow gives by the definitions: it is one thing, a drained flow has it, and of near events it is the delivery sequence.
-use Rattle.std.proofs.Common.{◌≡◌, ℕ, zero, suc, ◌<◌, Bool, false, cond, Option, Some, List, [], ◌++◌, length, get_or, replicate, refl, ap, sym, subst, ◌∙◌, arith, count_by}
+use Rattle.std.proofs.Common.{◌≡◌, ℕ, zero, suc, ◌<◌, Bool, false, cond, Option, List, [], ◌++◌, length, get_or, replicate, refl, ap, sym, subst, ◌∙◌, arith, count_by}
 use Rattle.std.proofs.lemmas.List.{same_lists}
 use Rattle.std.proofs.lemmas.Option.{slice_get-get_or}
 use Rattle.docsis_wire.specs.declared.segment.Segment.{Segment}
 use Rattle.docsis_wire.specs.Cut.{IsLawfulCut}
-use Rattle.docsis_wire.specs.Span.{IsSettledOf}
 use Rattle.ccf.specs.Join.{Joins}
 use Rattle.flow_core.specs.declared.record.FlowRecord.{FlowRecord}
 use Rattle.flow_core.specs.declared.flow.Flow.{Flow}
@@ -12,16 +11,16 @@ use Rattle.flow_core.specs.declared.counts.FlowCounts.{FlowCounts}
 use Rattle.flow_core.specs.declared.event.Applied.{Applied}
 use Rattle.flow_core.specs.Fates.{Fates, no_fates, IsExpected, IsSettledBelow}
 use Rattle.reorder.specs.declared.verdict.Declared.{Declared}
-use Rattle.flow_core.specs.declared.event.Applied.TheVariants.{Arrival, Decision, DecisionTo}
+use Rattle.flow_core.specs.declared.event.Applied.TheVariants.{Arrival, Decision, DecisionTo, DecisionSkip}
 use Rattle.flow_core.specs.Events.{FlowEvent, gap, Leads}
 use Rattle.flow_core.specs.Closing.{IsClosed}
 use Rattle.flow_core.specs.Near.{AreNear}
 use Rattle.flow_core.specs.Counts.{counted, says_kept, says_late, says_repeat, says_beyond, AreCounts}
 use Rattle.flow_core.specs.Stands.{StandsFor, IsDrained}
 use Rattle.flow_core.specs.Outcome.{IsFlowOutcome}
-use Rattle.flow_core.proofs.Outcome.{expected-unique, sound-after}
+use Rattle.flow_core.proofs.Outcome.{expected-unique}
 use Rattle.flow_core.proofs.OneFates.{after-once}
-use Rattle.flow_core.proofs.Nearness.{AreOfIndex, numbered_of_cut, of_index-after, expected-within}
+use Rattle.flow_core.proofs.Nearness.{AreOfIndex, numbered_of_cut, of_index-after}
 use Rattle.flow_core.proofs.Giving.{expected_of_drained}
 use Rattle.flow_core.proofs.Closing.{only-close}
 use Rattle.flow_core.proofs.Turns.{leads-split}
@@ -91,21 +90,15 @@ drained-outcome check flow_record flow events answers y given s drained =
       counted = s.counts;
     }
 
--- what near events settle is of the cut
+-- what near events keep is of the cut
 pub outcome-of_cut : (check : List ℕ → Bool) (flow_record : FlowRecord) (events : List FlowEvent) (given : List (List ℕ)) (counts : FlowCounts)
     (frames chunks : List (List ℕ)) (fill : ℕ) (segments : List Segment)
     → IsLawfulCut check frames flow_record.first fill chunks segments → AreNear flow_record.first flow_record.window segments events
-    → (o : IsFlowOutcome check flow_record events given counts) → IsSettledOf segments o.settled
+    → (o : IsFlowOutcome check flow_record events given counts) → AreOfIndex segments o.fates
 outcome-of_cut check flow_record events given counts frames chunks fill segments cut near o =
-    let numbered = numbered_of_cut check frames chunks flow_record.first fill segments cut in
-    let sound = sound-after flow_record.first flow_record.window events o.answers o.fates o.x o.after o.expected in
-    let of_index : AreOfIndex segments o.fates =
-    of_index-after flow_record.first flow_record.window segments events o.answers o.fates numbered
-    (λ before behind segment so_far fates x e is expected _. near before behind segment so_far fates x e is expected) o.after in
-    record {
-      within = omega (arith, o.below.size, expected-within flow_record.window o.x segments o.fates sound of_index);
-      kept = λ i segment at. of_index i segment (o.below.each i (Some segment) at);
-    }
+    of_index-after flow_record.first flow_record.window segments events o.answers o.fates
+    (numbered_of_cut check frames chunks flow_record.first fill segments cut)
+    (λ before behind segment so_far fates x e is expected _. near before behind segment so_far fates x e is expected) o.after
 
 -- among the answers to gaps there is none of a kind that no decision is
 gaps-none : (p : Applied → Bool) → ((declared : Declared) → p (Decision declared) ≡ false) → (first width n : ℕ) (answers : List Applied) (fates after : Fates)
@@ -119,6 +112,7 @@ gaps-none p not_so first width (suc n) answers fates after (x, Decision declared
     let whole = ap (count_by p) are in
     omega arith
 gaps-none p not_so first width (suc n) answers fates after (x, DecisionTo declared, rest, between, expected, changes, leads, are) = absurd changes
+gaps-none p not_so first width (suc n) answers fates after (x, DecisionSkip skipped, rest, between, expected, changes, leads, are) = absurd changes
 
 -- so gaps at the end add none
 gaps-add_none : (p : Applied → Bool) → ((declared : Declared) → p (Decision declared) ≡ false) → (first width n : ℕ) (answers front back : List Applied) (fates after : Fates)

@@ -1,5 +1,5 @@
 -- What the calls of a core make of one flow and what it has given.
-use Rattle.std.proofs.Common.{◌≡◌, ℕ, ◌+◌, ◌<◌, Bool, true, cond, List, [], ◌∷◌, ◌++◌, replicate, refl, ap, sym, subst, ◌∙◌, arith, count_by, append_assoc}
+use Rattle.std.proofs.Common.{◌≡◌, ℕ, ◌+◌, ◌<◌, inl, inr, Bool, true, cond, List, [], ◌∷◌, ◌++◌, replicate, refl, ap, sym, subst, ◌∙◌, arith, count_by, append_assoc}
 use Rattle.std.proofs.lemmas.List.Sums.{sum_by_push}
 use Rattle.std.proofs.lemmas.List.{replicate_more}
 use Rattle.std.proofs.lemmas.Option.{same_Some}
@@ -10,11 +10,13 @@ use Rattle.flow_core.specs.declared.flows.Core.{Core}
 use Rattle.flow_core.specs.declared.event.Step.TheVariants.{Frames, Nothing}
 use Rattle.flow_core.specs.declared.event.Applied.{Applied}
 use Rattle.flow_core.specs.declared.event.Applied.TheVariants.{Decision}
+use Rattle.flow_core.specs.Fates.{IsKept, IsExpected}
 use Rattle.flow_core.specs.Events.{FlowEvent, gap}
 use Rattle.flow_core.specs.Stands.{StandsFor, IsDrained}
 use Rattle.flow_core.specs.Flows.{OthersStay, TakesEventAt, AdvancesAt, IsDrainedAt, IsLoss, ClosesGapAt}
 use Rattle.flow_core.specs.Closing.{says_lost}
 use Rattle.flow_core.specs.Giving.{HasGiven, HasDrained}
+use Rattle.flow_core.proofs.Giving.{drained_of_expected}
 
 -- no call leaves all as it was
 pub others_never : {C : Type 0} (core : Core C) (k : ℕ) → OthersStay core core k
@@ -34,9 +36,9 @@ module _ {C : Type 0} (accepts : C → List ℕ → Bool) (core after : Core C) 
   same_accepted : accepts after.check ≡ accepted
   same_accepted = ap accepts others.check ∙ h.accepted_are
 
-  -- it advanced
+  -- it advanced: the segment to which it had come was kept
   pub after_advance : (frames : _) → AdvancesAt accepts core k (Frames frames) after
-      → (a : HasGiven accepts after k accepted r events (given ++ frames.items)) × (h.y < a.y)
+      → (a : HasGiven accepts after k accepted r events (given ++ frames.items)) × (h.y < a.y) × IsKept h.stands.fates h.y
   after_advance frames advances =
       let there = advances h.flow h.there in
       let stands : StandsFor (accepts core.check) r h.flow events h.answers h.y given =
@@ -51,6 +53,10 @@ module _ {C : Type 0} (accepts : C → List ℕ → Bool) (core after : Core C) 
           stands = subst (λ p. StandsFor p r there.0 events h.answers gives.0 (given ++ frames.items)) h.accepted_are gives.2;
         },
         gives.1,
+        elim h.stands.come_to [
+          | inl same ↦ absurd (there.2.0 (drained_of_expected accepted r h.flow events h.answers h.y given h.stands (subst (IsExpected h.stands.fates) (sym same) h.stands.expected)))
+          | inr (less, kept) ↦ kept
+        ],
       )
 
   -- or nothing was next

@@ -1,12 +1,11 @@
 -- What follows for a flow from the events that it stands for.
-use Rattle.std.proofs.Common.{◌≡◌, ℕ, ◌≤◌, inl, inr, Bool, Option, Some, None, List, ◌++◌, refl, ap, sym, subst, ◌∙◌, arith}
+use Rattle.std.proofs.Common.{◌≡◌, ℕ, ◌≤◌, inl, inr, Bool, Option, None, Some, List, ◌++◌, refl, ap, sym, subst, ◌∙◌, arith}
 use Rattle.std.specs.List.{AllByRecursion}
 use Rattle.std.specs.Option.{option_map, option_flatten}
 use Rattle.docsis_wire.specs.declared.segment.Segment.{Segment}
 use Rattle.docsis_wire.specs.declared.segment.ReadySegment.{ReadySegment}
 use Rattle.docsis_wire.specs.Frame.{IsFrame}
 use Rattle.docsis_wire.specs.Cut.{IsLawfulCut}
-use Rattle.docsis_wire.specs.Span.{IsSettledOf}
 use Rattle.ccf.specs.Filter.{FiltersTo}
 use Rattle.reorder.specs.View.{held_at}
 use Rattle.flow_core.specs.declared.record.FlowRecord.{FlowRecord}
@@ -17,9 +16,9 @@ use Rattle.flow_core.specs.Events.{FlowEvent, IsAfter}
 use Rattle.flow_core.specs.Near.{AreNear}
 use Rattle.flow_core.specs.Delivery.{IsDelivered, IsDeliverySequence}
 use Rattle.flow_core.specs.Stands.{StandsFor, IsDrained}
-use Rattle.flow_core.proofs.Outcome.{expected-unique, sound-after}
+use Rattle.flow_core.proofs.Outcome.{expected-unique}
 use Rattle.flow_core.proofs.OneFates.{after-once}
-use Rattle.flow_core.proofs.Nearness.{AreOfIndex, numbered_of_cut, of_index-after, expected-within}
+use Rattle.flow_core.proofs.Nearness.{AreOfIndex, numbered_of_cut, of_index-after}
 use Rattle.flow_core.proofs.Deliveries.{delivered_is_front}
 use Rattle.flow_core.proofs.Sequences.{sequence-some}
 
@@ -63,18 +62,12 @@ module _ (check : List ℕ → Bool) (flow_record : FlowRecord) (flow : Flow) (e
 
   module _ (frames chunks : List (List ℕ)) (fill : ℕ) (segments : List Segment) (cut : IsLawfulCut check frames flow_record.first fill chunks segments)
       (near : AreNear flow_record.first flow_record.window segments events) where
-    -- what is settled below the index that the flow has come to is of the cut
-    pub settled_of_cut : IsSettledOf segments s.settled
-    settled_of_cut =
-        let numbered = numbered_of_cut check frames chunks flow_record.first fill segments cut in
-        let sound = sound-after flow_record.first flow_record.window events answers s.fates s.x s.after s.expected in
-        let of_index : AreOfIndex segments s.fates =
-        of_index-after flow_record.first flow_record.window segments events answers s.fates numbered
-        (λ before behind segment so_far fates x e is expected _. near before behind segment so_far fates x e is expected) s.after in
-        record {
-          within = omega (arith, s.below.size, onward s.x s.expected, expected-within flow_record.window s.x segments s.fates sound of_index);
-          kept = λ i segment at. of_index i segment (s.below.each i (Some segment) at);
-        }
+    -- each kept segment is the cut's segment with its index
+    pub kept_of_cut : AreOfIndex segments s.fates
+    kept_of_cut =
+        of_index-after flow_record.first flow_record.window segments events answers s.fates
+        (numbered_of_cut check frames chunks flow_record.first fill segments cut)
+        (λ before behind segment so_far fates x e is expected _. near before behind segment so_far fates x e is expected) s.after
 
   module _ (frames chunks : List (List ℕ)) (fates : Fates) (is : IsAfter flow_record.first flow_record.window events answers fates)
       (filters : FiltersTo (IsDelivered frames chunks s.fates y) frames given) where

@@ -1,14 +1,12 @@
 -- How the delivery sequence grows with more events.
-use Rattle.std.proofs.Common.{◌≡◌, ℕ, Bool, Option, Some, List, [], ◌∷◌, ◌++◌, refl, ap, subst, ◌∙◌, arith}
+use Rattle.std.proofs.Common.{◌≡◌, ℕ, Bool, List, [], ◌∷◌, ◌++◌, refl, subst, arith}
 use Rattle.std.specs.List.{AllByRecursion}
-use Rattle.std.specs.FinMap as map
-use Rattle.docsis_wire.specs.declared.segment.Segment.{Segment}
 use Rattle.docsis_wire.specs.Frame.{IsFrame}
 use Rattle.flow_core.specs.declared.event.Applied.{Applied}
 use Rattle.flow_core.specs.Fates.{Fates, no_fates}
-use Rattle.flow_core.specs.Events.{FlowEvent, Changes, Leads, IsAfter}
+use Rattle.flow_core.specs.Events.{FlowEvent, Leads, IsAfter}
 use Rattle.flow_core.specs.Delivery.{IsDeliverySequence}
-use Rattle.flow_core.proofs.Outcome.{IsSound, expected-unique, sound-changes, sound-leads, sound-after, settled-stays}
+use Rattle.flow_core.proofs.Outcome.{expected-unique, sound-leads, sound-after, stays-leads}
 use Rattle.flow_core.proofs.OneFates.{after-once}
 use Rattle.flow_core.proofs.Deliveries.{delivered_is_front}
 
@@ -32,16 +30,6 @@ leads-split first width (event ∷ events) more answers fates after (x, answer, 
       leads = (x, answer, s.front, next, expected, changes, s.leads, refl);
       onward = s.onward;
     }
-
--- what is settled stays as it is
-stays-leads : (first width x : ℕ) (events : List FlowEvent) (answers : List Applied) (fates after : Fates) → IsSound width fates x
-    → Leads first width fates events answers after → (i : ℕ) (fate : Option Segment) → map.get fates i ≡ Some fate → map.get after i ≡ Some fate
-stays-leads first width x [] answers fates after sound leads i fate is = ap (λ (f : Fates). map.get f i) leads.1 ∙ is
-stays-leads first width x (event ∷ events) answers fates after sound (x', answer, rest, between, expected, changes, leads, are) i fate is =
-    let same = expected-unique fates x' x expected sound.expected in
-    let changed : Changes first width x event answer fates between = subst (λ k. Changes first width k event answer fates between) same changes in
-    let next = sound-changes first width x event answer fates between sound changed in
-    stays-leads first width next.0 events rest between after next.2 leads i fate (settled-stays first width x i event answer fates between fate sound changed is)
 
 pub sequence_grows : (check : List ℕ → Bool) (frames chunks : List (List ℕ)) (first width : ℕ) (events more : List FlowEvent) (answers later : List Applied) (fates after : Fates)
     (given grown : List (List ℕ))

@@ -1,8 +1,10 @@
 pub mod Deciding
 pub mod Outcome
 pub mod OneFates
+pub mod LaterKept
 pub mod Nearness
 pub mod Deliveries
+pub mod PastTheCut
 pub mod Sequences
 pub mod Growth
 pub mod Giving
@@ -13,6 +15,7 @@ pub mod Standing
 pub mod Arriving
 pub mod Held
 pub mod Losing
+pub mod Stopping
 pub mod FlowDeclaring
 pub mod FlowJoining
 pub mod Setup
@@ -23,4 +26,5 @@ pub mod NewFlows
 pub mod Closing
 pub mod Turns
 pub mod Draining
+pub mod Skipping
 pub mod FlowOutcomes

@@ -126,7 +126,7 @@ pub losses-window : (n : ℕ) (flow : Flow) → (after_losses n flow).window ≡
 losses-window zero flow = refl
 losses-window (suc n) flow = refl
 
-pub losses-memory : (n : ℕ) (flow : Flow) → (after_losses n flow).declared_to ≡ flow.declared_to
+pub losses-memory : (n : ℕ) (flow : Flow) → (after_losses n flow).going_on ≡ flow.going_on
 losses-memory zero flow = refl
 losses-memory (suc n) flow = refl
 

@@ -10,11 +10,11 @@ use Rattle.reorder.specs.declared.verdict.Verdict.TheVariants.{Late, Beyond, Rep
 use Rattle.reorder.specs.declared.verdict.Declared.{Declared}
 use Rattle.reorder.specs.declared.verdict.Declared.TheVariants.{NextIsHere, NothingHeld, Lost}
 use Rattle.flow_core.specs.declared.event.Applied.{Applied}
-use Rattle.flow_core.specs.declared.event.Applied.TheVariants.{Arrival, Decision, DecisionTo}
+use Rattle.flow_core.specs.declared.event.Applied.TheVariants.{Arrival, Decision, DecisionTo, DecisionSkip}
 use Rattle.flow_core.specs.Fates.{Fates, no_fates, number_of, IsKept, IsExpected}
-use Rattle.flow_core.specs.Events.{FlowEvent, arrives, gap, gap_to, IsVerdictOn, Keeps, Declares, IsDeclaredTo, DeclaresTo, Changes, Leads, IsAfter}
-use Rattle.flow_core.proofs.Deciding.{IsKept-decided, HasLaterKept-decided, IsAhead-once, ahead_or_behind, IsDeclaredTo-decided}
-use Rattle.flow_core.proofs.Outcome.{IsSound, expected-unique, sound-changes, sound-none, declared-to}
+use Rattle.flow_core.specs.Events.{FlowEvent, arrives, gap, gap_to, skip_to, IsVerdictOn, Keeps, Declares, LosesJust, IsDeclaredTo, IsSkippedTo, Changes, Leads, IsAfter}
+use Rattle.flow_core.proofs.Deciding.{Decided, IsKept-decided, HasLaterKept-decided, IsAhead-once, ahead_or_behind, IsDeclaredTo-decided, IsSkippedTo-decided}
+use Rattle.flow_core.proofs.Outcome.{IsSound, expected-unique, sound-changes, sound-none, declared-to, skipped-to}
 
 -- a segment that arrives is answered
 verdict-exists : (first width x : ℕ) (fates : Fates) (segment : Segment)
@@ -50,6 +50,9 @@ changes-exists first width x gap fates sound =
 changes-exists first width x (gap_to number) fates sound =
     let found = declared-to first width x number fates sound in
     (DecisionTo found.1, found.0, found.2)
+changes-exists first width x (skip_to number) fates sound =
+    let found = skipped-to first x number fates in
+    (DecisionSkip found.1, found.0, found.2)
 
 -- and events one after another
 leads-exists : (first width x : ℕ) (events : List FlowEvent) (fates : Fates) → IsSound width fates x
@@ -116,13 +119,14 @@ same_test P true false to from to' from' = sym (from' (to refl))
 same_test P false true to from to' from' = from (to' refl)
 same_test P false false to from to' from' = refl
 
-DeclaresTo-once : (first width x number : ℕ) (fates after other : Fates) (a b : Bool) → IsSound width fates x
-    → DeclaresTo first x number a fates after → DeclaresTo first x number b fates other → (a ≡ b) × (after ≡ other)
-DeclaresTo-once first width x number fates after other a b sound p q = (
-  same_test ((i : ℕ) × IsDeclaredTo first x number fates i) a b p.answer.0 p.answer.1 q.answer.0 q.answer.1,
+-- so do losses of just the same indexes
+pub LosesJust-once : (P : ℕ → Type 0) (fates after other : Fates) (a b : Bool) → ((i : ℕ) → Decided (P i))
+    → LosesJust P a fates after → LosesJust P b fates other → (a ≡ b) × (after ≡ other)
+LosesJust-once P fates after other a b decide p q = (
+  same_test ((i : ℕ) × P i) a b p.answer.0 p.answer.1 q.answer.0 q.answer.1,
   map.same_map nat_cmp_total nat_cmp-IsAntisymmetric after other (λ i.
-      elim (IsDeclaredTo-decided first x number fates (x + width) i sound.kept_within) [
-        | inl declared ↦ p.lost i declared ∙ sym (q.lost i declared)
+      elim (decide i) [
+        | inl lost ↦ p.lost i lost ∙ sym (q.lost i lost)
         | inr not_so ↦ p.others i not_so ∙ sym (q.others i not_so)
       ]),
 )
@@ -135,20 +139,37 @@ Changes-once first width x (arrives segment) (Arrival a) (Arrival b) fates after
     (ap Arrival same, Keeps-once first width x fates after other segment b q.0 (subst (λ v. Keeps first x segment v fates after) same p.1) q.1)
 Changes-once first width x (arrives segment) (Arrival a) (Decision b) fates after other sound p q = absurd q
 Changes-once first width x (arrives segment) (Arrival a) (DecisionTo b) fates after other sound p q = absurd q
+Changes-once first width x (arrives segment) (Arrival a) (DecisionSkip b) fates after other sound p q = absurd q
 Changes-once first width x (arrives segment) (Decision a) b fates after other sound p q = absurd p
 Changes-once first width x (arrives segment) (DecisionTo a) b fates after other sound p q = absurd p
+Changes-once first width x (arrives segment) (DecisionSkip a) b fates after other sound p q = absurd p
 Changes-once first width x gap (Decision a) (Decision b) fates after other sound p q =
     let same = Declares-once first x fates after other a b p q in (ap Decision same.0, same.1)
 Changes-once first width x gap (Decision a) (Arrival b) fates after other sound p q = absurd q
 Changes-once first width x gap (Decision a) (DecisionTo b) fates after other sound p q = absurd q
+Changes-once first width x gap (Decision a) (DecisionSkip b) fates after other sound p q = absurd q
 Changes-once first width x gap (Arrival a) b fates after other sound p q = absurd p
 Changes-once first width x gap (DecisionTo a) b fates after other sound p q = absurd p
+Changes-once first width x gap (DecisionSkip a) b fates after other sound p q = absurd p
 Changes-once first width x (gap_to number) (DecisionTo a) (DecisionTo b) fates after other sound p q =
-    let same = DeclaresTo-once first width x number fates after other a b sound p q in (ap DecisionTo same.0, same.1)
+    let decide = λ (i : ℕ). IsDeclaredTo-decided first x number fates (x + width) i sound.kept_within in
+    let same = LosesJust-once (IsDeclaredTo first x number fates) fates after other a b decide p q in
+    (ap DecisionTo same.0, same.1)
 Changes-once first width x (gap_to number) (DecisionTo a) (Arrival b) fates after other sound p q = absurd q
 Changes-once first width x (gap_to number) (DecisionTo a) (Decision b) fates after other sound p q = absurd q
+Changes-once first width x (gap_to number) (DecisionTo a) (DecisionSkip b) fates after other sound p q = absurd q
 Changes-once first width x (gap_to number) (Arrival a) b fates after other sound p q = absurd p
 Changes-once first width x (gap_to number) (Decision a) b fates after other sound p q = absurd p
+Changes-once first width x (gap_to number) (DecisionSkip a) b fates after other sound p q = absurd p
+Changes-once first width x (skip_to number) (DecisionSkip a) (DecisionSkip b) fates after other sound p q =
+    let same = LosesJust-once (IsSkippedTo first x number fates) fates after other a b (IsSkippedTo-decided first x number fates) p q in
+    (ap DecisionSkip same.0, same.1)
+Changes-once first width x (skip_to number) (DecisionSkip a) (Arrival b) fates after other sound p q = absurd q
+Changes-once first width x (skip_to number) (DecisionSkip a) (Decision b) fates after other sound p q = absurd q
+Changes-once first width x (skip_to number) (DecisionSkip a) (DecisionTo b) fates after other sound p q = absurd q
+Changes-once first width x (skip_to number) (Arrival a) b fates after other sound p q = absurd p
+Changes-once first width x (skip_to number) (Decision a) b fates after other sound p q = absurd p
+Changes-once first width x (skip_to number) (DecisionTo a) b fates after other sound p q = absurd p
 
 leads-once : (first width x : ℕ) (events : List FlowEvent) (answers others : List Applied) (fates after other : Fates) → IsSound width fates x
     → Leads first width fates events answers after → Leads first width fates events others other → (answers ≡ others) × (after ≡ other)

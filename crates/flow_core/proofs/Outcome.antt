@@ -8,16 +8,15 @@ use Rattle.reorder.specs.declared.verdict.Verdict.TheVariants.{Late, Beyond, Rep
 use Rattle.reorder.specs.declared.verdict.Declared.TheVariants.{NextIsHere, NothingHeld, Lost}
 use Rattle.reorder.proofs.Items.{get-insert_same, get-insert_other}
 use Rattle.flow_core.specs.declared.event.Applied.{Applied}
-use Rattle.flow_core.specs.declared.event.Applied.TheVariants.{Arrival, Decision, DecisionTo}
-use Rattle.flow_core.specs.Fates.{Fates, no_fates, IsKept, IsLost, IsOpen, IsExpected, HasLaterKept}
-use Rattle.flow_core.specs.Events.{FlowEvent, arrives, gap, gap_to, IsDeclaredTo, Changes, DeclaresTo, Leads, IsAfter}
-use Rattle.flow_core.proofs.Deciding.{Decided, found-below, open_or_settled, IsDeclaredTo-decided, marked-lost}
+use Rattle.flow_core.specs.declared.event.Applied.TheVariants.{Arrival, Decision, DecisionTo, DecisionSkip}
+use Rattle.flow_core.specs.Fates.{Fates, no_fates, IsKept, IsLost, IsOpen, IsExpected}
+use Rattle.flow_core.specs.Events.{FlowEvent, arrives, gap, gap_to, skip_to, IsDeclaredTo, IsSkippedTo, LosesJust, Changes, DeclaresTo, SkipsTo, Leads, IsAfter}
+use Rattle.flow_core.proofs.Deciding.{Decided, found-below, open_or_settled, IsDeclaredTo-decided, IsSkippedTo-decided, marked-lost}
 
 -- what holds after every list of events, where x is the expected index
 pub record IsSound (width : ℕ) (fates : Fates) (x : ℕ) : Type 0 where
   pub expected : IsExpected fates x
   pub lost_below : (i : ℕ) → IsLost fates i → i < x
-  pub lost_have_later : (i : ℕ) → IsLost fates i → HasLaterKept fates i
   pub kept_within : (i : ℕ) → IsKept fates i → i < x + width
 
 -- an open index is not settled
@@ -50,12 +49,12 @@ expected-from fates bound n (suc left) e open_from settled =
 pub expected-exists : (fates : Fates) (bound : ℕ) → ((i : ℕ) → bound ≤ i → IsOpen fates i) → (x : ℕ) × IsExpected fates x × (x ≤ bound)
 expected-exists fates bound open_from = expected-from fates bound 0 bound (omega arith) open_from (λ i below. absurd (omega arith))
 
--- The fates after an event: what was settled stays, what is lost has no open index up to it and a kept segment after it, and what is kept
+-- The fates after an event: what was settled stays, what is lost lies less than 4096 ahead and has no open index up to it, and what is kept
 -- lies within the window.
 record Grows (width x : ℕ) (fates after : Fates) : Type 0 where
   stays : (i : ℕ) (fate : Option Segment) → map.get fates i ≡ Some fate → map.get after i ≡ Some fate
   lost : (i j : ℕ) → IsLost after i → j ≤ i → IsSome (map.get after j)
-  later_kept : (i : ℕ) → IsLost after i → HasLaterKept after i
+  near : (i : ℕ) → IsLost after i → i < x + 4096
   within : (i : ℕ) → IsKept after i → i < x + width
 
 -- nothing that was settled is open after
@@ -66,18 +65,18 @@ settled-after width x fates after grows i settled =
       | inr fate ↦ ap is_some (grows.stays i fate.0 fate.1)
     ]
 
--- from the end of the window on all are open
-open-behind : (width x : ℕ) (fates after : Fates) → Grows width x fates after → (i : ℕ) → x + width ≤ i → IsOpen after i
+-- from some index on all are open
+open-behind : (width x : ℕ) (fates after : Fates) → Grows width x fates after → (i : ℕ) → x + width + 4096 ≤ i → IsOpen after i
 open-behind width x fates after grows i from =
     elim (open_or_settled after i) [
       | inl free ↦ free
-      | inr (None, is) ↦ let later_kept = grows.later_kept i is in let near = grows.within later_kept.0 later_kept.2 in absurd (omega (arith, later_kept.1))
+      | inr (None, is) ↦ let near = grows.near i is in absurd (omega arith)
       | inr (Some segment, is) ↦ let near = grows.within i (segment, is) in absurd (omega arith)
     ]
 
 Grows-sound : (width x : ℕ) (fates after : Fates) → IsSound width fates x → Grows width x fates after → (y : ℕ) × (x ≤ y) × IsSound width after y
 Grows-sound width x fates after sound grows =
-    let found = expected-exists after (x + width) (open-behind width x fates after grows) in
+    let found = expected-exists after (x + width + 4096) (open-behind width x fates after grows) in
     let y = found.0 in
     let is = found.1 in
     let onward : x ≤ y = elim (cases_lt y x) [
@@ -89,7 +88,6 @@ Grows-sound width x fates after sound grows =
       record {
         expected = is;
         lost_below = λ i lost. elim (cases_lt i y) [ inl below ↦ below | inr from ↦ absurd (open_and_settled after y is.open_itself (grows.lost i y lost from)) ];
-        lost_have_later = grows.later_kept;
         kept_within = λ i kept. let near = grows.within i kept in omega arith;
       },
     )
@@ -99,14 +97,9 @@ Grows-same : (width x : ℕ) (fates : Fates) → IsSound width fates x → Grows
 Grows-same width x fates sound = record {
   stays = λ i fate is. is;
   lost = λ i j lost up_to. sound.expected.settled j (let below = sound.lost_below i lost in omega arith);
-  later_kept = sound.lost_have_later;
+  near = λ i lost. let below = sound.lost_below i lost in omega arith;
   within = sound.kept_within;
 }
-
--- a kept segment stays kept where an open index is settled
-kept-insert : (fates : Fates) (i j : ℕ) (fate : Option Segment) → IsOpen fates i → IsKept fates j → IsKept (map.insert fates i fate) j
-kept-insert fates i j fate free kept =
-    (kept.0, get-insert_other fates i fate j (λ same. let is = kept.1 in let there = ap (map.get fates) same in cc) ∙ kept.1)
 
 -- an open index is settled, and all others stay
 stays-insert : (fates : Fates) (i : ℕ) (fate : Option Segment) → IsOpen fates i → (j : ℕ) (other : Option Segment) → map.get fates j ≡ Some other
@@ -142,20 +135,20 @@ Grows-keeps width x i fates segment sound from to not_so =
             | inl none ↦ absurd (open_and_settled fates k none (sound.expected.settled k (omega arith)))
             | inr fate ↦ ap is_some (stays k fate.0 fate.1)
           ];
-      later_kept = λ j lost. let later_kept = sound.lost_have_later j (before j lost) in (later_kept.0, later_kept.1, kept-insert fates i later_kept.0 (Some segment) free later_kept.2);
+      near = λ j lost. let below = sound.lost_below j (before j lost) in omega arith;
       within = λ j kept. elim (cases_eq j i) [
         | inl same ↦ omega arith
         | inr differ ↦ sound.kept_within j (kept.0, sym (get-insert_other fates i (Some segment) j differ) ∙ kept.1)
       ];
     }
 
--- Some open indexes are declared lost, each with a kept segment after it and no other open index before it.
+-- Some open indexes less than 4096 ahead are lost, each with no other open index before it.
 record Loses (x : ℕ) (fates after : Fates) (P : ℕ → Type 0) : Type 0 where
   decide : (i : ℕ) → Decided (P i)
   lost : (i : ℕ) → P i → map.get after i ≡ Some None
   others : (i : ℕ) → (P i → ⊥) → map.get after i ≡ map.get fates i
   free : (i : ℕ) → P i → IsOpen fates i
-  later_kept : (i : ℕ) → P i → HasLaterKept fates i
+  near : (i : ℕ) → P i → i < x + 4096
   down : (i j : ℕ) → P i → x ≤ j → j ≤ i → IsOpen fates j → P j
 
 Loses-stays : (x : ℕ) (fates after : Fates) (P : ℕ → Type 0) → Loses x fates after P → (i : ℕ) (fate : Option Segment) → map.get fates i ≡ Some fate
@@ -173,7 +166,6 @@ Grows-loses width x fates after P sound loses =
       | inl none ↦ absurd (open_and_settled fates j none h)
       | inr fate ↦ ap is_some (stays j fate.0 fate.1)
     ] in
-    let still : (i : ℕ) → HasLaterKept fates i → HasLaterKept after i = λ i later_kept. (later_kept.0, later_kept.1, (later_kept.2.0, stays later_kept.0 (Some later_kept.2.0) later_kept.2.1)) in
     record {
       stays = stays;
       lost = λ i j lost up_to. elim (cases_lt j x) [
@@ -186,21 +178,21 @@ Grows-loses width x fates after P sound loses =
           | inr not_so ↦ let below = sound.lost_below i (sym (loses.others i not_so) ∙ lost) in absurd (omega arith)
         ]
       ];
-      later_kept = λ i lost. elim (loses.decide i) [
-        | inl p ↦ still i (loses.later_kept i p)
-        | inr not_so ↦ still i (sound.lost_have_later i (sym (loses.others i not_so) ∙ lost))
+      near = λ i lost. elim (loses.decide i) [
+        | inl p ↦ loses.near i p
+        | inr not_so ↦ let below = sound.lost_below i (sym (loses.others i not_so) ∙ lost) in omega arith
       ];
       within = λ i kept. sound.kept_within i (Loses-kept x fates after P loses i kept);
     }
 
 -- the expected index is declared lost
-Loses-gap : (width x : ℕ) (fates : Fates) → IsSound width fates x → HasLaterKept fates x → Loses x fates (map.insert fates x None) (λ i. i ≡ x)
-Loses-gap width x fates sound later_kept = record {
+Loses-gap : (width x : ℕ) (fates : Fates) → IsSound width fates x → Loses x fates (map.insert fates x None) (λ i. i ≡ x)
+Loses-gap width x fates sound = record {
   decide = λ i. cases_eq i x;
   lost = λ i same. ap (map.get (map.insert fates x None)) same ∙ get-insert_same fates x None;
   others = λ i differ. get-insert_other fates x None i differ;
   free = λ i same. ap (map.get fates) same ∙ sound.expected.open_itself;
-  later_kept = λ i same. subst (HasLaterKept fates) (sym same) later_kept;
+  near = λ i same. omega arith;
   down = λ i j same from up_to free. omega arith;
 }
 
@@ -212,15 +204,27 @@ Loses-gap_to first width x number declared fates after sound declares = record {
   lost = declares.lost;
   others = declares.others;
   free = λ i p. p.open_itself;
-  later_kept = λ i p. p.later_kept;
+  near = λ i p. let to = p.ahead.to in let before = p.before in omega arith;
   down = λ i j p from up_to free. record {
     end = p.end;
     ahead = p.ahead;
     from = from;
-    before = omega arith;
+    before = let before = p.before in omega arith;
     open_itself = free;
     later_kept = (p.later_kept.0, omega (arith, p.later_kept.1), p.later_kept.2);
   };
+}
+
+-- all is skipped up to a number
+Loses-skip_to : (first x number : ℕ) (skipped : Bool) (fates after : Fates) → SkipsTo first x number skipped fates after
+    → Loses x fates after (IsSkippedTo first x number fates)
+Loses-skip_to first x number skipped fates after skips = record {
+  decide = λ i. IsSkippedTo-decided first x number fates i;
+  lost = skips.lost;
+  others = skips.others;
+  free = λ i p. p.open_itself;
+  near = λ i p. let to = p.ahead.to in let before = p.before in omega arith;
+  down = λ i j p from up_to free. record { end = p.end; ahead = p.ahead; from = from; before = let before = p.before in omega arith; open_itself = free };
 }
 
 -- each event changes fates in this way
@@ -233,16 +237,24 @@ Changes-grows first width x (arrives segment) (Arrival Kept) fates after sound (
     subst (Grows width x fates) (sym (keeps i ahead)) (Grows-keeps width x i fates segment sound ahead.from to not_so)
 Changes-grows first width x (arrives segment) (Decision declared) fates after sound changes = absurd changes
 Changes-grows first width x (arrives segment) (DecisionTo declared) fates after sound changes = absurd changes
+Changes-grows first width x (arrives segment) (DecisionSkip skipped) fates after sound changes = absurd changes
 Changes-grows first width x gap (Arrival verdict) fates after sound changes = absurd changes
 Changes-grows first width x gap (Decision NextIsHere) fates after sound changes = absurd changes
 Changes-grows first width x gap (Decision NothingHeld) fates after sound changes = subst (Grows width x fates) (sym changes.1) (Grows-same width x fates sound)
 Changes-grows first width x gap (Decision (Lost number)) fates after sound changes =
-    subst (Grows width x fates) (sym changes.2) (Grows-loses width x fates (map.insert fates x None) (λ i. i ≡ x) sound (Loses-gap width x fates sound changes.0))
+    subst (Grows width x fates) (sym changes.2) (Grows-loses width x fates (map.insert fates x None) (λ i. i ≡ x) sound (Loses-gap width x fates sound))
 Changes-grows first width x gap (DecisionTo declared) fates after sound changes = absurd changes
+Changes-grows first width x gap (DecisionSkip skipped) fates after sound changes = absurd changes
 Changes-grows first width x (gap_to number) (Arrival verdict) fates after sound changes = absurd changes
 Changes-grows first width x (gap_to number) (Decision declared) fates after sound changes = absurd changes
 Changes-grows first width x (gap_to number) (DecisionTo declared) fates after sound changes =
     Grows-loses width x fates after (IsDeclaredTo first x number fates) sound (Loses-gap_to first width x number declared fates after sound changes)
+Changes-grows first width x (gap_to number) (DecisionSkip skipped) fates after sound changes = absurd changes
+Changes-grows first width x (skip_to number) (Arrival verdict) fates after sound changes = absurd changes
+Changes-grows first width x (skip_to number) (Decision declared) fates after sound changes = absurd changes
+Changes-grows first width x (skip_to number) (DecisionTo declared) fates after sound changes = absurd changes
+Changes-grows first width x (skip_to number) (DecisionSkip skipped) fates after sound changes =
+    Grows-loses width x fates after (IsSkippedTo first x number fates) sound (Loses-skip_to first x number skipped fates after changes)
 
 -- an event keeps what holds, and the expected index never goes back
 pub sound-changes : (first width x : ℕ) (event : FlowEvent) (answer : Applied) (fates after : Fates)
@@ -269,7 +281,6 @@ sound-none width =
     record {
       expected = record { open_itself = free 0; settled = λ i below. absurd (omega arith) };
       lost_below = λ i lost. let none = free i in absurd cc;
-      lost_have_later = λ i lost. let none = free i in absurd cc;
       kept_within = λ i kept. let none = free i in let is = kept.1 in absurd cc;
     }
 
@@ -311,13 +322,10 @@ pub after-append : (first width x : ℕ) (events : List FlowEvent) (answers : Li
 after-append first width x events answers event answer fates after is expected changes =
     leads-append first width x events answers event answer no_fates fates after is expected changes
 
--- a loss up to a number can be declared of any fates
-pub declared-to : (first width x number : ℕ) (fates : Fates) → IsSound width fates x
-    → (after : Fates) × (declared : Bool) × DeclaresTo first x number declared fates after
-declared-to first width x number fates sound =
-    let P : ℕ → Type 0 = IsDeclaredTo first x number fates in
-    let decide : (i : ℕ) → Decided (P i) = λ i. IsDeclaredTo-decided first x number fates (x + width) i sound.kept_within in
-    let near : (i : ℕ) → P i → i < x + 4096 = λ i p. (let ahead = p.ahead in let before = p.before in omega arith) in
+-- indexes less than 4096 ahead can be lost, and no others
+pub loses-just : (x : ℕ) (P : ℕ → Type 0) (fates : Fates) → ((i : ℕ) → Decided (P i)) → ((i : ℕ) → P i → i < x + 4096)
+    → (after : Fates) × (any : Bool) × LosesJust P any fates after
+loses-just x P fates decide near =
     let marked = marked-lost P decide fates (x + 4096) in
     elim (found-below P decide (x + 4096)) [
       | inl some ↦ (marked.0, true, record { lost = λ i p. marked.1 i (near i p) p; others = marked.2; answer = (λ _. (some.0, some.2), λ _. refl) })
@@ -328,8 +336,32 @@ declared-to first width x number fates sound =
       )
     ]
 
+-- so those of a skip up to a number
+pub skipped-to : (first x number : ℕ) (fates : Fates) → (after : Fates) × (skipped : Bool) × SkipsTo first x number skipped fates after
+skipped-to first x number fates =
+    loses-just x (IsSkippedTo first x number fates) fates (IsSkippedTo-decided first x number fates)
+    (λ i p. let to = p.ahead.to in let before = p.before in omega arith)
+
+-- and those of a loss that is declared up to a number
+pub declared-to : (first width x number : ℕ) (fates : Fates) → IsSound width fates x
+    → (after : Fates) × (declared : Bool) × DeclaresTo first x number declared fates after
+declared-to first width x number fates sound =
+    loses-just x (IsDeclaredTo first x number fates) fates
+    (λ i. IsDeclaredTo-decided first x number fates (x + width) i sound.kept_within)
+    (λ i p. let to = p.ahead.to in let before = p.before in omega arith)
+
 -- what is settled stays as it is
 pub settled-stays : (first width x i : ℕ) (event : FlowEvent) (answer : Applied) (fates after : Fates) (fate : Option _)
     → IsSound width fates x → Changes first width x event answer fates after
     → map.get fates i ≡ Some fate → map.get after i ≡ Some fate
 settled-stays first width x i event answer fates after fate sound changes is = (Changes-grows first width x event answer fates after sound changes).stays i fate is
+
+-- also where events come one after another
+pub stays-leads : (first width x : ℕ) (events : List FlowEvent) (answers : List Applied) (fates after : Fates) → IsSound width fates x
+    → Leads first width fates events answers after → (i : ℕ) (fate : Option Segment) → map.get fates i ≡ Some fate → map.get after i ≡ Some fate
+stays-leads first width x [] answers fates after sound leads i fate is = ap (λ (f : Fates). map.get f i) leads.1 ∙ is
+stays-leads first width x (event ∷ events) answers fates after sound (x', answer, rest, between, expected, changes, leads, are) i fate is =
+    let same = expected-unique fates x' x expected sound.expected in
+    let changed : Changes first width x event answer fates between = subst (λ k. Changes first width k event answer fates between) same changes in
+    let next = sound-changes first width x event answer fates between sound changed in
+    stays-leads first width next.0 events rest between after next.2 leads i fate (settled-stays first width x i event answer fates between fate sound changed is)

@@ -1,6 +1,6 @@
 -- What a flow stands for, put together and taken apart.
 use Rattle.std.proofs.Common.{◌≡◌, ℕ, ◌<◌, ◌≤◌, ◌⊎◌, inl, inr, ⊎_elim, Bool, true, Option, None, Some, IsSome, is_some, List, [], ◌∷◌, ◌++◌, length, get_or, refl, sym, ap, subst, ◌∙◌, arith}
-use Rattle.std.specs.Option.{option_map, option_flatten}
+use Rattle.std.specs.Option.{option_flatten}
 use Rattle.std.specs.FinMap as map
 use Rattle.std.proofs.lemmas.Bool.{cases_lt}
 use Rattle.std.proofs.lemmas.Option.{slice_get-get_or, slice_get_within}
@@ -16,6 +16,7 @@ use Rattle.ccf.specs.Join.{Joins}
 use Rattle.reorder.specs.View.{held_at}
 use Rattle.flow_core.specs.declared.record.FlowRecord.{FlowRecord}
 use Rattle.flow_core.specs.declared.flow.Flow.{Flow}
+use Rattle.flow_core.specs.declared.up_to.UpTo.{UpTo}
 use Rattle.flow_core.specs.declared.event.Applied.{Applied}
 use Rattle.flow_core.specs.Fates.{Fates, number_of, IsKept, IsLost, IsOpen, IsExpected, IsSettledBelow}
 use Rattle.flow_core.specs.Events.{FlowEvent, Changes, IsAfter}
@@ -59,15 +60,15 @@ expected-after fates x n settled expected below =
     (cases_lt x n)
 
 -- where nothing is remembered the index itself is not lost
-remembered-kept : (first y : ℕ) (fates : Fates) (declared_to : Option ℕ) → IsRemembered first fates y declared_to → ¬ (IsLost fates y)
+remembered-kept : (first y : ℕ) (fates : Fates) (going_on : Option UpTo) → IsRemembered first fates y going_on → ¬ (IsLost fates y)
 remembered-kept first y fates None remembered lost = remembered y (omega arith) lost
-remembered-kept first y fates (Some number) remembered lost = ((remembered.4 y (omega arith)).0 lost).1 remembered.3
+remembered-kept first y fates (Some u) remembered lost = ((remembered.4 y (omega arith)).0 lost).1 remembered.3
 
 -- put together
 pub stands : (check : List ℕ → Bool) (r : FlowRecord) (flow : Flow) (events : List FlowEvent) (answers : List Applied) (y : ℕ) (given : List (List ℕ))
     (fates : Fates) (x : ℕ) (settled : List (Option Segment))
     → IsAfter r.first r.window events answers fates → IsExpected fates x → IsWindowFrom r fates y flow.window
-    → IsRemembered r.first fates y (option_map (λ sequence. sequence.number) flow.declared_to)
+    → IsRemembered r.first fates y flow.going_on
     → IsSettledBelow fates y settled → Joins check [] settled given flow.joiner → AreCounts answers settled given flow.joiner flow.counts
     → (whole : StandsFor check r flow events answers y given) × (whole.fates ≡ fates)
 stands check r flow events answers y given fates x settled after expected window remembered below joined counts =
@@ -113,7 +114,7 @@ pub stands-next : (check : List ℕ → Bool) (r : FlowRecord) (flow after : Flo
     → (s : StandsFor check r flow events answers y given) → IsDrained flow
     → Changes r.first r.window y event answer s.fates fates
     → IsWindowFrom r fates y after.window
-    → IsRemembered r.first fates y (option_map (λ sequence. sequence.number) after.declared_to)
+    → IsRemembered r.first fates y after.going_on
     → after.joiner ≡ flow.joiner → AreCounts (answers ++ answer ∷ []) s.settled given flow.joiner after.counts
     → StandsFor check r after (events ++ event ∷ []) (answers ++ answer ∷ []) y given
 stands-next check r flow after events answers y given event answer fates s drained changes window remembered joiner counts =
@@ -133,12 +134,12 @@ stands-next check r flow after events answers y given event answer fates s drain
 
 -- A flow to which nothing happened yet.
 pub new-stands : (check : List ℕ → Bool) (r : FlowRecord) (flow : Flow) → IsInRange r → flow.window ≡ empty_window r.first r.window → IsLawful flow.window
-    → flow.joiner ≡ [] → flow.counts ≡ no_counts → flow.declared_to ≡ None → StandsFor check r flow [] [] 0 []
-new-stands check r flow in_range window lawful joiner counts declared_to =
+    → flow.joiner ≡ [] → flow.counts ≡ no_counts → flow.going_on ≡ None → StandsFor check r flow [] [] 0 []
+new-stands check r flow in_range window lawful joiner counts going_on =
     (stands check r flow [] [] 0 [] no_fates 0 [] (refl, refl)
     (record { open_itself = map.get-empty nat_cmp 0; settled = λ i below. absurd (omega arith) })
     (subst (IsWindowFrom r no_fates 0) (sym window) (window-new r in_range (subst IsLawful window lawful)))
-    (subst (IsRemembered r.first no_fates 0) (sym (ap (option_map (λ sequence. sequence.number)) declared_to))
+    (subst (IsRemembered r.first no_fates 0) (sym going_on)
     (λ i from lost. some-none None (sym lost ∙ map.get-empty nat_cmp i)))
     (record { size = refl; each = λ i fate is. absurd (let within = slice_get_within [] i fate is in omega arith) })
     (refl, joiner)

@@ -7,7 +7,7 @@ use Rattle.reorder.specs.declared.verdict.Declared.TheVariants.{Lost}
 use Rattle.flow_core.specs.declared.event.Applied.{Applied}
 use Rattle.flow_core.specs.declared.event.Applied.TheVariants.{Decision}
 use Rattle.flow_core.specs.Fates.{Fates, IsKept, IsExpected, HasLaterKept}
-use Rattle.flow_core.specs.Events.{FlowEvent, arrives, gap, Leads}
+use Rattle.flow_core.specs.Events.{FlowEvent, arrives, gap, skip_to, Leads}
 
 -- no declared loss would change anything any more
 abbrev pub IsClosed : Fates → Type 0
@@ -30,3 +30,7 @@ pub record IsAllKept (frames chunks : List (List ℕ)) (fates : Fates) (j : ℕ)
 -- no segment arrives
 abbrev pub HaveNoArrival : List FlowEvent → Type 0
 HaveNoArrival events = (before behind : List FlowEvent) (segment : Segment) → ¬ (events ≡ before ++ arrives segment ∷ behind)
+
+-- nothing is skipped
+abbrev pub HaveNoSkip : List FlowEvent → Type 0
+HaveNoSkip events = (before behind : List FlowEvent) (number : ℕ) → ¬ (events ≡ before ++ skip_to number ∷ behind)

@@ -8,14 +8,16 @@ use Rattle.reorder.specs.declared.verdict.Verdict.TheVariants.{Late, Beyond, Rep
 use Rattle.reorder.specs.declared.verdict.Declared.{Declared}
 use Rattle.reorder.specs.declared.verdict.Declared.TheVariants.{NextIsHere, NothingHeld, Lost}
 use Rattle.flow_core.specs.declared.event.Applied.{Applied}
-use Rattle.flow_core.specs.declared.event.Applied.TheVariants.{Arrival, Decision, DecisionTo}
+use Rattle.flow_core.specs.declared.event.Applied.TheVariants.{Arrival, Decision, DecisionTo, DecisionSkip}
 use Rattle.flow_core.specs.Fates.{Fates, no_fates, number_of, IsKept, IsOpen, IsExpected, HasLaterKept}
 
--- What happens to one flow: a segment arrives, or a decision declares a loss, a gap, which is of one index or of all up to a number.
+-- What happens to one flow: a segment arrives, or a decision declares losses: a gap, which is of one index or of all up to a number, or a
+-- skip up to a number.
 pub data FlowEvent : Type 0 where
   arrives : Segment → FlowEvent
   gap : FlowEvent
   gap_to : ℕ → FlowEvent
+  skip_to : ℕ → FlowEvent
 
 -- The index that a number has, where it lies ahead of the expected index x: from x up to, not including, x + 4096. Every other number lies
 -- behind (this project's profile: half of the 8192 numbers).
@@ -52,6 +54,12 @@ Declares first x (Lost number) fates after =
 Declares first x NothingHeld fates after = ¬ (HasLaterKept fates x) × (after ≡ fates)
 Declares first x NextIsHere fates after = ⊥
 
+-- Exactly the indexes with this property are lost, and what became of all others stays. The answer says whether there is one.
+pub record LosesJust (P : ℕ → Type 0) (any : Bool) (fates after : Fates) : Type 0 where
+  pub lost : (i : ℕ) → P i → map.get after i ≡ Some None
+  pub others : (i : ℕ) → ¬ (P i) → map.get after i ≡ map.get fates i
+  pub answer : IsTrue any ↔ ((i : ℕ) × P i)
+
 -- the indexes that a gap decision up to a number declares lost: open ones from the expected one on, before the one with that number, with a kept
 -- segment after them
 pub record IsDeclaredTo (first x number : ℕ) (fates : Fates) (i : ℕ) : Type 0 where
@@ -62,11 +70,21 @@ pub record IsDeclaredTo (first x number : ℕ) (fates : Fates) (i : ℕ) : Type 
   pub open_itself : IsOpen fates i
   pub later_kept : HasLaterKept fates i
 
--- A gap decision up to a number: these indexes are lost, and what became of all others stays. The answer says whether there is one.
-pub record DeclaresTo (first x number : ℕ) (declared : Bool) (fates after : Fates) : Type 0 where
-  pub lost : (i : ℕ) → IsDeclaredTo first x number fates i → map.get after i ≡ Some None
-  pub others : (i : ℕ) → ¬ (IsDeclaredTo first x number fates i) → map.get after i ≡ map.get fates i
-  pub answer : IsTrue declared ↔ ((i : ℕ) × IsDeclaredTo first x number fates i)
+-- A gap decision up to a number: these indexes are lost.
+abbrev pub DeclaresTo : ℕ → ℕ → ℕ → Bool → Fates → Fates → Type 0
+DeclaresTo first x number declared fates after = LosesJust (IsDeclaredTo first x number fates) declared fates after
+
+-- the indexes that a skip up to a number loses: all open ones from the expected one on, before the one with that number
+pub record IsSkippedTo (first x number : ℕ) (fates : Fates) (i : ℕ) : Type 0 where
+  pub end : ℕ
+  pub ahead : IsAhead first x number end
+  pub from : x ≤ i
+  pub before : i < end
+  pub open_itself : IsOpen fates i
+
+-- A skip up to a number: these indexes are lost, whether or not a segment after them was kept.
+abbrev pub SkipsTo : ℕ → ℕ → ℕ → Bool → Fates → Fates → Type 0
+SkipsTo first x number skipped fates after = LosesJust (IsSkippedTo first x number fates) skipped fates after
 
 -- what an event answers and changes, where x is the expected index
 abbrev pub Changes : ℕ → ℕ → ℕ → FlowEvent → Applied → Fates → Fates → Type 0
@@ -74,6 +92,7 @@ Changes first width x (arrives segment) (Arrival verdict) fates after =
     IsVerdictOn first width fates x segment verdict × Keeps first x segment verdict fates after
 Changes first width x gap (Decision declared) fates after = Declares first x declared fates after
 Changes first width x (gap_to number) (DecisionTo declared) fates after = DeclaresTo first x number declared fates after
+Changes first width x (skip_to number) (DecisionSkip skipped) fates after = SkipsTo first x number skipped fates after
 Changes first width x _ _ fates after = ⊥
 
 -- Events one after another lead from some fates to others, with an answer to each. Of a flow the first number and the window's width are

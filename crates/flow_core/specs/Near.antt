@@ -1,10 +1,10 @@
 -- Which lists of events are those of a modem's cut.
-use Rattle.std.specs.Prelude.{◌≡◌, ℕ, ◌+◌, ◌<◌, ◌≤◌, Some, List, ◌∷◌, ◌++◌, slice_get}
+use Rattle.std.specs.Prelude.{◌≡◌, ℕ, ◌+◌, ◌<◌, ◌≤◌, Some, List, ◌∷◌, ◌++◌, length, slice_get}
 use Rattle.docsis_wire.specs.declared.segment.Segment.{Segment}
 use Rattle.reorder.specs.Limits.{numbers_ahead}
 use Rattle.flow_core.specs.declared.event.Applied.{Applied}
-use Rattle.flow_core.specs.Fates.{Fates, IsExpected}
-use Rattle.flow_core.specs.Events.{FlowEvent, arrives, IsAfter}
+use Rattle.flow_core.specs.Fates.{Fates, number_of, IsExpected}
+use Rattle.flow_core.specs.Events.{FlowEvent, arrives, skip_to, IsAfter}
 
 -- a segment of the cut, with an index from 4096 before the expected index x up to, not including, 4096 after it
 pub record IsNearTo (segments : List Segment) (x : ℕ) (segment : Segment) : Type 0 where
@@ -25,3 +25,9 @@ abbrev pub AreOfCut : List Segment → List FlowEvent → Type 0
 AreOfCut segments events =
     (before behind : List FlowEvent) (segment : Segment) → events ≡ before ++ arrives segment ∷ behind
     → (i : ℕ) × (slice_get segments i ≡ Some segment)
+
+-- each skip is up to the number of one of the cut's indexes, or of the one after them
+abbrev pub AreSkipsWithin : ℕ → List Segment → List FlowEvent → Type 0
+AreSkipsWithin first segments events =
+    (before behind : List FlowEvent) (number : ℕ) → events ≡ before ++ skip_to number ∷ behind
+    → (i : ℕ) × (i ≤ length segments) × (number ≡ number_of first i)

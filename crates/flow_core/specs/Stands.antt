@@ -1,5 +1,5 @@
 -- What a flow of the code stands for: a list of events.
-use Rattle.std.specs.Prelude.{◌≡◌, ℕ, ◌+◌, ◌<◌, ◌≤◌, ◌↔◌, ◌⊎◌, Bool, Option, Some, None, List, [], ◌∷◌, ◌++◌}
+use Rattle.std.specs.Prelude.{◌≡◌, ℕ, ◌+◌, ◌<◌, ◌≤◌, ◌↔◌, ◌⊎◌, ⊤, Bool, Option, Some, None, List, [], ◌∷◌, ◌++◌}
 use Rattle.std.specs.Option.{option_map}
 use Rattle.docsis_wire.specs.Limits.{sequence_modulus}
 use Rattle.docsis_wire.specs.declared.segment.Segment.{Segment}
@@ -8,6 +8,8 @@ use Rattle.ccf.specs.Join.{Joins}
 use Rattle.reorder.specs.View.{WindowView, held_at, IsLawful}
 use Rattle.flow_core.specs.declared.record.FlowRecord.{FlowRecord}
 use Rattle.flow_core.specs.declared.flow.Flow.{Flow}
+use Rattle.flow_core.specs.declared.up_to.UpTo.{UpTo}
+use Rattle.flow_core.specs.declared.up_to.UpTo.TheVariants.{Declare, Skip}
 use Rattle.flow_core.specs.declared.event.Applied.{Applied}
 use Rattle.flow_core.specs.declared.event.Step.{Step}
 use Rattle.flow_core.specs.declared.event.Step.TheVariants.{Frames, Nothing}
@@ -24,14 +26,24 @@ pub record IsWindowFrom (flow_record : FlowRecord) (fates : Fates) (y : ℕ) (wi
       → option_map (λ ready. ready.segment) (held_at window (number_of flow_record.first i)) ≡ kept_at fates i
   pub within : (i : ℕ) → IsKept fates i → i < y + flow_record.window
 
--- What a flow remembers of losses that were declared up to a number. Nothing, which it may only if no index from y on was declared lost. Or a
--- number whose index lies after y: from y on, exactly those indexes before it are lost that were not kept and have a later kept one. Then
--- the segment of y was kept.
-abbrev pub IsRemembered : ℕ → Fates → ℕ → Option ℕ → Type 0
+-- the number up to which a decision goes
+abbrev pub number_to : UpTo → ℕ
+number_to (Declare sequence) = sequence.number
+number_to (Skip sequence) = sequence.number
+
+-- the indexes that a decision up to a number reaches: a declared loss those with a later kept segment, a skip all
+abbrev pub Reaches : UpTo → Fates → ℕ → Type 0
+Reaches (Declare _) fates i = HasLaterKept fates i
+Reaches (Skip _) fates i = ⊤
+
+-- What a flow remembers of a decision up to a number. Nothing, which it may only if no index from y on was lost. Or a decision to a number
+-- whose index lies after y: from y on, exactly those indexes before it are lost that were not kept and that the decision reaches. Then the
+-- segment of y was kept.
+abbrev pub IsRemembered : ℕ → Fates → ℕ → Option UpTo → Type 0
 IsRemembered first fates y None = (i : ℕ) → y ≤ i → ¬ (IsLost fates i)
-IsRemembered first fates y (Some number) =
-    (end : ℕ) × IsAhead first y number end × (y < end) × IsKept fates y
-    × ((i : ℕ) → y ≤ i → IsLost fates i ↔ ((i < end) × ¬ (IsKept fates i) × HasLaterKept fates i))
+IsRemembered first fates y (Some up_to) =
+    (end : ℕ) × IsAhead first y (number_to up_to) end × (y < end) × IsKept fates y
+    × ((i : ℕ) → y ≤ i → IsLost fates i ↔ ((i < end) × ¬ (IsKept fates i) × Reaches up_to fates i))
 
 -- After these events, with these answers, the flow has come to the index y and has given these frames: y is the index whose number the window
 -- expects, and all below it is joined or lost. It is the expected index, or one below it whose segment was kept and is the next to be joined.
@@ -42,7 +54,7 @@ pub record StandsFor (check : List ℕ → Bool) (flow_record : FlowRecord) (flo
   pub expected : IsExpected fates x
   pub come_to : (y ≡ x) ⊎ ((y < x) × IsKept fates y)
   pub window : IsWindowFrom flow_record fates y flow.window
-  pub remembered : IsRemembered flow_record.first fates y (option_map (λ sequence. sequence.number) flow.declared_to)
+  pub remembered : IsRemembered flow_record.first fates y flow.going_on
   pub settled : List (Option Segment)
   pub below : IsSettledBelow fates y settled
   pub joined : Joins check [] settled given flow.joiner

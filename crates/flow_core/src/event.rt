@@ -20,6 +20,10 @@ pub enum Event {
     /// haven't come. It reaches only those with a later segment that was kept, and has no effect if
     /// the number is the expected one or lies behind it, 4,096 ahead or more, going up and round.
     GapTo { flow: usize, number: u16 },
+    /// The decision that the segments before the one with this number, 0 to 8191, are lost if they
+    /// haven't come, whether or not a later one was kept. It has no effect if the number is the
+    /// expected one or lies behind it, 4,096 ahead or more, going up and round.
+    SkipTo { flow: usize, number: u16 },
 }
 
 impl Event {
@@ -28,7 +32,8 @@ impl Event {
         ensures { result ≡ flow_of self.now }
     {
         match self {
-            Event::Arrive { flow, .. } | Event::Gap { flow } | Event::GapTo { flow, .. } => *flow,
+            Event::Arrive { flow, .. } | Event::Gap { flow } => *flow,
+            Event::GapTo { flow, .. } | Event::SkipTo { flow, .. } => *flow,
         }
     }
 }
@@ -42,6 +47,8 @@ pub enum Applied {
     Decision(Declared),
     /// Of the decision that segments up to a number are lost: whether at least one is declared so.
     DecisionTo(bool),
+    /// Of the decision to skip up to a number: whether at least one segment is lost by it.
+    DecisionSkip(bool),
 }
 
 /// What joining the next segment gave.

@@ -3,11 +3,11 @@ ghost use Rattle.std.specs.Prelude.{◌≡◌, ◌<◌, ◌↔◌, ℕ, Bool, Li
 ghost use Rattle.docsis_wire.specs.Limits.{sequence_modulus};
 ghost use Rattle.docsis_wire.specs.Ready.{IsReady};
 ghost use Rattle.flow_core.specs.Setup.{IsInRange, CanBeSetUp};
-ghost use Rattle.flow_core.specs.Events.{arrives, gap, gap_to};
+ghost use Rattle.flow_core.specs.Events.{arrives, gap, gap_to, skip_to};
 ghost use Rattle.reorder.specs.View.{IsLawful};
-ghost use Rattle.reorder.specs.Verdicts.{declared_count};
 ghost use Rattle.flow_core.specs.Flows.{IsLoss, AreNewFlows};
-ghost use Rattle.flow_core.specs.Inside.Losses.{after_losses, after_declaring, GoesOn};
+ghost use Rattle.flow_core.specs.Inside.Losses.{event_to, answer_to, count_to};
+ghost use Rattle.flow_core.specs.Inside.Losses.{after_losses, after_passing, GoesOn};
 ghost use Rattle.flow_core.specs.Stands.{StandsFor, IsDrained, TakesEvent, Advances};
 ghost use Rattle.flow_core.specs.declared.event.Applied.{Applied};
 ghost use Rattle.flow_core.specs.declared.event.Step.{Step};
@@ -16,9 +16,10 @@ use crate::counts::FlowCounts;
 use crate::event::Step;
 use crate::record::FlowRecord;
 use crate::sequence::SequenceNumber;
+use crate::up_to::UpTo;
 use ccf::Joiner;
 use docsis_wire::{HeaderCheck, ReadySegment, Segment};
-use reorder::{Declared, Verdict, Window, laws};
+use reorder::{Declared, Verdict, Window};
 use std::alloc::{AllocError, Global};
 
 /// One service flow.
@@ -27,9 +28,9 @@ pub struct Flow {
     window: Window<ReadySegment>,
     joiner: Joiner,
     counts: FlowCounts,
-    /// The number up to which losses are declared, while segments that are held before it wait to
-    /// be joined.
-    declared_to: Option<SequenceNumber>,
+    /// The decision whose losses go on, while segments that are held before its number wait to be
+    /// joined.
+    going_on: Option<UpTo>,
 }
 
 impl Flow {
@@ -43,7 +44,7 @@ impl Flow {
             window: Window::new(alloc, flow_record.first, flow_record.window)?,
             joiner: Joiner::new(alloc),
             counts: FlowCounts::none(),
-            declared_to: None,
+            going_on: None,
         })
     }
 
@@ -96,10 +97,29 @@ impl Flow {
         requires number { number < sequence_modulus }
         ensures { TakesEvent self.old (gap_to number) (Applied.DecisionTo result) self.new }
     {
-        laws::declare_to_stops_at_number_or_held::<ReadySegment>();
-        let count = self.declare_to(number);
-        if count > 0 && self.window.expected() != number {
-            self.declared_to = Some(SequenceNumber { number });
+        self.lose_up_to(UpTo::Declare(SequenceNumber { number }))
+    }
+
+    /// Loses what hasn't come before this number, 0 to 8191, whether or not a later segment was
+    /// kept, and answers whether at least one segment is lost; none is if the number is the
+    /// expected one or lies behind. It goes on past held segments as [`Flow::gap_to`] does.
+    pub fn skip_to(&mut self, number: u16) -> bool
+        requires drained { IsDrained self.old }
+        requires number { number < sequence_modulus }
+        ensures { TakesEvent self.old (skip_to number) (Applied.DecisionSkip result) self.new }
+    {
+        self.lose_up_to(UpTo::Skip(SequenceNumber { number }))
+    }
+
+    /// Takes a decision up to a number, and remembers it where a held segment comes before the
+    /// number.
+    fn lose_up_to(&mut self, up_to: UpTo) -> bool
+        requires { IsDrained self.old }
+        ensures { TakesEvent self.old (event_to up_to) (answer_to up_to result) self.new }
+    {
+        let count = self.pass_to(up_to);
+        if count > 0 && self.window.expected() != up_to.number() {
+            self.going_on = Some(up_to);
         }
         count > 0
     }
@@ -111,7 +131,6 @@ impl Flow {
         ensures nothing { result ≡ Ok Step.Nothing ↔ IsDrained self.old }
         ensures refused { OnErr result (self.new ≡ self.old) }
     {
-        laws::declare_to_stops_at_number_or_held::<ReadySegment>();
         let Some(ready) = self.window.next() else {
             return Ok(Step::Nothing);
         };
@@ -119,38 +138,40 @@ impl Flow {
         self.window.take_next();
         self.counts.frames = self.counts.frames.saturating_add(fed.frames.len() as u64);
         self.counts.skipped = self.counts.skipped.saturating_add(fed.skipped as u64);
-        self.go_on_declaring();
+        self.go_on();
         Ok(Step::Frames(fed.frames))
     }
 
-    /// Declares on up to the remembered number, and forgets it once it is reached.
-    fn go_on_declaring(&mut self)
-        ensures after { GoesOn self.old.declared_to self.old self.new }
+    /// Goes on with the decision that is remembered, and forgets it once its number is reached.
+    fn go_on(&mut self)
+        ensures after { GoesOn self.old.going_on self.old self.new }
         ensures lawful { IsLawful self.old.window → IsLawful self.new.window }
     {
-        let Some(SequenceNumber { number }) = self.declared_to else {
+        let Some(up_to) = self.going_on else {
             return;
         };
-        self.declare_to(number);
-        if self.window.held() == 0 || self.window.expected() == number {
-            self.declared_to = None;
+        self.pass_to(up_to);
+        if self.window.held() == 0 || self.window.expected() == up_to.number() {
+            self.going_on = None;
         }
     }
 
-    /// Declares lost what isn't held before this number and before the next held one, and answers
-    /// how many numbers that is.
-    fn declare_to(&mut self, number: u16) -> u16
-        requires { number < sequence_modulus }
-        ensures count { result ≡ declared_count self.old.window number }
-        ensures after { self.new ≡ after_declaring number self.old }
+    /// Loses what isn't held before the decision's number and before the next held segment, and
+    /// answers how many numbers that is.
+    fn pass_to(&mut self, up_to: UpTo) -> u16
+        ensures count { result ≡ count_to self.old.window up_to }
+        ensures after { self.new ≡ after_passing (count_to self.old.window up_to) self.old }
         ensures lawful { IsLawful self.new.window }
     {
-        let count = self.window.declare_to(number);
+        let count = match up_to {
+            UpTo::Declare(sequence) => self.window.declare_to(sequence.number),
+            UpTo::Skip(sequence) => self.window.skip_to(sequence.number),
+        };
         self.lose(count);
         count
     }
 
-    /// Counts declared losses, and drops what is unfinished.
+    /// Counts losses, and drops what is unfinished.
     fn lose(&mut self, count: u16)
         ensures { self.new ≡ after_losses count self.old }
     {

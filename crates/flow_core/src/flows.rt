@@ -63,6 +63,9 @@ impl<C: HeaderCheck + Drop> Core<C> {
             Event::Arrive { flow, segment } => Applied::Arrival(self.flows[flow].arrive(segment)),
             Event::Gap { flow } => Applied::Decision(self.flows[flow].gap()),
             Event::GapTo { flow, number } => Applied::DecisionTo(self.flows[flow].gap_to(number)),
+            Event::SkipTo { flow, number } => {
+                Applied::DecisionSkip(self.flows[flow].skip_to(number))
+            }
         }
     }
 

@@ -2,7 +2,7 @@
 //! and the delivery sequence only grows.
 //!
 //! Each function states a law in its contract; its body is empty or only calls other laws.
-ghost use Rattle.std.specs.Prelude.{◌≡◌, ◌↔◌, ◌+◌, ◌<◌, ◌≤◌, ℕ, Bool, Option, List, IsTrue, [], ◌++◌, length, count_by, replicate};
+ghost use Rattle.std.specs.Prelude.{◌≡◌, ◌↔◌, ◌⊎◌, ◌+◌, ◌<◌, ◌≤◌, ℕ, Bool, false, Option, List, IsTrue, [], ◌++◌, length, count_by, replicate};
 ghost use Rattle.std.specs.List.{AllByRecursion};
 ghost use Rattle.docsis_wire.specs.declared.segment.Segment.{Segment};
 ghost use Rattle.docsis_wire.specs.Frame.{IsFrame};
@@ -15,13 +15,13 @@ ghost use Rattle.flow_core.specs.declared.record.FlowRecord.{FlowRecord};
 ghost use Rattle.flow_core.specs.declared.flow.Flow.{Flow};
 ghost use Rattle.flow_core.specs.declared.counts.FlowCounts.{FlowCounts};
 ghost use Rattle.flow_core.specs.declared.event.Applied.{Applied};
-ghost use Rattle.flow_core.specs.Fates.{Fates, number_of, IsKept, IsLost, IsExpected, HasLaterKept, IsSettledBelow};
-ghost use Rattle.flow_core.specs.Events.{FlowEvent, gap, Declares, DeclaresTo, Leads, IsAfter};
-ghost use Rattle.flow_core.specs.Near.{AreNear, AreOfCut};
+ghost use Rattle.flow_core.specs.Fates.{Fates, number_of, IsKept, IsKeptAs, IsLost, IsOpen, IsExpected, HasLaterKept, IsSettledBelow};
+ghost use Rattle.flow_core.specs.Events.{FlowEvent, gap, IsAhead, Declares, DeclaresTo, SkipsTo, Leads, IsAfter};
+ghost use Rattle.flow_core.specs.Near.{AreNear, AreOfCut, AreSkipsWithin};
 ghost use Rattle.flow_core.specs.Delivery.{IsDelivered, IsDeliverySequence};
 ghost use Rattle.flow_core.specs.Stands.{StandsFor, IsDrained};
 ghost use Rattle.flow_core.specs.Outcome.{IsFlowOutcome};
-ghost use Rattle.flow_core.specs.Closing.{IsClosed, Closes, says_lost, IsAllKept, HaveNoArrival};
+ghost use Rattle.flow_core.specs.Closing.{IsClosed, Closes, says_lost, IsAllKept, HaveNoArrival, HaveNoSkip};
 ghost use Rattle.flow_core.specs.Flows.{IsLoss};
 ghost use Rattle.reorder.specs.declared.verdict.Declared.{Declared};
 
@@ -77,12 +77,18 @@ pub fn delivery_sequence_only_grows()
 {}
 
 /// Over a lawful cut of at most 4,096 segments every list of events in which each segment that
-/// arrives is one of the cut's is near.
+/// arrives is one of the cut's is near, if nothing is skipped, or no further than past its end.
 pub fn events_of_a_short_cut_are_near()
-    ensures { (check : List ℕ → Bool) (frames chunks : List (List ℕ)) (first fill width : ℕ)
-        (segments : List Segment) (events : List FlowEvent)
+    ensures unskipped { (check : List ℕ → Bool) (frames chunks : List (List ℕ))
+        (first fill width : ℕ) (segments : List Segment) (events : List FlowEvent)
+        → IsLawfulCut check frames first fill chunks segments
+        → length segments ≤ numbers_ahead → AreOfCut segments events → HaveNoSkip events
+        → AreNear first width segments events }
+    ensures skipped { (check : List ℕ → Bool) (frames chunks : List (List ℕ))
+        (first fill width : ℕ) (segments : List Segment) (events : List FlowEvent)
         → IsLawfulCut check frames first fill chunks segments
         → length segments ≤ numbers_ahead → AreOfCut segments events
+        → AreSkipsWithin first segments events
         → AreNear first width segments events }
 {}
 
@@ -145,16 +151,29 @@ pub fn flow_has_one_close()
         → IsClosed fates ↔ (declared ≡ Declared.NothingHeld) }
 {}
 
-/// The index that a flow has come to is never after the expected one, and at most the width of its
-/// window before it: no more segments than that are next, one after another.
+/// The index that a flow has come to is never after the expected one, and each segment that was
+/// kept lies before it or less than the width of its window after it: no more segments than that
+/// are next, one after another. Where nothing is skipped, the expected index too lies at most the
+/// width after it.
 pub fn draining_ends()
-    ensures { (check : List ℕ → Bool) (flow_record : FlowRecord) (flow : Flow)
+    ensures onward { (check : List ℕ → Bool) (flow_record : FlowRecord) (flow : Flow)
         (events : List FlowEvent) (answers : List Applied) (x y : ℕ) (given : List (List ℕ))
         (fates : Fates)
         → StandsFor check flow_record flow events answers y given
         → IsAfter flow_record.first flow_record.window events answers fates
-        → IsExpected fates x
-        → (y ≤ x) × (x ≤ y + flow_record.window) }
+        → IsExpected fates x → y ≤ x }
+    ensures kept { (check : List ℕ → Bool) (flow_record : FlowRecord) (flow : Flow)
+        (events : List FlowEvent) (answers : List Applied) (i y : ℕ) (given : List (List ℕ))
+        (fates : Fates)
+        → StandsFor check flow_record flow events answers y given
+        → IsAfter flow_record.first flow_record.window events answers fates
+        → IsKept fates i → i < y + flow_record.window }
+    ensures expected { (check : List ℕ → Bool) (flow_record : FlowRecord) (flow : Flow)
+        (events : List FlowEvent) (answers : List Applied) (x y : ℕ) (given : List (List ℕ))
+        (fates : Fates)
+        → StandsFor check flow_record flow events answers y given
+        → IsAfter flow_record.first flow_record.window events answers fates
+        → IsExpected fates x → HaveNoSkip events → x ≤ y + flow_record.window }
 {}
 
 /// Two lists of events, one after the other, lead as the first one does and then the other.
@@ -188,6 +207,40 @@ pub fn gap_is_a_gap_to_the_next_number()
         → IsExpected fates x → Declares first x declared fates after
         → (any : Bool) × DeclaresTo first x (number_of first (x + 1)) any fates after
         × (IsTrue any ↔ IsLoss declared) }
+{}
+
+/// A skip loses each open index before the one with its number, and leaves each kept segment as it
+/// was. It then expects that index or a later one. It loses something exactly if the number lies
+/// ahead of the expected one.
+pub fn skip_loses_each_open_index_before_its_number()
+    ensures lost { (first x number i end : ℕ) (fates after : Fates) (any : Bool)
+        → IsExpected fates x → SkipsTo first x number any fates after
+        → IsAhead first x number end → i < end → IsOpen fates i → IsLost after i }
+    ensures kept { (first x number i : ℕ) (segment : Segment) (fates after : Fates) (any : Bool)
+        → SkipsTo first x number any fates after
+        → IsKeptAs after i segment ↔ IsKeptAs fates i segment }
+    ensures expected { (first x y number end : ℕ) (fates after : Fates) (any : Bool)
+        → IsExpected fates x → SkipsTo first x number any fates after
+        → IsAhead first x number end → IsExpected after y → end ≤ y }
+    ensures answer { (first x number : ℕ) (fates after : Fates) (any : Bool)
+        → IsExpected fates x → SkipsTo first x number any fates after
+        → IsTrue any ↔ ((end : ℕ) × (x < end) × IsAhead first x number end) }
+{}
+
+/// Where each open index before a number has a later kept one, a skip up to that number is a gap up
+/// to it.
+pub fn skip_is_a_gap_where_later_segments_were_kept()
+    ensures { (first x number : ℕ) (fates after : Fates) (any : Bool)
+        → ((i end : ℕ) → IsAhead first x number end → x ≤ i → i < end → IsOpen fates i
+        → HasLaterKept fates i)
+        → SkipsTo first x number any fates after ↔ DeclaresTo first x number any fates after }
+{}
+
+/// A skip up to the expected number, or to one that lies behind, changes nothing.
+pub fn skip_to_the_expected_number_changes_nothing()
+    ensures { (first x number : ℕ) (fates after : Fates) (any : Bool)
+        → (number ≡ number_of first x) ⊎ ((end : ℕ) → ¬ (IsAhead first x number end))
+        → SkipsTo first x number any fates after → (any ≡ false) × (after ≡ fates) }
 {}
 
 /// Near events stay near with gaps after them, or with any others of which none is an arrival.
@@ -233,13 +286,17 @@ pub fn outcome_of_near_events_is_the_delivery_sequence()
     settled_segments_join_to_the_delivered_frames();
 }
 
-/// Each index that was declared lost lies before the expected one, and a later one was kept. So
-/// the losses that a drained flow has counted are all that were declared.
+/// Each index that was lost lies before the expected one, so the losses that a drained flow has
+/// counted are all. Where nothing is skipped, a later one was kept.
 pub fn lost_indexes_lie_before_the_expected_one()
-    ensures { (first width x i : ℕ) (events : List FlowEvent) (answers : List Applied)
+    ensures before { (first width x i : ℕ) (events : List FlowEvent) (answers : List Applied)
         (fates : Fates)
         → IsAfter first width events answers fates → IsExpected fates x
-        → IsLost fates i → (i < x) × HasLaterKept fates i }
+        → IsLost fates i → i < x }
+    ensures later_kept { (first width i : ℕ) (events : List FlowEvent) (answers : List Applied)
+        (fates : Fates)
+        → IsAfter first width events answers fates → HaveNoSkip events
+        → IsLost fates i → HasLaterKept fates i }
 {}
 
 /// However many gaps close a flow, the frames and the counts are the same.

@@ -39,6 +39,7 @@ mod record;
 mod sequence;
 #[cfg(test)]
 mod tests;
+mod up_to;
 
 pub use counts::FlowCounts;
 pub use event::{Applied, Event, Step};

@@ -1,6 +1,4 @@
 //! The number of a segment.
-//!
-//! A flow remembers one, up to which losses are declared.
 ghost use Rattle.std.specs.Prelude.{◌<◌};
 ghost use Rattle.docsis_wire.specs.Limits.{sequence_modulus};
 

@@ -8,6 +8,7 @@ mod gaps;
 mod gaps_to;
 mod order;
 mod records;
+mod skips;
 mod verdicts;
 
 use crate::{Applied, Core, Event, FlowCounts, FlowRecord, Step};

@@ -11,15 +11,9 @@ returns-clause-step g c =
     let taken : c.take_next.new.self ≡ next_taken c.args.self.now.window =
     c.take_next.ensures.after ∙ ap (after_take_next c.args.self.now.window) (c.take_next.ensures.item ∙ sym c.in-Some.ensures.item) in (
       λ drained. (let held = ap is_some (c.in-Some.ensures.item ∙ drained) in cc),
-      step-gives _ c.args.self.now c.go_on_declaring.new.self c.in-Some.ready.now c.in_ok-fed.fed.frames.items c.feed.new.self c.in_ok-fed.fed.skipped
+      step-gives _ c.args.self.now c.go_on.new.self c.in-Some.ready.now c.in_ok-fed.fed.frames.items c.feed.new.self c.in_ok-fed.fed.skipped
           (sym c.in-Some.ensures.item) c.in_ok-fed.ensures.fed c.in_ok-fed.ensures.skipped (subst IsLawful taken c.take_next.ensures.lawful)
-          (λ w number lawful. record {
-            up_to_number = c.declare_to_stops_at_number_or_held.ensures.up_to_number w number lawful;
-            up_to_held = λ held is. c.declare_to_stops_at_number_or_held.ensures.up_to_held w number held lawful is;
-            reached = c.declare_to_stops_at_number_or_held.ensures.reached w number lawful;
-            none = c.declare_to_stops_at_number_or_held.ensures.none w number;
-          })
-          (subst (λ flow. GoesOn c.args.self.now.declared_to flow c.go_on_declaring.new.self)
+          (subst (λ flow. GoesOn c.args.self.now.going_on flow c.go_on.new.self)
           (λ i. record {
             window = taken i;
             joiner = c.feed.new.self;
@@ -27,8 +21,8 @@ returns-clause-step g c =
               frames = (c.saturating_add-self.ensures ∙ ap (λ n. min (c.args.self.now.counts.frames + n) 18446744073709551615) (c.len.ensures ∙ c.in_ok-fed.fed.frames.ok.0)) i;
               skipped = c.saturating_add-self-2.ensures i;
             };
-            declared_to = c.args.self.now.declared_to;
+            going_on = c.args.self.now.going_on;
           })
-          c.go_on_declaring.ensures.after)
-          (c.go_on_declaring.ensures.lawful c.take_next.ensures.lawful),
+          c.go_on.ensures.after)
+          (c.go_on.ensures.lawful c.take_next.ensures.lawful),
     )

@@ -1,7 +1,7 @@
 -- One flow takes an event.
 use Rattle.std.proofs.Common.{refl, sym, ap, subst, arith}
 use Rattle.std.proofs.lemmas.Option.{slice_get_read}
-use Rattle.flow_core.specs.declared.event.Applied.TheVariants.{Arrival, Decision, DecisionTo}
+use Rattle.flow_core.specs.declared.event.Applied.TheVariants.{Arrival, Decision, DecisionTo, DecisionSkip}
 use Rattle.flow_core.specs.Stands.{TakesEvent}
 use Rattle.flow_core.specs.Flows.{flow_of, event_of}
 use Rattle.flow_core.proofs.OneFlow.{others-stay, changes-at}
@@ -45,3 +45,16 @@ returns-in-GapTo-clause-flow g c =
 
 pub returns-in-GapTo-clause-others : goal.returns-in-GapTo-clause-others
 returns-in-GapTo-clause-others g c = others-stay c.args.self.now _ c.in-GapTo.flow _ c.gap_to.new.self (ap flow_of c.in-GapTo.is) refl refl
+
+pub returns-in-SkipTo-clause-flow : goal.returns-in-SkipTo-clause-flow
+returns-in-SkipTo-clause-flow g c =
+    let flows = c.args.self.now.flows.items in
+    let same = ap flow_of c.in-SkipTo.is in
+    let exists = c.requires.exists in
+    let here = slice_get_read flows _ c.in-SkipTo.flow c.index_mut-in-SkipTo.result.now refl (omega arith) c.index_mut-in-SkipTo.ensures.value in
+    let taken = subst (λ e. TakesEvent c.index_mut-in-SkipTo.result.now e (DecisionSkip c.skip_to.result) c.skip_to.new.self) (sym (ap event_of c.in-SkipTo.is)) c.skip_to.ensures in
+    changes-at flows c.in-SkipTo.flow (flow_of c.args.event) c.index_mut-in-SkipTo.result.now c.skip_to.new.self
+    (λ one one'. TakesEvent one (event_of c.args.event) (DecisionSkip c.skip_to.result) one') same here taken
+
+pub returns-in-SkipTo-clause-others : goal.returns-in-SkipTo-clause-others
+returns-in-SkipTo-clause-others g c = others-stay c.args.self.now _ c.in-SkipTo.flow _ c.skip_to.new.self (ap flow_of c.in-SkipTo.is) refl refl

@@ -3,7 +3,7 @@ use Rattle.std.proofs.Common.{◌++◌, [], ap, subst, sym, ◌∙◌, arith, ap
 use Rattle.std.proofs.lemmas.List.{append-nil}
 use Rattle.std.proofs.lemmas.Option.{slice_get_within}
 use Rattle.flow_core.specs.declared.event.Step.{Step}
-use Rattle.flow_core.specs.Fates.{Fates, IsExpected}
+use Rattle.flow_core.specs.Fates.{Fates, IsKept}
 use Rattle.flow_core.specs.Flows.{AdvancesAt}
 use Rattle.flow_core.proofs.FlowSteps.{others_never, others_twice, after_advance, after_nothing, given_as, drained_at}
 use Rattle.flow_core.proofs.flows.Core.drain.Goals as goal
@@ -16,7 +16,7 @@ loop-joined-init g c =
       appended = sym (append-nil c.args.frames.now.items);
       gives = λ accepted r events given before.
           let a = given_as g.C.HeaderCheck.accepts c.args.self.now c.args.flow accepted r events given (given ++ []) (sym (append-nil given)) before in
-          (a.0, omega (arith, a.1));
+          (a.0, omega (arith, a.1), omega arith);
     }
 
 pub advance-requires : goal.advance-requires
@@ -60,19 +60,14 @@ loop-joined-preserved g c =
           let now = inv.gives accepted r events given before in
           let next = after_advance accepts core c.advance.new.self k accepted r events (given ++ inv.more) c.advance.ensures.others now.0 frames step in
           let last = given_as accepts c.advance.new.self k accepted r events ((given ++ inv.more) ++ frames.items) (given ++ (inv.more ++ frames.items)) (append_assoc given inv.more frames.items) next.0 in
-          (last.0, omega (arith, now.1, next.1, last.1));
+          let same = c.events_have_one_outcome.ensures.only r.first r.window events before.answers now.0.answers before.stands.fates now.0.stands.fates before.stands.after now.0.stands.after in
+          let near = c.draining_ends.ensures.kept accepted r before.flow events before.answers now.0.y before.y given before.stands.fates before.stands before.stands.after
+          (subst (λ (f : Fates). IsKept f now.0.y) (sym same.1) next.2) in
+          (last.0, omega (arith, now.1, next.1, last.1), omega (arith, now.1, near));
     }
 
 pub returns-clause-drained : goal.returns-clause-drained
 returns-clause-drained g c =
     let w = c.requires.running in
-    let r = w.flow_record in
-    let before = w.has_given in
-    let inv = c.loop-joined.invariant.gives w.accepted r w.events w.given before in
-    let now = inv.0 in
-    let ends = c.draining_ends.ensures w.accepted r before.flow w.events before.answers before.stands.x before.y w.given before.stands.fates before.stands before.stands.after before.stands.expected in
-    let onward = c.draining_ends.ensures w.accepted r now.flow w.events now.answers now.stands.x now.y (w.given ++ c.loop-joined.invariant.more) now.stands.fates now.stands now.stands.after now.stands.expected in
-    let same = c.events_have_one_outcome.ensures.only r.first r.window w.events before.answers now.answers before.stands.fates now.stands.fates before.stands.after now.stands.after in
-    let at = c.events_have_one_outcome.ensures.expected now.stands.fates before.stands.x now.stands.x
-    (subst (λ (f : Fates). IsExpected f before.stands.x) same.1 before.stands.expected) now.stands.expected in
-    absurd (omega (arith, ends.1, onward.0, inv.1, at, w.in_range.window_in_range))
+    let inv = c.loop-joined.invariant.gives w.accepted w.flow_record w.events w.given w.has_given in
+    absurd (omega (arith, inv.2, w.in_range.window_in_range))

@@ -1,4 +1,4 @@
--- Each segment that was joined has brought the flow further, and its frames are appended.
+-- Each segment that was joined has brought the flow further, no more than the window is wide, and its frames are appended.
 use Rattle.std.proofs.Common.{◌≡◌, ℕ, ◌+◌, ◌≤◌, ◌++◌, Bool, List}
 use Rattle.flow_core.specs.declared.record.FlowRecord.{FlowRecord}
 use Rattle.flow_core.specs.Events.{FlowEvent}
@@ -14,5 +14,6 @@ invariant-loop-joined g l =
       appended : l.frames.items ≡ l.fn.frames.items ++ more;
       gives : (accepted : List ℕ → Bool) (flow_record : FlowRecord) (events : List FlowEvent) (given : List (List ℕ))
           → (before : HasGiven g.C.HeaderCheck.accepts l.fn.self l.flow accepted flow_record events given)
-          → (now : HasGiven g.C.HeaderCheck.accepts l.self l.flow accepted flow_record events (given ++ more)) × (before.y + l._joined ≤ now.y);
+          → (now : HasGiven g.C.HeaderCheck.accepts l.self l.flow accepted flow_record events (given ++ more))
+          × (before.y + l._joined ≤ now.y) × (l._joined ≤ flow_record.window);
     }
