@@ -16,7 +16,7 @@ pub struct FlowCounts {
     pub repeat: u64,
     /// Segments whose number was beyond the window.
     pub beyond: u64,
-    /// Segments that were declared lost. It grows as the flow comes to them.
+    /// Segments that were declared lost or skipped. It grows as the flow comes to them.
     pub lost: u64,
     /// Frames that were given.
     pub frames: u64,

@@ -8,8 +8,8 @@
 //!
 //! 1. [`check_records`] looks for the first fault of the flows' records, and [`Core::new`] makes a
 //!    core of them, with a check of frames' headers.
-//! 2. [`Core::apply`] takes an event of a drained flow, and answers its verdict or what was
-//!    declared lost.
+//! 2. [`Core::apply`] takes an event of a drained flow, and answers its verdict, or what was
+//!    declared lost or skipped.
 //! 3. [`Core::drain`] joins all segments that are next and appends the frames that they complete.
 //!    [`Core::advance`] joins one of them, for a caller that wants a step at a time, and
 //!    [`Core::is_drained`] asks whether one is left.
