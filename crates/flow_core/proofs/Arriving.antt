@@ -10,7 +10,7 @@ use Rattle.reorder.specs.Verdicts.{IsVerdict, after_offer}
 use Rattle.reorder.proofs.Items.{get-insert_same, get-insert_other}
 use Rattle.reorder.specs.declared.verdict.Verdict.{Verdict}
 use Rattle.reorder.specs.declared.verdict.Verdict.TheVariants.{Late, Beyond, Repeat, Kept}
-use Rattle.flow_core.specs.declared.record.FlowRecord.{FlowRecord}
+use Rattle.flow_records.specs.declared.record.FlowRecord.{FlowRecord}
 use Rattle.flow_core.specs.declared.flow.Flow.{Flow}
 use Rattle.flow_core.specs.declared.up_to.UpTo.{UpTo}
 use Rattle.flow_core.specs.declared.event.Applied.TheVariants.{Arrival}

@@ -7,7 +7,7 @@ use Rattle.reorder.specs.declared.verdict.Declared.TheVariants.{NextIsHere, Noth
 use Rattle.reorder.proofs.Items.{get-insert_same, get-insert_other}
 use Rattle.ccf.specs.Filter.{FiltersTo}
 use Rattle.ccf.proofs.Filters.{FiltersFrom-same}
-use Rattle.flow_core.specs.declared.record.FlowRecord.{FlowRecord}
+use Rattle.flow_records.specs.declared.record.FlowRecord.{FlowRecord}
 use Rattle.flow_core.specs.declared.flow.Flow.{Flow}
 use Rattle.flow_core.specs.declared.event.Applied.{Applied}
 use Rattle.flow_core.specs.Fates.{Fates, number_of, IsKept, IsExpected, HasLaterKept}

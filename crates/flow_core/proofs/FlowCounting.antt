@@ -4,7 +4,8 @@ use Rattle.std.proofs.lemmas.List.Sums.{sum_by_push}
 use Rattle.docsis_wire.specs.declared.segment.Segment.{Segment}
 use Rattle.flow_core.specs.declared.counts.FlowCounts.{FlowCounts}
 use Rattle.flow_core.specs.declared.event.Applied.{Applied}
-use Rattle.flow_core.specs.Counts.{counted, says_kept, says_late, says_repeat, says_beyond, AreCounts}
+use Rattle.flow_records.specs.Counted.{counted}
+use Rattle.flow_core.specs.Counts.{says_kept, says_late, says_repeat, says_beyond, AreCounts}
 use Rattle.flow_core.specs.Inside.NoCounts.{no_counts}
 
 -- a count goes on from what was counted

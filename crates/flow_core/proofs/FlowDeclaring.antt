@@ -10,7 +10,7 @@ use Rattle.reorder.specs.Verdicts.{IsDeclared, after_declare}
 use Rattle.reorder.specs.declared.verdict.Declared.{Declared}
 use Rattle.reorder.specs.declared.verdict.Declared.TheVariants.{NextIsHere, NothingHeld, Lost}
 use Rattle.reorder.proofs.Items.{get-insert_same, get-insert_other}
-use Rattle.flow_core.specs.declared.record.FlowRecord.{FlowRecord}
+use Rattle.flow_records.specs.declared.record.FlowRecord.{FlowRecord}
 use Rattle.flow_core.specs.declared.flow.Flow.{Flow}
 use Rattle.flow_core.specs.declared.up_to.UpTo.{UpTo}
 use Rattle.flow_core.specs.declared.up_to.UpTo.TheVariants.{Declare, Skip}

@@ -13,7 +13,7 @@ use Rattle.ccf.specs.Feed.{Feeds}
 use Rattle.ccf.proofs.OneJoining.{Joins-append}
 use Rattle.reorder.specs.Number.{number_ahead, following}
 use Rattle.reorder.specs.View.{WindowView, held_at, IsLawful, next_taken, moved_on_by}
-use Rattle.flow_core.specs.declared.record.FlowRecord.{FlowRecord}
+use Rattle.flow_records.specs.declared.record.FlowRecord.{FlowRecord}
 use Rattle.flow_core.specs.declared.counts.FlowCounts.{FlowCounts}
 use Rattle.flow_core.specs.declared.flow.Flow.{Flow}
 use Rattle.flow_core.specs.declared.up_to.UpTo.{UpTo}

@@ -5,7 +5,7 @@ use Rattle.std.proofs.lemmas.Option.{slice_get-get_or}
 use Rattle.docsis_wire.specs.declared.segment.Segment.{Segment}
 use Rattle.docsis_wire.specs.Cut.{IsLawfulCut}
 use Rattle.ccf.specs.Join.{Joins}
-use Rattle.flow_core.specs.declared.record.FlowRecord.{FlowRecord}
+use Rattle.flow_records.specs.declared.record.FlowRecord.{FlowRecord}
 use Rattle.flow_core.specs.declared.flow.Flow.{Flow}
 use Rattle.flow_core.specs.declared.counts.FlowCounts.{FlowCounts}
 use Rattle.flow_core.specs.declared.event.Applied.{Applied}
@@ -15,7 +15,8 @@ use Rattle.flow_core.specs.declared.event.Applied.TheVariants.{Arrival, Decision
 use Rattle.flow_core.specs.Events.{FlowEvent, gap, Leads}
 use Rattle.flow_core.specs.Closing.{IsClosed}
 use Rattle.flow_core.specs.Near.{AreNear}
-use Rattle.flow_core.specs.Counts.{counted, says_kept, says_late, says_repeat, says_beyond, AreCounts}
+use Rattle.flow_records.specs.Counted.{counted}
+use Rattle.flow_core.specs.Counts.{says_kept, says_late, says_repeat, says_beyond, AreCounts}
 use Rattle.flow_core.specs.Stands.{StandsFor, IsDrained}
 use Rattle.flow_core.specs.Outcome.{IsFlowOutcome}
 use Rattle.flow_core.proofs.Outcome.{expected-unique}

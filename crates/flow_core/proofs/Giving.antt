@@ -8,7 +8,7 @@ use Rattle.docsis_wire.specs.Frame.{IsFrame}
 use Rattle.docsis_wire.specs.Cut.{IsLawfulCut}
 use Rattle.ccf.specs.Filter.{FiltersTo}
 use Rattle.reorder.specs.View.{held_at}
-use Rattle.flow_core.specs.declared.record.FlowRecord.{FlowRecord}
+use Rattle.flow_records.specs.declared.record.FlowRecord.{FlowRecord}
 use Rattle.flow_core.specs.declared.flow.Flow.{Flow}
 use Rattle.flow_core.specs.declared.event.Applied.{Applied}
 use Rattle.flow_core.specs.Fates.{Fates, kept_at, IsExpected}

@@ -18,7 +18,6 @@ pub mod Losing
 pub mod Stopping
 pub mod FlowDeclaring
 pub mod FlowJoining
-pub mod Setup
 pub mod OneFlow
 pub mod FlowSteps
 pub mod Running

@@ -11,12 +11,13 @@ use Rattle.ccf.proofs.OneJoining.{Joins-append}
 use Rattle.docsis_wire.specs.declared.segment.Segment.{Segment}
 use Rattle.ccf.specs.Join.{Joins}
 use Rattle.reorder.specs.View.{IsLawful, moved_on_by}
-use Rattle.flow_core.specs.declared.record.FlowRecord.{FlowRecord}
+use Rattle.flow_records.specs.declared.record.FlowRecord.{FlowRecord}
 use Rattle.flow_core.specs.declared.flow.Flow.{Flow}
 use Rattle.flow_core.specs.declared.counts.FlowCounts.{FlowCounts}
 use Rattle.flow_core.specs.declared.event.Applied.{Applied}
 use Rattle.flow_core.specs.Fates.{Fates, IsSettledBelow}
-use Rattle.flow_core.specs.Counts.{counted, payload_bytes, AreCounts}
+use Rattle.flow_records.specs.Counted.{counted}
+use Rattle.flow_core.specs.Counts.{payload_bytes, AreCounts}
 use Rattle.flow_core.specs.Inside.Losses.{after_losses}
 use Rattle.flow_core.specs.Stands.{IsWindowFrom, AreLost}
 use Rattle.flow_core.proofs.Standing.{kept-not-lost}

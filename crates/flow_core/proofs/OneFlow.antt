@@ -13,7 +13,7 @@ use Rattle.reorder.specs.declared.verdict.Declared.TheVariants.{Lost}
 use Rattle.flow_core.specs.declared.flow.Flow.{Flow}
 use Rattle.flow_core.specs.declared.flows.Core.{Core}
 use Rattle.flow_core.specs.declared.event.Applied.TheVariants.{Decision}
-use Rattle.flow_core.specs.Limits.{flows_max}
+use Rattle.flow_records.specs.Limits.{flows_max}
 use Rattle.flow_core.specs.Fates.{number_of}
 use Rattle.flow_core.specs.Events.{gap}
 use Rattle.flow_core.specs.Stands.{IsDrained, TakesEvent}

@@ -1,9 +1,9 @@
 -- A flow runs from the start, and goes on running.
 use Rattle.std.proofs.Common.{◌≡◌, ℕ, Some, Bool, List, [], ◌∷◌, ◌++◌, slice_get, ap}
-use Rattle.flow_core.specs.declared.record.FlowRecord.{FlowRecord}
+use Rattle.flow_records.specs.declared.record.FlowRecord.{FlowRecord}
 use Rattle.flow_core.specs.declared.flows.Core.{Core}
 use Rattle.flow_core.specs.declared.event.Applied.{Applied}
-use Rattle.flow_core.specs.Setup.{CanBeSetUp}
+use Rattle.flow_records.specs.Setup.{CanBeSetUp}
 use Rattle.flow_core.specs.Events.{FlowEvent}
 use Rattle.flow_core.specs.Flows.{OthersStay, TakesEventAt, IsNewCore}
 use Rattle.flow_core.specs.Giving.{IsRunning, Drains}

@@ -6,7 +6,7 @@ use Rattle.std.proofs.lemmas.Bool.{cases_lt}
 use Rattle.std.proofs.lemmas.Option.{slice_get-get_or, slice_get_within}
 use Rattle.std.specs.Ordering.{nat_cmp}
 use Rattle.reorder.specs.View.{IsLawful, empty_window}
-use Rattle.flow_core.specs.Setup.{IsInRange}
+use Rattle.flow_records.specs.Setup.{IsInRange}
 use Rattle.flow_core.specs.Inside.NoCounts.{no_counts}
 use Rattle.flow_core.specs.Fates.{no_fates}
 use Rattle.flow_core.proofs.FlowCounting.{counts-new}
@@ -14,7 +14,7 @@ use Rattle.flow_core.proofs.Windows.{window-new}
 use Rattle.docsis_wire.specs.declared.segment.Segment.{Segment}
 use Rattle.ccf.specs.Join.{Joins}
 use Rattle.reorder.specs.View.{held_at}
-use Rattle.flow_core.specs.declared.record.FlowRecord.{FlowRecord}
+use Rattle.flow_records.specs.declared.record.FlowRecord.{FlowRecord}
 use Rattle.flow_core.specs.declared.flow.Flow.{Flow}
 use Rattle.flow_core.specs.declared.up_to.UpTo.{UpTo}
 use Rattle.flow_core.specs.declared.event.Applied.{Applied}

@@ -9,7 +9,7 @@ use Rattle.reorder.specs.View.{WindowView, offset_in, IsHeld, IsLawful}
 use Rattle.reorder.proofs.AgreeingWindows.{free-none_held}
 use Rattle.reorder.proofs.DeclaredCount.{declared_count-le, declared_count-le_held, declared_count-reaches, declared_count-none}
 use Rattle.reorder.proofs.SkippedCount.{skipped_count-le, skipped_count-le_held, skipped_count-reaches, skipped_count-none}
-use Rattle.flow_core.specs.declared.record.FlowRecord.{FlowRecord}
+use Rattle.flow_records.specs.declared.record.FlowRecord.{FlowRecord}
 use Rattle.flow_core.specs.declared.up_to.UpTo.{UpTo}
 use Rattle.flow_core.specs.declared.up_to.UpTo.TheVariants.{Declare, Skip}
 use Rattle.flow_core.specs.Fates.{Fates, number_of, IsKept, HasLaterKept}

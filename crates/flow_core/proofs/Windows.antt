@@ -9,9 +9,9 @@ use Rattle.docsis_wire.specs.declared.segment.ReadySegment.{ReadySegment}
 use Rattle.reorder.specs.Number.{following, number_ahead}
 use Rattle.reorder.specs.View.{WindowView, held_at, IsHeld, IsLawful, empty_window, with_item, next_taken, moved_on_by}
 use Rattle.reorder.proofs.Items.{get-insert_same, get-insert_other, get-remove_same, get-remove_other}
-use Rattle.flow_core.specs.declared.record.FlowRecord.{FlowRecord}
+use Rattle.flow_records.specs.declared.record.FlowRecord.{FlowRecord}
 use Rattle.flow_core.specs.Fates.{Fates, no_fates, number_of, kept_at, IsKept, IsKeptAs}
-use Rattle.flow_core.specs.Setup.{IsInRange}
+use Rattle.flow_records.specs.Setup.{IsInRange}
 use Rattle.flow_core.specs.Stands.{IsWindowFrom}
 use Rattle.flow_core.proofs.IndexNumbers.{same-index, following-index, ahead-index}
 

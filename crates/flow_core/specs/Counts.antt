@@ -1,15 +1,12 @@
 -- What is counted of a flow.
-use Rattle.std.specs.Prelude.{◌≡◌, ℕ, ◌+◌, Bool, true, false, min, Option, Some, None, List, length, sum_by, count_by, is_some, not}
+use Rattle.std.specs.Prelude.{◌≡◌, ℕ, ◌+◌, Bool, true, false, Option, Some, None, List, length, sum_by, count_by, is_some, not}
 use Rattle.std.specs.List.{concat}
 use Rattle.docsis_wire.specs.declared.segment.Segment.{Segment}
+use Rattle.flow_records.specs.Counted.{counted}
 use Rattle.reorder.specs.declared.verdict.Verdict.TheVariants.{Late, Beyond, Repeat, Kept}
 use Rattle.flow_core.specs.declared.counts.FlowCounts.{FlowCounts}
 use Rattle.flow_core.specs.declared.event.Applied.{Applied}
 use Rattle.flow_core.specs.declared.event.Applied.TheVariants.{Arrival}
-
--- a count of so many: it stays at its greatest value, 2^64 - 1
-abbrev pub counted : ℕ → ℕ
-counted n = min n 18446744073709551615
 
 -- the answer is that a segment was kept; that it was late; that its index was kept already; that it lies beyond the window
 abbrev pub says_kept : Applied → Bool

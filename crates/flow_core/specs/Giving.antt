@@ -1,10 +1,10 @@
 -- What one flow of a core has given, and how it is drained and closed.
 use Rattle.std.specs.Prelude.{◌≡◌, ℕ, Bool, List, ◌++◌, replicate}
-use Rattle.flow_core.specs.declared.record.FlowRecord.{FlowRecord}
+use Rattle.flow_records.specs.declared.record.FlowRecord.{FlowRecord}
 use Rattle.flow_core.specs.declared.flow.Flow.{Flow}
 use Rattle.flow_core.specs.declared.flows.Core.{Core}
 use Rattle.flow_core.specs.declared.event.Applied.{Applied}
-use Rattle.flow_core.specs.Setup.{IsInRange}
+use Rattle.flow_records.specs.Setup.{IsInRange}
 use Rattle.flow_core.specs.Events.{FlowEvent, gap}
 use Rattle.flow_core.specs.Closing.{IsClosed}
 use Rattle.flow_core.specs.Flows.{HasFlow, IsDrainedAt}

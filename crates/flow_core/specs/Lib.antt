@@ -1,11 +1,9 @@
-pub mod Limits
 pub mod Fates
 pub mod Events
 pub mod Near
 pub mod Delivery
 pub mod Counts
 pub mod Stands
-pub mod Setup
 pub mod Flows
 pub mod Closing
 pub mod Outcome

@@ -2,7 +2,7 @@
 ghost use Rattle.std.specs.Prelude.{◌≡◌, ◌<◌, ◌↔◌, ℕ, Bool, List, [], length, IsTrue, Ok, IfOk, OnErr};
 ghost use Rattle.docsis_wire.specs.Limits.{sequence_modulus};
 ghost use Rattle.docsis_wire.specs.Ready.{IsReady};
-ghost use Rattle.flow_core.specs.Setup.{IsInRange, CanBeSetUp};
+ghost use Rattle.flow_records.specs.Setup.{IsInRange, CanBeSetUp};
 ghost use Rattle.flow_core.specs.Events.{arrives, gap, gap_to, skip_to};
 ghost use Rattle.reorder.specs.View.{IsLawful};
 ghost use Rattle.flow_core.specs.Flows.{IsLoss, AreNewFlows};
@@ -14,7 +14,7 @@ ghost use Rattle.flow_core.specs.declared.event.Step.{Step};
 
 use crate::counts::FlowCounts;
 use crate::event::Step;
-use crate::record::FlowRecord;
+use flow_records::FlowRecord;
 use crate::sequence::SequenceNumber;
 use crate::up_to::UpTo;
 use ccf::Joiner;

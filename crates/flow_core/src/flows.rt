@@ -2,14 +2,14 @@
 //!
 //! Each call names a flow by the place of its record, and leaves all others as they are.
 ghost use Rattle.std.specs.Prelude.{◌≤◌, length};
-ghost use Rattle.flow_core.specs.Limits.{flows_max};
+ghost use Rattle.flow_records.specs.Limits.{flows_max};
 
 mod draining;
 
 use crate::counts::FlowCounts;
 use crate::event::{Applied, Event, Step};
 use crate::flow::{Flow, new_flows};
-use crate::record::{FlowRecord, SetupFault, check_records};
+use flow_records::{FlowRecord, SetupFault, check_records};
 use docsis_wire::HeaderCheck;
 use reorder::Declared;
 use std::alloc::{AllocError, Global};
@@ -24,13 +24,13 @@ pub struct Core<C> {
 
 impl<C: HeaderCheck + Drop> Core<C> {
     ghost use Rattle.std.specs.Prelude.{◌≡◌, ◌<◌, ◌↔◌, ℕ, length, IsTrue, IfOk, IsOk, OnErr, Ok, Err};
-    ghost use Rattle.flow_core.specs.Setup.{IsSetupFault, CanBeSetUp};
+    ghost use Rattle.flow_records.specs.Setup.{IsSetupFault, CanBeSetUp};
     ghost use Rattle.flow_core.specs.Flows.{flow_of, event_of, IsTakable, IsNewCore, HasFlow};
     ghost use Rattle.flow_core.specs.Flows.{IsDrainedAt, AdvancesAt, OthersStay, TakesEventAt};
     ghost use Rattle.flow_core.specs.Flows.{ClosesGapAt};
     ghost use Rattle.flow_core.specs.declared.event.Step.{Step};
     ghost use Rattle.flow_core.specs.declared.flow.Flow.{Flow};
-    ghost use Rattle.flow_core.specs.declared.record.SetupFault.{SetupFault};
+    ghost use Rattle.flow_records.specs.declared.record.SetupFault.{SetupFault};
 
     /// Flows to which nothing happened yet, or the first fault of their records; `OutOfMemory` is
     /// reported only of records that have no fault. All windows are made here.

@@ -11,7 +11,7 @@ ghost use Rattle.docsis_wire.specs.Span.{IsSettledOf};
 ghost use Rattle.ccf.specs.Filter.{FiltersTo};
 ghost use Rattle.reorder.specs.Limits.{numbers_ahead};
 ghost use Rattle.ccf.specs.Join.{Joins};
-ghost use Rattle.flow_core.specs.declared.record.FlowRecord.{FlowRecord};
+ghost use Rattle.flow_records.specs.declared.record.FlowRecord.{FlowRecord};
 ghost use Rattle.flow_core.specs.declared.flow.Flow.{Flow};
 ghost use Rattle.flow_core.specs.declared.counts.FlowCounts.{FlowCounts};
 ghost use Rattle.flow_core.specs.declared.event.Applied.{Applied};

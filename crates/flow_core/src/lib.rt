@@ -35,7 +35,6 @@ mod failed_allocations;
 mod flow;
 mod flows;
 pub mod laws;
-mod record;
 mod sequence;
 #[cfg(test)]
 mod tests;
@@ -44,4 +43,4 @@ mod up_to;
 pub use counts::FlowCounts;
 pub use event::{Applied, Event, Step};
 pub use flows::Core;
-pub use record::{CLUSTERS_MAX, FLOWS_MAX, FlowRecord, SetupFault, WINDOW_MAX, check_records};
+pub use flow_records::{CLUSTERS_MAX, FLOWS_MAX, FlowRecord, SetupFault, WINDOW_MAX, check_records};

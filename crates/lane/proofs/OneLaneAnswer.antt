@@ -10,7 +10,7 @@ use Rattle.docsis_wire.specs.SegmentBytes.{segment_bytes, PointsPast}
 use Rattle.docsis_wire.specs.Ready.{IsReady}
 use Rattle.docsis_wire.proofs.HeaderWords.{header_bytes-inj}
 use Rattle.docsis_wire.proofs.StreamPlaces.{element_at}
-use Rattle.flow_core.specs.declared.record.FlowRecord.{FlowRecord}
+use Rattle.flow_records.specs.declared.record.FlowRecord.{FlowRecord}
 use Rattle.lane.specs.declared.sids.SidRow.{SidRow}
 use Rattle.lane.specs.declared.input.Input.{Input}
 use Rattle.lane.specs.declared.input.Input.TheVariants.{Grant, Burst}

@@ -1,6 +1,6 @@
 -- Rows have at most one fault, and none if a lane can be opened with them.
 use Rattle.std.proofs.Common.{◌≡◌, ◌↔◌, ℕ, Result, Err, List, ap, subst, ◌∙◌}
-use Rattle.flow_core.proofs.Setup.{least-one}
+use Rattle.flow_records.proofs.Setup.{least-one}
 use Rattle.lane.specs.declared.sids.SidRow.{SidRow}
 use Rattle.lane.specs.declared.sids.LaneFault.{LaneFault}
 use Rattle.lane.specs.declared.sids.LaneFault.TheVariants.{SidRange, SameSid, UnknownFlow, OutOfMemory}

@@ -1,8 +1,8 @@
 -- What a lane admits, asks for and reports, of the whole list of its inputs with their answers.
 use Rattle.std.specs.Prelude.{◌≡◌, ℕ, ◌<◌, ◌+◌, Option, Some, None, Ok, Err, List, [], ◌∷◌, ◌++◌, length, is_some, filter_map, slice_get, if◌then◌else◌}
 use Rattle.docsis_wire.specs.Limits.{sequence_modulus}
-use Rattle.flow_core.specs.Counts.{counted}
-use Rattle.flow_core.specs.declared.record.FlowRecord.{FlowRecord}
+use Rattle.flow_records.specs.Counted.{counted}
+use Rattle.flow_records.specs.declared.record.FlowRecord.{FlowRecord}
 use Rattle.lane.specs.declared.admitted.Admitted.{Admitted}
 use Rattle.lane.specs.declared.admitted.Request.{Request}
 use Rattle.lane.specs.declared.input.Input.{Input}

@@ -1,6 +1,6 @@
 -- Which rows of service identifiers a lane can be opened with.
 use Rattle.std.specs.Prelude.{◌≡◌, ℕ, ◌<◌, ◌≤◌, ◌⊎◌, Some, List, slice_get}
-use Rattle.flow_core.specs.Setup.{IsLeast}
+use Rattle.flow_records.specs.Setup.{IsLeast}
 use Rattle.lane.specs.declared.sids.SidRow.{SidRow}
 use Rattle.lane.specs.Limits.{channel_limit, sid_limit}
 use Rattle.lane.specs.declared.sids.LaneFault.{LaneFault}

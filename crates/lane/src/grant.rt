@@ -1,12 +1,12 @@
 //! An outstanding grant, and what is made of the burst that is received in it.
 ghost use Rattle.std.specs.Prelude.{◌≡◌, ◌<◌, IfOk, OnErr, length, slice_get};
-ghost use Rattle.flow_core.specs.declared.record.FlowRecord.{FlowRecord};
+ghost use Rattle.flow_records.specs.declared.record.FlowRecord.{FlowRecord};
 ghost use Rattle.lane.specs.Admission.{IsMadeOf, IsRequestIn, Fits};
 
 use crate::admitted::{Admitted, Request};
 use crate::refusal::Refusal;
 use docsis_wire::{Bytes, Segment, SegmentFault, SegmentHeader};
-use flow_core::FlowRecord;
+use flow_records::FlowRecord;
 use std::alloc::{AllocError, Global};
 
 /// The flow of a service identifier, and how many SID clusters the flow has.

@@ -12,7 +12,7 @@ use crate::refusal::Refusal;
 use crate::report::Answer;
 use crate::sids::{LaneFault, SidRow, check_rows};
 use docsis_wire::Bytes;
-use flow_core::FlowRecord;
+use flow_records::FlowRecord;
 use std::alloc::{AllocError, Global};
 use std::collections::BTreeMap;
 

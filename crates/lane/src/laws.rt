@@ -4,7 +4,7 @@
 //! Each function states a law in its contract; its body is empty.
 ghost use Rattle.std.specs.Prelude.{◌≡◌, ◌≢◌, ◌↔◌, ℕ, ◌+◌, IsTrue, Ok, None};
 ghost use Rattle.std.specs.Prelude.{List, [], ◌∷◌, ◌++◌, length, All};
-ghost use Rattle.flow_core.specs.Counts.{counted};
+ghost use Rattle.flow_records.specs.Counted.{counted};
 ghost use Rattle.lane.specs.declared.input.Input.{Input};
 ghost use Rattle.lane.specs.declared.lane.Lane.{Lane};
 ghost use Rattle.lane.specs.declared.grant.OutstandingGrant.{OutstandingGrant};

@@ -1,6 +1,6 @@
 //! Which flow each service identifier of a channel belongs to, and the faults of such rows.
 ghost use Rattle.std.specs.Prelude.{◌≡◌, ◌↔◌, ℕ, MatchOption, Ok, Err};
-ghost use Rattle.flow_core.specs.Setup.{IsLeast};
+ghost use Rattle.flow_records.specs.Setup.{IsLeast};
 ghost use Rattle.lane.specs.Rows.{IsOutOfRange, IsSidRepeated, NamesNoFlow};
 ghost use Rattle.lane.specs.Rows.{IsLaneFault, CanBeOpened};
 ghost use Rattle.lane.specs.declared.sids.LaneFault.{LaneFault};

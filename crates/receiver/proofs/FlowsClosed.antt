@@ -6,7 +6,7 @@ use Rattle.std.proofs.lemmas.Option.{slice_get_within, get_or_from_slice_get, sl
 use Rattle.std.specs.Global.{Global}
 use Rattle.docsis_wire.specs.declared.buffer.Bytes.{Bytes}
 use Rattle.docsis_wire.proofs.StreamPlaces.{element_at}
-use Rattle.flow_core.specs.declared.record.FlowRecord.{FlowRecord}
+use Rattle.flow_records.specs.declared.record.FlowRecord.{FlowRecord}
 use Rattle.flow_core.specs.declared.flows.Core.{Core}
 use Rattle.flow_core.specs.declared.event.Event.{Event}
 use Rattle.flow_core.specs.Flows.{OthersStay, IsDrainedAt}

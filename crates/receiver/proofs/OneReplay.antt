@@ -1,11 +1,11 @@
 -- Lists that are replayed in one order have one outcome, or one fault.
 use Rattle.std.proofs.Common.{◌≡◌, ◌≢◌, ℕ, ◌<◌, Bool, Some, List, length, map, slice_get, refl, sym, ap, subst, ◌∙◌, arith}
 use Rattle.std.proofs.lemmas.Option.{slice_get_within, slice_get-get_or}
-use Rattle.flow_core.specs.declared.record.FlowRecord.{FlowRecord}
+use Rattle.flow_records.specs.declared.record.FlowRecord.{FlowRecord}
 use Rattle.flow_core.specs.declared.counts.FlowCounts.{FlowCounts}
 use Rattle.flow_core.specs.declared.event.Event.{Event}
 use Rattle.flow_core.specs.Events.{FlowEvent}
-use Rattle.flow_core.proofs.Setup.{one_fault as one_setup_fault, fault-refused as setup-refused}
+use Rattle.flow_records.proofs.Setup.{one_fault as one_setup_fault, fault-refused as setup-refused}
 use Rattle.receiver.specs.declared.outcome.FlowOutcome.{FlowOutcome}
 use Rattle.lane.specs.declared.report.LaneReport.{LaneReport}
 use Rattle.receiver.specs.declared.outcome.Outcome.{Outcome}

@@ -1,6 +1,6 @@
 -- Which setups a receiver takes, and why nothing is replayed.
 use Rattle.std.specs.Prelude.{ℕ, List, length}
-use Rattle.flow_core.specs.Setup.{CanBeSetUp, IsSetupFault}
+use Rattle.flow_records.specs.Setup.{CanBeSetUp, IsSetupFault}
 use Rattle.lane.specs.Inputs.{AnsweredInput}
 use Rattle.lane.specs.Rows.{CanBeOpened, IsLaneFault}
 use Rattle.receiver.specs.declared.setup.Setup.{Setup}

@@ -1,8 +1,8 @@
 //! All flows, and the frames that each gave.
 ghost use Rattle.std.specs.Prelude.{◌≡◌, ◌++◌, ◌∷◌, [], ℕ, Bool, List, length, IfOk};
-ghost use Rattle.flow_core.specs.declared.record.FlowRecord.{FlowRecord};
+ghost use Rattle.flow_records.specs.declared.record.FlowRecord.{FlowRecord};
 ghost use Rattle.flow_core.specs.declared.event.Event.{Event};
-ghost use Rattle.flow_core.specs.Setup.{CanBeSetUp};
+ghost use Rattle.flow_records.specs.Setup.{CanBeSetUp};
 ghost use Rattle.flow_core.specs.declared.flow.Flow.{Flow};
 ghost use Rattle.flow_core.specs.Flows.{flow_of, HasFlow, IsDrainedAt, OthersStay};
 ghost use Rattle.flow_core.specs.Giving.{IsRunning, ClosesFlow};

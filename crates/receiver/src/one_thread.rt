@@ -1,7 +1,7 @@
 //! A receiver on one thread, for inputs that were recorded.
 ghost use Rattle.std.specs.Prelude.{◌≡◌, ◌<◌, ℕ, Bool, List, IfOk, IfErr, Err, All, length, map, filter, ◌∷◌, []};
 ghost use Rattle.flow_core.specs.declared.event.Event.{Event};
-ghost use Rattle.flow_core.specs.Setup.{CanBeSetUp};
+ghost use Rattle.flow_records.specs.Setup.{CanBeSetUp};
 ghost use Rattle.receiver.specs.declared.one_thread.ReplayFault.{ReplayFault};
 ghost use Rattle.receiver.specs.Items.{incoming_of, IsItem, event_of_decision, names_a_flow};
 ghost use Rattle.receiver.specs.Order.{senders, lengths_of, kept_places, IsLawfulOrder, IsMergeOf};

@@ -1,10 +1,10 @@
 -- The faults of a replay that nothing else than memory can stop.
 use Rattle.std.proofs.Common.{◌≡◌, ℕ, List, Result, Ok, Err, length, refl, arith}
 use Rattle.std.specs.Prelude.{IfErr}
-use Rattle.flow_core.specs.declared.record.FlowRecord.{FlowRecord}
-use Rattle.flow_core.specs.declared.record.SetupFault.{SetupFault}
-use Rattle.flow_core.specs.declared.record.SetupFault.TheVariants.{TooManyFlows, BadFlow, SameSfid, OutOfMemory}
-use Rattle.flow_core.specs.Setup.{CanBeSetUp, IsSetupFault}
+use Rattle.flow_records.specs.declared.record.FlowRecord.{FlowRecord}
+use Rattle.flow_records.specs.declared.record.SetupFault.{SetupFault}
+use Rattle.flow_records.specs.declared.record.SetupFault.TheVariants.{TooManyFlows, BadFlow, SameSfid, OutOfMemory}
+use Rattle.flow_records.specs.Setup.{CanBeSetUp, IsSetupFault}
 use Rattle.receiver.specs.declared.setup.Setup.{Setup}
 use Rattle.lane.specs.declared.sids.SidRow.{SidRow}
 use Rattle.lane.specs.declared.sids.LaneFault.{LaneFault}

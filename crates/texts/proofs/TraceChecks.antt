@@ -1,9 +1,9 @@
 -- What the lines of a trace say passes the checks of a receiver's setup.
 use Rattle.std.proofs.Common.{◌≡◌, ℕ, ◌<◌, ◌≤◌, inl, inr, ⊎_elim, List, [], ◌∷◌, ◌++◌, length, sym, subst, arith, length-append}
 use Rattle.std.proofs.lemmas.Bool.{cases_lt}
-use Rattle.flow_core.specs.declared.record.FlowRecord.{FlowRecord}
-use Rattle.flow_core.specs.Limits.{flows_max}
-use Rattle.flow_core.specs.Setup.{IsInRange, CanBeSetUp}
+use Rattle.flow_records.specs.declared.record.FlowRecord.{FlowRecord}
+use Rattle.flow_records.specs.Limits.{flows_max}
+use Rattle.flow_records.specs.Setup.{IsInRange, CanBeSetUp}
 use Rattle.lane.specs.declared.sids.SidRow.{SidRow}
 use Rattle.lane.specs.Limits.{channel_limit, sid_limit}
 use Rattle.lane.specs.Rows.{CanBeOpened}

@@ -5,7 +5,7 @@ use Rattle.std.proofs.lemmas.List.Elements.{All-pop}
 use Rattle.std.proofs.lemmas.Option.{slice_get_read, same_Some}
 use Rattle.delivery.specs.Feeders.{offered}
 use Rattle.delivery.specs.declared.feeder.Feeder.{Feeder}
-use Rattle.flow_core.specs.declared.record.FlowRecord.{FlowRecord}
+use Rattle.flow_records.specs.declared.record.FlowRecord.{FlowRecord}
 use Rattle.flow_core.specs.declared.flows.Core.{Core}
 use Rattle.flow_core.specs.declared.event.Event.{Event}
 use Rattle.flow_core.specs.Flows.{flow_of}

@@ -15,7 +15,7 @@ use Rattle.mailbox.specs.declared.mouth.Mouth.{Mouth}
 use Rattle.mailbox.specs.declared.settling.ClosedPorts.{ClosedPorts}
 use Rattle.delivery.specs.declared.feeder.ClosedFeeder.{ClosedFeeder}
 use Rattle.flow_core.specs.declared.counts.FlowCounts.{FlowCounts}
-use Rattle.flow_core.specs.declared.record.FlowRecord.{FlowRecord}
+use Rattle.flow_records.specs.declared.record.FlowRecord.{FlowRecord}
 use Rattle.uplink.specs.declared.frame_worker.Consumed.{Consumed}
 use Rattle.receiver.specs.declared.outcome.FlowOutcome.{FlowOutcome}
 use Rattle.receiver.specs.Order.{senders}

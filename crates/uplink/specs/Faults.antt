@@ -1,6 +1,6 @@
 -- Which setups are run, and why one isn't.
 use Rattle.std.specs.Prelude.{◌≡◌, ◌<◌, length}
-use Rattle.flow_core.specs.Setup.{CanBeSetUp, IsSetupFault}
+use Rattle.flow_records.specs.Setup.{CanBeSetUp, IsSetupFault}
 use Rattle.lane.specs.Rows.{IsLaneFault}
 use Rattle.receiver.specs.declared.setup.Setup.{Setup}
 use Rattle.receiver.specs.declared.setup.BadSetup.{BadSetup}

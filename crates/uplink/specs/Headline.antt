@@ -4,7 +4,7 @@ use Rattle.docsis_wire.specs.declared.segment.Segment.{Segment}
 use Rattle.docsis_wire.specs.Cut.{IsLawfulCut}
 use Rattle.ccf.specs.Filter.{FiltersTo}
 use Rattle.flow_core.specs.declared.event.Applied.{Applied}
-use Rattle.flow_core.specs.declared.record.FlowRecord.{FlowRecord}
+use Rattle.flow_records.specs.declared.record.FlowRecord.{FlowRecord}
 use Rattle.flow_core.specs.Closing.{IsClosed, IsAllKept}
 use Rattle.flow_core.specs.Delivery.{IsDeliverySequence}
 use Rattle.flow_core.specs.Events.{FlowEvent, gap, IsAfter}

@@ -13,7 +13,7 @@ ghost use Rattle.delivery.specs.Left.{IsLeft};
 ghost use Rattle.delivery.specs.Takers.{taken};
 ghost use Rattle.flow_core.specs.declared.counts.FlowCounts.{FlowCounts};
 ghost use Rattle.flow_core.specs.declared.event.Applied.{Applied};
-ghost use Rattle.flow_core.specs.declared.record.FlowRecord.{FlowRecord};
+ghost use Rattle.flow_records.specs.declared.record.FlowRecord.{FlowRecord};
 ghost use Rattle.flow_core.specs.Delivery.{IsDeliverySequence};
 ghost use Rattle.flow_core.specs.Events.{FlowEvent, IsAfter};
 ghost use Rattle.flow_core.specs.Fates.{Fates};

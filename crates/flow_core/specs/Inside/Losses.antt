@@ -10,7 +10,7 @@ use Rattle.flow_core.specs.declared.up_to.UpTo.TheVariants.{Declare, Skip}
 use Rattle.flow_core.specs.declared.event.Applied.{Applied}
 use Rattle.flow_core.specs.declared.event.Applied.TheVariants.{DecisionTo, DecisionSkip}
 use Rattle.flow_core.specs.Events.{FlowEvent, gap_to, skip_to}
-use Rattle.flow_core.specs.Counts.{counted}
+use Rattle.flow_records.specs.Counted.{counted}
 use Rattle.flow_core.specs.Stands.{number_to}
 
 -- so many losses: they are counted, and nothing is left unfinished

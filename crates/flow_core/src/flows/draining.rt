@@ -6,7 +6,7 @@ ghost use Rattle.flow_core.specs.Giving.{IsRunning, Drains, ClosesFlow};
 use super::Core;
 use crate::event::Step;
 use crate::laws;
-use crate::record::WINDOW_MAX;
+use flow_records::WINDOW_MAX;
 use docsis_wire::{Bytes, HeaderCheck};
 use std::alloc::{AllocError, Global};
 

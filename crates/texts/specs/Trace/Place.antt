@@ -1,7 +1,7 @@
 -- What a line of a trace means in its place, after the lines above it.
 use Rattle.std.specs.Prelude.{◌≡◌, ◌≤◌, ◌<◌, ◌⊎◌, ℕ, Some, List, [], ◌∷◌, ◌++◌, length, slice_get}
-use Rattle.flow_core.specs.Limits.{flows_max}
-use Rattle.flow_core.specs.declared.record.FlowRecord.{FlowRecord}
+use Rattle.flow_records.specs.Limits.{flows_max}
+use Rattle.flow_records.specs.declared.record.FlowRecord.{FlowRecord}
 use Rattle.lane.specs.declared.sids.SidRow.{SidRow}
 use Rattle.lane.specs.declared.input.Input.{Input}
 use Rattle.receiver.specs.declared.setup.Decision.{Decision}

@@ -6,7 +6,7 @@ use Rattle.delivery.specs.declared.feeder.ClosedFeeder.{ClosedFeeder}
 use Rattle.flow_core.specs.declared.event.Event.{Event}
 use Rattle.flow_core.specs.declared.counts.FlowCounts.{FlowCounts}
 use Rattle.flow_core.specs.declared.flows.Core.{Core}
-use Rattle.flow_core.specs.declared.record.FlowRecord.{FlowRecord}
+use Rattle.flow_records.specs.declared.record.FlowRecord.{FlowRecord}
 use Rattle.flow_core.specs.Flows.{flow_of}
 use Rattle.uplink.specs.declared.assembler.Taking.{Taking}
 use Rattle.uplink.specs.declared.item.Item.{Item}

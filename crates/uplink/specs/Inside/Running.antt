@@ -13,7 +13,7 @@ use Rattle.delivery.specs.Takers as takers
 use Rattle.delivery.specs.declared.feeder.ClosedFeeder.{ClosedFeeder}
 use Rattle.flow_core.specs.declared.counts.FlowCounts.{FlowCounts}
 use Rattle.flow_core.specs.declared.event.Event.{Event}
-use Rattle.flow_core.specs.declared.record.FlowRecord.{FlowRecord}
+use Rattle.flow_records.specs.declared.record.FlowRecord.{FlowRecord}
 use Rattle.lane.specs.declared.admitted.Request.{Request}
 use Rattle.uplink.specs.declared.frame_worker.Consumed.{Consumed}
 use Rattle.uplink.specs.declared.item.Item.{Item}

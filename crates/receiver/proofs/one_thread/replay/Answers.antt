@@ -1,6 +1,6 @@
 -- What the channels gave, with what the flows then gave, is the outcome.
 use Rattle.std.proofs.Common.{◌<◌, ◌∷◌, [], ℕ, All, List, length, refl, sym, subst, ◌∙◌}
-use Rattle.flow_core.specs.declared.record.FlowRecord.{FlowRecord}
+use Rattle.flow_records.specs.declared.record.FlowRecord.{FlowRecord}
 use Rattle.receiver.specs.declared.outcome.Outcome.{Outcome}
 use Rattle.receiver.specs.Items.{incoming_of, IsItem}
 use Rattle.receiver.specs.Order.{senders, IsOrderFault}

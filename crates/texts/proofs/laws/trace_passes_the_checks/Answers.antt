@@ -1,6 +1,6 @@
 use Rattle.std.proofs.Common.{List, length, sym, subst}
-use Rattle.flow_core.specs.declared.record.FlowRecord.{FlowRecord}
-use Rattle.flow_core.specs.Setup.{CanBeSetUp}
+use Rattle.flow_records.specs.declared.record.FlowRecord.{FlowRecord}
+use Rattle.flow_records.specs.Setup.{CanBeSetUp}
 use Rattle.lane.specs.declared.sids.SidRow.{SidRow}
 use Rattle.lane.specs.Rows.{CanBeOpened}
 use Rattle.texts.specs.Lines.{lines_of}

@@ -1,6 +1,6 @@
 -- All is open, and nothing has happened to it.
 use Rattle.std.proofs.Common.{rules, List, [], refl, subst}
-use Rattle.flow_core.specs.declared.record.FlowRecord.{FlowRecord}
+use Rattle.flow_records.specs.declared.record.FlowRecord.{FlowRecord}
 use Rattle.flow_core.specs.Flows.{IsNewCore}
 use Rattle.uplink.specs.Inside.Running.{AreOpenRings}
 use Rattle.receiver.proofs.ItemsTaken.{nothing_taken}

@@ -2,7 +2,7 @@
 use Rattle.std.proofs.Common.{rules, ◌≡◌, ◌+◌, [], ◌∷◌, ◌++◌, map, length, take, get_or, ap, sym, ◌∙◌}
 use Rattle.std.proofs.lemmas.List.{length_push, map-append, take_more}
 use Rattle.std.proofs.lemmas.List.Elements.{All-push, All-same}
-use Rattle.flow_core.specs.declared.record.FlowRecord.{FlowRecord}
+use Rattle.flow_records.specs.declared.record.FlowRecord.{FlowRecord}
 use Rattle.delivery.specs.Feeders.{feeder_ring, offered, room}
 use Rattle.delivery.specs.Takers.{taker_ring, taken}
 use Rattle.delivery.specs.declared.feeder.Feeder.{Feeder}

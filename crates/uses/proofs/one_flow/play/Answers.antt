@@ -7,7 +7,7 @@ use Rattle.docsis_wire.specs.declared.segment.Segment.{Segment}
 use Rattle.docsis_wire.specs.Ready.{IsReady}
 use Rattle.flow_core.specs.Fates.{Fates, no_fates}
 use Rattle.flow_core.specs.Events.{arrives, gap, Leads}
-use Rattle.flow_core.specs.declared.record.FlowRecord.{FlowRecord}
+use Rattle.flow_records.specs.declared.record.FlowRecord.{FlowRecord}
 use Rattle.flow_core.specs.declared.flows.Core.{Core}
 use Rattle.flow_core.specs.declared.event.Applied.{Applied}
 use Rattle.flow_core.specs.Flows.{OthersStay, TakesEventAt}

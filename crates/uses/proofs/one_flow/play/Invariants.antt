@@ -3,7 +3,7 @@ use Rattle.std.specs.Prelude.{All}
 use Rattle.std.specs.Vec.Iter.{into_iter_items}
 use Rattle.docsis_wire.specs.declared.segment.Segment.{Segment}
 use Rattle.docsis_wire.specs.Ready.{IsReady}
-use Rattle.flow_core.specs.Setup.{IsInRange}
+use Rattle.flow_records.specs.Setup.{IsInRange}
 use Rattle.flow_core.specs.Flows.{IsDrainedAt}
 use Rattle.flow_core.specs.Giving.{HasGiven}
 use Rattle.uses.specs.OneFlow.{arrivals}

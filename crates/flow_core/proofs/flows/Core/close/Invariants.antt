@@ -1,8 +1,8 @@
 -- Each gap so far has declared a segment lost, and the frames that came after it are appended.
 use Rattle.std.proofs.Common.{◌≡◌, ℕ, ◌+◌, ◌++◌, Bool, List, count_by, replicate}
-use Rattle.flow_core.specs.declared.record.FlowRecord.{FlowRecord}
+use Rattle.flow_records.specs.declared.record.FlowRecord.{FlowRecord}
 use Rattle.flow_core.specs.Events.{FlowEvent, gap}
-use Rattle.flow_core.specs.Setup.{IsInRange}
+use Rattle.flow_records.specs.Setup.{IsInRange}
 use Rattle.flow_core.specs.Flows.{OthersStay, IsDrainedAt}
 use Rattle.flow_core.specs.Closing.{says_lost}
 use Rattle.flow_core.specs.Giving.{HasGiven}

@@ -1,6 +1,6 @@
 -- Each segment that was joined has brought the flow further, no more than the window is wide, and its frames are appended.
 use Rattle.std.proofs.Common.{◌≡◌, ℕ, ◌+◌, ◌≤◌, ◌++◌, Bool, List}
-use Rattle.flow_core.specs.declared.record.FlowRecord.{FlowRecord}
+use Rattle.flow_records.specs.declared.record.FlowRecord.{FlowRecord}
 use Rattle.flow_core.specs.Events.{FlowEvent}
 use Rattle.flow_core.specs.Flows.{OthersStay}
 use Rattle.flow_core.specs.Giving.{HasGiven}

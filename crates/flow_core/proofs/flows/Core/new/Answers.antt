@@ -1,8 +1,8 @@
 -- A fault of the records is reported, and otherwise only an allocation can fail.
 use Rattle.std.proofs.Common.{Err, refl, ap, ◌∙◌}
 use Rattle.std.proofs.lemmas.Result.{err_from_is_err_and}
-use Rattle.flow_core.specs.declared.record.SetupFault.TheVariants.{TooManyFlows, BadFlow, SameSfid, OutOfMemory}
-use Rattle.flow_core.proofs.Setup.{fault-is, fault-not}
+use Rattle.flow_records.specs.declared.record.SetupFault.TheVariants.{TooManyFlows, BadFlow, SameSfid, OutOfMemory}
+use Rattle.flow_records.proofs.Setup.{fault-is, fault-not}
 use Rattle.flow_core.proofs.NewFlows.{new-drained}
 use Rattle.flow_core.proofs.flows.Core.new.Goals as goal
 

@@ -2,10 +2,10 @@
 use Rattle.std.specs.Prelude.{◌≡◌, ℕ, ◌<◌, ◌≤◌, Some, List, length, slice_get}
 use Rattle.docsis_wire.specs.Limits.{sequence_modulus, cluster_limit}
 use Rattle.reorder.specs.Limits.{width_max}
-use Rattle.flow_core.specs.Limits.{flows_max}
-use Rattle.flow_core.specs.declared.record.FlowRecord.{FlowRecord}
-use Rattle.flow_core.specs.declared.record.SetupFault.{SetupFault}
-use Rattle.flow_core.specs.declared.record.SetupFault.TheVariants.{TooManyFlows, BadFlow, SameSfid, OutOfMemory}
+use Rattle.flow_records.specs.Limits.{flows_max}
+use Rattle.flow_records.specs.declared.record.FlowRecord.{FlowRecord}
+use Rattle.flow_records.specs.declared.record.SetupFault.{SetupFault}
+use Rattle.flow_records.specs.declared.record.SetupFault.TheVariants.{TooManyFlows, BadFlow, SameSfid, OutOfMemory}
 
 -- each field of a record lies in its range
 pub record IsInRange (flow_record : FlowRecord) : Type 0 where

@@ -1,7 +1,7 @@
 -- No earlier record so far has the identifier of record k.
 use Rattle.std.proofs.Common.{◌≡◌, ℕ, ◌<◌, Some, slice_get}
-use Rattle.flow_core.specs.declared.record.FlowRecord.{FlowRecord}
-use Rattle.flow_core.proofs.record.is_repeated.Given as goal
+use Rattle.flow_records.specs.declared.record.FlowRecord.{FlowRecord}
+use Rattle.flow_records.proofs.record.is_repeated.Given as goal
 
 abbrev pub invariant-loop-j : goal.invariant-loop-j
 invariant-loop-j l =

@@ -1,8 +1,8 @@
 //! What is known of each service flow before it runs.
 ghost use Rattle.std.specs.Prelude.{◌≡◌, ◌<◌, ◌↔◌, ℕ, IsTrue, MatchOption, Ok, Err, length};
-ghost use Rattle.flow_core.specs.Setup.{IsInRange, IsBad, IsRepeated, IsLeast, IsSetupFault};
-ghost use Rattle.flow_core.specs.Setup.{CanBeSetUp};
-ghost use Rattle.flow_core.specs.declared.record.SetupFault.{SetupFault};
+ghost use Rattle.flow_records.specs.Setup.{IsInRange, IsBad, IsRepeated, IsLeast, IsSetupFault};
+ghost use Rattle.flow_records.specs.Setup.{CanBeSetUp};
+ghost use Rattle.flow_records.specs.declared.record.SetupFault.{SetupFault};
 
 use docsis_wire::SEQUENCE_MODULUS;
 use reorder::WIDTH_MAX;
@@ -53,7 +53,7 @@ pub enum SetupFault {
 
 impl From<AllocError> for SetupFault {
     ghost use Rattle.std.specs.Prelude.{◌≡◌};
-    ghost use Rattle.flow_core.specs.declared.record.SetupFault.TheVariants.{OutOfMemory};
+    ghost use Rattle.flow_records.specs.declared.record.SetupFault.TheVariants.{OutOfMemory};
 
     ghost from_gives = { λ _ fault. fault ≡ OutOfMemory };
 

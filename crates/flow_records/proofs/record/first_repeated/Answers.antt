@@ -1,7 +1,7 @@
 -- A record whose identifier is repeated has an index, so it was looked at.
 use Rattle.std.proofs.Common.{◌≡◌, true, below_more, arith}
 use Rattle.std.proofs.lemmas.Option.{slice_get_within}
-use Rattle.flow_core.proofs.record.first_repeated.Goals as goal
+use Rattle.flow_records.proofs.record.first_repeated.Goals as goal
 
 pub loop-k-preserved : goal.loop-k-preserved
 loop-k-preserved c = below_more _ _ c.loop-k.invariant

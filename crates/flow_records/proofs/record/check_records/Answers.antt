@@ -1,11 +1,11 @@
 -- The first fault that is found is the one fault of the records.
 use Rattle.std.proofs.Common.{◌≡◌, ◌↔◌, Result, Ok, Err, List, refl, arith}
-use Rattle.flow_core.specs.declared.record.FlowRecord.{FlowRecord}
-use Rattle.flow_core.specs.declared.record.SetupFault.{SetupFault}
-use Rattle.flow_core.specs.declared.record.SetupFault.TheVariants.{BadFlow, SameSfid}
-use Rattle.flow_core.specs.Setup.{IsSetupFault, CanBeSetUp}
-use Rattle.flow_core.proofs.Setup.{no_fault, fault-refused, fault-is, fault-not}
-use Rattle.flow_core.proofs.record.check_records.Goals as goal
+use Rattle.flow_records.specs.declared.record.FlowRecord.{FlowRecord}
+use Rattle.flow_records.specs.declared.record.SetupFault.{SetupFault}
+use Rattle.flow_records.specs.declared.record.SetupFault.TheVariants.{BadFlow, SameSfid}
+use Rattle.flow_records.specs.Setup.{IsSetupFault, CanBeSetUp}
+use Rattle.flow_records.proofs.Setup.{no_fault, fault-refused, fault-is, fault-not}
+use Rattle.flow_records.proofs.record.check_records.Goals as goal
 
 -- an answer with a fault
 fault-ok : (records : List FlowRecord) (fault : SetupFault) → IsSetupFault records fault

@@ -2,11 +2,11 @@
 use Rattle.std.proofs.Common.{◌≡◌, ℕ, ◌<◌, ◌≤◌, ◌↔◌, ⊎_elim, Result, Err, List, length, ap, subst, ◌∙◌, refl, arith}
 use Rattle.std.proofs.lemmas.Bool.{cases_lt}
 use Rattle.docsis_wire.specs.Limits.{sequence_modulus}
-use Rattle.flow_core.specs.declared.record.FlowRecord.{FlowRecord}
-use Rattle.flow_core.specs.declared.record.SetupFault.{SetupFault}
-use Rattle.flow_core.specs.declared.record.SetupFault.TheVariants.{TooManyFlows, BadFlow, SameSfid, OutOfMemory}
-use Rattle.flow_core.specs.Limits.{flows_max}
-use Rattle.flow_core.specs.Setup.{IsInRange, IsLeast, IsBad, IsRepeated, IsSetupFault, CanBeSetUp}
+use Rattle.flow_records.specs.declared.record.FlowRecord.{FlowRecord}
+use Rattle.flow_records.specs.declared.record.SetupFault.{SetupFault}
+use Rattle.flow_records.specs.declared.record.SetupFault.TheVariants.{TooManyFlows, BadFlow, SameSfid, OutOfMemory}
+use Rattle.flow_records.specs.Limits.{flows_max}
+use Rattle.flow_records.specs.Setup.{IsInRange, IsLeast, IsBad, IsRepeated, IsSetupFault, CanBeSetUp}
 
 -- the least number with a property is one number
 pub least-one : (P : ℕ → Type 0) (k j : ℕ) → IsLeast P k → IsLeast P j → k ≡ j

@@ -1,8 +1,8 @@
 -- A record that is out of range has an index, so it was looked at.
 use Rattle.std.proofs.Common.{below_more, subst, arith}
 use Rattle.std.proofs.lemmas.Option.{slice_get_within, get_or_from_slice_get}
-use Rattle.flow_core.specs.Setup.{IsInRange}
-use Rattle.flow_core.proofs.record.first_bad.Goals as goal
+use Rattle.flow_records.specs.Setup.{IsInRange}
+use Rattle.flow_records.proofs.record.first_bad.Goals as goal
 
 pub loop-k-preserved : goal.loop-k-preserved
 loop-k-preserved c =
