@@ -43,12 +43,7 @@ fn grant(number: u32, sid: u16, bytes: u32) -> Input {
     Input::Grant { number, sid, bytes }
 }
 
-fn burst(
-    alloc: Global,
-    grant: u32,
-    hcs_ok: bool,
-    bytes: &[u8],
-) -> Result<Input, AllocError> {
+fn burst(alloc: Global, grant: u32, hcs_ok: bool, bytes: &[u8]) -> Result<Input, AllocError> {
     let bytes = Bytes::from(Vec::from_slice(alloc, bytes)?);
     Ok(Input::Burst {
         grant,

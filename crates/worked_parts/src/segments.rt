@@ -1,8 +1,9 @@
 //! Headers and whole segments, read and written.
 mod failed_allocations;
 
-use docsis_wire::{Bytes, Segment, SegmentFault, SegmentHeader};
-use docsis_wire::{read_segment, ready, write_segment};
+use docsis_wire::{
+    Bytes, Segment, SegmentFault, SegmentHeader, read_segment, ready, write_segment,
+};
 use std::alloc::{AllocError, Global};
 use std::process::Abort;
 use std::test::Fail;

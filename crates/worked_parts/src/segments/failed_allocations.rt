@@ -1,7 +1,8 @@
 //! Tests to be run with the Nth request for memory refused, and the one whose name ends in
 //! `without_memory` with all later ones refused too. Each says `refused` when a call was.
-use super::{POINTED, expect_faults, expect_pointings, expect_readings};
-use super::{expect_writings, pointing_segments};
+use super::{
+    POINTED, expect_faults, expect_pointings, expect_readings, expect_writings, pointing_segments,
+};
 use crate::refused::{expect_refused, say_refused, say_whether_refused};
 use docsis_wire::{Segment, SegmentFault};
 use std::test::Fail;
