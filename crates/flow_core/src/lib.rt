@@ -30,15 +30,11 @@
 
 mod counts;
 mod event;
-#[cfg(test)]
-mod failed_allocations;
 mod flow;
 mod flows;
 pub mod laws;
 mod record;
 mod sequence;
-#[cfg(test)]
-mod tests;
 
 pub use counts::FlowCounts;
 pub use event::{Applied, Event, Step};
