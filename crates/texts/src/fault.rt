@@ -187,6 +187,3 @@ impl From<CutFault> for TextFault {
         }
     }
 }
-
-#[cfg(test)]
-mod tests;
