@@ -25,54 +25,58 @@ fn what_is_asked(alloc: Global, words: &[&str]) -> Asked {
     }
 }
 
+/// What is asked for where the words are wrong.
+const USAGE: Asked = Asked::Fault(UsageFault::Usage);
+
+/// Words, each with the name of its case, and what is asked for.
+const WORDS: [(&str, &[&str], Asked); 20] = [
+    ("no words at all", &[], Asked::Join),
+    ("no command", &["segrx"], Asked::Join),
+    ("join", &["segrx", "join"], Asked::Join),
+    ("cut", &["segrx", "cut"], Asked::Cut(0, FillByte::Zero)),
+    (
+        "the options of cut",
+        &["segrx", "cut", "--fill=ones", "--first", "8191"],
+        Asked::Cut(8191, FillByte::Ones),
+    ),
+    (
+        "a number too great",
+        &["segrx", "cut", "--first=8192"],
+        USAGE,
+    ),
+    ("replay", &["segrx", "replay"], Asked::Replay),
+    ("replay twice", &["segrx", "replay", "replay"], USAGE),
+    (
+        "an option of replay",
+        &["segrx", "replay", "--ring=1"],
+        USAGE,
+    ),
+    ("the end of options", &["segrx", "replay", "--"], USAGE),
+    ("an unknown word", &["segrx", "frob"], USAGE),
+    ("run", &["segrx", "run"], Asked::Run(16, 16)),
+    (
+        "the options of run",
+        &["segrx", "run", "--ring=1", "--mailbox", "065535"],
+        Asked::Run(65_535, 1),
+    ),
+    ("no room", &["segrx", "run", "--ring=0"], USAGE),
+    (
+        "a capacity too great",
+        &["segrx", "run", "--mailbox=65536"],
+        USAGE,
+    ),
+    ("an option of cut", &["segrx", "run", "--first=1"], USAGE),
+    ("help", &["segrx", "cut", "-h", "frob"], Asked::Help),
+    ("help of replay", &["segrx", "replay", "-h"], Asked::Help),
+    ("help too late", &["segrx", "replay", "x", "-h"], USAGE),
+    // The program's name asks for nothing, whatever it is.
+    ("a name like an option", &["-h", "join"], Asked::Join),
+];
+
 #[test]
 fn reads_words(rt: HostRuntime) {
-    let usage = Asked::Fault(UsageFault::Usage);
-    let table: [(&str, &[&str], Asked); 20] = [
-        ("no words at all", &[], Asked::Join),
-        ("no command", &["segrx"], Asked::Join),
-        ("join", &["segrx", "join"], Asked::Join),
-        ("cut", &["segrx", "cut"], Asked::Cut(0, FillByte::Zero)),
-        (
-            "the options of cut",
-            &["segrx", "cut", "--fill=ones", "--first", "8191"],
-            Asked::Cut(8191, FillByte::Ones),
-        ),
-        (
-            "a number too great",
-            &["segrx", "cut", "--first=8192"],
-            usage,
-        ),
-        ("replay", &["segrx", "replay"], Asked::Replay),
-        ("replay twice", &["segrx", "replay", "replay"], usage),
-        (
-            "an option of replay",
-            &["segrx", "replay", "--ring=1"],
-            usage,
-        ),
-        ("the end of options", &["segrx", "replay", "--"], usage),
-        ("an unknown word", &["segrx", "frob"], usage),
-        ("run", &["segrx", "run"], Asked::Run(16, 16)),
-        (
-            "the options of run",
-            &["segrx", "run", "--ring=1", "--mailbox", "065535"],
-            Asked::Run(65_535, 1),
-        ),
-        ("no room", &["segrx", "run", "--ring=0"], usage),
-        (
-            "a capacity too great",
-            &["segrx", "run", "--mailbox=65536"],
-            usage,
-        ),
-        ("an option of cut", &["segrx", "run", "--first=1"], usage),
-        ("help", &["segrx", "cut", "-h", "frob"], Asked::Help),
-        ("help of replay", &["segrx", "replay", "-h"], Asked::Help),
-        ("help too late", &["segrx", "replay", "x", "-h"], usage),
-        // The program's name asks for nothing, whatever it is.
-        ("a name like an option", &["-h", "join"], Asked::Join),
-    ];
-    for (case, words, want) in table {
-        assert_eq!(rt; what_is_asked(rt.alloc(), words), want, "{case}");
+    for (case, words, want) in &WORDS {
+        assert_eq!(rt; what_is_asked(rt.alloc(), words), *want, "{case}");
     }
 }
 
@@ -84,48 +88,52 @@ fn help_of(alloc: Global, words: &[&str]) -> String {
     }
 }
 
+/// Words that ask for help, and parts of it.
+const HELPS: [(&[&str], &[&str]); 5] = [
+    (
+        &["segrx", "-h"],
+        &[
+            "Usage: segrx [join] < ",
+            "segrx cut [",
+            "segrx replay < ",
+            "  cut   ",
+            "segrx run [",
+            "  replay  ",
+            "  run   ",
+        ],
+    ),
+    (&["segrx", "join", "-h"], &["Usage: segrx join < "]),
+    (&["segrx", "replay", "-h"], &["Usage: segrx replay < "]),
+    (
+        &["segrx", "run", "-h"],
+        &["Usage: segrx run [", "--mailbox <N>", "--ring <N>"],
+    ),
+    (
+        &["segrx", "cut", "-h"],
+        &["Usage: segrx cut [", "--first <N>", "--fill <zero|ones>"],
+    ),
+];
+
+/// Parts of each help.
+const EACH: [&str; 11] = [
+    "  SEGMENT ",
+    "  frame FRAME ",
+    "  piece DATA FILL ",
+    "  flow SFID FIRST WINDOW CLUSTERS\n",
+    "  sid CHANNEL SID FLOW\n",
+    "  grant CHANNEL NUMBER SID BYTES\n",
+    "  burst CHANNEL NUMBER ok|bad BURST\n",
+    "  gap FLOW [NUMBER]\n",
+    "join does not look at their sequence numbers",
+    "268435456 bytes",
+    "Exit status:\n  0 ",
+];
+
 #[test]
 fn help_suffices_alone(rt: HostRuntime) {
-    let table: [(&[&str], &[&str]); 5] = [
-        (
-            &["segrx", "-h"],
-            &[
-                "Usage: segrx [join] < ",
-                "segrx cut [",
-                "segrx replay < ",
-                "  cut   ",
-                "segrx run [",
-                "  replay  ",
-                "  run   ",
-            ],
-        ),
-        (&["segrx", "join", "-h"], &["Usage: segrx join < "]),
-        (&["segrx", "replay", "-h"], &["Usage: segrx replay < "]),
-        (
-            &["segrx", "run", "-h"],
-            &["Usage: segrx run [", "--mailbox <N>", "--ring <N>"],
-        ),
-        (
-            &["segrx", "cut", "-h"],
-            &["Usage: segrx cut [", "--first <N>", "--fill <zero|ones>"],
-        ),
-    ];
-    let each = [
-        "  SEGMENT ",
-        "  frame FRAME ",
-        "  piece DATA FILL ",
-        "  flow SFID FIRST WINDOW CLUSTERS\n",
-        "  sid CHANNEL SID FLOW\n",
-        "  grant CHANNEL NUMBER SID BYTES\n",
-        "  burst CHANNEL NUMBER ok|bad BURST\n",
-        "  gap FLOW [NUMBER]\n",
-        "join does not look at their sequence numbers",
-        "268435456 bytes",
-        "Exit status:\n  0 ",
-    ];
-    for (words, parts) in table {
+    for (words, parts) in &HELPS {
         let help = help_of(rt.alloc(), words);
-        for part in parts.iter().chain(&each) {
+        for part in parts.iter().chain(&EACH) {
             assert!(rt; help.contains(*part), "{help}: {part}");
         }
         for line in help.lines() {
