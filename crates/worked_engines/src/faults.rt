@@ -49,7 +49,8 @@ const OTHERS: [(EngineFault, u8, &str); 8] = [
     (EngineFault::Write, 4, "write failed"),
 ];
 
-/// A fault has this exit status, and this is what is written of it, in a line that names the program.
+/// A fault has this exit status, and these words are written of it in a line that names the
+/// program.
 fn expect_line(
     rt: &impl Abort,
     alloc: Global,
