@@ -38,11 +38,7 @@ const OTHERS: [(EngineFault, u8, &str); 8] = [
         1,
         "piece 18446744073709551615 has a pointer past 16383",
     ),
-    (
-        EngineFault::Cut(CutFault::OutOfMemory),
-        3,
-        "out of memory",
-    ),
+    (EngineFault::Cut(CutFault::OutOfMemory), 3, "out of memory"),
     (EngineFault::Usage, 2, "usage"),
     (EngineFault::OutOfMemory, 3, "out of memory"),
     (EngineFault::Read, 4, "read failed"),

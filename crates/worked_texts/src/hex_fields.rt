@@ -31,6 +31,7 @@ fn refuses_fields_that_are_not_hexadecimal(rt: HostRuntime) -> Result<(), Fail> 
 
 /// A segment of two frames in digits of either case, and the frames.
 const MIXED: &str = "8000000000000000000000021111AAbb000000031111009FfA";
+
 const LOWER: &str = "000000021111aabb\n000000031111009ffa\n";
 
 #[test]

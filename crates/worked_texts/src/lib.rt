@@ -6,8 +6,6 @@
 //! is proved once and not a second time with its tests. There is nothing here for a caller.
 #![tactic(auto)]
 
-pub mod samples;
-
 #[cfg(test)]
 mod cut_texts;
 #[cfg(test)]
@@ -28,6 +26,7 @@ mod join_texts;
 mod line_fields;
 #[cfg(test)]
 mod number_fields;
+pub mod samples;
 #[cfg(test)]
 mod trace_lines;
 #[cfg(test)]

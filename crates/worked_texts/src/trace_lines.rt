@@ -117,7 +117,16 @@ fn reads_bursts(rt: HostRuntime) -> Result<(), Fail> {
     for (line, says, written) in &BURSTS {
         let trace = parse_trace(rt.alloc(), line.as_bytes(), RING, 1)?;
         match only_input(&trace) {
-            Some((channel, Input::Burst { grant, hcs_ok, bytes })) => {
+            Some(
+                (
+                    channel,
+                    Input::Burst {
+                        grant,
+                        hcs_ok,
+                        bytes,
+                    },
+                ),
+            ) => {
                 assert_eq!(rt; (channel, *grant, *hcs_ok), *says, "{line}");
                 assert_eq!(rt; bytes.as_slice(), *written, "{line}");
             }
@@ -144,7 +153,11 @@ fn reads_gaps(rt: HostRuntime) -> Result<(), Fail> {
         };
         let input = below_flows(rt.alloc(), 64, line)?;
         let trace = parse_trace(rt.alloc(), input.as_bytes(), RING, 1)?;
-        assert_eq!(rt; trace.lists.decisions.as_slice(), [decision].as_slice(), "{line}");
+        assert_eq!(rt;
+            trace.lists.decisions.as_slice(),
+            [decision].as_slice(),
+            "{line}"
+        );
     }
     Ok(())
 }

@@ -42,6 +42,7 @@ const FLOW: FlowRecord = FlowRecord {
     clusters: 2,
     ring: 9,
 };
+
 const ROWS: [SidRow; 2] = [
     SidRow {
         channel: 0,
@@ -87,6 +88,7 @@ fn reads_what_came_in(rt: HostRuntime) -> Result<(), Fail> {
 
 /// A trace with decisions, and these.
 const DECIDED: &str = "flow 1 0 16 1\nflow 2 0 16 1\ngap 1\nburst 3 7 bad -\ngap 0 8191";
+
 const DECISIONS: [Decision; 2] = [
     Decision {
         flow: 1,
