@@ -1,5 +1,7 @@
-//! The engines, the words and the program.
-use crate::samples::{FRAMES, FRAMES_AND_PIECES, LOST_REPORT, LOST_TRACE, REPORT, SEGMENTS, TRACE};
+//! The engines, the words and the program where an allocation fails, or a thread can't be started,
+//! at one place of each call. Each test takes out of memory as lawful there, says so by the word
+//! `refused`, and calls again; where nothing failed it says nothing. Where the name of a test ends
+//! in `without_memory` all later allocations fail, too.
 use docsis_wire::FillByte;
 use engines::{
     Command, Device, EngineFault, UsageFault, WriteFault, cut_text, join_text, program, read_words,
@@ -13,6 +15,9 @@ use std::test::Fail;
 use std::thread::Threads;
 use texts::{TraceFault, TraceKind};
 use uplink::{NoTap, Taps};
+use worked_texts::samples::{
+    FRAMES, FRAMES_AND_PIECES, LOST_REPORT, LOST_TRACE, REPORT, SEGMENTS, TRACE,
+};
 
 /// Joins the segments into an array that is just large enough for their frames.
 fn join_into(alloc: Global, text: &mut [u8]) -> Result<(), EngineFault> {

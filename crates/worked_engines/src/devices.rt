@@ -1,6 +1,5 @@
 //! Engines and the program on devices that fail or are interrupted.
 use crate::fitful::{FAILURES, FitfulReader, FitfulWriter, Full};
-use crate::samples::{FRAMES, FRAMES_AND_PIECES, LOST_REPORT, LOST_TRACE, REPORT, SEGMENTS, TRACE};
 use docsis_wire::FillByte;
 use engines::{Device, EngineFault, cut_text, join_text, program, replay_text, run_text};
 use std::alloc::Global;
@@ -10,6 +9,9 @@ use std::sync::Wait;
 use std::test::Fail;
 use std::thread::Threads;
 use uplink::{NoTap, Taps};
+use worked_texts::samples::{
+    FRAMES, FRAMES_AND_PIECES, LOST_REPORT, LOST_TRACE, REPORT, SEGMENTS, TRACE,
+};
 
 /// The engines, each of which is run on an input of its own.
 #[derive(Clone, Copy, Debug)]

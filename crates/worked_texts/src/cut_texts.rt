@@ -1,6 +1,8 @@
-use super::*;
-use crate::fault::{TraceFault, TraceKind};
+//! Texts of `cut` that are long, and inputs that have none.
+use crate::faulty_lines::expect_no_text;
+use docsis_wire::FillByte;
 use std::test::Fail;
+use texts::{TraceKind, cut_lines};
 
 /// How many pieces the long input has.
 const PIECES: usize = 70_000;
@@ -30,28 +32,24 @@ fn cuts_the_greatest_frame_by_the_greatest_piece(rt: HostRuntime) -> Result<(), 
     Ok(())
 }
 
+/// Inputs that have no text, with the line that is reported and its kind.
+const FAULTY: [(&str, u64, TraceKind); 8] = [
+    ("frames 00", 1, TraceKind::UnknownLine),
+    ("Frame", 1, TraceKind::UnknownLine),
+    ("\nframe", 2, TraceKind::FieldCount),
+    ("#\nframe zz 00\n", 2, TraceKind::FieldCount),
+    ("piece 1\n", 1, TraceKind::FieldCount),
+    ("piece 1 2 3\n", 1, TraceKind::FieldCount),
+    ("piece 0 65536", 1, TraceKind::BadNumber),
+    ("frame 0", 1, TraceKind::NotHex),
+];
+
 #[test]
 fn reports_the_first_faulty_line(rt: HostRuntime) -> Result<(), Fail> {
-    let cases: [(&str, u64, TraceKind); 8] = [
-        ("frames 00", 1, TraceKind::UnknownLine),
-        ("Frame", 1, TraceKind::UnknownLine),
-        ("\nframe", 2, TraceKind::FieldCount),
-        ("#\nframe zz 00\n", 2, TraceKind::FieldCount),
-        ("piece 1\n", 1, TraceKind::FieldCount),
-        ("piece 1 2 3\n", 1, TraceKind::FieldCount),
-        ("piece 0 65536", 1, TraceKind::BadNumber),
-        ("frame 0", 1, TraceKind::NotHex),
-    ];
-    for (input, line, kind) in &cases {
-        let fault = TextFault::Trace(TraceFault {
-            line: *line,
-            kind: *kind,
-        });
-        let text = Vec::from_slice(rt.alloc(), input.as_bytes())?;
-        match cut_lines(rt.alloc(), text, 0, FillByte::Zero) {
-            Err(other) => assert_eq!(rt; other, fault, "{input}"),
-            Ok(_) => assert!(rt; false, "{input}"),
-        }
+    for (input, line, kind) in &FAULTY {
+        let copy = Vec::from_slice(rt.alloc(), input.as_bytes())?;
+        let text = cut_lines(rt.alloc(), copy, 0, FillByte::Zero);
+        expect_no_text(&rt, text, input, *line, *kind);
     }
     Ok(())
 }

@@ -1,6 +1,5 @@
 //! Traces that are received on threads: what doesn't depend on their schedule, and that frames and
 //! requests are taken at once.
-use crate::samples::{LOST_REPORT, LOST_TRACE};
 use docsis_wire::Bytes;
 use engines::{Device, EngineFault, run_text};
 use std::alloc::{AllocError, Global};
@@ -10,6 +9,7 @@ use std::test::Fail;
 use std::thread;
 use std::thread::Threads;
 use uplink::{NoTap, Request, Tap, Taps};
+use worked_texts::samples::{LOST_REPORT, LOST_TRACE};
 
 /// Receives a trace with room for one entry in each mailbox and ring, and writes the report.
 fn run_with_room_for_one<F, Q, T>(
