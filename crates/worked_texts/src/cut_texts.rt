@@ -1,18 +1,26 @@
 //! Texts of `cut` that are long, and inputs that have none.
 use crate::faulty_lines::expect_no_text;
+use crate::greatest_frame::greatest_frame_after;
 use docsis_wire::FillByte;
+use std::alloc::{AllocError, Global};
 use std::test::Fail;
 use texts::{TraceKind, cut_lines};
 
 /// How many pieces the long input has.
 const PIECES: usize = 70_000;
 
-#[test]
-fn cuts_into_seventy_thousand_pieces(rt: HostRuntime) -> Result<(), Fail> {
-    let mut input = Vec::from_slice(rt.alloc(), b"frame 000100000000\n")?;
+/// A frame, and so many pieces.
+fn many_pieces(alloc: Global) -> Result<Vec<u8>, AllocError> {
+    let mut input = Vec::from_slice(alloc, b"frame 000100000000\n")?;
     for _ in 0..PIECES {
         input.extend_from_slice(b"piece 0 0\n")?;
     }
+    Ok(input)
+}
+
+#[test]
+fn cuts_into_seventy_thousand_pieces(rt: HostRuntime) -> Result<(), Fail> {
+    let input = many_pieces(rt.alloc())?;
     let text = cut_lines(rt.alloc(), input, 8191, FillByte::Zero)?;
     assert_eq!(rt; text.len(), 17 * PIECES);
     assert!(rt; text.starts_with(b"0000fff800000000\n0000000000000000\n"));
@@ -23,8 +31,7 @@ fn cuts_into_seventy_thousand_pieces(rt: HostRuntime) -> Result<(), Fail> {
 
 #[test]
 fn cuts_the_greatest_frame_by_the_greatest_piece(rt: HostRuntime) -> Result<(), Fail> {
-    let mut input = Vec::from_slice(rt.alloc(), b"piece 65535 0\npiece 6 65535\nframe 0101ffff")?;
-    input.extend_from_slice(&vec![in rt.alloc(); b'0'; 2 * 65_537]?)?;
+    let input = greatest_frame_after(rt.alloc(), b"piece 65535 0\npiece 6 65535\nframe ")?;
     let text = cut_lines(rt.alloc(), input, 0, FillByte::Ones)?;
     assert_eq!(rt; text.len(), 2 * (8 + 65_535 + 8 + 6 + 65_535) + 2);
     assert!(rt; text.starts_with(b"80000000000000000101ffff00"));

@@ -1,6 +1,7 @@
 //! The words for faults.
 use docsis_wire::CutFault;
 use std::alloc::{AllocError, Global};
+use std::process::Abort;
 use std::test::Fail;
 use texts::{ParseFault, TextFault, TraceFault, TraceKind};
 
@@ -20,26 +21,29 @@ const KINDS: [(TraceKind, &str); 12] = [
     (TraceKind::PointerPast, "pointer past the end"),
 ];
 
-/// A faulty line as it is shown by itself, as the fault of a trace, and as that of a text.
-fn shown_in_three_ways(alloc: Global, fault: TraceFault) -> Result<[String; 3], AllocError> {
-    let alone = fault.to_string(alloc)?;
-    let of_trace = ParseFault::Line(fault).to_string(alloc)?;
-    let of_text = TextFault::Trace(fault).to_string(alloc)?;
-    Ok([alone, of_trace, of_text])
+/// A faulty line is shown so by itself, as the fault of a trace, and as that of a text.
+fn expect_three_times(
+    rt: &impl Abort,
+    alloc: Global,
+    fault: TraceFault,
+    line: &str,
+) -> Result<(), AllocError> {
+    assert_eq!(rt; fault.to_string(alloc)?.as_str(), line);
+    assert_eq!(rt; ParseFault::Line(fault).to_string(alloc)?.as_str(), line);
+    assert_eq!(rt; TextFault::Trace(fault).to_string(alloc)?.as_str(), line);
+    Ok(())
 }
 
 #[test]
 fn shows_each_kind_of_a_faulty_line(rt: HostRuntime) -> Result<(), Fail> {
     for (kind, words) in &KINDS {
         assert_eq!(rt; kind.text(), *words);
+        let line = format!(in rt.alloc(); "line 7: {words}")?;
         let fault = TraceFault {
             line: 7,
             kind: *kind,
         };
-        let line = format!(in rt.alloc(); "line 7: {words}")?;
-        for shown in &shown_in_three_ways(rt.alloc(), fault)? {
-            assert_eq!(rt; shown.as_str(), line.as_str());
-        }
+        expect_three_times(&rt, rt.alloc(), fault, &line)?;
     }
     Ok(())
 }

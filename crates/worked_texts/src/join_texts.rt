@@ -1,13 +1,13 @@
 //! A text of `join` that is long, and inputs that have none.
 use crate::faulty_lines::expect_no_text;
+use crate::greatest_frame::greatest_frame_after;
 use std::test::Fail;
 use texts::{TraceKind, join_lines};
 
 #[test]
 fn joins_the_greatest_frame(rt: HostRuntime) -> Result<(), Fail> {
-    // A frame of 6 + 65,535 bytes, the header of which begins in a segment that has all of it.
-    let mut input = Vec::from_slice(rt.alloc(), b"80000000000000000101ffff")?;
-    input.extend_from_slice(&vec![in rt.alloc(); b'0'; 2 * 65_537]?)?;
+    // Its header begins in a segment that has all of it.
+    let mut input = greatest_frame_after(rt.alloc(), b"8000000000000000")?;
     input.push(b'\n')?;
     let text = join_lines(rt.alloc(), &input)?;
     assert_eq!(rt; text.len(), 2 * 65_541 + 1);

@@ -19,6 +19,8 @@ mod faulty_traces;
 #[cfg(test)]
 mod flow_lines;
 #[cfg(test)]
+mod greatest_frame;
+#[cfg(test)]
 mod hex_fields;
 #[cfg(test)]
 mod join_texts;

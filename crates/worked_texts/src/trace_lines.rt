@@ -2,12 +2,17 @@
 use crate::flow_lines::below_flows;
 use flow_core::FlowRecord;
 use lane::{Input, SidRow};
-use receiver::Decision;
+use receiver::{Decision, Lists, Setup};
+use std::alloc::Global;
 use std::test::Fail;
-use texts::{Trace, parse_trace};
+use texts::{ParseFault, Trace, parse_trace};
 
 /// The capacity of each flow's ring.
 const RING: u16 = 7;
+
+fn trace_of(alloc: Global, input: &str) -> Result<Trace, ParseFault> {
+    parse_trace(alloc, input.as_bytes(), RING, 1)
+}
 
 /// Flows: the identifier, the first number, the window and how many clusters.
 const FLOWS: [(&str, u32, u16, u16, u8); 4] = [
@@ -16,6 +21,11 @@ const FLOWS: [(&str, u32, u16, u16, u8); 4] = [
     ("flow 4294967295 8191 4096 8", u32::MAX, 8191, 4096, 8),
     (" flow\t007  0008 0009\t0001 \r", 7, 8, 9, 1),
 ];
+
+fn flows_of(alloc: Global, line: &str) -> Result<Vec<FlowRecord>, ParseFault> {
+    let Setup { flows, .. } = trace_of(alloc, line)?.setup;
+    Ok(flows)
+}
 
 #[test]
 fn reads_flows(rt: HostRuntime) -> Result<(), Fail> {
@@ -27,8 +37,8 @@ fn reads_flows(rt: HostRuntime) -> Result<(), Fail> {
             clusters: *clusters,
             ring: RING,
         };
-        let trace = parse_trace(rt.alloc(), line.as_bytes(), RING, 1)?;
-        assert_eq!(rt; trace.setup.flows.as_slice(), [record].as_slice(), "{line}");
+        let flows = flows_of(rt.alloc(), line)?;
+        assert_eq!(rt; flows.as_slice(), [record].as_slice(), "{line}");
     }
     Ok(())
 }
@@ -40,6 +50,13 @@ const SIDS: [(&str, u8, u16, usize); 3] = [
     ("sid 01 0 02", 1, 0, 2),
 ];
 
+/// The service identifiers of a line below 64 flows.
+fn sids_of(alloc: Global, line: &str) -> Result<Vec<SidRow>, Fail> {
+    let input = below_flows(alloc, 64, line)?;
+    let Setup { sids, .. } = trace_of(alloc, &input)?.setup;
+    Ok(sids)
+}
+
 #[test]
 fn reads_sids(rt: HostRuntime) -> Result<(), Fail> {
     for (line, channel, sid, flow) in &SIDS {
@@ -48,9 +65,8 @@ fn reads_sids(rt: HostRuntime) -> Result<(), Fail> {
             sid: *sid,
             flow: *flow,
         };
-        let input = below_flows(rt.alloc(), 64, line)?;
-        let trace = parse_trace(rt.alloc(), input.as_bytes(), RING, 1)?;
-        assert_eq!(rt; trace.setup.sids.as_slice(), [row].as_slice(), "{line}");
+        let sids = sids_of(rt.alloc(), line)?;
+        assert_eq!(rt; sids.as_slice(), [row].as_slice(), "{line}");
     }
     Ok(())
 }
@@ -76,16 +92,21 @@ const GRANTS: [(&str, (u8, u32, u16, u32)); 3] = [
     ("grant 2 0 0 0", (2, 0, 0, 0)),
 ];
 
+/// What the one line of a trace says, if it is a grant.
+fn grant_of(alloc: Global, line: &str) -> Result<Option<(u8, u32, u16, u32)>, ParseFault> {
+    let trace = trace_of(alloc, line)?;
+    match only_input(&trace) {
+        Some((channel, Input::Grant { number, sid, bytes })) => {
+            Ok(Some((channel, *number, *sid, *bytes)))
+        }
+        _ => Ok(None),
+    }
+}
+
 #[test]
 fn reads_grants(rt: HostRuntime) -> Result<(), Fail> {
     for (line, says) in &GRANTS {
-        let trace = parse_trace(rt.alloc(), line.as_bytes(), RING, 1)?;
-        match only_input(&trace) {
-            Some((channel, Input::Grant { number, sid, bytes })) => {
-                assert_eq!(rt; (channel, *number, *sid, *bytes), *says, "{line}");
-            }
-            _ => assert!(rt; false, "{line}"),
-        }
+        assert_eq!(rt; grant_of(rt.alloc(), line)?, Some(*says), "{line}");
     }
     Ok(())
 }
@@ -112,26 +133,34 @@ const BURSTS: [(&str, (u8, u32, bool), &[u8]); 6] = [
     ),
 ];
 
+/// The number of a burst's grant, whether the check is right, and the bytes.
+fn burst_of(input: &Input) -> Option<(u32, bool, &[u8])> {
+    match input {
+        Input::Grant { .. } => None,
+        Input::Burst {
+            grant,
+            hcs_ok,
+            bytes,
+        } => Some((*grant, *hcs_ok, bytes.as_slice())),
+    }
+}
+
+/// Whether this burst is all that a trace gives.
+fn is_burst(trace: &Trace, says: (u8, u32, bool), written: &[u8]) -> bool {
+    let (channel, grant, hcs_ok) = says;
+    match only_input(trace) {
+        Some((other, input)) => {
+            other == channel && burst_of(input) == Some((grant, hcs_ok, written))
+        }
+        None => false,
+    }
+}
+
 #[test]
 fn reads_bursts(rt: HostRuntime) -> Result<(), Fail> {
     for (line, says, written) in &BURSTS {
-        let trace = parse_trace(rt.alloc(), line.as_bytes(), RING, 1)?;
-        match only_input(&trace) {
-            Some(
-                (
-                    channel,
-                    Input::Burst {
-                        grant,
-                        hcs_ok,
-                        bytes,
-                    },
-                ),
-            ) => {
-                assert_eq!(rt; (channel, *grant, *hcs_ok), *says, "{line}");
-                assert_eq!(rt; bytes.as_slice(), *written, "{line}");
-            }
-            _ => assert!(rt; false, "{line}"),
-        }
+        let trace = trace_of(rt.alloc(), line)?;
+        assert!(rt; is_burst(&trace, *says, written), "{line}");
     }
     Ok(())
 }
@@ -144,6 +173,14 @@ const GAPS: [(&str, usize, Option<u16>); 4] = [
     ("gap 063 08191", 63, Some(8191)),
 ];
 
+/// The decisions of a line below 64 flows.
+fn decisions_of(alloc: Global, line: &str) -> Result<Vec<Decision>, Fail> {
+    let input = below_flows(alloc, 64, line)?;
+    let Trace { lists, .. } = trace_of(alloc, &input)?;
+    let Lists { decisions, .. } = lists;
+    Ok(decisions)
+}
+
 #[test]
 fn reads_gaps(rt: HostRuntime) -> Result<(), Fail> {
     for (line, flow, upto) in &GAPS {
@@ -151,13 +188,8 @@ fn reads_gaps(rt: HostRuntime) -> Result<(), Fail> {
             flow: *flow,
             upto: *upto,
         };
-        let input = below_flows(rt.alloc(), 64, line)?;
-        let trace = parse_trace(rt.alloc(), input.as_bytes(), RING, 1)?;
-        assert_eq!(rt;
-            trace.lists.decisions.as_slice(),
-            [decision].as_slice(),
-            "{line}"
-        );
+        let decisions = decisions_of(rt.alloc(), line)?;
+        assert_eq!(rt; decisions.as_slice(), [decision].as_slice(), "{line}");
     }
     Ok(())
 }

@@ -3,10 +3,31 @@ use crate::flow_lines::below_flows;
 use crate::samples::TRACE;
 use flow_core::FlowRecord;
 use lane::{Input, SidRow};
-use receiver::Decision;
+use receiver::{Decision, Lists, Setup};
 use std::alloc::{AllocError, Global};
+use std::process::Abort;
 use std::test::Fail;
-use texts::parse_trace;
+use texts::{ParseFault, Trace, parse_trace};
+
+/// The trace of an input, with rings of nine entries and mailboxes of five.
+fn trace_of(alloc: Global, input: &str) -> Result<Trace, ParseFault> {
+    parse_trace(alloc, input.as_bytes(), 9, 5)
+}
+
+fn setup_of(alloc: Global, input: &str) -> Result<Setup, ParseFault> {
+    let Trace { setup, .. } = trace_of(alloc, input)?;
+    Ok(setup)
+}
+
+fn lists_of(alloc: Global, input: &str) -> Result<Lists, ParseFault> {
+    let Trace { lists, .. } = trace_of(alloc, input)?;
+    Ok(lists)
+}
+
+fn tags_of(alloc: Global, input: &str) -> Result<Vec<u8>, ParseFault> {
+    let Trace { tags, .. } = trace_of(alloc, input)?;
+    Ok(tags)
+}
 
 /// What came in, as a line of a trace says it, but for the channel.
 fn line_of(alloc: Global, input: &Input) -> Result<String, AllocError> {
@@ -58,14 +79,26 @@ const ROWS: [SidRow; 2] = [
 
 #[test]
 fn reads_the_setup(rt: HostRuntime) -> Result<(), Fail> {
-    let trace = parse_trace(rt.alloc(), TRACE.as_bytes(), 9, 5)?;
-    assert_eq!(rt; trace.setup.flows.as_slice(), [FLOW].as_slice());
-    assert_eq!(rt; trace.setup.sids.as_slice(), ROWS.as_slice());
-    assert_eq!(rt; trace.setup.mailbox, 5);
+    let setup = setup_of(rt.alloc(), TRACE)?;
+    assert_eq!(rt; setup.flows.as_slice(), [FLOW].as_slice());
+    assert_eq!(rt; setup.sids.as_slice(), ROWS.as_slice());
+    assert_eq!(rt; setup.mailbox, 5);
     Ok(())
 }
 
-/// What came in on each channel of the sample.
+/// A trace with decisions.
+const DECIDED: &str = "flow 1 0 16 1\nflow 2 0 16 1\ngap 1\nburst 3 7 bad -\ngap 0 8191";
+
+#[test]
+fn reads_the_senders(rt: HostRuntime) -> Result<(), Fail> {
+    let tags = tags_of(rt.alloc(), TRACE)?;
+    assert_eq!(rt; tags.as_slice(), [0, 1, 0, 1, 0, 0].as_slice());
+    let tags = tags_of(rt.alloc(), DECIDED)?;
+    assert_eq!(rt; tags.as_slice(), [4, 3, 4].as_slice());
+    Ok(())
+}
+
+/// What came in on each channel of the sample, and of the trace with decisions.
 const CAME: [&str; 4] = [
     "grant 1 1 13\ngrant 2 1 13\nburst 1 true 80000000000000000000000211\n\
     burst 2 true 0000001000000000e02222ccdd\n",
@@ -74,21 +107,30 @@ const CAME: [&str; 4] = [
     "",
 ];
 
-#[test]
-fn reads_what_came_in(rt: HostRuntime) -> Result<(), Fail> {
-    let trace = parse_trace(rt.alloc(), TRACE.as_bytes(), 9, 5)?;
-    assert_eq!(rt; trace.tags.as_slice(), [0, 1, 0, 1, 0, 0].as_slice());
-    assert!(rt; trace.lists.decisions.is_empty());
-    for (inputs, lines) in trace.lists.inputs.iter().zip(&CAME) {
-        let text = lines_of(rt.alloc(), inputs)?;
+const CAME_WITH_DECISIONS: [&str; 4] = ["", "", "", "burst 7 false \n"];
+
+/// This came in on each channel of a trace.
+fn expect_inputs(
+    rt: &impl Abort,
+    alloc: Global,
+    trace: &str,
+    came: &[&str; 4],
+) -> Result<(), Fail> {
+    let lists = lists_of(alloc, trace)?;
+    for (inputs, lines) in lists.inputs.iter().zip(came) {
+        let text = lines_of(alloc, inputs)?;
         assert_eq!(rt; text.as_str(), *lines);
     }
     Ok(())
 }
 
-/// A trace with decisions, and these.
-const DECIDED: &str = "flow 1 0 16 1\nflow 2 0 16 1\ngap 1\nburst 3 7 bad -\ngap 0 8191";
+#[test]
+fn reads_what_came_in(rt: HostRuntime) -> Result<(), Fail> {
+    expect_inputs(&rt, rt.alloc(), TRACE, &CAME)?;
+    expect_inputs(&rt, rt.alloc(), DECIDED, &CAME_WITH_DECISIONS)
+}
 
+/// The decisions of that trace.
 const DECISIONS: [Decision; 2] = [
     Decision {
         flow: 1,
@@ -102,12 +144,10 @@ const DECISIONS: [Decision; 2] = [
 
 #[test]
 fn reads_decisions(rt: HostRuntime) -> Result<(), Fail> {
-    let trace = parse_trace(rt.alloc(), DECIDED.as_bytes(), 1, 1)?;
-    assert_eq!(rt; trace.lists.decisions.as_slice(), DECISIONS.as_slice());
-    assert_eq!(rt; trace.tags.as_slice(), [4, 3, 4].as_slice());
-    let [_, _, _, inputs] = &trace.lists.inputs;
-    let text = lines_of(rt.alloc(), inputs)?;
-    assert_eq!(rt; text.as_str(), "burst 7 false \n");
+    let lists = lists_of(rt.alloc(), DECIDED)?;
+    assert_eq!(rt; lists.decisions.as_slice(), DECISIONS.as_slice());
+    let lists = lists_of(rt.alloc(), TRACE)?;
+    assert!(rt; lists.decisions.is_empty());
     Ok(())
 }
 
@@ -120,14 +160,22 @@ const COUNTED: [(&str, u32, usize); 5] = [
     ("sid 0 0 0\nsid 0 16383 0", 1, 2),
 ];
 
+/// How many flows, service identifiers and tags a trace gives.
+fn counts_of(alloc: Global, input: &str) -> Result<[usize; 3], ParseFault> {
+    let trace = trace_of(alloc, input)?;
+    Ok([
+        trace.setup.flows.len(),
+        trace.setup.sids.len(),
+        trace.tags.len(),
+    ])
+}
+
 #[test]
 fn counts_flows_and_rows(rt: HostRuntime) -> Result<(), Fail> {
     for (lines, flows, rows) in &COUNTED {
         let input = below_flows(rt.alloc(), *flows, lines)?;
-        let trace = parse_trace(rt.alloc(), input.as_bytes(), 1, 1)?;
-        assert_eq!(rt; trace.setup.flows.len(), *flows as usize, "{lines}");
-        assert_eq!(rt; trace.setup.sids.len(), *rows, "{lines}");
-        assert!(rt; trace.tags.is_empty(), "{lines}");
+        let counts = counts_of(rt.alloc(), &input)?;
+        assert_eq!(rt; counts, [*flows as usize, *rows, 0], "{lines}");
     }
     Ok(())
 }
