@@ -20,7 +20,6 @@ pub mod FlowDeclaring
 pub mod FlowJoining
 pub mod OneFlow
 pub mod FlowSteps
-pub mod Running
 pub mod NewFlows
 pub mod Closing
 pub mod Turns

@@ -30,14 +30,10 @@
 
 mod counts;
 mod event;
-#[cfg(test)]
-mod failed_allocations;
 mod flow;
 mod flows;
 pub mod laws;
 mod sequence;
-#[cfg(test)]
-mod tests;
 mod up_to;
 
 pub use counts::FlowCounts;
