@@ -6,7 +6,7 @@ use super::numbered::{expect_all, segment_of};
 use super::receive_in_company;
 use super::receivers::{Four, no_decisions, receive};
 use crate::outcomes::{SECOND_FRAME, expect_in_any_order, same_lanes};
-use crate::refused::{expect_refused, say_refused, say_whether_refused};
+use worked_frames::refused::{expect_refused, say_refused, say_whether_refused};
 use crate::traces::*;
 use docsis_wire::{Bytes, NoCheck};
 use flow_core::{FlowRecord, SetupFault};

@@ -1,7 +1,7 @@
 //! A test to be run with the Nth request for memory and all later ones refused. It says `refused`
 //! when a call was.
 use super::{REQUEST, show};
-use crate::refused::{say_refused, say_whether_refused};
+use worked_frames::refused::{say_refused, say_whether_refused};
 use docsis_wire::Bytes;
 use std::test::Fail;
 use uplink::NoTap;
