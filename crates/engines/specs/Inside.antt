@@ -2,4 +2,3 @@
 pub mod Options
 pub mod Command
 pub mod Transfer
-pub mod Program

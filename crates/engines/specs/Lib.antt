@@ -4,5 +4,4 @@ pub mod Fault
 pub mod Transfer
 pub mod Engine
 pub mod Command
-pub mod Program
 pub mod Inside

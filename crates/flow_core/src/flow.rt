@@ -14,11 +14,11 @@ ghost use Rattle.flow_core.specs.declared.event.Step.{Step};
 
 use crate::counts::FlowCounts;
 use crate::event::Step;
-use flow_records::FlowRecord;
 use crate::sequence::SequenceNumber;
 use crate::up_to::UpTo;
 use ccf::Joiner;
 use docsis_wire::{HeaderCheck, ReadySegment, Segment};
+use flow_records::FlowRecord;
 use reorder::{Declared, Verdict, Window};
 use std::alloc::{AllocError, Global};
 

@@ -9,8 +9,8 @@ mod draining;
 use crate::counts::FlowCounts;
 use crate::event::{Applied, Event, Step};
 use crate::flow::{Flow, new_flows};
-use flow_records::{FlowRecord, SetupFault, check_records};
 use docsis_wire::HeaderCheck;
+use flow_records::{FlowRecord, SetupFault, check_records};
 use reorder::Declared;
 use std::alloc::{AllocError, Global};
 

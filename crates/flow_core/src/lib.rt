@@ -38,5 +38,7 @@ mod up_to;
 
 pub use counts::FlowCounts;
 pub use event::{Applied, Event, Step};
+pub use flow_records::{
+    CLUSTERS_MAX, FLOWS_MAX, FlowRecord, SetupFault, WINDOW_MAX, check_records,
+};
 pub use flows::Core;
-pub use flow_records::{CLUSTERS_MAX, FLOWS_MAX, FlowRecord, SetupFault, WINDOW_MAX, check_records};

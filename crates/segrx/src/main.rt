@@ -6,11 +6,12 @@
 //! a line and prints one frame a line. `cut` reads frames and pieces, one a line, and prints one
 //! segment a line.
 //!
-//! It hands its arguments, its standard input and its two outputs to [`engines::program`], which is
+//! It hands its arguments, its standard input and its two outputs to [`commands::program`], which is
 //! all of it over any reader and any two writers, and answers the exit status.
 #![tactic(auto)]
 
-use engines::{Device, UsageFault, program, report_outcome};
+use commands::{program, report_outcome};
+use engines::{Device, UsageFault};
 use std::env;
 use std::process::ExitCode;
 

@@ -1,7 +1,8 @@
 //! Engines and the program on devices that fail or are interrupted.
 use crate::fitful::{FAILURES, FitfulReader, FitfulWriter, Full};
 use docsis_wire::FillByte;
-use engines::{Device, EngineFault, cut_text, join_text, program, replay_text, run_text};
+use commands::{program, run_text};
+use engines::{Device, EngineFault, cut_text, join_text, replay_text};
 use std::alloc::Global;
 use std::io;
 use std::io::{ErrorKind, Read, Write};

@@ -2,10 +2,11 @@
 //! at one place of each call. Each test takes out of memory as lawful there, says so by the word
 //! `refused`, and calls again; where nothing failed it says nothing. Where the name of a test ends
 //! in `without_memory` all later allocations fail, too.
+use commands::{program, run_text};
 use docsis_wire::FillByte;
 use engines::{
-    Command, Device, EngineFault, UsageFault, WriteFault, cut_text, join_text, program, read_words,
-    replay_text, run_text, status, write_fault,
+    Command, Device, EngineFault, UsageFault, WriteFault, cut_text, join_text, read_words,
+    replay_text, status, write_fault,
 };
 use std::alloc::Global;
 use std::io::Read;

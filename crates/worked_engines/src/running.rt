@@ -1,7 +1,8 @@
 //! Traces that are received on threads: what doesn't depend on their schedule, and that frames and
 //! requests are taken at once.
 use docsis_wire::Bytes;
-use engines::{Device, EngineFault, run_text};
+use commands::run_text;
+use engines::{Device, EngineFault};
 use std::alloc::{AllocError, Global};
 use std::sync::atomic::{AtomicU64, Ordering};
 use std::sync::{Arc, Wait};

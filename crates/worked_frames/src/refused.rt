@@ -5,7 +5,6 @@ ghost use Rattle.docsis_wire.specs.Ready.{IsReady};
 use docsis_wire::Segment;
 use std::alloc::Global;
 use std::fmt::Debug;
-use std::process::Abort;
 use std::test::Fail;
 
 /// Says that a call was refused.
@@ -14,13 +13,14 @@ pub fn say_refused(rt: &impl Print) -> Result<(), Fail> {
     Ok(())
 }
 
-/// Says that a call was refused, and ends the test if its fault is another than out of memory.
-pub fn expect_refused<R, F>(rt: &R, fault: F, out_of_memory: F) -> Result<(), Fail>
+/// Says that a call was refused, and fails the test if its fault is another than out of memory.
+pub fn expect_refused<F>(rt: &impl Print, fault: F, out_of_memory: F) -> Result<(), Fail>
 where
-    R: Abort + Print,
     F: Debug + PartialEq + Drop,
 {
-    assert_eq!(rt; fault, out_of_memory);
+    if fault != out_of_memory {
+        return Err(Fail::new(format_args!("refused for {fault:?}")));
+    }
     say_refused(rt)
 }
 

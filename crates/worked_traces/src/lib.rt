@@ -9,8 +9,6 @@ mod orders;
 #[cfg(test)]
 mod outcomes;
 #[cfg(test)]
-mod refused;
-#[cfg(test)]
 mod replayed;
 #[cfg(test)]
 mod run;

@@ -12,11 +12,3 @@ AsksWithOptions words (Cut first fill) = AsksToCut words × (first < sequence_mo
 AsksWithOptions words Replay = ⊥
 AsksWithOptions words (Run mailbox ring) = AsksToRun words × (1 ≤ mailbox) × (1 ≤ ring)
 AsksWithOptions words (Help text) = ⊥
-
--- a cut begins with the number of a segment, and a run has room in its mailboxes and rings
-abbrev pub IsInRange : Command → Type 0
-IsInRange Join = Unit {0}
-IsInRange (Cut first fill) = first < sequence_modulus
-IsInRange Replay = Unit {0}
-IsInRange (Run mailbox ring) = (1 ≤ mailbox) × (1 ≤ ring)
-IsInRange (Help text) = Unit {0}

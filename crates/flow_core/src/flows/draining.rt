@@ -6,8 +6,8 @@ ghost use Rattle.flow_core.specs.Giving.{IsRunning, Drains, ClosesFlow};
 use super::Core;
 use crate::event::Step;
 use crate::laws;
-use flow_records::WINDOW_MAX;
 use docsis_wire::{Bytes, HeaderCheck};
+use flow_records::WINDOW_MAX;
 use std::alloc::{AllocError, Global};
 
 impl<C: HeaderCheck + Drop> Core<C> {

@@ -2,13 +2,13 @@
 //! `without_memory` with all later ones refused too. Each says `refused` when a call was.
 use super::{CLOSED, REPEATED, expect_fault};
 use crate::outcomes::{BOTH_FRAMES, expect_outcome};
-use crate::refused::{expect_refused, say_refused, say_whether_refused};
 use crate::traces::*;
 use docsis_wire::NoCheck;
 use flow_core::SetupFault;
 use std::alloc::{AllocError, Global};
 use std::test::Fail;
 use uplink::{LaneFault, Lists, Outcome, ReplayFault, Setup, admitted_order, replay};
+use worked_frames::refused::{expect_refused, say_refused, say_whether_refused};
 
 /// The second of three segments comes first, and a decision names no flow.
 const LINES: [Line; 7] = [

@@ -6,7 +6,6 @@ use super::numbered::{expect_all, segment_of};
 use super::receive_in_company;
 use super::receivers::{Four, no_decisions, receive};
 use crate::outcomes::{SECOND_FRAME, expect_in_any_order, same_lanes};
-use crate::refused::{expect_refused, say_refused, say_whether_refused};
 use crate::traces::*;
 use docsis_wire::{Bytes, NoCheck};
 use flow_core::{FlowRecord, SetupFault};
@@ -16,6 +15,7 @@ use std::sync::{Arc, Wait};
 use std::test::Fail;
 use std::thread::Threads;
 use uplink::{Input, LaneFault, ListSource, Outcome, RunFault, Setup, SidRow, Sources, Taps, run};
+use worked_frames::refused::{expect_refused, say_refused, say_whether_refused};
 
 /// Receives four segments whose senders meet. If no memory was refused, they all met.
 fn try_to_meet<R>(alloc: Global, rt: R) -> Result<Outcome, RunFault>

@@ -1,9 +1,9 @@
 //! Tests to be run with the Nth request for memory and all later ones refused. Each says `refused`
 //! when a call was.
 use super::{FIRST, SECOND, expect_both_decisions, expect_three_grants, three_grants};
-use crate::refused::{say_refused, say_whether_refused};
 use std::test::Fail;
 use uplink::{ListDecisions, ListSource};
+use worked_frames::refused::{say_refused, say_whether_refused};
 
 /// A source takes no memory to be made of a list, or to give it.
 #[test]

@@ -1,10 +1,10 @@
 //! A test to be run with the Nth request for memory and all later ones refused. It says `refused`
 //! when a call was.
 use super::{REQUEST, show};
-use crate::refused::{say_refused, say_whether_refused};
 use docsis_wire::Bytes;
 use std::test::Fail;
 use uplink::NoTap;
+use worked_frames::refused::{say_refused, say_whether_refused};
 
 #[test]
 fn no_tap_without_memory(rt: HostRuntime) -> Result<(), Fail> {

@@ -1,11 +1,12 @@
 -- What a command does.
-use Rattle.std.specs.Prelude.{ℕ, List, Option, Result, string_bytes}
+use Rattle.std.specs.Prelude.{◌<◌, ◌≤◌, ℕ, List, Option, Result, string_bytes}
+use Rattle.docsis_wire.specs.Limits.{sequence_modulus}
 use Rattle.engines.specs.declared.command.Command.{Command}
 use Rattle.engines.specs.declared.command.Command.TheVariants.{Join, Cut, Replay, Run, Help}
 use Rattle.engines.specs.declared.device.Device.{Device}
 use Rattle.engines.specs.declared.fault.EngineFault.{EngineFault}
 use Rattle.engines.specs.Engine.{RunsEngine}
-use Rattle.engines.specs.Program.{WritesHelp}
+use Rattle.commands.specs.Program.{WritesHelp}
 use Rattle.texts.specs.Join.{IsJoined, IsJoinFault}
 use Rattle.texts.specs.Cut.{IsCutText, IsCutFault}
 use Rattle.texts.specs.Replay.{IsReplayed, IsReplayFault, IsReportFault}
@@ -19,3 +20,11 @@ Performs remaining contents Replay reader reader' writer writer' result = RunsEn
 Performs remaining contents (Run mailbox ring) reader reader' writer writer' result =
     RunsEngine remaining contents (IsRunText ring mailbox) (IsReportFault ring) reader reader' writer writer' result
 Performs remaining contents (Help text) reader reader' writer writer' result = WritesHelp contents (string_bytes text) reader reader' writer writer' result
+
+-- a cut begins with the number of a segment, and a run has room in its mailboxes and rings
+abbrev pub IsInRange : Command → Type 0
+IsInRange Join = Unit {0}
+IsInRange (Cut first fill) = first < sequence_modulus
+IsInRange Replay = Unit {0}
+IsInRange (Run mailbox ring) = (1 ≤ mailbox) × (1 ≤ ring)
+IsInRange (Help text) = Unit {0}

@@ -2,8 +2,8 @@ use Rattle.std.proofs.Common.{◌≡◌}
 use Rattle.std.specs.Prelude.{map}
 use Rattle.engines.specs.declared.command.Command.TheVariants.{Join, Replay}
 use Rattle.engines.specs.Command.{AsksToJoin, AsksToReplay}
-use Rattle.engines.proofs.ObeyedWords.{Obeys-performed}
-use Rattle.engines.proofs.whole_program.obey.Goals as goal
+use Rattle.commands.proofs.ObeyedWords.{Obeys-performed}
+use Rattle.commands.proofs.whole_program.obey.Goals as goal
 
 pub returns : goal.returns
 returns g c =

@@ -14,7 +14,7 @@ use Rattle.engines.specs.Device.{inner_of}
 use Rattle.engines.specs.Fault.{status_of, exit_status_of}
 use Rattle.engines.specs.Command.{AsksToJoin, AsksToReplay}
 use Rattle.engines.specs.Engine.{engine_fault, WritesText, IsFaultOfKnown, HasCause, RunsEngine}
-use Rattle.engines.specs.Program.{AsksToCutOnly, AsksToRunOnly, AsksForNothing, IsRefused, Obeys, RunsWords, IsStatus, HasJoinedText, HasCutText, HasReport, HasRunReport, HasRunFault, SaysOf}
+use Rattle.commands.specs.Program.{AsksToCutOnly, AsksToRunOnly, AsksForNothing, IsRefused, Obeys, RunsWords, IsStatus, HasJoinedText, HasCutText, HasReport, HasRunReport, HasRunFault, SaysOf}
 
 -- a status other than 0 and 1 says nothing
 says_nothing : (HasText : List ℕ → Type 0) (IsFault : List ℕ → TextFault → Type 0) (status : ℕ) (input : List ℕ) → 1 < status → SaysOf HasText IsFault status input

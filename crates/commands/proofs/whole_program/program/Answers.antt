@@ -1,5 +1,5 @@
-use Rattle.engines.proofs.ExitStatuses.{SaysOfWords-run}
-use Rattle.engines.proofs.whole_program.program.Goals as goal
+use Rattle.commands.proofs.ExitStatuses.{SaysOfWords-run}
+use Rattle.commands.proofs.whole_program.program.Goals as goal
 
 pub returns-clause-outcome : goal.returns-clause-outcome
 returns-clause-outcome g c =

@@ -15,8 +15,8 @@ use Rattle.texts.specs.Run.{IsRunText}
 use Rattle.engines.specs.Device.{inner_of, IsFresh}
 use Rattle.engines.specs.Engine.{HasCause, RunsEngine}
 use Rattle.engines.specs.Command.{IsCommand, AsksToJoin, AsksToCut, AsksToReplay, AsksToRun, HasNoHelpWord, Asks}
-use Rattle.engines.specs.Program.{AsksToCutOnly, AsksToRunOnly, AsksForNothing, RunsCut, RunsRun, WritesHelp, Obeys}
-use Rattle.engines.specs.Inside.Program.{Performs}
+use Rattle.commands.specs.Program.{AsksToCutOnly, AsksToRunOnly, AsksForNothing, RunsCut, RunsRun, WritesHelp, Obeys}
+use Rattle.commands.specs.Inside.Program.{Performs}
 
 -- no words ask both to join and for a command whose word is another
 join_is_another : (command : List ℕ) → length command < 4 → (words : List (List ℕ)) → AsksToJoin words → IsCommand command words → ⊥

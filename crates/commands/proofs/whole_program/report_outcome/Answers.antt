@@ -1,6 +1,6 @@
 use Rattle.std.proofs.Common.{rules}
-use Rattle.engines.proofs.whole_program.report_outcome.Goals as goal
-use Rattle.engines.proofs.whole_program.report_outcome.Goals.{in-Err, in_default}
+use Rattle.commands.proofs.whole_program.report_outcome.Goals as goal
+use Rattle.commands.proofs.whole_program.report_outcome.Goals.{in-Err, in_default}
 
 pub returns-clause-report : goal.returns-clause-report
 returns-clause-report g c =

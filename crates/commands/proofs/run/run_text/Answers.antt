@@ -2,8 +2,8 @@ use Rattle.std.proofs.Common.{sym, subst}
 use Rattle.std.proofs.lemmas.Bool.{false≢true}
 use Rattle.texts.specs.Replay.{IsReportFault}
 use Rattle.texts.specs.Run.{IsRunText}
-use Rattle.engines.proofs.FailedWriter.{RunsEngine-failed, is_write}
-use Rattle.engines.proofs.run.run_text.Goals as goal
+use Rattle.commands.proofs.FailedWriter.{RunsEngine-failed, is_write}
+use Rattle.commands.proofs.run.run_text.Goals as goal
 
 pub returns-in_err-write_text : goal.returns-in_err-write_text
 returns-in_err-write_text g c =

@@ -5,8 +5,8 @@ use Rattle.receiver.specs.Items.{Incoming, incoming_from}
 use Rattle.receiver.specs.Outcome.{IsOutcome}
 use Rattle.texts.specs.AnyHeader.{any_header}
 use Rattle.texts.specs.Run.{IsReceived}
-use Rattle.engines.proofs.TraceFromSources.{received, out_of_memory_alone, value_kept}
-use Rattle.engines.proofs.run_lines.run_trace.Goals as goal
+use Rattle.commands.proofs.TraceFromSources.{received, out_of_memory_alone, value_kept}
+use Rattle.commands.proofs.run_lines.run_trace.Goals as goal
 
 pub expect_outcome-requires : goal.expect_outcome-requires
 expect_outcome-requires g c =

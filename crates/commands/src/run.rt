@@ -5,10 +5,10 @@ ghost use Rattle.engines.specs.Engine.{RunsEngine};
 ghost use Rattle.texts.specs.Replay.{IsReportFault};
 ghost use Rattle.texts.specs.Run.{IsRunText};
 
-use crate::device::Device;
-use crate::fault::EngineFault;
+use engines::Device;
+use engines::EngineFault;
 use crate::run_lines::run_lines;
-use crate::transfer::{read_input, write_text};
+use engines::{read_input, write_text};
 use docsis_wire::Bytes;
 use std::alloc::Global;
 use std::io::{Read, Write};

@@ -1,0 +1,18 @@
+//! The command `run` between a reader and a writer, and the whole program over any reader and any
+//! two writers.
+//!
+//! [`run_text`] is the engine of `run`: it reads its whole input, has the receiver take it on
+//! threads, and writes the report. [`program`] is the whole program: it reads what its words ask
+//! for and runs that command's engine, of this crate or of `engines`; [`run_words`] is it between
+//! devices, and [`report_outcome`] its end.
+//!
+//! `run_text` writes a text that may stand for the lines it reads, or it reports the first faulty
+//! line and its least kind of fault, and then writes nothing.
+#![tactic(auto)]
+
+mod run;
+mod run_lines;
+mod whole_program;
+
+pub use run::run_text;
+pub use whole_program::{program, report_outcome, run_words};
