@@ -5,11 +5,9 @@ ghost use Rattle.engines.specs.Engine.{RunsEngine};
 ghost use Rattle.texts.specs.Replay.{IsReportFault};
 ghost use Rattle.texts.specs.Run.{IsRunText};
 
-use engines::Device;
-use engines::EngineFault;
 use crate::run_lines::run_lines;
-use engines::{read_input, write_text};
 use docsis_wire::Bytes;
+use engines::{Device, EngineFault, read_input, write_text};
 use std::alloc::Global;
 use std::io::{Read, Write};
 use std::sync::Wait;

@@ -11,15 +11,11 @@ ghost use Rattle.commands.specs.Program.{AsksToCutOnly, AsksToRunOnly, AsksForNo
 ghost use Rattle.commands.specs.Inside.Program.{Performs, IsInRange};
 ghost use Rattle.commands.specs.Program.{IsStatus, HasJoinedText, HasCutText, HasReport, HasRunReport, HasRunFault, SaysOf};
 
-use engines::{Command, read_words};
-use engines::cut_text;
-use engines::Device;
-use engines::{EngineFault, exit_status};
-use engines::write_fault;
-use engines::join_text;
-use engines::replay_text;
 use crate::run::run_text;
-use engines::write_text;
+use engines::{
+    Command, Device, EngineFault, cut_text, exit_status, join_text, read_words, replay_text,
+    write_fault, write_text,
+};
 use std::alloc::Global;
 use std::convert::AsStr;
 use std::io::{Read, Write};

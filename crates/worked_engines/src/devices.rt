@@ -1,7 +1,7 @@
 //! Engines and the program on devices that fail or are interrupted.
 use crate::fitful::{FAILURES, FitfulReader, FitfulWriter, Full};
-use docsis_wire::FillByte;
 use commands::{program, run_text};
+use docsis_wire::FillByte;
 use engines::{Device, EngineFault, cut_text, join_text, replay_text};
 use std::alloc::Global;
 use std::io;

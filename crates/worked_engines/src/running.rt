@@ -1,7 +1,7 @@
 //! Traces that are received on threads: what doesn't depend on their schedule, and that frames and
 //! requests are taken at once.
-use docsis_wire::Bytes;
 use commands::run_text;
+use docsis_wire::Bytes;
 use engines::{Device, EngineFault};
 use std::alloc::{AllocError, Global};
 use std::sync::atomic::{AtomicU64, Ordering};
