@@ -27,7 +27,5 @@
 mod front;
 mod joiner;
 pub mod laws;
-#[cfg(test)]
-mod tests;
 
 pub use joiner::{Fed, Joiner};

@@ -35,8 +35,3 @@ pub use feeder::{ClosedFeeder, Feeder, Refused};
 pub use opening::{OpenFault, ring};
 pub use settling::settle;
 pub use taker::{Taker, Took};
-
-#[cfg(test)]
-mod failed_allocations;
-#[cfg(test)]
-mod tests;

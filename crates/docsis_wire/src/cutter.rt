@@ -226,6 +226,3 @@ pub fn cut<C: HeaderCheck>(
     let cutter = Cutter::new(frames, pieces, first, fill, header_check)?;
     make(alloc, cutter, pieces.len()).or(Err(CutFault::OutOfMemory))
 }
-
-#[cfg(test)]
-mod tests;

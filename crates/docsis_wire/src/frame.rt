@@ -90,6 +90,3 @@ pub fn well_formed<C: HeaderCheck>(bytes: &[u8], check: &C) -> bool
         _ => false,
     }
 }
-
-#[cfg(test)]
-mod tests;

@@ -139,6 +139,3 @@ pub fn ready(segment: &Segment) -> bool
 {
     !segment.head.pfi || usize::from(segment.head.pointer) < segment.payload.len()
 }
-
-#[cfg(test)]
-mod tests;

@@ -21,7 +21,6 @@ pub mod FlowJoining
 pub mod Setup
 pub mod OneFlow
 pub mod FlowSteps
-pub mod Running
 pub mod NewFlows
 pub mod Closing
 pub mod Turns

@@ -30,15 +30,11 @@
 
 mod counts;
 mod event;
-#[cfg(test)]
-mod failed_allocations;
 mod flow;
 mod flows;
 pub mod laws;
 mod record;
 mod sequence;
-#[cfg(test)]
-mod tests;
 mod up_to;
 
 pub use counts::FlowCounts;

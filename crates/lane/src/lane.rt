@@ -214,8 +214,3 @@ fn flows_of(
     }
     Ok(flows)
 }
-
-#[cfg(test)]
-mod failed_allocations;
-#[cfg(test)]
-mod tests;

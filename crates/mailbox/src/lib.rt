@@ -40,8 +40,3 @@ pub use opening::{OpenFault, Ports, open};
 pub use port::{ClosedPort, Full, Port};
 pub use settling::{ClosedPorts, Settled, settle};
 pub use taken::Taken;
-
-#[cfg(test)]
-mod failed_allocations;
-#[cfg(test)]
-mod tests;

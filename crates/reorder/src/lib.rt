@@ -43,8 +43,3 @@ pub(crate) const NUMBERS_AHEAD: u16 = MODULUS / 2;
 
 /// The greatest width of a window: as many numbers as lie ahead (this project's profile).
 pub const WIDTH_MAX: u16 = NUMBERS_AHEAD;
-
-#[cfg(test)]
-mod failed_allocations;
-#[cfg(test)]
-mod tests;

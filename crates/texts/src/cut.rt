@@ -146,6 +146,3 @@ pub fn cut_lines(
     let cutter = Cutter::new(&read.frames, &read.pieces, first, fill, &NoCheck)?;
     Ok(segment_lines(alloc, cutter, text_length(&read))?)
 }
-
-#[cfg(test)]
-mod tests;

@@ -100,13 +100,11 @@ pub enum TextFault {
 }
 
 /// Why a line was not read.
-#[derive(Clone, Copy, Debug, PartialEq, Eq, Error)]
+#[derive(Clone, Copy, Debug, PartialEq, Eq)]
 pub enum LineFault {
     /// The line has a fault.
-    #[error("{}", .0.text())]
     Kind(TraceKind),
     /// An allocation failed.
-    #[error("out of memory")]
     OutOfMemory,
 }
 
@@ -187,6 +185,3 @@ impl From<CutFault> for TextFault {
         }
     }
 }
-
-#[cfg(test)]
-mod tests;

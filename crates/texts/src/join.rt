@@ -86,6 +86,3 @@ pub fn join_lines(alloc: Global, input: &[u8]) -> Result<Vec<u8>, TextFault>
     take_lines(alloc, input, &mut joining)?;
     Ok(joining.text)
 }
-
-#[cfg(test)]
-mod tests;

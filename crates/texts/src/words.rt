@@ -100,35 +100,3 @@ pub fn only_four_words(rest: &[u8]) -> Option<(&[u8], &[u8], &[u8], &[u8])>
     let (second, third, fourth) = only_three_words(more)?;
     Some((word, second, third, fourth))
 }
-
-#[cfg(test)]
-mod tests {
-    use super::*;
-    use std::str;
-    use std::test::Fail;
-
-    /// A field and what follows it, as text.
-    fn shown<'a>(found: Option<(&'a [u8], &'a [u8])>) -> Option<(&'a str, &'a str)> {
-        let (field, rest) = found?;
-        Some((str::from_utf8(field).ok()?, str::from_utf8(rest).ok()?))
-    }
-
-    #[test]
-    fn splits_fields(rt: HostRuntime) -> Result<(), Fail> {
-        let cases: [(&str, Option<(&str, &str)>); 9] = [
-            ("", None),
-            (" \t\r", None),
-            ("# a", None),
-            ("  #a b", None),
-            ("a", Some(("a", ""))),
-            ("\ra\r", Some(("a", "\r"))),
-            ("a\tb  c", Some(("a", "\tb  c"))),
-            ("a#b", Some(("a#b", ""))),
-            ("\u{b}\u{c}", Some(("\u{b}\u{c}", ""))),
-        ];
-        for (line, fields) in &cases {
-            assert_eq!(rt; shown(split_field(line.as_bytes())), *fields, "{line}");
-        }
-        Ok(())
-    }
-}

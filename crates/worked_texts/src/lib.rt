@@ -1,23 +1,35 @@
-//! Texts that were worked out by hand: the tests of the crates `texts` and `engines`.
+//! Texts that were worked out by hand: the tests of the crate `texts`, and the [`samples`] that
+//! `worked_engines` takes too.
 //!
-//! They show what no clause says, and no run of the program: failing devices, out of memory, the
-//! longest input, and what single calls answer. They stand apart from these crates, so that those
-//! are proved once and not a second time with their tests. There is nothing here for a caller.
+//! They show what no clause says, and no run of the program: that calls succeed, that a failed
+//! allocation is reported, and what single calls answer. They stand apart from `texts`, so that it
+//! is proved once and not a second time with its tests. There is nothing here for a caller.
 #![tactic(auto)]
 
 #[cfg(test)]
-mod devices;
+mod cut_texts;
 #[cfg(test)]
 mod failed_allocations;
 #[cfg(test)]
-mod faults;
+mod fault_texts;
 #[cfg(test)]
-mod fitful;
+mod faulty_lines;
 #[cfg(test)]
-mod limits;
+mod faulty_traces;
 #[cfg(test)]
-mod running;
+mod flow_lines;
 #[cfg(test)]
-mod samples;
+mod greatest_frame;
 #[cfg(test)]
-mod words;
+mod hex_fields;
+#[cfg(test)]
+mod join_texts;
+#[cfg(test)]
+mod line_fields;
+#[cfg(test)]
+mod number_fields;
+pub mod samples;
+#[cfg(test)]
+mod trace_lines;
+#[cfg(test)]
+mod traces_read;

@@ -198,6 +198,3 @@ fn read_gap(rest: &[u8]) -> Result<TraceLine, LineFault>
         upto: Some(number),
     }))
 }
-
-#[cfg(test)]
-mod tests;

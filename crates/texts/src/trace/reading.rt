@@ -198,6 +198,3 @@ pub fn parse_trace(
     };
     Ok(Trace { setup, lists, tags })
 }
-
-#[cfg(test)]
-mod tests;

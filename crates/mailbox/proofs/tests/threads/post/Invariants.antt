@@ -1,6 +1,0 @@
-use Rattle.std.proofs.Common.{◌≡◌}
-use Rattle.mailbox.specs.Ports.{address}
-use Rattle.mailbox.proofs.tests.threads.post.Given as goal
-
-abbrev pub invariant-loop : goal.invariant-loop
-invariant-loop g l = address l.port ≡ address l.fn.port

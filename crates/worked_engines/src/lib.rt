@@ -1,0 +1,22 @@
+//! Runs of the engines and of the program on texts that were worked out by hand: the tests of the
+//! crate `engines`.
+//!
+//! They show what no clause says, and no run of the program: failing devices, out of memory, the
+//! longest input, taps, and what single calls answer. They stand apart from `engines`, so that it
+//! is proved once and not a second time with its tests. There is nothing here for a caller.
+#![tactic(auto)]
+
+#[cfg(test)]
+mod devices;
+#[cfg(test)]
+mod failed_allocations;
+#[cfg(test)]
+mod faults;
+#[cfg(test)]
+mod fitful;
+#[cfg(test)]
+mod limits;
+#[cfg(test)]
+mod running;
+#[cfg(test)]
+mod words;

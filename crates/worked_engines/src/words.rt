@@ -1,0 +1,143 @@
+//! What `read_words` answers. Runs of the program show which words it understands.
+use docsis_wire::FillByte;
+use engines::{Command, UsageFault, read_words};
+use std::alloc::Global;
+
+/// What some words are read as.
+#[derive(Clone, Copy, Debug, PartialEq, Eq)]
+enum Asked {
+    Join,
+    Cut(u16, FillByte),
+    Replay,
+    Run(u16, u16),
+    Help,
+    Fault(UsageFault),
+}
+
+fn what_is_asked(alloc: Global, words: &[&str]) -> Asked {
+    match read_words(alloc, words) {
+        Ok(Command::Join) => Asked::Join,
+        Ok(Command::Cut { first, fill }) => Asked::Cut(first, fill),
+        Ok(Command::Replay) => Asked::Replay,
+        Ok(Command::Run { mailbox, ring }) => Asked::Run(mailbox, ring),
+        Ok(Command::Help(_)) => Asked::Help,
+        Err(fault) => Asked::Fault(fault),
+    }
+}
+
+/// What is asked for where the words are wrong.
+const USAGE: Asked = Asked::Fault(UsageFault::Usage);
+
+/// Words, each with the name of its case, and what is asked for.
+const WORDS: [(&str, &[&str], Asked); 20] = [
+    ("no words at all", &[], Asked::Join),
+    ("no command", &["segrx"], Asked::Join),
+    ("join", &["segrx", "join"], Asked::Join),
+    ("cut", &["segrx", "cut"], Asked::Cut(0, FillByte::Zero)),
+    (
+        "the options of cut",
+        &["segrx", "cut", "--fill=ones", "--first", "8191"],
+        Asked::Cut(8191, FillByte::Ones),
+    ),
+    (
+        "a number too great",
+        &["segrx", "cut", "--first=8192"],
+        USAGE,
+    ),
+    ("replay", &["segrx", "replay"], Asked::Replay),
+    ("replay twice", &["segrx", "replay", "replay"], USAGE),
+    (
+        "an option of replay",
+        &["segrx", "replay", "--ring=1"],
+        USAGE,
+    ),
+    ("the end of options", &["segrx", "replay", "--"], USAGE),
+    ("an unknown word", &["segrx", "frob"], USAGE),
+    ("run", &["segrx", "run"], Asked::Run(16, 16)),
+    (
+        "the options of run",
+        &["segrx", "run", "--ring=1", "--mailbox", "065535"],
+        Asked::Run(65_535, 1),
+    ),
+    ("no room", &["segrx", "run", "--ring=0"], USAGE),
+    (
+        "a capacity too great",
+        &["segrx", "run", "--mailbox=65536"],
+        USAGE,
+    ),
+    ("an option of cut", &["segrx", "run", "--first=1"], USAGE),
+    ("help", &["segrx", "cut", "-h", "frob"], Asked::Help),
+    ("help of replay", &["segrx", "replay", "-h"], Asked::Help),
+    ("help too late", &["segrx", "replay", "x", "-h"], USAGE),
+    // The program's name asks for nothing, whatever it is.
+    ("a name like an option", &["-h", "join"], Asked::Join),
+];
+
+#[test]
+fn reads_words(rt: HostRuntime) {
+    for (case, words, want) in &WORDS {
+        assert_eq!(rt; what_is_asked(rt.alloc(), words), *want, "{case}");
+    }
+}
+
+/// The help that some words ask for, or no text.
+fn help_of(alloc: Global, words: &[&str]) -> String {
+    match read_words(alloc, words) {
+        Ok(Command::Help(text)) => text,
+        _ => String::new(alloc),
+    }
+}
+
+/// Words that ask for help, and parts of it.
+const HELPS: [(&[&str], &[&str]); 5] = [
+    (
+        &["segrx", "-h"],
+        &[
+            "Usage: segrx [join] < ",
+            "segrx cut [",
+            "segrx replay < ",
+            "  cut   ",
+            "segrx run [",
+            "  replay  ",
+            "  run   ",
+        ],
+    ),
+    (&["segrx", "join", "-h"], &["Usage: segrx join < "]),
+    (&["segrx", "replay", "-h"], &["Usage: segrx replay < "]),
+    (
+        &["segrx", "run", "-h"],
+        &["Usage: segrx run [", "--mailbox <N>", "--ring <N>"],
+    ),
+    (
+        &["segrx", "cut", "-h"],
+        &["Usage: segrx cut [", "--first <N>", "--fill <zero|ones>"],
+    ),
+];
+
+/// Parts of each help.
+const EACH: [&str; 11] = [
+    "  SEGMENT ",
+    "  frame FRAME ",
+    "  piece DATA FILL ",
+    "  flow SFID FIRST WINDOW CLUSTERS\n",
+    "  sid CHANNEL SID FLOW\n",
+    "  grant CHANNEL NUMBER SID BYTES\n",
+    "  burst CHANNEL NUMBER ok|bad BURST\n",
+    "  gap FLOW [NUMBER]\n",
+    "join does not look at their sequence numbers",
+    "268435456 bytes",
+    "Exit status:\n  0 ",
+];
+
+#[test]
+fn help_suffices_alone(rt: HostRuntime) {
+    for (words, parts) in &HELPS {
+        let help = help_of(rt.alloc(), words);
+        for part in parts.iter().chain(&EACH) {
+            assert!(rt; help.contains(*part), "{help}: {part}");
+        }
+        for line in help.lines() {
+            assert!(rt; line.len() <= 80, "{line}");
+        }
+    }
+}

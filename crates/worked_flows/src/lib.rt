@@ -1,0 +1,10 @@
+//! Flows and lanes that were worked out by hand: the tests of `flow_core` and `lane`.
+//!
+//! They stand apart from these crates, so that those are proved once and not a second time with
+//! their tests. There is nothing here for a caller.
+#![tactic(auto)]
+
+#[cfg(test)]
+mod flows;
+#[cfg(test)]
+mod lanes;

@@ -1,0 +1,120 @@
+//! Tests to be run with the Nth request for memory refused, and the one whose name ends in
+//! `without_memory` with all later ones refused too. Each says `refused` when a call was.
+use super::faults::{FAULTS, long_and_plain};
+use super::worked::{INSIDE_PIECES, INSIDE_SEGMENTS};
+use super::{are, is, named, owned};
+use crate::refused::{expect_refused, say_refused, say_whether_refused};
+use crate::samples::{EXTENDED, PLAIN};
+use docsis_wire::{Bytes, CutFault, Cutter, FillByte, NoCheck, Piece, Segment, cut};
+use std::alloc::{AllocError, Global};
+use std::test::Fail;
+
+/// Makes the two frames, and once more where the first call was refused memory.
+fn frames(rt: &impl Print, alloc: Global) -> Result<Vec<Bytes>, Fail> {
+    if let Ok(frames) = owned(alloc, &[PLAIN, EXTENDED]) {
+        return Ok(frames);
+    }
+    say_refused(rt)?;
+    Ok(owned(alloc, &[PLAIN, EXTENDED])?)
+}
+
+/// Makes the three pieces, and once more where the first call was refused memory.
+fn pieces(rt: &impl Print, alloc: Global) -> Result<Vec<Piece>, Fail> {
+    if let Ok(pieces) = named(alloc, INSIDE_PIECES) {
+        return Ok(pieces);
+    }
+    say_refused(rt)?;
+    Ok(named(alloc, INSIDE_PIECES)?)
+}
+
+#[test]
+fn cut_again(rt: HostRuntime) -> Result<(), Fail> {
+    let frames = frames(&rt, rt.alloc())?;
+    let pieces = pieces(&rt, rt.alloc())?;
+    let mut answer = cut(rt.alloc(), &frames, &pieces, 0, FillByte::Zero, &NoCheck);
+    if let Err(fault) = answer {
+        expect_refused(&rt, fault, CutFault::OutOfMemory)?;
+        answer = cut(rt.alloc(), &frames, &pieces, 0, FillByte::Zero, &NoCheck);
+    }
+    let segments = answer?;
+    assert!(rt; are(&segments, INSIDE_SEGMENTS), "{segments:?}");
+    Ok(())
+}
+
+/// Makes the next segment, and once more where the first call was refused memory.
+fn next_of(
+    rt: &impl Print,
+    alloc: Global,
+    cutter: &mut Cutter<'_>,
+) -> Result<Option<Segment>, Fail> {
+    if let Ok(segment) = cutter.next(alloc) {
+        return Ok(segment);
+    }
+    say_refused(rt)?;
+    Ok(cutter.next(alloc)?)
+}
+
+#[test]
+fn next_again(rt: HostRuntime) -> Result<(), Fail> {
+    let frames = frames(&rt, rt.alloc())?;
+    let pieces = pieces(&rt, rt.alloc())?;
+    let mut cutter = Cutter::new(&frames, &pieces, 0, FillByte::Zero, &NoCheck)?;
+    for wanted in INSIDE_SEGMENTS {
+        let segment = next_of(&rt, rt.alloc(), &mut cutter)?.ok_or("too few")?;
+        assert!(rt; is(&segment, wanted), "{segment:?}");
+    }
+    Ok(())
+}
+
+/// Frames and pieces with a fault.
+#[derive(Drop)]
+struct Faulty {
+    name: &'static str,
+    frames: Vec<Bytes>,
+    pieces: Vec<Piece>,
+    fault: CutFault,
+}
+
+fn faulty_cuts(alloc: Global) -> Result<Vec<Faulty>, AllocError> {
+    let mut cuts = Vec::new(alloc);
+    for case in &FAULTS {
+        cuts.push(Faulty {
+            name: case.name,
+            frames: owned(alloc, case.frames)?,
+            pieces: named(alloc, case.pieces)?,
+            fault: case.fault,
+        })?;
+    }
+    cuts.push(Faulty {
+        name: "a pointer of 16,384",
+        frames: long_and_plain(alloc, 0x3ffb)?,
+        pieces: named(alloc, &[(1, 0), (16_392, 0)])?,
+        fault: CutFault::PointerTooFar(1),
+    })?;
+    Ok(cuts)
+}
+
+/// Faults are looked for before any memory is taken, and a cutter takes none when it is made. In
+/// the end the test asks for memory itself, so that a run is known in which nothing else did.
+#[test]
+fn faults_without_memory(rt: HostRuntime) -> Result<(), Fail> {
+    let cuts = faulty_cuts(rt.alloc());
+    let frames = owned(rt.alloc(), &[PLAIN, EXTENDED]);
+    let pieces = named(rt.alloc(), INSIDE_PIECES);
+    let (Ok(cuts), Ok(frames), Ok(pieces)) = (cuts, frames, pieces) else {
+        return say_refused(&rt);
+    };
+    for Faulty {
+        name,
+        frames,
+        pieces,
+        fault,
+    } in &cuts {
+        let answer = cut(rt.alloc(), frames, pieces, 0, FillByte::Zero, &NoCheck);
+        assert_eq!(rt; answer.err(), Some(*fault), "{name}");
+        let cutter = Cutter::new(frames, pieces, 0, FillByte::Zero, &NoCheck);
+        assert_eq!(rt; cutter.err(), Some(*fault), "{name}, a segment at a time");
+    }
+    assert!(rt; Cutter::new(&frames, &pieces, 0, FillByte::Zero, &NoCheck).is_ok());
+    say_whether_refused(&rt, rt.alloc())
+}

@@ -1,0 +1,20 @@
+//! Frames, segments, cuts, windows and joiners that were worked out by hand: the tests of
+//! `docsis_wire`, `reorder` and `ccf`.
+//!
+//! They stand apart from these crates, so that those are proved once and not a second time with
+//! their tests. There is nothing here for a caller, but [`samples`] and [`refused`] are for the
+//! tests of other parts too.
+#![tactic(auto)]
+
+#[cfg(test)]
+mod cuts;
+#[cfg(test)]
+mod frames;
+#[cfg(test)]
+mod joiners;
+pub mod refused;
+pub mod samples;
+#[cfg(test)]
+mod segments;
+#[cfg(test)]
+mod windows;

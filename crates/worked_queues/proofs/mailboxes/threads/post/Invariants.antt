@@ -1,0 +1,6 @@
+use Rattle.std.proofs.Common.{◌≡◌}
+use Rattle.mailbox.specs.Ports.{address}
+use Rattle.worked_queues.proofs.mailboxes.threads.post.Given as goal
+
+abbrev pub invariant-loop : goal.invariant-loop
+invariant-loop g l = address l.port ≡ address l.fn.port
