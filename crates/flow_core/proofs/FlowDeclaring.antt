@@ -29,7 +29,7 @@ use Rattle.flow_core.proofs.Windows.{none-kept, window-same}
 use Rattle.flow_core.proofs.FlowCounting.{answered, counts-answered}
 use Rattle.flow_core.proofs.Standing.{stands, drained-sound, open-kept, kept-not-lost, settled-cases}
 use Rattle.flow_core.proofs.Losing.{HasComeTo, come-same, losses-pass, losses-window, losses-memory}
-use Rattle.flow_core.proofs.Stopping.{CanLose, CanLose-decided, number-in_range, Reaches-decided, Reaches-still, Stops, stops-everywhere, nothing-kept, later-held, can-reach, reach-can, passed-reached, count-to, passed-free, reached-end}
+use Rattle.flow_core.proofs.Stopping.{CanLose, CanLose-decided, number-in_range, Reaches-decided, Reaches-still, Stops, StopsEverywhere, nothing-kept, later-held, can-reach, reach-can, passed-reached, count-to, passed-free, reached-end}
 
 -- The losses of a decision up to an index: from y on, exactly those before it are lost that were not kept and that the decision reaches.
 abbrev pub AreLostTo : UpTo → Fates → ℕ → ℕ → Type 0
@@ -469,13 +469,13 @@ memory-counts u passed after count (inl (_, _, made)) = ap (λ (one : Flow). one
 memory-counts u passed after count (inr (_, made)) = ap (λ (one : Flow). one.counts) made
 
 -- The flow takes a decision up to a number.
-pub decision-event : (u : UpTo) (flow passed after : Flow) (count : ℕ) (any : Bool) → IsDrained flow
+pub decision-event : (u : UpTo) (flow passed after : Flow) (count : ℕ) (any : Bool) → StopsEverywhere → IsDrained flow
     → count ≡ count_to flow.window u → passed ≡ after_passing (count_to flow.window u) flow → IsLawful passed.window
     → Remembers u passed count after → IsTrue any ↔ (0 < count)
     → TakesEvent flow (event_to u) (answer_to u any) after
-decision-event u flow passed after count any drained is made lawful memory says check r events answers y given s =
+decision-event u flow passed after count any law drained is made lawful memory says check r events answers y given s =
     let passes : passed ≡ after_passing count flow = made ∙ ap (λ n. after_passing n flow) (sym is) in
-    let stops : Stops u flow.window count = subst (Stops u flow.window) (sym is) (stops-everywhere u flow.window s.window.lawful) in
+    let stops : Stops u flow.window count = subst (Stops u flow.window) (sym is) (law u flow.window s.window.lawful) in
     let moved : passed.window ≡ moved_on_by flow.window count = ap (λ (one : Flow). one.window) passes ∙ passed-window flow count in
     decision-taken check r flow events answers y given s drained u count stops (subst IsLawful moved lawful) any says after
     (memory-window u passed after count memory ∙ moved)

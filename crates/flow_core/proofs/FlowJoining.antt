@@ -27,7 +27,7 @@ use Rattle.flow_core.proofs.Windows.{kept-from-segment, window-taken}
 use Rattle.flow_core.proofs.Standing.{stands}
 use Rattle.flow_core.proofs.Losing.{HasComeTo, come-same, settled-more, losses-window, losses-memory}
 use Rattle.flow_core.proofs.IndexNumbers.{following-index, ahead-index}
-use Rattle.flow_core.proofs.Stopping.{held-CanLose, Stops, stops-everywhere}
+use Rattle.flow_core.proofs.Stopping.{held-CanLose, Stops, StopsEverywhere}
 use Rattle.flow_core.proofs.FlowDeclaring.{IsToGoOn, passed-lost, comes-further, forgotten, still-remembered}
 
 -- the counts after a segment was joined
@@ -113,7 +113,7 @@ module _ (check : List ℕ → Bool) (r : FlowRecord) (flow : Flow) (events : Li
       (z, past, put.0, subst (λ f. AreLost f (y + 1) z) (sym put.1) lost)
 
   -- The flow goes on with the decision that it remembers.
-  module _ (gone : Flow) (gone_lawful : IsLawful gone.window) where
+  module _ (law : StopsEverywhere) (gone : Flow) (gone_lawful : IsLawful gone.window) where
     goes-on-to : (u : UpTo) → GoesOnTo u fed_flow gone → IsToGoOn r.first s.fates (y + 1) (Some u) → flow.going_on ≡ Some u
         → (z : ℕ) × (y < z) × (stands : StandsFor check r gone events answers z (given ++ frames)) × AreLost stands.fates (y + 1) z
     goes-on-to u goes to_do is =
@@ -122,7 +122,7 @@ module _ (check : List ℕ → Bool) (r : FlowRecord) (flow : Flow) (events : Li
         let passed_flow : Flow = after_passing count fed_flow in
         let end = to_do.0 in
         let numbered = to_do.3 in
-        let stops : Stops u (next_taken flow.window) count = stops-everywhere u (next_taken flow.window) lawful in
+        let stops : Stops u (next_taken flow.window) count = law u (next_taken flow.window) lawful in
         let window_is : passed_flow.window ≡ moved_on_by (next_taken flow.window) count = losses-window count moved in
         let at : number_ahead (next_taken flow.window).expected count ≡ number_of r.first (y + 1 + count) =
         ap (λ e. number_ahead (following e) count) s.window.number ∙ ap (λ e. number_ahead e count) (following-index r.first y) ∙ ahead-index r.first (y + 1) count in
@@ -171,8 +171,9 @@ pub step-gives : (check : List ℕ → Bool) (flow gone : Flow) (ready : ReadySe
     → Feeds check flow.joiner ready.segment frames after
     → skipped + length (concat frames) + length after ≡ length flow.joiner + length ready.segment.payload
     → IsLawful (next_taken flow.window)
+    → StopsEverywhere
     → GoesOn flow.going_on (record flow { window = next_taken flow.window; joiner = after; counts = fed_counts flow.counts frames skipped }) gone
     → IsLawful gone.window
     → Gives check flow frames gone
-step-gives check flow gone ready frames after skipped next feeds balance lawful goes gone_lawful r events answers y given s =
-    goes-on check r flow events answers y given s ready next frames after skipped feeds balance lawful gone gone_lawful flow.going_on refl goes
+step-gives check flow gone ready frames after skipped next feeds balance lawful law goes gone_lawful r events answers y given s =
+    goes-on check r flow events answers y given s ready next frames after skipped feeds balance lawful law gone gone_lawful flow.going_on refl goes

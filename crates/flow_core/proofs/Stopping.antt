@@ -6,10 +6,10 @@ use Rattle.std.proofs.lemmas.Bool.{cases_eq, cases_lt}
 use Rattle.docsis_wire.specs.declared.segment.ReadySegment.{ReadySegment}
 use Rattle.reorder.specs.Number.{offset, number_ahead}
 use Rattle.reorder.specs.View.{WindowView, offset_in, IsHeld, IsLawful}
+use Rattle.reorder.specs.Verdicts.{declared_count, skipped_count}
 use Rattle.reorder.proofs.AgreeingWindows.{free-none_held}
-use Rattle.reorder.proofs.DeclaredCount.{declared_count-le, declared_count-le_held, declared_count-reaches, declared_count-none}
-use Rattle.reorder.proofs.SkippedCount.{skipped_count-le, skipped_count-le_held, skipped_count-reaches, skipped_count-none}
 use Rattle.flow_records.specs.declared.record.FlowRecord.{FlowRecord}
+use Rattle.flow_core.specs.declared.sequence.SequenceNumber.{SequenceNumber}
 use Rattle.flow_core.specs.declared.up_to.UpTo.{UpTo}
 use Rattle.flow_core.specs.declared.up_to.UpTo.TheVariants.{Declare, Skip}
 use Rattle.flow_core.specs.Fates.{Fates, number_of, IsKept, HasLaterKept}
@@ -61,23 +61,47 @@ pub record Stops (u : UpTo) (w : WindowView ReadySegment) (count : ℕ) : Type 0
   pub none : (offset_in w (number_to u) ≡ 0) ⊎ (4096 ≤ offset_in w (number_to u)) → count ≡ 0
   pub none_held : (CanLose u w → ⊥) → count ≡ 0
 
-pub stops-everywhere : (u : UpTo) (w : WindowView ReadySegment) → IsLawful w → Stops u w (count_to w u)
-stops-everywhere (Declare sequence) w lawful =
-    record {
-      up_to_number = declared_count-le w sequence.number lawful;
-      up_to_held = λ held is. declared_count-le_held w sequence.number lawful held is;
-      reached = λ some near held. declared_count-reaches w sequence.number lawful some near held;
-      none = λ apart. declared_count-none w sequence.number (inl apart);
-      none_held = λ free. ⊎_elim (λ some. absurd (free some)) (λ none. declared_count-none w sequence.number (inr none)) (some-or-none w);
-    }
-stops-everywhere (Skip sequence) w lawful =
-    record {
-      up_to_number = skipped_count-le w sequence.number;
-      up_to_held = λ held is. skipped_count-le_held w sequence.number held is;
-      reached = λ some near _. skipped_count-reaches w sequence.number lawful near;
-      none = λ apart. skipped_count-none w sequence.number apart;
-      none_held = λ never. absurd (never tt);
-    }
+-- so of each decision and window
+abbrev pub StopsEverywhere : Type 0
+StopsEverywhere = (u : UpTo) (w : WindowView ReadySegment) → IsLawful w → Stops u w (count_to w u)
+
+module _ (sequence : SequenceNumber) (w : WindowView ReadySegment) where
+  -- what the window's law says of declared losses
+  pub declared-stops : declared_count w sequence.number ≤ offset_in w sequence.number
+      → ((held : ℕ) → IsHeld w held → declared_count w sequence.number ≤ offset_in w held)
+      → (0 < offset_in w sequence.number → offset_in w sequence.number < 4096 → 0 < map.len w.held
+      → (declared_count w sequence.number ≡ offset_in w sequence.number) ⊎ IsHeld w (number_ahead w.expected (declared_count w sequence.number)))
+      → (((offset_in w sequence.number ≡ 0) ⊎ (4096 ≤ offset_in w sequence.number)) ⊎ (map.len w.held ≡ 0) → declared_count w sequence.number ≡ 0)
+      → Stops (Declare sequence) w (declared_count w sequence.number)
+  declared-stops up_to_number up_to_held reached none =
+      record {
+        up_to_number = up_to_number;
+        up_to_held = up_to_held;
+        reached = reached;
+        none = λ apart. none (inl apart);
+        none_held = λ free. ⊎_elim (λ some. absurd (free some)) (λ empty. none (inr empty)) (some-or-none w);
+      }
+
+  -- and of skips
+  pub skipped-stops : skipped_count w sequence.number ≤ offset_in w sequence.number
+      → ((held : ℕ) → IsHeld w held → skipped_count w sequence.number ≤ offset_in w held)
+      → (offset_in w sequence.number < 4096
+      → (skipped_count w sequence.number ≡ offset_in w sequence.number) ⊎ IsHeld w (number_ahead w.expected (skipped_count w sequence.number)))
+      → ((offset_in w sequence.number ≡ 0) ⊎ (4096 ≤ offset_in w sequence.number) → skipped_count w sequence.number ≡ 0)
+      → Stops (Skip sequence) w (skipped_count w sequence.number)
+  skipped-stops up_to_number up_to_held reached none =
+      record {
+        up_to_number = up_to_number;
+        up_to_held = up_to_held;
+        reached = λ _ near _. reached near;
+        none = none;
+        none_held = λ never. absurd (never tt);
+      }
+
+pub stops-everywhere : ((sequence : SequenceNumber) (w : WindowView ReadySegment) → IsLawful w → Stops (Declare sequence) w (declared_count w sequence.number))
+    → ((sequence : SequenceNumber) (w : WindowView ReadySegment) → IsLawful w → Stops (Skip sequence) w (skipped_count w sequence.number)) → StopsEverywhere
+stops-everywhere declares skips (Declare sequence) w lawful = declares sequence w lawful
+stops-everywhere declares skips (Skip sequence) w lawful = skips sequence w lawful
 
 module _ (r : FlowRecord) (fates : Fates) (y : ℕ) (w : WindowView ReadySegment) (from_y : IsWindowFrom r fates y w) where
   -- an index from y on has as offset how far it lies after y

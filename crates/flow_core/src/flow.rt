@@ -19,7 +19,7 @@ use crate::up_to::UpTo;
 use ccf::Joiner;
 use docsis_wire::{HeaderCheck, ReadySegment, Segment};
 use flow_records::FlowRecord;
-use reorder::{Declared, Verdict, Window};
+use reorder::{Declared, Verdict, Window, laws};
 use std::alloc::{AllocError, Global};
 
 /// One service flow.
@@ -117,6 +117,8 @@ impl Flow {
         requires { IsDrained self.old }
         ensures { TakesEvent self.old (event_to up_to) (answer_to up_to result) self.new }
     {
+        laws::declare_to_stops_at_number_or_held::<ReadySegment>();
+        laws::skip_to_stops_at_number_or_held::<ReadySegment>();
         let count = self.pass_to(up_to);
         if count > 0 && self.window.expected() != up_to.number() {
             self.going_on = Some(up_to);
@@ -131,6 +133,8 @@ impl Flow {
         ensures nothing { result ≡ Ok Step.Nothing ↔ IsDrained self.old }
         ensures refused { OnErr result (self.new ≡ self.old) }
     {
+        laws::declare_to_stops_at_number_or_held::<ReadySegment>();
+        laws::skip_to_stops_at_number_or_held::<ReadySegment>();
         let Some(ready) = self.window.next() else {
             return Ok(Step::Nothing);
         };

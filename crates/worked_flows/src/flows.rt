@@ -60,6 +60,7 @@ enum Call {
     Arrive(Part, Answer),
     Gap(Declared),
     GapTo(u16, bool),
+    SkipTo(u16, bool),
     CloseGap(bool),
     /// A step gives these frames.
     Frames(&'static [&'static [u8]]),
@@ -158,6 +159,13 @@ fn takes(
             assert!(rt; number < SEQUENCE_NUMBERS);
             match core.apply(Event::GapTo { flow, number }) {
                 Applied::DecisionTo(declared) => declared == wanted,
+                _ => false,
+            }
+        }
+        Call::SkipTo(number, wanted) => {
+            assert!(rt; number < SEQUENCE_NUMBERS);
+            match core.apply(Event::SkipTo { flow, number }) {
+                Applied::DecisionSkip(skipped) => skipped == wanted,
                 _ => false,
             }
         }

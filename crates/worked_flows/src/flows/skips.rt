@@ -11,31 +11,11 @@ const SEGMENT_3: Part = Part(3, Some(0), FRAME_3);
 
 const SEGMENT_4: Part = Part(4, Some(0), FRAME_4);
 
-/// Makes calls on the one flow, skips up to a number with an answer, and makes more calls.
-fn play_skip(
-    rt: &impl Abort,
-    alloc: Global,
-    core: &mut Core<NoCheck>,
-    before: &[Call],
-    (number, wanted): (u16, bool),
-    after: &[Call],
-) -> Result<(), Fail> {
-    play(rt, alloc, core, 0, before)?;
-    assert!(rt; number < SEQUENCE_NUMBERS);
-    expect_drained(rt, core, 0);
-    let right = match core.apply(Event::SkipTo { flow: 0, number }) {
-        Applied::DecisionSkip(skipped) => skipped == wanted,
-        _ => false,
-    };
-    assert!(rt; right, "skip to {number}");
-    play(rt, alloc, core, 0, after)
-}
-
 /// Nothing is held: what comes before the number is late from then on, and the number is kept.
 #[test]
 fn nothing_held(rt: HostRuntime) -> Result<(), Fail> {
-    let mut core = one_flow(rt.alloc(), 0, 16)?;
-    let after = [
+    let calls = [
+        Call::SkipTo(3, true),
         Call::Nothing,
         Call::Counts([0, 0, 0, 0, 3, 0, 0]),
         Call::Arrive(SEGMENT_0, Answer::Late),
@@ -48,19 +28,17 @@ fn nothing_held(rt: HostRuntime) -> Result<(), Fail> {
         Call::CloseGap(false),
         Call::Counts([2, 2, 0, 0, 3, 2, 0]),
     ];
-    play_skip(&rt, rt.alloc(), &mut core, &[], (3, true), &after)
+    play_new(&rt, rt.alloc(), &calls)
 }
 
 /// What is held before the number is joined, and what is missing behind it is lost after each step,
 /// also behind the last one, where a gap up to the number loses nothing.
 #[test]
 fn held_segments_before_the_number(rt: HostRuntime) -> Result<(), Fail> {
-    let mut core = one_flow(rt.alloc(), 0, 16)?;
-    let before = [
+    let calls = [
         Call::Arrive(SEGMENT_1, Answer::Kept),
         Call::Arrive(SEGMENT_3, Answer::Kept),
-    ];
-    let after = [
+        Call::SkipTo(5, true),
         Call::Counts([2, 0, 0, 0, 1, 0, 0]),
         Call::Frames(&[FRAME_1]),
         Call::Counts([2, 0, 0, 0, 2, 1, 0]),
@@ -73,16 +51,17 @@ fn held_segments_before_the_number(rt: HostRuntime) -> Result<(), Fail> {
         Call::CloseGap(false),
         Call::Counts([3, 1, 0, 0, 3, 3, 0]),
     ];
-    play_skip(&rt, rt.alloc(), &mut core, &before, (5, true), &after)
+    play_new(&rt, rt.alloc(), &calls)
 }
 
 /// The expected number itself, the one behind it and one 4,096 ahead skip nothing.
 #[test]
 fn numbers_that_skip_nothing(rt: HostRuntime) -> Result<(), Fail> {
     for number in [0, 8191, 4096] {
-        let mut core = one_flow(rt.alloc(), 0, 16)?;
-        let held = [Call::Arrive(SEGMENT_1, Answer::Kept)];
-        let after = [
+        let calls = [
+            Call::SkipTo(number, false),
+            Call::Arrive(SEGMENT_1, Answer::Kept),
+            Call::SkipTo(number, false),
             Call::Nothing,
             Call::Counts([1, 0, 0, 0, 0, 0, 0]),
             Call::Arrive(SEGMENT_0, Answer::Kept),
@@ -91,8 +70,7 @@ fn numbers_that_skip_nothing(rt: HostRuntime) -> Result<(), Fail> {
             Call::Nothing,
             Call::Counts([2, 0, 0, 0, 0, 2, 0]),
         ];
-        play_skip(&rt, rt.alloc(), &mut core, &[], (number, false), &held)?;
-        play_skip(&rt, rt.alloc(), &mut core, &[], (number, false), &after)?;
+        play_new(&rt, rt.alloc(), &calls)?;
     }
     Ok(())
 }
@@ -101,7 +79,8 @@ fn numbers_that_skip_nothing(rt: HostRuntime) -> Result<(), Fail> {
 #[test]
 fn round_to_zero(rt: HostRuntime) -> Result<(), Fail> {
     let mut core = one_flow(rt.alloc(), 8190, 16)?;
-    let after = [
+    let calls = [
+        Call::SkipTo(1, true),
         Call::Counts([0, 0, 0, 0, 3, 0, 0]),
         Call::Arrive(Part(8191, Some(0), FRAME_2), Answer::Late),
         Call::Arrive(SEGMENT_0, Answer::Late),
@@ -109,19 +88,18 @@ fn round_to_zero(rt: HostRuntime) -> Result<(), Fail> {
         Call::Frames(&[FRAME_1]),
         Call::Counts([1, 2, 0, 0, 3, 1, 0]),
     ];
-    play_skip(&rt, rt.alloc(), &mut core, &[], (1, true), &after)
+    play(&rt, rt.alloc(), &mut core, 0, &calls)
 }
 
 /// What is unfinished is dropped at each loss, also at one after a step.
 #[test]
 fn unfinished_bytes_before_a_skip(rt: HostRuntime) -> Result<(), Fail> {
-    let mut core = one_flow(rt.alloc(), 0, 16)?;
-    let before = [
+    let begun = &[0, 0, 0, 2, 0x11];
+    let calls = [
         Call::Arrive(FIRST, Answer::Kept),
         Call::Frames(&[]),
-        Call::Arrive(Part(2, Some(0), &[0, 0, 0, 2, 0x11]), Answer::Kept),
-    ];
-    let after = [
+        Call::Arrive(Part(2, Some(0), begun), Answer::Kept),
+        Call::SkipTo(4, true),
         Call::Counts([2, 0, 0, 0, 1, 0, 5]),
         Call::Frames(&[]),
         Call::Counts([2, 0, 0, 0, 2, 0, 10]),
@@ -129,7 +107,7 @@ fn unfinished_bytes_before_a_skip(rt: HostRuntime) -> Result<(), Fail> {
         Call::Frames(&[FRAME_4]),
         Call::Counts([3, 0, 0, 0, 2, 1, 10]),
     ];
-    play_skip(&rt, rt.alloc(), &mut core, &before, (4, true), &after)
+    play_new(&rt, rt.alloc(), &calls)
 }
 
 /// A skip goes further than the window is wide, up to 4,095 numbers, past the segments of it that
@@ -137,8 +115,9 @@ fn unfinished_bytes_before_a_skip(rt: HostRuntime) -> Result<(), Fail> {
 #[test]
 fn further_than_the_window(rt: HostRuntime) -> Result<(), Fail> {
     let mut core = one_flow(rt.alloc(), 0, 4)?;
-    let before = [Call::Arrive(SEGMENT_3, Answer::Kept)];
-    let after = [
+    let calls = [
+        Call::Arrive(SEGMENT_3, Answer::Kept),
+        Call::SkipTo(4000, true),
         Call::Counts([1, 0, 0, 0, 3, 0, 0]),
         Call::Frames(&[FRAME_3]),
         Call::Counts([1, 0, 0, 0, 3999, 1, 0]),
@@ -147,21 +126,20 @@ fn further_than_the_window(rt: HostRuntime) -> Result<(), Fail> {
         Call::Arrive(Part(4000, Some(0), FRAME_0), Answer::Kept),
         Call::Frames(&[FRAME_0]),
         Call::Counts([2, 1, 0, 1, 3999, 2, 0]),
+        Call::SkipTo(8096, true),
+        Call::Nothing,
+        Call::Counts([2, 1, 0, 1, 8094, 2, 0]),
     ];
-    play_skip(&rt, rt.alloc(), &mut core, &before, (4000, true), &after)?;
-    let farthest = [Call::Nothing, Call::Counts([2, 1, 0, 1, 8094, 2, 0])];
-    play_skip(&rt, rt.alloc(), &mut core, &[], (8096, true), &farthest)
+    play(&rt, rt.alloc(), &mut core, 0, &calls)
 }
 
 /// A number that was reached is forgotten: what is missing from it on stays open.
 #[test]
 fn number_that_was_reached(rt: HostRuntime) -> Result<(), Fail> {
-    let mut core = one_flow(rt.alloc(), 0, 16)?;
-    let before = [
+    let calls = [
         Call::Arrive(SEGMENT_1, Answer::Kept),
         Call::Arrive(SEGMENT_4, Answer::Kept),
-    ];
-    let after = [
+        Call::SkipTo(3, true),
         Call::Frames(&[FRAME_1]),
         Call::Nothing,
         Call::Counts([2, 0, 0, 0, 2, 1, 0]),
@@ -171,5 +149,5 @@ fn number_that_was_reached(rt: HostRuntime) -> Result<(), Fail> {
         Call::Nothing,
         Call::Counts([3, 0, 0, 0, 2, 3, 0]),
     ];
-    play_skip(&rt, rt.alloc(), &mut core, &before, (3, true), &after)
+    play_new(&rt, rt.alloc(), &calls)
 }

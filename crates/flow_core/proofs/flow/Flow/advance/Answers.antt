@@ -3,6 +3,7 @@ use Rattle.std.proofs.Common.{◌≡◌, ◌+◌, min, sym, ap, subst, ◌∙◌
 use Rattle.reorder.specs.View.{IsLawful, next_taken}
 use Rattle.reorder.specs.Verdicts.{after_take_next}
 use Rattle.flow_core.specs.Inside.Losses.{GoesOn}
+use Rattle.flow_core.proofs.Stopping.{declared-stops, skipped-stops, stops-everywhere}
 use Rattle.flow_core.proofs.FlowJoining.{step-gives}
 use Rattle.flow_core.proofs.flow.Flow.advance.Goals as goal
 
@@ -13,6 +14,13 @@ returns-clause-step g c =
       λ drained. (let held = ap is_some (c.in-Some.ensures.item ∙ drained) in cc),
       step-gives _ c.args.self.now c.go_on.new.self c.in-Some.ready.now c.in_ok-fed.fed.frames.items c.feed.new.self c.in_ok-fed.fed.skipped
           (sym c.in-Some.ensures.item) c.in_ok-fed.ensures.fed c.in_ok-fed.ensures.skipped (subst IsLawful taken c.take_next.ensures.lawful)
+          (stops-everywhere
+          (λ sequence w lawful. declared-stops sequence w (c.declare_to_stops_at_number_or_held.ensures.up_to_number w sequence.number lawful)
+          (λ held is. c.declare_to_stops_at_number_or_held.ensures.up_to_held w sequence.number held lawful is)
+          (c.declare_to_stops_at_number_or_held.ensures.reached w sequence.number lawful) (c.declare_to_stops_at_number_or_held.ensures.none w sequence.number))
+          (λ sequence w lawful. skipped-stops sequence w (c.skip_to_stops_at_number_or_held.ensures.up_to_number w sequence.number)
+          (c.skip_to_stops_at_number_or_held.ensures.up_to_held w sequence.number)
+          (c.skip_to_stops_at_number_or_held.ensures.reached w sequence.number lawful) (c.skip_to_stops_at_number_or_held.ensures.none w sequence.number)))
           (subst (λ flow. GoesOn c.args.self.now.going_on flow c.go_on.new.self)
           (λ i. record {
             window = taken i;
