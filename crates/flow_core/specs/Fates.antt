@@ -9,7 +9,7 @@ use Rattle.std.specs.FinMap as map
 use Rattle.docsis_wire.specs.Limits.{sequence_modulus}
 use Rattle.docsis_wire.specs.declared.segment.Segment.{Segment}
 
--- The indexes of which it is known what became of them: the segment of the index was kept, or the index was declared lost, which is `None`.
+-- The indexes of which it is known what became of them: the segment of the index was kept, or the index was lost, which is `None`.
 abbrev pub Fates : Type 0
 Fates = map.FinMap nat_cmp (Option Segment)
 
@@ -24,11 +24,11 @@ IsKeptAs fates i segment = map.get fates i ≡ Some (Some segment)
 abbrev pub IsKept : Fates → ℕ → Type 0
 IsKept fates i = (segment : Segment) × IsKeptAs fates i segment
 
--- the index was declared lost
+-- the index was lost, by a gap or a skip
 abbrev pub IsLost : Fates → ℕ → Type 0
 IsLost fates i = map.get fates i ≡ Some None
 
--- neither kept nor declared lost
+-- neither kept nor lost
 abbrev pub IsOpen : Fates → ℕ → Type 0
 IsOpen fates i = map.get fates i ≡ None
 

@@ -64,7 +64,7 @@ pub record StandsFor (check : List ℕ → Bool) (flow_record : FlowRecord) (flo
 abbrev pub IsDrained : Flow → Type 0
 IsDrained flow = held_at flow.window flow.window.expected ≡ None
 
--- each index from n up to, not including, m was declared lost
+-- each index from n up to, not including, m was lost
 abbrev pub AreLost : Fates → ℕ → ℕ → Type 0
 AreLost fates n m = (i : ℕ) → n ≤ i → i < m → IsLost fates i
 
