@@ -15,6 +15,11 @@ pub data Coming : Type 0 where
   on_channel : ℕ → Segment → Coming
   handed_in : FlowEvent → Coming
 
+-- the event that it is by itself
+abbrev pub event_of : Coming → FlowEvent
+event_of (on_channel channel segment) = arrives segment
+event_of (handed_in event) = event
+
 -- What the rule has to know of a flow: the number of its first segment, the width of its window, and of each channel whether the flow has a service
 -- identifier there.
 pub record RuledFlow : Type 0 where
