@@ -3,3 +3,9 @@ pub mod Leasts
 pub mod Rulings
 pub mod RuledTurns
 pub mod DecidedRule
+pub mod Noting
+pub mod Passing
+pub mod Arrivals
+pub mod Prompt
+pub mod ArrivalAnswers
+pub mod Sliding

@@ -16,7 +16,7 @@ use Rattle.loss_rule.proofs.Leasts.{passing-some, passing-once}
 pub index-some : (first x number : ℕ) → (last : Option ℕ) × IsIndexAhead first x number last
 index-some first x number = elim (ahead_or_behind first x number) [ inl ahead ↦ (Some ahead.0, ahead.1) | inr behind ↦ (None, behind) ]
 
-index-once : (first x number : ℕ) (last other : Option ℕ) → IsIndexAhead first x number last → IsIndexAhead first x number other → last ≡ other
+pub index-once : (first x number : ℕ) (last other : Option ℕ) → IsIndexAhead first x number last → IsIndexAhead first x number other → last ≡ other
 index-once first x number (Some i) (Some j) p q = ap Some (IsAhead-once first x number i j p q)
 index-once first x number (Some i) None p q = absurd (q i p)
 index-once first x number None (Some j) p q = absurd (p j q)

@@ -1,3 +1,4 @@
 -- What only proofs speak of.
 pub mod Reached
 pub mod Leasts
+pub mod Arrival

@@ -3,12 +3,14 @@
 //! modem's frames of which each segment came.
 //!
 //! Each function states a law in its contract; its body is empty or only calls other laws.
-ghost use Rattle.std.specs.Prelude.{◌≡◌, ◌↔◌, ◌++◌, List, map};
+ghost use Rattle.std.specs.Prelude.{◌≡◌, ◌≢◌, ◌↔◌, ◌⊎◌, ◌+◌, ◌≤◌, ◌++◌, ℕ, Some, List, map, slice_get};
+ghost use Rattle.docsis_wire.specs.declared.segment.Segment.{Segment};
+ghost use Rattle.reorder.specs.declared.verdict.Verdict.{Verdict};
 ghost use Rattle.flow_core.specs.declared.event.Applied.{Applied};
-ghost use Rattle.flow_core.specs.Fates.{Fates};
-ghost use Rattle.flow_core.specs.Events.{FlowEvent, IsAfter};
+ghost use Rattle.flow_core.specs.Fates.{Fates, IsKept, IsLost, IsExpected};
+ghost use Rattle.flow_core.specs.Events.{FlowEvent, IsAhead, Leads, IsAfter};
 ghost use Rattle.loss_rule.specs.declared.rule.LossRule.{LossRule};
-ghost use Rattle.loss_rule.specs.Rule.{Coming, RuledFlow, Lasts, Rules, AreRuled, event_of};
+ghost use Rattle.loss_rule.specs.Rule.{Coming, on_channel, RuledFlow, HasChannel, Lasts, IsPassed, IsRuled, Rules, AreRuled, own_event};
 
 /// Whatever comes to a flow, the rule makes one list of events of it, and leads to one last index
 /// of each channel and one fate of each index. The events lead to those fates.
@@ -44,10 +46,45 @@ pub fn decided_rule_adds_nothing()
     ensures events { (flow : RuledFlow) (comings : List Coming) (events : List FlowEvent)
         (noted : Lasts) (fates : Fates)
         → AreRuled LossRule.Decided flow comings events noted fates
-        → events ≡ map event_of comings }
+        → events ≡ map own_event comings }
     ensures ruled { (flow : RuledFlow) (comings : List Coming) (answers : List Applied)
         (fates : Fates)
-        → IsAfter flow.first flow.width (map event_of comings) answers fates
+        → IsAfter flow.first flow.width (map own_event comings) answers fates
         → (noted : Lasts)
-        × AreRuled LossRule.Decided flow comings (map event_of comings) noted fates }
+        × AreRuled LossRule.Decided flow comings (map own_event comings) noted fates }
+{}
+
+/// **Prompt: the flow never waits for what can no longer come.** Each index that every channel has
+/// passed, since its last segment has a later one, is kept or lost. So the index that is expected
+/// is none of them.
+pub fn flow_never_waits_for_what_can_no_longer_come()
+    ensures settled { (rule : LossRule) (flow : RuledFlow) (comings : List Coming)
+        (events : List FlowEvent) (noted : Lasts) (fates : Fates) (own i : ℕ)
+        → rule ≢ LossRule.Decided → AreRuled rule flow comings events noted fates
+        → HasChannel flow own → IsPassed flow noted i → IsKept fates i ⊎ IsLost fates i }
+    ensures expected { (rule : LossRule) (flow : RuledFlow) (comings : List Coming)
+        (events : List FlowEvent) (noted : Lasts) (fates : Fates) (own x : ℕ)
+        → rule ≢ LossRule.Decided → AreRuled rule flow comings events noted fates
+        → HasChannel flow own → IsExpected fates x → ¬ (IsPassed flow noted x) }
+{}
+
+/// **Never stuck, where the window slides.** A segment that comes is never beyond the window. Once
+/// it came, each index that lies the width of the window or more before its own is kept or lost: a
+/// flow never holds its head back for longer.
+pub fn sliding_flow_is_never_stuck()
+    ensures beyond { (flow : RuledFlow) (before : List Coming) (events own : List FlowEvent)
+        (lasts noted : Lasts) (fates after : Fates) (channel k : ℕ) (segment back : Segment)
+        (answers : List Applied)
+        → 1 ≤ flow.width → AreRuled LossRule.PassedOrSlid flow before events lasts fates
+        → IsRuled LossRule.PassedOrSlid flow lasts fates (on_channel channel segment) own noted
+        → Leads flow.first flow.width fates own answers after
+        → ¬ (slice_get answers k ≡ Some (Applied.Arrival (Verdict.Beyond back))) }
+    ensures settled { (flow : RuledFlow) (before : List Coming) (events own : List FlowEvent)
+        (lasts noted : Lasts) (fates after : Fates) (channel x i j : ℕ) (segment : Segment)
+        (answers : List Applied)
+        → 1 ≤ flow.width → AreRuled LossRule.PassedOrSlid flow before events lasts fates
+        → IsRuled LossRule.PassedOrSlid flow lasts fates (on_channel channel segment) own noted
+        → Leads flow.first flow.width fates own answers after
+        → IsExpected fates x → IsAhead flow.first x segment.head.sequence i
+        → j + flow.width ≤ i → IsKept after j ⊎ IsLost after j }
 {}
