@@ -11,6 +11,7 @@ use Rattle.loss_rule.specs.declared.rule.LossRule.{LossRule}
 use Rattle.loss_rule.specs.declared.rule.LossRule.TheVariants.{Decided, Passed, PassedOrSlid}
 use Rattle.loss_rule.specs.Rule.{RuledFlow, Lasts, IsPassing}
 use Rattle.loss_rule.specs.Inside.Arrival.{Slides, ArrivesBy}
+use Rattle.loss_rule.specs.Inside.Verdicts.{EachVerdict}
 
 -- only an arrival has the answer of one
 arrival-answer : (first width x : ℕ) (event : FlowEvent) (verdict : Verdict Segment) (fates after : Fates) → Changes first width x event (Arrival verdict) fates after
@@ -90,3 +91,11 @@ module _ (rule : LossRule) (flow : RuledFlow) (lasts : Lasts) (fates : Fates) (c
       last_one : (a : Applied) (j : ℕ) (b : Applied) → slice_get (a ∷ []) j ≡ Some b → a ≡ b
       last_one a zero b is = cc
       last_one a (suc j) b is = absurd cc
+
+-- what holds of each verdict of one list and of each of another holds of both in turn
+pub verdicts-in_turn : (P : Verdict Segment → Type 0) (front back : List Applied) → EachVerdict P front → EachVerdict P back → EachVerdict P (front ++ back)
+verdicts-in_turn P front back p q k verdict is =
+    elim (in_turn-cases front back k (Arrival verdict) is) [
+      | inl early ↦ p k verdict early
+      | inr late ↦ q late.0 verdict late.1
+    ]

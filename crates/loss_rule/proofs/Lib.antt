@@ -9,3 +9,6 @@ pub mod Arrivals
 pub mod Prompt
 pub mod ArrivalAnswers
 pub mod Sliding
+pub mod ChannelOrder
+pub mod InStep
+pub mod SafeLoss

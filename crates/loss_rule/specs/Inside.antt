@@ -2,3 +2,5 @@
 pub mod Reached
 pub mod Leasts
 pub mod Arrival
+pub mod Order
+pub mod Verdicts

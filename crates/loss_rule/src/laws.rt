@@ -3,14 +3,16 @@
 //! modem's frames of which each segment came.
 //!
 //! Each function states a law in its contract; its body is empty or only calls other laws.
-ghost use Rattle.std.specs.Prelude.{◌≡◌, ◌≢◌, ◌↔◌, ◌⊎◌, ◌+◌, ◌≤◌, ◌++◌, ℕ, Some, List, map, slice_get};
+ghost use Rattle.std.specs.Prelude.{◌≡◌, ◌≢◌, ◌↔◌, ◌⊎◌, ◌+◌, ◌≤◌, ◌∷◌, ◌++◌, ℕ, Bool, Some, List, map, length, slice_get};
 ghost use Rattle.docsis_wire.specs.declared.segment.Segment.{Segment};
+ghost use Rattle.docsis_wire.specs.Cut.{IsLawfulCut};
 ghost use Rattle.reorder.specs.declared.verdict.Verdict.{Verdict};
 ghost use Rattle.flow_core.specs.declared.event.Applied.{Applied};
 ghost use Rattle.flow_core.specs.Fates.{Fates, IsKept, IsLost, IsExpected};
 ghost use Rattle.flow_core.specs.Events.{FlowEvent, IsAhead, Leads, IsAfter};
 ghost use Rattle.loss_rule.specs.declared.rule.LossRule.{LossRule};
-ghost use Rattle.loss_rule.specs.Rule.{Coming, on_channel, RuledFlow, HasChannel, Lasts, IsPassed, IsRuled, Rules, AreRuled, own_event};
+ghost use Rattle.loss_rule.specs.Rule.{Coming, on_channel, RuledFlow, HasChannel, Lasts, IsPassed, Notes, AreSkips, IsRuled, Rules, AreRuled, own_event};
+ghost use Rattle.loss_rule.specs.InOrder.{Comes, AreInChannelOrder, ComeNear, HaveNoDecision};
 
 /// Whatever comes to a flow, the rule makes one list of events of it, and leads to one last index
 /// of each channel and one fate of each index. The events lead to those fates.
@@ -52,6 +54,38 @@ pub fn decided_rule_adds_nothing()
         → IsAfter flow.first flow.width (map own_event comings) answers fates
         → (noted : Lasts)
         × AreRuled LossRule.Decided flow comings (map own_event comings) noted fates }
+{}
+
+/// **Safe: the rule loses nothing that still comes.** In a near list in channel order of one lawful
+/// cut, an index that the skips before a segment lose is neither that segment's nor that of a later
+/// one. So where no decision is handed in, no segment is late and none a repeat: each is kept, or
+/// lies beyond the window.
+pub fn rule_loses_nothing_that_still_comes()
+    ensures lost { (check : List ℕ → Bool) (frames chunks : List (List ℕ)) (fill : ℕ)
+        (segments : List Segment) (flow : RuledFlow) (before behind : List Coming)
+        (index_at : ℕ → ℕ) (channel other q x : ℕ) (segment another : Segment)
+        (events skips : List FlowEvent) (answers : List Applied) (lasts noted : Lasts)
+        (fates after : Fates)
+        → IsLawfulCut check frames flow.first fill chunks segments
+        → AreInChannelOrder flow segments (before ++ on_channel channel segment ∷ behind) index_at
+        → ComeNear LossRule.Passed flow (before ++ on_channel channel segment ∷ behind) index_at
+        → AreRuled LossRule.Passed flow before events lasts fates → IsExpected fates x
+        → Notes flow.first x channel segment.head.sequence lasts noted
+        → AreSkips LossRule.Passed flow noted fates segment.head.sequence skips
+        → Leads flow.first flow.width fates skips answers after
+        → Comes (before ++ on_channel channel segment ∷ behind) q other another
+        → length before ≤ q → IsLost after (index_at q) → IsLost fates (index_at q) }
+    ensures verdicts { (check : List ℕ → Bool) (frames chunks : List (List ℕ)) (fill : ℕ)
+        (segments : List Segment) (flow : RuledFlow) (comings : List Coming)
+        (index_at : ℕ → ℕ) (events : List FlowEvent) (answers : List Applied) (noted : Lasts)
+        (fates : Fates) (k : ℕ) (verdict : Verdict Segment)
+        → IsLawfulCut check frames flow.first fill chunks segments
+        → AreInChannelOrder flow segments comings index_at
+        → ComeNear LossRule.Passed flow comings index_at → HaveNoDecision comings
+        → AreRuled LossRule.Passed flow comings events noted fates
+        → IsAfter flow.first flow.width events answers fates
+        → slice_get answers k ≡ Some (Applied.Arrival verdict)
+        → (verdict ≡ Verdict.Kept) ⊎ ((back : Segment) × (verdict ≡ Verdict.Beyond back)) }
 {}
 
 /// **Prompt: the flow never waits for what can no longer come.** Each index that every channel has
