@@ -12,3 +12,7 @@ pub mod Sliding
 pub mod ChannelOrder
 pub mod InStep
 pub mod SafeLoss
+pub mod Fitting
+pub mod NearArrivals
+pub mod AllKept
+pub mod AllCame

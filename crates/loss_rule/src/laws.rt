@@ -3,16 +3,22 @@
 //! modem's frames of which each segment came.
 //!
 //! Each function states a law in its contract; its body is empty or only calls other laws.
-ghost use Rattle.std.specs.Prelude.{◌≡◌, ◌≢◌, ◌↔◌, ◌⊎◌, ◌+◌, ◌≤◌, ◌∷◌, ◌++◌, ℕ, Bool, Some, List, map, length, slice_get};
+ghost use Rattle.std.specs.Prelude.{◌≡◌, ◌≢◌, ◌↔◌, ◌⊎◌, ◌+◌, ◌<◌, ◌≤◌, ◌∷◌, ◌++◌, ℕ, Bool, Some, List, map, length, replicate, slice_get};
 ghost use Rattle.docsis_wire.specs.declared.segment.Segment.{Segment};
 ghost use Rattle.docsis_wire.specs.Cut.{IsLawfulCut};
+ghost use Rattle.ccf.specs.Filter.{FiltersTo};
+ghost use Rattle.reorder.specs.Limits.{numbers_ahead, width_max};
 ghost use Rattle.reorder.specs.declared.verdict.Verdict.{Verdict};
 ghost use Rattle.flow_core.specs.declared.event.Applied.{Applied};
-ghost use Rattle.flow_core.specs.Fates.{Fates, IsKept, IsLost, IsExpected};
-ghost use Rattle.flow_core.specs.Events.{FlowEvent, IsAhead, Leads, IsAfter};
+ghost use Rattle.flow_core.specs.declared.counts.FlowCounts.{FlowCounts};
+ghost use Rattle.flow_core.specs.declared.record.FlowRecord.{FlowRecord};
+ghost use Rattle.flow_core.specs.Fates.{Fates, IsKept, IsKeptAs, IsLost, IsExpected};
+ghost use Rattle.flow_core.specs.Events.{FlowEvent, gap, IsAhead, Leads, IsAfter};
+ghost use Rattle.flow_core.specs.Closing.{IsClosed};
+ghost use Rattle.flow_core.specs.Outcome.{IsFlowOutcome};
 ghost use Rattle.loss_rule.specs.declared.rule.LossRule.{LossRule};
 ghost use Rattle.loss_rule.specs.Rule.{Coming, on_channel, RuledFlow, HasChannel, Lasts, IsPassed, Notes, AreSkips, IsRuled, Rules, AreRuled, own_event};
-ghost use Rattle.loss_rule.specs.InOrder.{Comes, AreInChannelOrder, ComeNear, HaveNoDecision};
+ghost use Rattle.loss_rule.specs.InOrder.{Comes, AreInChannelOrder, ComeNear, FitTheWindow, HaveNoDecision, IsAllCome};
 
 /// Whatever comes to a flow, the rule makes one list of events of it, and leads to one last index
 /// of each channel and one fate of each index. The events lead to those fates.
@@ -87,6 +93,75 @@ pub fn rule_loses_nothing_that_still_comes()
         → slice_get answers k ≡ Some (Applied.Arrival verdict)
         → (verdict ≡ Verdict.Kept) ⊎ ((back : Segment) × (verdict ≡ Verdict.Beyond back)) }
 {}
+
+/// **Nothing that came is dropped.** In a list in channel order of one lawful cut, with no decision
+/// handed in, where nothing comes further ahead than the window holds: each segment comes near the
+/// expected index, and is kept under its own index, and nothing else is kept. So no segment is late,
+/// beyond the window or a repeat.
+pub fn all_that_comes_is_kept()
+    ensures near { (check : List ℕ → Bool) (frames chunks : List (List ℕ)) (fill : ℕ)
+        (segments : List Segment) (rule : LossRule) (flow : RuledFlow) (comings : List Coming)
+        (index_at : ℕ → ℕ)
+        → rule ≢ LossRule.Decided → flow.width ≤ width_max
+        → IsLawfulCut check frames flow.first fill chunks segments
+        → AreInChannelOrder flow segments comings index_at
+        → FitTheWindow flow comings index_at → HaveNoDecision comings
+        → ComeNear rule flow comings index_at }
+    ensures kept { (check : List ℕ → Bool) (frames chunks : List (List ℕ)) (fill : ℕ)
+        (segments : List Segment) (rule : LossRule) (flow : RuledFlow) (comings : List Coming)
+        (index_at : ℕ → ℕ) (events : List FlowEvent) (noted : Lasts) (fates : Fates)
+        (p channel : ℕ) (segment : Segment)
+        → rule ≢ LossRule.Decided → flow.width ≤ width_max
+        → IsLawfulCut check frames flow.first fill chunks segments
+        → AreInChannelOrder flow segments comings index_at
+        → FitTheWindow flow comings index_at → HaveNoDecision comings
+        → AreRuled rule flow comings events noted fates
+        → Comes comings p channel segment → IsKeptAs fates (index_at p) segment }
+    ensures came { (check : List ℕ → Bool) (frames chunks : List (List ℕ)) (fill : ℕ)
+        (segments : List Segment) (rule : LossRule) (flow : RuledFlow) (comings : List Coming)
+        (index_at : ℕ → ℕ) (events : List FlowEvent) (noted : Lasts) (fates : Fates) (i : ℕ)
+        → rule ≢ LossRule.Decided → flow.width ≤ width_max
+        → IsLawfulCut check frames flow.first fill chunks segments
+        → AreInChannelOrder flow segments comings index_at
+        → FitTheWindow flow comings index_at → HaveNoDecision comings
+        → AreRuled rule flow comings events noted fates → IsKept fates i
+        → (p channel : ℕ) × (segment : Segment)
+        × Comes comings p channel segment × (index_at p ≡ i) }
+    ensures verdicts { (check : List ℕ → Bool) (frames chunks : List (List ℕ)) (fill : ℕ)
+        (segments : List Segment) (rule : LossRule) (flow : RuledFlow) (comings : List Coming)
+        (index_at : ℕ → ℕ) (events : List FlowEvent) (answers : List Applied) (noted : Lasts)
+        (fates : Fates) (k : ℕ) (verdict : Verdict Segment)
+        → rule ≢ LossRule.Decided → flow.width ≤ width_max
+        → IsLawfulCut check frames flow.first fill chunks segments
+        → AreInChannelOrder flow segments comings index_at
+        → FitTheWindow flow comings index_at → HaveNoDecision comings
+        → AreRuled rule flow comings events noted fates
+        → IsAfter flow.first flow.width events answers fates
+        → slice_get answers k ≡ Some (Applied.Arrival verdict) → verdict ≡ Verdict.Kept }
+{}
+
+/// **What a closed flow gave, of all that came.** For every modem's frames, every lawful cut of
+/// them and every list in channel order that fits the window, with no decision handed in: with gaps
+/// after the rule's events until the flow is closed, what it gives by the definitions is exactly the
+/// modem's frames of which each segment came, in the modem's order.
+pub fn closed_flow_gives_the_frames_that_all_came()
+    ensures { (check : List ℕ → Bool) (frames chunks : List (List ℕ)) (fill n : ℕ)
+        (segments : List Segment) (rule : LossRule) (flow : RuledFlow) (flow_record : FlowRecord)
+        (comings : List Coming) (index_at : ℕ → ℕ) (events : List FlowEvent) (noted : Lasts)
+        (fates : Fates) (given : List (List ℕ)) (counts : FlowCounts)
+        → rule ≢ LossRule.Decided → flow.width ≤ width_max
+        → flow_record.first ≡ flow.first → flow_record.window ≡ flow.width
+        → IsLawfulCut check frames flow.first fill chunks segments
+        → AreInChannelOrder flow segments comings index_at
+        → FitTheWindow flow comings index_at → HaveNoDecision comings
+        → AreRuled rule flow comings events noted fates
+        → (outcome : IsFlowOutcome check flow_record (events ++ replicate n gap) given counts)
+        → IsClosed outcome.fates
+        → FiltersTo (IsAllCome frames chunks comings index_at) frames given }
+{
+    flow_core::laws::closed_flow_gives_the_frames_that_were_all_kept();
+    flow_core::laws::gaps_leave_what_was_kept();
+}
 
 /// **Prompt: the flow never waits for what can no longer come.** Each index that every channel has
 /// passed, since its last segment has a later one, is kept or lost. So the index that is expected
