@@ -16,3 +16,4 @@ pub mod Fitting
 pub mod NearArrivals
 pub mod AllKept
 pub mod AllCame
+pub mod Dealing

@@ -3,7 +3,7 @@
 //! modem's frames of which each segment came.
 //!
 //! Each function states a law in its contract; its body is empty or only calls other laws.
-ghost use Rattle.std.specs.Prelude.{◌≡◌, ◌≢◌, ◌↔◌, ◌⊎◌, ◌+◌, ◌<◌, ◌≤◌, ◌∷◌, ◌++◌, ℕ, Bool, Some, List, map, length, replicate, slice_get};
+ghost use Rattle.std.specs.Prelude.{◌≡◌, ◌≢◌, ◌↔◌, ◌⊎◌, ◌+◌, ◌<◌, ◌≤◌, ◌∷◌, ◌++◌, ℕ, Bool, true, Some, List, map, length, replicate, slice_get};
 ghost use Rattle.docsis_wire.specs.declared.segment.Segment.{Segment};
 ghost use Rattle.docsis_wire.specs.Cut.{IsLawfulCut};
 ghost use Rattle.ccf.specs.Filter.{FiltersTo};
@@ -19,6 +19,7 @@ ghost use Rattle.flow_core.specs.Outcome.{IsFlowOutcome};
 ghost use Rattle.loss_rule.specs.declared.rule.LossRule.{LossRule};
 ghost use Rattle.loss_rule.specs.Rule.{Coming, on_channel, RuledFlow, HasChannel, Lasts, IsPassed, Notes, AreSkips, IsRuled, Rules, AreRuled, own_event};
 ghost use Rattle.loss_rule.specs.InOrder.{Comes, AreInChannelOrder, ComeNear, FitTheWindow, HaveNoDecision, IsAllCome};
+ghost use Rattle.loss_rule.specs.Dealing.{AreSpread, ComeWithin, dealt};
 
 /// Whatever comes to a flow, the rule makes one list of events of it, and leads to one last index
 /// of each channel and one fate of each index. The events lead to those fates.
@@ -162,6 +163,25 @@ pub fn closed_flow_gives_the_frames_that_all_came()
     flow_core::laws::closed_flow_gives_the_frames_that_were_all_kept();
     flow_core::laws::gaps_leave_what_was_kept();
 }
+
+/// When what comes fits the window. Let each channel of the flow bring one of any `m` segments that
+/// the modem sends one after another, and let none come after one that was sent `d` or more later:
+/// then a window of `d + m` holds all. So it does for the whole of a cut that is dealt in turn over
+/// fewer channels than the window is wide: such a list meets every premise.
+pub fn spread_segments_fit_the_window()
+    ensures spread { (segments : List Segment) (flow : RuledFlow) (comings : List Coming)
+        (index_at : ℕ → ℕ) (d m : ℕ)
+        → d + m ≤ flow.width → flow.width ≤ width_max
+        → AreInChannelOrder flow segments comings index_at
+        → AreSpread flow comings index_at m → ComeWithin comings index_at d
+        → FitTheWindow flow comings index_at }
+    ensures dealt { (segments : List Segment) (flow : RuledFlow) (count : ℕ)
+        → 1 ≤ count → count < flow.width → flow.width ≤ width_max
+        → flow.channels ≡ replicate count true
+        → AreInChannelOrder flow segments (dealt count segments) (λ p. p)
+        × FitTheWindow flow (dealt count segments) (λ p. p)
+        × HaveNoDecision (dealt count segments) }
+{}
 
 /// **Prompt: the flow never waits for what can no longer come.** Each index that every channel has
 /// passed, since its last segment has a later one, is kept or lost. So the index that is expected
