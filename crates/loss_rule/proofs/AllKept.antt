@@ -14,7 +14,7 @@ use Rattle.flow_core.specs.Near.{AreNear}
 use Rattle.flow_core.proofs.Nearness.{AreNumbered}
 use Rattle.flow_core.proofs.Outcome.{expected-unique}
 use Rattle.flow_core.proofs.OneFates.{after-once}
-use Rattle.flow_core.proofs.Turns.{leads-in_turn, near-behind}
+use Rattle.flow_core.proofs.Turns.{leads-in_turn}
 use Rattle.loss_rule.specs.declared.rule.LossRule.{LossRule}
 use Rattle.loss_rule.specs.declared.rule.LossRule.TheVariants.{Decided}
 use Rattle.loss_rule.specs.Rule.{Coming, on_channel, handed_in, RuledFlow, Lasts, IsRuled, AreRuled}
@@ -26,13 +26,13 @@ use Rattle.loss_rule.specs.Inside.Verdicts.{EachVerdict, SaysKept}
 use Rattle.loss_rule.proofs.Reaching.{fate-stays}
 use Rattle.loss_rule.proofs.RuledTurns.{ruled-reached, holds-after}
 use Rattle.loss_rule.proofs.Arrivals.{arrival-by}
-use Rattle.loss_rule.proofs.ArrivalAnswers.{answer-last, verdicts-in_turn, skips-no_arrival}
+use Rattle.loss_rule.proofs.ArrivalAnswers.{answer-last, verdicts-in_turn}
 use Rattle.loss_rule.proofs.Prompt.{up_to_date-after}
 use Rattle.loss_rule.proofs.ChannelOrder.{comes-once, comes-here, one-longer}
 use Rattle.loss_rule.proofs.InStep.{index-from, between-ahead, own-answer, in_step-after}
 use Rattle.loss_rule.proofs.Fitting.{index-near, near-x, index-within, no-slide}
 use Rattle.loss_rule.proofs.SafeLoss.{in_step-none}
-use Rattle.loss_rule.proofs.NearArrivals.{near-one_more}
+use Rattle.loss_rule.proofs.NearArrivals.{near-arrival}
 
 module _ (rule : LossRule) (looks : rule ≢ Decided) (flow : RuledFlow) (narrow : flow.width ≤ 4096) (segments : List Segment) (comings : List Coming) (index_at : ℕ → ℕ)
     (numbered : AreNumbered flow.first segments) (order : AreInChannelOrder flow segments comings index_at) (fit : FitTheWindow flow comings index_at) where
@@ -79,28 +79,12 @@ module _ (rule : LossRule) (looks : rule ≢ Decided) (flow : RuledFlow) (narrow
     own-near : (before : List FlowEvent) (so_far : List Applied) → IsAfter flow.first flow.width before so_far fates → AreNear flow.first flow.width segments before
         → AreNear flow.first flow.width segments (before ++ events)
     own-near before so_far is near_before =
-        let skips = t.passing ++ t.sliding in
-        let skipped : AreNear flow.first flow.width segments (before ++ skips) =
-        near-behind flow.first flow.width segments before skips near_before (skips-no_arrival rule flow lasts fates channel segment events answers noted after t) in
-        let skip_answers = t.passing_answers ++ t.sliding_answers in
-        let led : IsAfter flow.first flow.width (before ++ skips) (so_far ++ skip_answers) t.slid =
-        leads-in_turn flow.first flow.width before skips (so_far ++ skip_answers) no_fates t.slid (
-          so_far,
-          skip_answers,
-          fates,
-          is,
-          leads-in_turn flow.first flow.width t.passing t.sliding skip_answers fates t.slid (t.passing_answers, t.sliding_answers, t.between, t.leads_passing, t.leads_sliding, refl),
-          refl,
-        ) in
         let ahead = between-ahead flow segments comings index_at numbered order n channel segment here lasts fates known in_step rule events answers noted after r t near in
-        let whole : AreNear flow.first flow.width segments ((before ++ skips) ++ arrives segment ∷ []) =
-        near-one_more flow.first flow.width segments (before ++ skips) segment skipped (λ others reached x are expected. (
-        let there : reached ≡ t.between = (after-once flow.first flow.width (before ++ skips) others (so_far ++ skip_answers) reached t.slid are led).1 ∙ stays in
-        let at : x ≡ t.y = expected-unique t.between x t.y (subst (λ (f : Fates). IsExpected f x) there expected) t.expected_between in
+        let at : t.z ≡ t.y = expected-unique t.between t.z t.y (subst (λ (f : Fates). IsExpected f t.z) stays t.expected_slid) t.expected_between in
         let from = ahead.from in
         let to = ahead.to in
-        record { index = index_at n; of_cut = order.of_cut n channel segment here; from = omega arith; to = omega arith })) in
-        subst (AreNear flow.first flow.width segments) (append_assoc before skips (arrives segment ∷ []) ∙ ap (λ e. before ++ e) (sym t.events_are)) whole
+        near-arrival rule flow lasts fates channel segment events answers noted after t segments (index_at n) before so_far (order.of_cut n channel segment here)
+        (omega arith) (omega arith) is near_before
 
   -- and all, where no decision was handed in
   module _ (undecided : HaveNoDecision comings) where

@@ -13,6 +13,13 @@ use Rattle.loss_rule.specs.Inside.Reached.{IsReached}
 use Rattle.loss_rule.specs.Inside.Arrival.{ArrivesBy}
 use Rattle.loss_rule.proofs.Reaching.{leads-one}
 
+-- which rules look at what passed
+pub passed-looks : Passed ≢ Decided
+passed-looks e = cc
+
+pub slid-looks : PassedOrSlid ≢ Decided
+slid-looks e = cc
+
 -- what it does at last is to arrive
 record ArrivesAtLast (flow : RuledFlow) (fates : Fates) (skips : List FlowEvent) (segment : Segment) (answers : List Applied) (after : Fates) : Type 0 where
   skip_answers : List Applied

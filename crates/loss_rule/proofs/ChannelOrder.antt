@@ -30,7 +30,7 @@ pub one-longer : (past : List Coming) (coming : Coming) → length (past ++ comi
 one-longer past coming = length-append past (coming ∷ [])
 
 -- within 4096 of the expected index a number has one index
-near-index : (first x number i index : ℕ) → IsAhead first x number i → number ≡ number_of first index → x ≤ index + 4096 → index < x + 4096 → index ≡ i
+pub near-index : (first x number i index : ℕ) → IsAhead first x number i → number ≡ number_of first index → x ≤ index + 4096 → index < x + 4096 → index ≡ i
 near-index first x number i index ahead numbered from to = omega arith
 
 module _ (flow : RuledFlow) (segments : List Segment) (comings : List Coming) (index_at : ℕ → ℕ) (numbered : AreNumbered flow.first segments)

@@ -30,7 +30,7 @@ IsKeptOrBeyond width z k segment answer fates after =
     ((answer ≡ Arrival Kept) × (k < z + width) × (after ≡ map.insert fates k (Some segment)))
     ⊎ ((answer ≡ Arrival (Beyond segment)) × (z + width ≤ k) × (after ≡ fates))
 
-kept-or_beyond : (first width z k : ℕ) (segment : Segment) (answer : Applied) (fates after : Fates) → IsAhead first z segment.head.sequence k → IsOpen fates k
+pub kept-or_beyond : (first width z k : ℕ) (segment : Segment) (answer : Applied) (fates after : Fates) → IsAhead first z segment.head.sequence k → IsOpen fates k
     → Changes first width z (arrives segment) answer fates after → IsKeptOrBeyond width z k segment answer fates after
 kept-or_beyond first width z k segment (Arrival (Late back)) fates after ahead free changes = absurd (changes.0.0 k ahead)
 kept-or_beyond first width z k segment (Arrival (Beyond back)) fates after ahead free ((i, ahead', far, same), stays) =

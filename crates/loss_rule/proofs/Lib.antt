@@ -17,3 +17,4 @@ pub mod NearArrivals
 pub mod AllKept
 pub mod AllCame
 pub mod Dealing
+pub mod NearComings

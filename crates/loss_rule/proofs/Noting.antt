@@ -42,6 +42,12 @@ module _ (first x channel number : ℕ) (lasts noted : Lasts) (notes : Notes fir
       let last : notes.0 ≡ Some index = index-once first x number notes.0 (Some index) notes.1 ahead in
       subst (λ l. IsLastOn l channel index) (sym notes.2) (written lasts channel notes.0 within ∙ ap Some last)
 
+  -- and so it lies ahead, if there is one
+  pub own-ahead : (index : ℕ) → IsLastOn noted channel index → IsAhead first x number index
+  own-ahead index is =
+      let last : notes.0 ≡ Some index = set-found lasts channel notes.0 index (subst (λ l. IsLastOn l channel index) notes.2 is) in
+      subst (IsIndexAhead first x number) last notes.1
+
   pub noted-bounded : AreBounded lasts x → AreBounded noted x
   noted-bounded bounded other index is =
       elim (noted-cases other index is) [

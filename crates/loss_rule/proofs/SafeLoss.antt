@@ -1,5 +1,5 @@
 -- In a near list in channel order the rule loses nothing that still comes.
-use Rattle.std.proofs.Common.{◌≡◌, ◌≢◌, ℕ, ◌+◌, ◌≤◌, inl, inr, Option, List, [], ◌∷◌, ◌++◌, length, refl, sym, subst, ◌∙◌, arith, append_assoc, append-nil}
+use Rattle.std.proofs.Common.{◌≡◌, ℕ, ◌+◌, ◌≤◌, inl, inr, Option, List, [], ◌∷◌, ◌++◌, length, refl, sym, subst, ◌∙◌, arith, append_assoc, append-nil}
 use Rattle.std.specs.Ordering.{nat_cmp}
 use Rattle.std.specs.FinMap as map
 use Rattle.docsis_wire.specs.declared.segment.Segment.{Segment}
@@ -12,7 +12,7 @@ use Rattle.flow_core.proofs.Nearness.{AreNumbered}
 use Rattle.flow_core.proofs.Outcome.{expected-unique}
 use Rattle.flow_core.proofs.OneFates.{after-once}
 use Rattle.flow_core.proofs.Turns.{leads-in_turn}
-use Rattle.loss_rule.specs.declared.rule.LossRule.TheVariants.{Decided, Passed}
+use Rattle.loss_rule.specs.declared.rule.LossRule.TheVariants.{Passed}
 use Rattle.loss_rule.specs.Rule.{Coming, on_channel, handed_in, RuledFlow, Lasts, no_lasts, IsPassing, Notes, AreSkips, IsRuled, AreRuled}
 use Rattle.loss_rule.specs.InOrder.{Comes, AreInChannelOrder, ComeNear, HaveNoDecision}
 use Rattle.loss_rule.specs.Inside.Order.{IsInStep}
@@ -20,15 +20,11 @@ use Rattle.loss_rule.specs.Inside.Verdicts.{EachVerdict, SaysKeptOrBeyond}
 use Rattle.loss_rule.proofs.Noting.{noted-bounded}
 use Rattle.loss_rule.proofs.Passing.{passing-lost}
 use Rattle.loss_rule.proofs.RuledTurns.{ruled-reached, holds-after}
-use Rattle.loss_rule.proofs.Arrivals.{by-passed}
+use Rattle.loss_rule.proofs.Arrivals.{passed-looks, by-passed}
 use Rattle.loss_rule.proofs.ArrivalAnswers.{answer-last, verdicts-in_turn}
 use Rattle.loss_rule.proofs.Prompt.{no_lasts-none, up_to_date-after}
 use Rattle.loss_rule.proofs.ChannelOrder.{comes-here, one-longer, passed-gone, noted-of, of_comings-after}
 use Rattle.loss_rule.proofs.InStep.{own-answer, in_step-after}
-
--- the rule looks at what passed
-passed-looks : Passed ≢ Decided
-passed-looks e = cc
 
 -- nothing came yet
 pub in_step-none : (flow : RuledFlow) (comings : List Coming) (index_at : ℕ → ℕ) → IsInStep flow comings index_at 0 (no_lasts flow) no_fates

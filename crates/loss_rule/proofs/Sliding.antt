@@ -1,27 +1,31 @@
 -- The window that slides: no segment is beyond it.
-use Rattle.std.proofs.Common.{◌≡◌, ℕ, ◌+◌, ◌-◌, ◌<◌, ◌≤◌, ◌⊎◌, inl, inr, IsSome, Some, None, List, [], slice_get, refl, subst, ◌∙◌, arith}
+use Rattle.std.proofs.Common.{◌≡◌, ℕ, ◌+◌, ◌-◌, ◌<◌, ◌≤◌, ◌⊎◌, inl, inr, true, IsSome, Some, None, List, [], slice_get, refl, ap, sym, subst, ◌∙◌, arith}
 use Rattle.std.proofs.lemmas.Bool.{cases_lt}
+use Rattle.std.proofs.lemmas.Option.{slice_get_within}
+use Rattle.reorder.proofs.Items.{get-insert_same}
 use Rattle.std.specs.FinMap as map
 use Rattle.docsis_wire.specs.declared.segment.Segment.{Segment}
 use Rattle.reorder.specs.declared.verdict.Verdict.TheVariants.{Beyond}
 use Rattle.flow_core.specs.declared.event.Applied.{Applied}
 use Rattle.flow_core.specs.declared.event.Applied.TheVariants.{Arrival}
-use Rattle.flow_core.specs.Fates.{Fates, number_of, IsOpen, IsExpected}
+use Rattle.flow_core.specs.Fates.{Fates, number_of, IsKept, IsOpen, IsExpected}
 use Rattle.flow_core.specs.Events.{FlowEvent, arrives, IsAhead, Changes, Leads}
 use Rattle.flow_core.proofs.Deciding.{IsAhead-once, open_or_settled}
 use Rattle.flow_core.proofs.Outcome.{IsSound, expected-unique, open_and_settled}
 use Rattle.flow_core.proofs.Skipping.{skip-reaches}
 use Rattle.loss_rule.specs.declared.rule.LossRule.TheVariants.{PassedOrSlid}
-use Rattle.loss_rule.specs.Rule.{RuledFlow, Lasts, IsSliding}
+use Rattle.loss_rule.specs.Rule.{RuledFlow, HasChannel, Lasts, IsSliding}
 use Rattle.loss_rule.specs.Inside.Reached.{IsReached}
-use Rattle.loss_rule.specs.Inside.Arrival.{ArrivesBy}
-use Rattle.loss_rule.proofs.Reaching.{reached-sound, expected-onward}
-use Rattle.loss_rule.proofs.Passing.{skip-one, skip-leaves}
+use Rattle.loss_rule.specs.Inside.Arrival.{IsUpToDate, ArrivesBy}
+use Rattle.loss_rule.proofs.Noting.{noted-own, noted-bounded}
+use Rattle.loss_rule.proofs.InStep.{kept-or_beyond}
+use Rattle.loss_rule.proofs.Reaching.{fate-stays, reached-sound, expected-onward}
+use Rattle.loss_rule.proofs.Passing.{skip-one, skip-leaves, passing-leaves}
 use Rattle.loss_rule.proofs.Prompt.{between-reached, between-settled, slid-settled}
 use Rattle.loss_rule.proofs.ArrivalAnswers.{answer-last}
 
 -- an index from the end of the window on is open
-beyond-open : (width : ℕ) (fates : Fates) (x i : ℕ) → IsSound width fates x → x + width ≤ i → IsOpen fates i
+pub beyond-open : (width : ℕ) (fates : Fates) (x i : ℕ) → IsSound width fates x → x + width ≤ i → IsOpen fates i
 beyond-open width fates x i sound from =
     elim (open_or_settled fates i) [
       | inl free ↦ free
@@ -106,3 +110,46 @@ module _ (flow : RuledFlow) (positive : 1 ≤ flow.width) (lasts : Lasts) (fates
                   by_between (t.expected_between.settled j (omega arith))
             ]
       ]
+
+  -- The segment that comes is kept, or was kept before, where its channel is one of the flow's and its number lies ahead.
+  pub arrived-kept : (x i : ℕ) → IsUpToDate flow lasts fates → HasChannel flow channel → Leads flow.first flow.width fates events answers after
+      → IsExpected fates x → IsAhead flow.first x segment.head.sequence i → IsKept after i
+  arrived-kept x i known has leads expected ahead =
+      let at : x ≡ t.x = expected-unique fates x t.x expected t.expected in
+      let sound = reached-sound flow.first flow.width fates x r expected in
+      elim (open_or_settled fates i) [
+        | inr (Some before, is) ↦ (before, fate-stays flow.first flow.width i (Some before) events answers fates after r leads is)
+        | inr (None, is) ↦ let below = sound.lost_below i is in let from = ahead.from in absurd (omega arith)
+        | inl free ↦
+            let here = subst (λ k. IsAhead flow.first k segment.head.sequence i) at ahead in
+            let last = noted-own flow.first t.x channel segment.head.sequence lasts noted t.notes i
+            (subst (λ l. channel < l) (sym known.size) (slice_get_within flow.channels channel true has)) here in
+            let bounded = noted-bounded flow.first t.x channel segment.head.sequence lasts noted t.notes (known.bounded t.x t.expected) in
+            let still : IsOpen t.between i =
+            passing-leaves flow noted t.x fates t.between t.passing t.passing_answers t.expected bounded t.passes t.leads_passing channel i i has last (omega arith) ∙ free in
+            let onward = expected-onward flow.first flow.width x t.y t.passing t.passing_answers fates t.between r expected t.leads_passing t.expected_between in
+            let to = ahead.to in
+            let from : t.y ≤ i = elim (cases_lt i t.y) [
+              | inl below ↦ absurd (open_and_settled t.between i still (t.expected_between.settled i below))
+              | inr from' ↦ from'
+            ] in
+            let between_ahead : IsAhead flow.first t.y segment.head.sequence i = record { from = from; to = omega arith; numbered = ahead.numbered } in
+            now-kept i (elim slid-here [
+              | inl (index, was_ahead, is_ahead, near, open_still) ↦
+                  let same = IsAhead-once flow.first t.y segment.head.sequence index i was_ahead between_ahead in
+                  (subst (IsAhead flow.first t.z segment.head.sequence) same is_ahead, subst (λ k. k < t.z + flow.width) same near, subst (IsOpen t.slid) same open_still)
+              | inr (within, same) ↦
+                  let at_z : t.y ≡ t.z = sym (expected-unique t.between t.z t.y (subst (λ (f : Fates). IsExpected f t.z) same t.expected_slid) t.expected_between) in (
+                    subst (λ k. IsAhead flow.first k segment.head.sequence i) at_z between_ahead,
+                    subst (λ k. i < k + flow.width) at_z (within i between_ahead),
+                    subst (λ (f : Fates). IsOpen f i) (sym same) still,
+                  )
+            ])
+      ]
+    where
+      now-kept : (i : ℕ) → IsAhead flow.first t.z segment.head.sequence i × (i < t.z + flow.width) × IsOpen t.slid i → IsKept after i
+      now-kept i (is_ahead, near, free) =
+          elim (kept-or_beyond flow.first flow.width t.z i segment t.answer t.slid after is_ahead free t.changes) [
+            | inl (_, _, is) ↦ (segment, ap (λ (f : Fates). map.get f i) is ∙ get-insert_same t.slid i (Some segment))
+            | inr (_, far, _) ↦ absurd (omega arith)
+          ]

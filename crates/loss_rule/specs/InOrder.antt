@@ -5,7 +5,7 @@ use Rattle.docsis_wire.specs.Stream.{place_of}
 use Rattle.docsis_wire.specs.Span.{IsInSpan}
 use Rattle.reorder.specs.Limits.{numbers_ahead}
 use Rattle.flow_core.specs.Fates.{Fates, IsExpected}
-use Rattle.flow_core.specs.Events.{FlowEvent}
+use Rattle.flow_core.specs.Events.{FlowEvent, arrives}
 use Rattle.loss_rule.specs.declared.rule.LossRule.{LossRule}
 use Rattle.loss_rule.specs.Rule.{Coming, on_channel, handed_in, RuledFlow, Lasts, HasChannel, AreRuled}
 
@@ -43,6 +43,10 @@ pub record FitTheWindow (flow : RuledFlow) (comings : List Coming) (index_at : �
 -- no decision is handed in
 abbrev pub HaveNoDecision : List Coming → Type 0
 HaveNoDecision comings = (p : ℕ) (event : FlowEvent) → ¬ (slice_get comings p ≡ Some (handed_in event))
+
+-- what is handed in is a decision: no segment arrives by it
+abbrev pub HandInDecisions : List Coming → Type 0
+HandInDecisions comings = (p : ℕ) (segment : Segment) → ¬ (slice_get comings p ≡ Some (handed_in (arrives segment)))
 
 -- frame j lies wholly in the cut, and each segment of its span came
 pub record IsAllCome (frames chunks : List (List ℕ)) (comings : List Coming) (index_at : ℕ → ℕ) (j : ℕ) : Type 0 where

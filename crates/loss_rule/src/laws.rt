@@ -14,11 +14,12 @@ ghost use Rattle.flow_core.specs.declared.counts.FlowCounts.{FlowCounts};
 ghost use Rattle.flow_core.specs.declared.record.FlowRecord.{FlowRecord};
 ghost use Rattle.flow_core.specs.Fates.{Fates, IsKept, IsKeptAs, IsLost, IsExpected};
 ghost use Rattle.flow_core.specs.Events.{FlowEvent, gap, IsAhead, Leads, IsAfter};
+ghost use Rattle.flow_core.specs.Near.{AreNear};
 ghost use Rattle.flow_core.specs.Closing.{IsClosed};
 ghost use Rattle.flow_core.specs.Outcome.{IsFlowOutcome};
 ghost use Rattle.loss_rule.specs.declared.rule.LossRule.{LossRule};
 ghost use Rattle.loss_rule.specs.Rule.{Coming, on_channel, RuledFlow, HasChannel, Lasts, IsPassed, Notes, AreSkips, IsRuled, Rules, AreRuled, own_event};
-ghost use Rattle.loss_rule.specs.InOrder.{Comes, AreInChannelOrder, ComeNear, FitTheWindow, HaveNoDecision, IsAllCome};
+ghost use Rattle.loss_rule.specs.InOrder.{Comes, AreInChannelOrder, ComeNear, FitTheWindow, HaveNoDecision, HandInDecisions, IsAllCome};
 ghost use Rattle.loss_rule.specs.Dealing.{AreSpread, ComeWithin, dealt};
 
 /// Whatever comes to a flow, the rule makes one list of events of it, and leads to one last index
@@ -93,6 +94,20 @@ pub fn rule_loses_nothing_that_still_comes()
         → IsAfter flow.first flow.width events answers fates
         → slice_get answers k ≡ Some (Applied.Arrival verdict)
         → (verdict ≡ Verdict.Kept) ⊎ ((back : Segment) × (verdict ≡ Verdict.Beyond back)) }
+{}
+
+/// Where what comes in channel order comes near, all its events are near. So what is said of near
+/// events holds of them: what a drained flow gave is the delivery sequence.
+pub fn near_comings_make_near_events()
+    ensures { (check : List ℕ → Bool) (frames chunks : List (List ℕ)) (fill : ℕ)
+        (segments : List Segment) (rule : LossRule) (flow : RuledFlow) (comings : List Coming)
+        (index_at : ℕ → ℕ) (events : List FlowEvent) (noted : Lasts) (fates : Fates)
+        → 1 ≤ flow.width → flow.width ≤ width_max
+        → IsLawfulCut check frames flow.first fill chunks segments
+        → AreInChannelOrder flow segments comings index_at
+        → ComeNear rule flow comings index_at → HandInDecisions comings
+        → AreRuled rule flow comings events noted fates
+        → AreNear flow.first flow.width segments events }
 {}
 
 /// **Nothing that came is dropped.** In a list in channel order of one lawful cut, with no decision
@@ -199,7 +214,7 @@ pub fn flow_never_waits_for_what_can_no_longer_come()
 
 /// **Never stuck, where the window slides.** A segment that comes is never beyond the window. Once
 /// it came, each index that lies the width of the window or more before its own is kept or lost: a
-/// flow never holds its head back for longer.
+/// flow never holds its head back for longer. And its own is kept, if its number lay ahead.
 pub fn sliding_flow_is_never_stuck()
     ensures beyond { (flow : RuledFlow) (before : List Coming) (events own : List FlowEvent)
         (lasts noted : Lasts) (fates after : Fates) (channel k : ℕ) (segment back : Segment)
@@ -216,4 +231,11 @@ pub fn sliding_flow_is_never_stuck()
         → Leads flow.first flow.width fates own answers after
         → IsExpected fates x → IsAhead flow.first x segment.head.sequence i
         → j + flow.width ≤ i → IsKept after j ⊎ IsLost after j }
+    ensures kept { (flow : RuledFlow) (before : List Coming) (events own : List FlowEvent)
+        (lasts noted : Lasts) (fates after : Fates) (channel x i : ℕ) (segment : Segment)
+        (answers : List Applied)
+        → 1 ≤ flow.width → AreRuled LossRule.PassedOrSlid flow before events lasts fates
+        → IsRuled LossRule.PassedOrSlid flow lasts fates (on_channel channel segment) own noted
+        → Leads flow.first flow.width fates own answers after → HasChannel flow channel
+        → IsExpected fates x → IsAhead flow.first x segment.head.sequence i → IsKept after i }
 {}
