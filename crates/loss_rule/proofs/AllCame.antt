@@ -12,9 +12,11 @@ use Rattle.loss_rule.specs.InOrder.{Comes, IsAllCome}
 module _ (frames chunks : List (List ℕ)) (comings : List Coming) (index_at : ℕ → ℕ) (fates : Fates)
     (kept : (p channel : ℕ) (segment : Segment) → Comes comings p channel segment → IsKept fates (index_at p))
     (came : (i : ℕ) → IsKept fates i → (p channel : ℕ) × (segment : Segment) × Comes comings p channel segment × (index_at p ≡ i)) where
+  -- a frame of which each segment was kept has each of them come
   kept-all_came : (j : ℕ) → IsAllKept frames chunks fates j → IsAllCome frames chunks comings index_at j
   kept-all_came j is = record { whole = is.whole; came = λ i in_span. came i (is.kept i in_span) }
 
+  -- and a frame of which each segment came has each kept
   came-all_kept : (j : ℕ) → IsAllCome frames chunks comings index_at j → IsAllKept frames chunks fates j
   came-all_kept j is = record {
     whole = is.whole;

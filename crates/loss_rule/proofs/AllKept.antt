@@ -44,6 +44,7 @@ module _ (rule : LossRule) (looks : rule ≢ Decided) (flow : RuledFlow) (narrow
     near : index_at n < t.x + 4096
     near = near-x flow narrow segments comings index_at numbered order fit n channel segment here lasts fates known in_step rule events answers noted after r t
 
+    -- and the window doesn't slide
     stays : t.slid ≡ t.between
     stays = no-slide flow narrow segments comings index_at numbered order fit n channel segment here lasts fates known in_step rule events answers noted after r t
 
@@ -56,9 +57,11 @@ module _ (rule : LossRule) (looks : rule ≢ Decided) (flow : RuledFlow) (narrow
           | inr (_, far, _) ↦ absurd (omega arith)
         ]
 
+    -- what held of those before it holds with it
     still-in_step : IsInStep flow comings index_at (n + 1) noted after
     still-in_step = in_step-after flow segments comings index_at numbered order n channel segment here lasts fates known in_step rule events answers noted after r t near stays
 
+    -- all are kept, with it
     still-kept : AreKept comings index_at n fates → AreKept comings index_at (n + 1) after
     still-kept kept p other another before is =
         elim (cases_eq p n) [
@@ -70,6 +73,7 @@ module _ (rule : LossRule) (looks : rule ≢ Decided) (flow : RuledFlow) (narrow
           | inr differ ↦ fate-stays flow.first flow.width (index_at p) (Some another) events answers fates after r leads (kept p other another (omega arith) is)
         ]
 
+    -- and so says the only answer to it that is an arrival's
     own-verdict : EachVerdict SaysKept answers
     own-verdict k verdict is =
         let same : Arrival verdict ≡ Arrival Kept = sym (answer-last rule flow lasts fates channel segment events answers noted after t k verdict is) ∙ own-kept.0 in
@@ -95,6 +99,7 @@ module _ (rule : LossRule) (looks : rule ≢ Decided) (flow : RuledFlow) (narrow
         × ((answers : List Applied) × IsAfter flow.first flow.width events answers fates × EachVerdict SaysKept answers)
         × AreNear flow.first flow.width segments events
 
+    -- one coming more
     kept-step : (past behind : List Coming) (before : List FlowEvent) (lasts : Lasts) (fates : Fates) (coming : Coming) (events : List FlowEvent) (answers : List Applied)
         (noted : Lasts) (after : Fates) → AreRuled rule flow past before lasts fates → AreAllKept past (coming ∷ behind) before lasts fates
         → IsRuled rule flow lasts fates coming events noted → Leads flow.first flow.width fates events answers after
@@ -120,6 +125,7 @@ module _ (rule : LossRule) (looks : rule ≢ Decided) (flow : RuledFlow) (narrow
           own-near n channel segment here lasts fates known held.0 events answers noted after r leads t before held.2.0 held.2.1 held.3,
         )
 
+    -- so after each front of them
     all-kept : (past behind : List Coming) (events : List FlowEvent) (lasts : Lasts) (fates : Fates) → comings ≡ past ++ behind → AreRuled rule flow past events lasts fates
         → IsInStep flow comings index_at (length past) lasts fates × AreKept comings index_at (length past) fates
         × ((answers : List Applied) × IsAfter flow.first flow.width events answers fates × EachVerdict SaysKept answers)
@@ -158,10 +164,12 @@ module _ (rule : LossRule) (looks : rule ≢ Decided) (flow : RuledFlow) (narrow
           let found = (all-kept comings [] events lasts fates (sym (append-nil comings)) are).0.came i kept in
           (found.0, found.1, found.2, found.4, found.5)
 
+      -- so say the answers
       pub kept-verdicts : (answers : List Applied) → IsAfter flow.first flow.width events answers fates → EachVerdict SaysKept answers
       kept-verdicts answers is =
           let found = (all-kept comings [] events lasts fates (sym (append-nil comings)) are).2 in
           subst (EachVerdict SaysKept) (after-once flow.first flow.width events found.0 answers fates fates found.1 is).0 found.2
 
+      -- and the events are near
       pub events-near : AreNear flow.first flow.width segments events
       events-near = (all-kept comings [] events lasts fates (sym (append-nil comings)) are).3

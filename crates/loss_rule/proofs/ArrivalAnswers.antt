@@ -39,6 +39,7 @@ pub none-no_arrival : HaveNoArrival []
 none-no_arrival [] behind segment e = absurd cc
 none-no_arrival (b ∷ before) behind segment e = absurd cc
 
+-- a skip is none
 pub skip-no_arrival : (number : ℕ) → HaveNoArrival (skip_to number ∷ [])
 skip-no_arrival number [] behind segment e = let wrong : skip_to number ≡ arrives segment = cc in absurd cc
 skip-no_arrival number (b ∷ before) behind segment e = none-no_arrival before behind segment cc
@@ -54,6 +55,7 @@ passing-no_arrival : (flow : RuledFlow) (lasts : Lasts) (x : ℕ) (skips : List 
 passing-no_arrival flow lasts x skips (inl p) = subst HaveNoArrival (sym p.2) (skip-no_arrival _)
 passing-no_arrival flow lasts x skips (inr p) = subst HaveNoArrival (sym p.1) none-no_arrival
 
+-- nor what lets the window slide
 slides-no_arrival : (rule : LossRule) (flow : RuledFlow) (y number : ℕ) (skips : List FlowEvent) → Slides rule flow y number skips → HaveNoArrival skips
 slides-no_arrival Decided flow y number skips slides = absurd slides
 slides-no_arrival Passed flow y number skips slides = subst HaveNoArrival (sym slides) none-no_arrival
@@ -74,6 +76,7 @@ module _ (rule : LossRule) (flow : RuledFlow) (lasts : Lasts) (fates : Fates) (c
   skips-no_arrival =
       in_turn-no_arrival t.passing t.sliding (passing-no_arrival flow noted t.x t.passing t.passes) (slides-no_arrival rule flow t.y segment.head.sequence t.sliding t.slides)
 
+  -- an arrival's answer among them is the last one
   pub answer-last : (k : ℕ) (verdict : Verdict Segment) → slice_get answers k ≡ Some (Arrival verdict) → t.answer ≡ Arrival verdict
   answer-last k verdict is =
       elim (in_turn-cases (t.passing_answers ++ t.sliding_answers) (t.answer ∷ []) k (Arrival verdict) (ap (λ a. slice_get a k) (sym t.answers_are) ∙ is)) [

@@ -2,7 +2,7 @@
 use Rattle.std.proofs.Common.{◌≡◌, ◌≢◌, ℕ, List, [], ◌∷◌, ◌++◌, refl, ap, sym, subst, ◌∙◌, append-nil}
 use Rattle.docsis_wire.specs.declared.segment.Segment.{Segment}
 use Rattle.flow_core.specs.declared.event.Applied.{Applied}
-use Rattle.flow_core.specs.Fates.{Fates, IsExpected}
+use Rattle.flow_core.specs.Fates.{Fates}
 use Rattle.flow_core.specs.Events.{FlowEvent, arrives, Changes, Leads}
 use Rattle.flow_core.proofs.Outcome.{expected-unique}
 use Rattle.flow_core.proofs.Turns.{leads-split}
@@ -10,7 +10,7 @@ use Rattle.loss_rule.specs.declared.rule.LossRule.{LossRule}
 use Rattle.loss_rule.specs.declared.rule.LossRule.TheVariants.{Decided, Passed, PassedOrSlid}
 use Rattle.loss_rule.specs.Rule.{on_channel, RuledFlow, Lasts, IsPassing, IsRuled}
 use Rattle.loss_rule.specs.Inside.Reached.{IsReached}
-use Rattle.loss_rule.specs.Inside.Arrival.{ArrivesBy}
+use Rattle.loss_rule.specs.Inside.Arrival.{ArrivesAtLast, ArrivesBy}
 use Rattle.loss_rule.proofs.Reaching.{leads-one}
 
 -- which rules look at what passed
@@ -20,17 +20,7 @@ passed-looks e = cc
 pub slid-looks : PassedOrSlid ≢ Decided
 slid-looks e = cc
 
--- what it does at last is to arrive
-record ArrivesAtLast (flow : RuledFlow) (fates : Fates) (skips : List FlowEvent) (segment : Segment) (answers : List Applied) (after : Fates) : Type 0 where
-  skip_answers : List Applied
-  skipped : Fates
-  leads : Leads flow.first flow.width fates skips skip_answers skipped
-  z : ℕ
-  expected : IsExpected skipped z
-  answer : Applied
-  changes : Changes flow.first flow.width z (arrives segment) answer skipped after
-  answers_are : answers ≡ skip_answers ++ answer ∷ []
-
+-- its own events end so
 at-last : (flow : RuledFlow) (fates : Fates) (skips events : List FlowEvent) (segment : Segment) (answers : List Applied) (after : Fates)
     → events ≡ skips ++ arrives segment ∷ [] → Leads flow.first flow.width fates events answers after → ArrivesAtLast flow fates skips segment answers after
 at-last flow fates skips events segment answers after are leads =
@@ -76,6 +66,7 @@ module _ (flow : RuledFlow) (lasts : Lasts) (fates : Fates) (channel : ℕ) (seg
         answers_are = last.answers_are ∙ ap (λ t. t ++ last.answer ∷ []) (sym (append-nil last.skip_answers));
       }
 
+  -- by the rule that also slides
   pub by-slid : IsRuled PassedOrSlid flow lasts fates (on_channel channel segment) events noted → ArrivesBy PassedOrSlid flow lasts fates channel segment events answers noted after
   by-slid (x, skips, expected, notes, (x', y, passing, sliding, p_answers, between, expected', passes, leads_passing, expected_between, slides, skips_are), are) =
       let both : events ≡ (passing ++ sliding) ++ arrives segment ∷ [] = are ∙ ap (λ t. t ++ arrives segment ∷ []) skips_are in
@@ -106,6 +97,7 @@ module _ (flow : RuledFlow) (lasts : Lasts) (fates : Fates) (channel : ℕ) (seg
         answers_are = last.answers_are ∙ ap (λ t. t ++ last.answer ∷ []) s.5;
       }
 
+-- by either
 pub arrival-by : (rule : LossRule) (flow : RuledFlow) (lasts : Lasts) (fates : Fates) (channel : ℕ) (segment : Segment) (events : List FlowEvent) (answers : List Applied)
     (noted : Lasts) (after : Fates) → rule ≢ Decided → IsReached flow.first flow.width fates → IsRuled rule flow lasts fates (on_channel channel segment) events noted
     → Leads flow.first flow.width fates events answers after → ArrivesBy rule flow lasts fates channel segment events answers noted after

@@ -81,6 +81,7 @@ module _ (flow : RuledFlow) (segments : List Segment) (comings : List Coming) (i
         let close = near past behind channel x segment before lasts fates e are expected in
         noted-of (length past) x channel segment lasts noted (comes-here comings past behind (on_channel channel segment) e) of_comings notes close.0 close.1
 
+    -- after each front of it
     pub of_comings-after : (past behind : List Coming) (events : List FlowEvent) (lasts : Lasts) (fates : Fates) → comings ≡ past ++ behind
         → AreRuled rule flow past events lasts fates → AreOfComings comings index_at (length past) lasts
     of_comings-after past behind events lasts fates e are =

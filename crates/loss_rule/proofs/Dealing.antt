@@ -27,6 +27,7 @@ module _ (flow : RuledFlow) (comings : List Coming) (index_at : ℕ → ℕ) (d 
             inr (found.0, found.1, within p found.0 own channel segment found.1 is found.2 (omega arith), found.2, omega arith)
       ]
 
+  -- so they fit the window
   pub spread-fits : flow.width ≤ 4096 → (on_flow : (p channel : ℕ) (segment : Segment) → Comes comings p channel segment → HasChannel flow channel)
       → FitTheWindow flow comings index_at
   spread-fits narrow on_flow = record {
@@ -54,6 +55,7 @@ dealt-at count k (s ∷ segments) (suc p) channel segment is =
     let e : (k + 1) + p ≡ k + suc p = omega arith in
     (found.0, found.1 ∙ ap (λ j. j % count) e)
 
+-- and each segment is dealt
 dealt-comes : (count k : ℕ) (segments : List Segment) (p : ℕ) (segment : Segment) → slice_get segments p ≡ Some segment
     → Comes (dealt_from count k segments) p ((k + p) % count) segment
 dealt-comes count k [] p segment is = absurd cc
@@ -65,6 +67,7 @@ dealt-comes count k (s ∷ segments) (suc p) segment is =
     let e : (k + 1) + p ≡ k + suc p = omega arith in
     dealt-comes count (k + 1) segments p segment is ∙ ap (λ j. Some (on_channel (j % count) segment)) e
 
+-- no decision is among them
 dealt-undecided : (count k : ℕ) (segments : List Segment) → HaveNoDecision (dealt_from count k segments)
 dealt-undecided count k [] p event is = absurd cc
 dealt-undecided count k (s ∷ segments) zero event is = let wrong : Some (on_channel (k % count) s) ≡ Some (handed_in event) = is in absurd cc
@@ -92,12 +95,14 @@ module _ (segments : List Segment) (flow : RuledFlow) (count : ℕ) (some : 1 �
   has-each : (j : ℕ) → j < count → HasChannel flow j
   has-each j below = ap (λ c. slice_get c j) channels ∙ true-at count j below
 
+  -- and no others
   has-below : (j : ℕ) → HasChannel flow j → j < count
   has-below j has =
       let within = slice_get_within flow.channels j true has in
       let size : length flow.channels ≡ count = ap length channels ∙ length-replicate count true in
       omega arith
 
+  -- so what is dealt in turn is in channel order
   pub dealt-order : AreInChannelOrder flow segments (dealt count segments) (λ p. p)
   dealt-order = record {
     of_cut = λ p channel segment is. (dealt-at count 0 segments p channel segment is).0;
@@ -106,6 +111,7 @@ module _ (segments : List Segment) (flow : RuledFlow) (count : ℕ) (some : 1 �
     in_order = λ p q channel segment another before is is'. before;
   }
 
+  -- each channel gets one of so many
   dealt-spread : AreSpread flow (dealt count segments) (λ p. p) count
   dealt-spread i p own channel segment is has upto =
       let found = one-with_remainder count channel i (has-below channel has) in
@@ -117,10 +123,12 @@ module _ (segments : List Segment) (flow : RuledFlow) (count : ℕ) (some : 1 �
       let on : (0 + found.0) % count ≡ channel = ap (λ j. j % count) e ∙ found.3 in
       (found.0, there.0, subst (λ c. Comes (dealt count segments) found.0 c there.0) on (dealt-comes count 0 segments found.0 there.0 there.1), from, to)
 
+  -- it fits a wider window
   pub dealt-fits : count < flow.width → flow.width ≤ 4096 → FitTheWindow flow (dealt count segments) (λ p. p)
   dealt-fits wide narrow =
       spread-fits flow (dealt count segments) (λ p. p) 1 count (omega arith) dealt-spread
       (λ p q own channel segment other is is' before. omega arith) narrow dealt-order.on_flow
 
+  -- and has no decision
   pub dealt-no_decision : HaveNoDecision (dealt count segments)
   dealt-no_decision = dealt-undecided count 0 segments

@@ -13,6 +13,7 @@ decided-one : (flow : RuledFlow) (lasts : Lasts) (fates : Fates) (coming : Comin
 decided-one flow lasts fates (handed_in event) events noted ruled = ruled.0
 decided-one flow lasts fates (on_channel channel segment) events noted (x, skips, expected, notes, none, are) = are ∙ ap (λ t. t ++ arrives segment ∷ []) none
 
+-- and it is ruled so
 decided-ruled : (flow : RuledFlow) (lasts : Lasts) (fates : Fates) (coming : Coming) (x : ℕ) → IsExpected fates x
     → (noted : Lasts) × IsRuled Decided flow lasts fates coming (own_event coming ∷ []) noted
 decided-ruled flow lasts fates (handed_in event) x expected = (lasts, (refl, refl))
@@ -28,6 +29,7 @@ decided-events flow lasts fates (coming ∷ comings) events noted after (own, re
     are ∙ ap (λ t. t ++ rest) (decided-one flow lasts fates coming own between_lasts ruled)
     ∙ ap (λ t. own_event coming ∷ t) (decided-events flow between_lasts between comings rest noted after rules)
 
+-- and all are ruled so
 pub decided-rules : (flow : RuledFlow) (lasts : Lasts) (fates : Fates) (comings : List Coming) (answers : List Applied) (after : Fates)
     → Leads flow.first flow.width fates (map own_event comings) answers after
     → (noted : Lasts) × Rules Decided flow lasts fates comings (map own_event comings) noted after

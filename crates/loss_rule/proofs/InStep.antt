@@ -18,6 +18,7 @@ use Rattle.loss_rule.specs.Rule.{Coming, RuledFlow, Lasts, IsLastOn, IsPassed}
 use Rattle.loss_rule.specs.InOrder.{Comes, AreInChannelOrder}
 use Rattle.loss_rule.specs.Inside.Reached.{IsReached}
 use Rattle.loss_rule.specs.Inside.Arrival.{AreBounded, IsUpToDate, ArrivesBy}
+use Rattle.loss_rule.specs.Inside.Verdicts.{IsKeptOrBeyond}
 use Rattle.loss_rule.specs.Inside.Order.{AreOfComings, IsInStep}
 use Rattle.loss_rule.proofs.Reaching.{expected-onward}
 use Rattle.loss_rule.proofs.Noting.{noted-other, noted-own, noted-bounded}
@@ -25,11 +26,6 @@ use Rattle.loss_rule.proofs.Passing.{passing-lost, passing-keeps, passing-leaves
 use Rattle.loss_rule.proofs.ChannelOrder.{comes-once, number-at, noted-of}
 
 -- a segment whose index is ahead and open is kept, or lies beyond the window
-abbrev pub IsKeptOrBeyond : ℕ → ℕ → ℕ → Segment → Applied → Fates → Fates → Type 0
-IsKeptOrBeyond width z k segment answer fates after =
-    ((answer ≡ Arrival Kept) × (k < z + width) × (after ≡ map.insert fates k (Some segment)))
-    ⊎ ((answer ≡ Arrival (Beyond segment)) × (z + width ≤ k) × (after ≡ fates))
-
 pub kept-or_beyond : (first width z k : ℕ) (segment : Segment) (answer : Applied) (fates after : Fates) → IsAhead first z segment.head.sequence k → IsOpen fates k
     → Changes first width z (arrives segment) answer fates after → IsKeptOrBeyond width z k segment answer fates after
 kept-or_beyond first width z k segment (Arrival (Late back)) fates after ahead free changes = absurd (changes.0.0 k ahead)
@@ -70,6 +66,7 @@ module _ (flow : RuledFlow) (segments : List Segment) (comings : List Coming) (i
             absurd (omega arith)
       ]
 
+  -- so it doesn't lie before the expected one
   pub index-from : (x : ℕ) → IsExpected fates x → x ≤ index_at n
   index-from x expected =
       elim (cases_lt (index_at n) x) [
@@ -88,6 +85,7 @@ module _ (flow : RuledFlow) (segments : List Segment) (comings : List Coming) (i
         noted-own flow.first t.x channel segment.head.sequence lasts noted t.notes (index_at n)
         (subst (λ l. channel < l) (sym known.size) (slice_get_within flow.channels channel true (order.on_flow n channel segment here))) index-ahead
 
+    -- and each last index is still that of a coming on its channel
     still-of : AreOfComings comings index_at (n + 1) noted
     still-of =
         let from = index-from t.x t.expected in
@@ -105,12 +103,14 @@ module _ (flow : RuledFlow) (segments : List Segment) (comings : List Coming) (i
           | inr differ ↦ (index, noted-other flow.first t.x channel segment.head.sequence lasts noted t.notes other index differ is, omega arith)
         ]
 
+    -- so what every channel has passed stays passed
     still-passed : (i : ℕ) → IsPassed flow lasts i → IsPassed flow noted i
     still-passed i passed other has =
         let found = passed other has in
         let later = still-last other found.0 found.1 in
         (later.0, later.1, omega (arith, found.2, later.2))
 
+    -- and each coming has a last index on its channel that is its own or later
     pub still-latest : (p other : ℕ) (another : Segment) → p < n + 1 → Comes comings p other another → (index : ℕ) × IsLastOn noted other index × (index_at p ≤ index)
     still-latest p other another before is =
         elim (cases_eq p n) [
@@ -123,6 +123,7 @@ module _ (flow : RuledFlow) (segments : List Segment) (comings : List Coming) (i
               (later.0, later.1, omega (arith, found.2, later.2))
         ]
 
+    -- last indexes lie less than 4096 ahead
     bounded : AreBounded noted t.x
     bounded = noted-bounded flow.first t.x channel segment.head.sequence lasts noted t.notes (known.bounded t.x t.expected)
 
@@ -133,6 +134,7 @@ module _ (flow : RuledFlow) (segments : List Segment) (comings : List Coming) (i
         (order.on_flow n channel segment here) own-last (omega arith)
         ∙ index-open t.x t.expected
 
+    -- so it lies ahead then
     pub between-ahead : IsAhead flow.first t.y segment.head.sequence (index_at n)
     between-ahead =
         let onward = expected-onward flow.first flow.width t.x t.y t.passing t.passing_answers fates t.between r t.expected t.leads_passing t.expected_between in
@@ -150,6 +152,7 @@ module _ (flow : RuledFlow) (segments : List Segment) (comings : List Coming) (i
       same-expected : t.z ≡ t.y
       same-expected = expected-unique t.between t.z t.y (subst (λ (f : Fates). IsExpected f t.z) stays t.expected_slid) t.expected_between
 
+      -- the answer to it
       pub own-answer : IsKeptOrBeyond flow.width t.y (index_at n) segment t.answer t.between after
       own-answer =
           kept-or_beyond flow.first flow.width t.y (index_at n) segment t.answer t.between after between-ahead between-open
@@ -167,6 +170,7 @@ module _ (flow : RuledFlow) (segments : List Segment) (comings : List Coming) (i
             | inr (_, _, is) ↦ inl (kept.0, ap (λ (f : Fates). map.get f i) (sym is) ∙ kept.1)
           ]
 
+      -- and what is lost after it was lost before
       lost-after : (i : ℕ) → IsLost after i → IsLost t.between i
       lost-after i lost =
           elim own-answer [
@@ -182,6 +186,7 @@ module _ (flow : RuledFlow) (segments : List Segment) (comings : List Coming) (i
             | inr (_, _, is) ↦ ap (λ (f : Fates). map.get f i) (sym is) ∙ lost
           ]
 
+      -- what held of the first n comings holds with it
       pub in_step-after : IsInStep flow comings index_at (n + 1) noted after
       in_step-after = record {
         of_comings = still-of;

@@ -14,6 +14,7 @@ said_yes None = inr (λ e. cc)
 said_yes (Some true) = inl refl
 said_yes (Some false) = inr (λ e. cc)
 
+-- so can its last index
 has_last : (o : Option (Option ℕ)) → ((index : ℕ) × (o ≡ Some (Some index))) ⊎ ((index : ℕ) → o ≡ Some (Some index) → ⊥)
 has_last None = inr (λ index e. cc)
 has_last (Some None) = inr (λ index e. cc)
@@ -82,6 +83,7 @@ module _ (flow : RuledFlow) (lasts : Lasts) (n : ℕ) where
         ],
       ))
 
+  -- whether it has it or not
   next_channel : AreBelow flow lasts n → AreBelow flow lasts (n + 1)
   next_channel below =
       elim (said_yes (slice_get flow.channels n)) [
@@ -92,6 +94,7 @@ module _ (flow : RuledFlow) (lasts : Lasts) (n : ℕ) where
         ]
       ]
 
+-- so of all channels below a number
 channels-below : (flow : RuledFlow) (lasts : Lasts) (n : ℕ) → AreBelow flow lasts n
 channels-below flow lasts zero = inr (inr (λ channel below is. omega arith))
 channels-below flow lasts (suc n) = subst (AreBelow flow lasts) (omega arith) (next_channel flow lasts n (channels-below flow lasts n))

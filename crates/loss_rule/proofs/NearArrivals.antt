@@ -28,6 +28,7 @@ front-or_last {X} (y ∷ xs) (b ∷ before) behind last x e =
       | inr h ↦ inr (ap (λ t. t ∷ xs) same ∙ ap (λ t. b ∷ t) h.0, h.1)
     ]
 
+-- near events, and an arrival that is near after them
 pub near-one_more : (first width : ℕ) (segments : List Segment) (events : List FlowEvent) (segment : Segment) → AreNear first width segments events
     → ((answers : List Applied) (fates : Fates) (x : ℕ) → IsAfter first width events answers fates → IsExpected fates x → IsNearTo segments x segment)
     → AreNear first width segments (events ++ arrives segment ∷ [])

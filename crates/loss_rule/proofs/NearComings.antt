@@ -57,15 +57,19 @@ module _ (rule : LossRule) (flow : RuledFlow) (positive : 1 ≤ flow.width) (nar
             ]
       ]
 
+  -- the expected index doesn't go back
   onward : t.x ≤ t.y
   onward = expected-onward flow.first flow.width t.x t.y t.passing t.passing_answers fates t.between r t.expected t.leads_passing t.expected_between
 
+  -- and can be come to
   between-r : IsReached flow.first flow.width t.between
   between-r = between-reached rule flow lasts fates channel segment events answers noted after r t
 
+  -- nor by sliding
   onward-slid : t.y ≤ t.z
   onward-slid = expected-onward flow.first flow.width t.y t.z t.sliding t.sliding_answers t.between t.slid between-r t.expected_between t.leads_sliding t.expected_slid
 
+  -- so the segment lies less than 4096 after it
   pub slid-near : k < t.z + 4096
   slid-near =
       let one = onward in
@@ -157,6 +161,7 @@ module _ (rule : LossRule) (flow : RuledFlow) (positive : 1 ≤ flow.width) (nar
       decided-near (length past) channel ruled.0 segment before events so_far fates (comes-here comings past behind (on_channel channel segment) e)
       (ruled.5 ∙ ap (λ s. s ++ arrives segment ∷ []) ruled.4) ruled.2 c.0 c.1 is near_before)
 
+  -- one coming more
   nearness-step : (past behind : List Coming) (before : List FlowEvent) (lasts : Lasts) (fates : Fates) (coming : Coming) (events : List FlowEvent) (answers : List Applied)
       (noted : Lasts) (after : Fates) → AreRuled rule flow past before lasts fates → AreNearSoFar past (coming ∷ behind) before lasts fates
       → IsRuled rule flow lasts fates coming events noted → Leads flow.first flow.width fates events answers after
@@ -178,6 +183,7 @@ module _ (rule : LossRule) (flow : RuledFlow) (positive : 1 ≤ flow.width) (nar
         near-step rule near past (behind ++ later) before lasts fates channel segment events answers held.0 noted after e' are ruled leads held.1 held.2,
       )
 
+  -- so all events are near
   pub near-events : (events : List FlowEvent) (lasts : Lasts) (fates : Fates) → AreRuled rule flow comings events lasts fates → AreNear flow.first flow.width segments events
   near-events events lasts fates are =
       (holds-after rule flow AreNearSoFar nearness-step comings events lasts fates

@@ -48,6 +48,7 @@ module _ (first x channel number : ℕ) (lasts noted : Lasts) (notes : Notes fir
       let last : notes.0 ≡ Some index = set-found lasts channel notes.0 index (subst (λ l. IsLastOn l channel index) notes.2 is) in
       subst (IsIndexAhead first x number) last notes.1
 
+  -- last indexes lie less than 4096 ahead as before
   pub noted-bounded : AreBounded lasts x → AreBounded noted x
   noted-bounded bounded other index is =
       elim (noted-cases other index is) [

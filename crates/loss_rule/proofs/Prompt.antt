@@ -25,6 +25,7 @@ none-last zero channel index e = absurd cc
 none-last (suc n) zero index e = let wrong : None ≡ Some index = cc in absurd cc
 none-last (suc n) (suc channel) index e = none-last n channel index e
 
+-- so in no list of them
 pub no_lasts-none : (flow : RuledFlow) (channel index : ℕ) → IsLastOn (no_lasts flow) channel index → ⊥
 no_lasts-none flow channel index is = none-last (length flow.channels) channel index is
 
@@ -43,9 +44,11 @@ module _ (rule : LossRule) (flow : RuledFlow) (lasts : Lasts) (fates : Fates) (c
   pub between-reached : IsReached flow.first flow.width t.between
   between-reached = reached-leads flow.first flow.width t.passing t.passing_answers fates t.between r t.leads_passing
 
+  -- after the window slid
   pub slid-reached : IsReached flow.first flow.width t.slid
   slid-reached = reached-leads flow.first flow.width t.sliding t.sliding_answers t.between t.slid between-reached t.leads_sliding
 
+  -- and the segment arrives at last
   pub leads-arrives : Leads flow.first flow.width t.slid (arrives segment ∷ []) (t.answer ∷ []) after
   leads-arrives = (t.z, t.answer, [], after, t.expected_slid, t.changes, (refl, refl), refl)
 
@@ -53,6 +56,7 @@ module _ (rule : LossRule) (flow : RuledFlow) (lasts : Lasts) (fates : Fates) (c
   pub slid-settled : (i : ℕ) → IsSome (map.get t.slid i) → IsSome (map.get after i)
   slid-settled i = settled-stays flow.first flow.width i (arrives segment ∷ []) (t.answer ∷ []) t.slid after slid-reached leads-arrives
 
+  -- from before the window slid on
   pub between-settled : (i : ℕ) → IsSome (map.get t.between i) → IsSome (map.get after i)
   between-settled i settled =
       slid-settled i (settled-stays flow.first flow.width i t.sliding t.sliding_answers t.between t.slid between-reached t.leads_sliding settled)
@@ -94,6 +98,7 @@ module _ (rule : LossRule) (flow : RuledFlow) (looks : rule ≢ Decided) where
         settled = λ own i. arrival-settles rule flow lasts fates channel segment events answers noted after r t own i known;
       }
 
+  -- so after all comings
   pub up_to_date-after : (comings : List Coming) (events : List FlowEvent) (noted : Lasts) (fates : Fates) → AreRuled rule flow comings events noted fates
       → IsUpToDate flow noted fates
   up_to_date-after comings events noted fates are =

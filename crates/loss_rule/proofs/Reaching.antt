@@ -61,6 +61,7 @@ fate-stays first width i fate events answers fates after r leads is =
     let found = reached-expected first width fates r in
     stays-leads first width found.0 events answers fates after (reached-sound first width fates found.0 r found.1) leads i fate is
 
+-- and stays settled
 pub settled-stays : (first width i : ℕ) (events : List FlowEvent) (answers : List Applied) (fates after : Fates) → IsReached first width fates
     → Leads first width fates events answers after → IsSome (map.get fates i) → IsSome (map.get after i)
 settled-stays first width i events answers fates after r leads settled =

@@ -7,6 +7,7 @@ use Rattle.flow_core.proofs.Turns.{leads-in_turn}
 use Rattle.loss_rule.specs.declared.rule.LossRule.{LossRule}
 use Rattle.loss_rule.specs.Rule.{Coming, RuledFlow, Lasts, no_lasts, IsRuled, Rules, AreRuled}
 use Rattle.loss_rule.specs.Inside.Reached.{IsReached}
+use Rattle.loss_rule.specs.Inside.InTurn.{RulesInTurn}
 
 -- the events of comings lead to the fates
 pub rules-lead : (rule : LossRule) (flow : RuledFlow) (lasts : Lasts) (fates : Fates) (comings : List Coming) (events : List FlowEvent) (noted : Lasts) (after : Fates)
@@ -25,12 +26,7 @@ pub ruled-reached : (rule : LossRule) (flow : RuledFlow) (comings : List Coming)
 ruled-reached rule flow comings events noted fates ruled =
     let led = rules-lead rule flow (no_lasts flow) no_fates comings events noted fates ruled in (events, led.0, led.1)
 
--- What both lists make: the events of each, and what is noted and the fates between.
-abbrev pub RulesInTurn : LossRule → RuledFlow → Lasts → Fates → List Coming → List Coming → List FlowEvent → Lasts → Fates → Type 0
-RulesInTurn rule flow lasts fates comings more events noted after =
-    (front back : List FlowEvent) × (between_lasts : Lasts) × (between : Fates)
-    × Rules rule flow lasts fates comings front between_lasts between × Rules rule flow between_lasts between more back noted after × (events ≡ front ++ back)
-
+-- comings of two lists are ruled in turn
 pub rules-split : (rule : LossRule) (flow : RuledFlow) (lasts : Lasts) (fates : Fates) (comings more : List Coming) (events : List FlowEvent) (noted : Lasts) (after : Fates)
     → Rules rule flow lasts fates (comings ++ more) events noted after → RulesInTurn rule flow lasts fates comings more events noted after
 rules-split rule flow lasts fates [] more events noted after rules = ([], events, lasts, fates, (refl, refl, refl), rules, refl)
@@ -38,6 +34,7 @@ rules-split rule flow lasts fates (coming ∷ comings) more events noted after (
     let s = rules-split rule flow between_lasts between comings more rest noted after rules in
     (own ++ s.0, s.1, s.2, s.3, (own, s.0, answers, between_lasts, between, ruled, leads, s.4, refl), s.5, are ∙ ap (λ t. own ++ t) s.6 ∙ sym (append_assoc own s.0 s.1))
 
+-- and ruled in turn they are ruled as one list
 rules-join : (rule : LossRule) (flow : RuledFlow) (lasts : Lasts) (fates : Fates) (comings more : List Coming) (events front back : List FlowEvent) (between_lasts noted : Lasts)
     (between after : Fates) → Rules rule flow lasts fates comings front between_lasts between → Rules rule flow between_lasts between more back noted after
     → events ≡ front ++ back → Rules rule flow lasts fates (comings ++ more) events noted after
@@ -57,6 +54,7 @@ rules-join rule flow lasts fates (coming ∷ comings) more events front back bet
   are ∙ ap (λ t. t ++ back) front_is ∙ append_assoc own rest back,
 )
 
+-- the other way round
 pub rules-in_turn : (rule : LossRule) (flow : RuledFlow) (lasts : Lasts) (fates : Fates) (comings more : List Coming) (events : List FlowEvent) (noted : Lasts) (after : Fates)
     → RulesInTurn rule flow lasts fates comings more events noted after → Rules rule flow lasts fates (comings ++ more) events noted after
 rules-in_turn rule flow lasts fates comings more events noted after (front, back, between_lasts, between, p, q, are) =
@@ -90,6 +88,7 @@ module _ (rule : LossRule) (flow : RuledFlow) (P : List Coming → List Coming �
       (ruled-append rule flow past events lasts fates coming own answers between_lasts between are ruled leads)
       (step past comings events lasts fates coming own answers between_lasts between are p ruled leads) rules))
 
+  -- from the start on
   pub holds-after : (comings : List Coming) (events : List FlowEvent) (noted : Lasts) (fates : Fates) → P [] comings [] (no_lasts flow) no_fates
       → AreRuled rule flow comings events noted fates → P comings [] events noted fates
   holds-after comings events noted fates p are = holds-from [] comings [] events (no_lasts flow) noted no_fates fates (refl, refl, refl) p are

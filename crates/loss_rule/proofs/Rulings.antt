@@ -16,12 +16,14 @@ use Rattle.loss_rule.proofs.Leasts.{passing-some, passing-once}
 pub index-some : (first x number : ℕ) → (last : Option ℕ) × IsIndexAhead first x number last
 index-some first x number = elim (ahead_or_behind first x number) [ inl ahead ↦ (Some ahead.0, ahead.1) | inr behind ↦ (None, behind) ]
 
+-- in one way
 pub index-once : (first x number : ℕ) (last other : Option ℕ) → IsIndexAhead first x number last → IsIndexAhead first x number other → last ≡ other
 index-once first x number (Some i) (Some j) p q = ap Some (IsAhead-once first x number i j p q)
 index-once first x number (Some i) None p q = absurd (q i p)
 index-once first x number None (Some j) p q = absurd (p j q)
 index-once first x number None None p q = refl
 
+-- so one thing is noted
 notes-once : (first x channel number : ℕ) (lasts noted other : Lasts) → Notes first x channel number lasts noted → Notes first x channel number lasts other → noted ≡ other
 notes-once first x channel number lasts noted other p q =
     p.2 ∙ ap (slice_set lasts channel) (index-once first x number p.0 q.0 p.1 q.1) ∙ sym q.2
@@ -37,6 +39,7 @@ sliding-some flow x number =
       ]
     ]
 
+-- in one way
 sliding-once : (flow : RuledFlow) (x number : ℕ) (skips others : List FlowEvent) → IsSliding flow x number skips → IsSliding flow x number others → skips ≡ others
 sliding-once flow x number skips others (inl p) (inl q) =
     p.3 ∙ ap (λ i. skip_to (number_of flow.first (i + 1 - flow.width)) ∷ []) (IsAhead-once flow.first x number p.0 q.0 p.1 q.1) ∙ sym q.3
@@ -60,6 +63,7 @@ skips-some PassedOrSlid flow noted fates number r =
     let sliding = sliding-some flow y.0 number in
     (passing.0 ++ sliding.0, (x.0, y.0, passing.0, sliding.0, led.0, led.1, x.1, passing.1, led.2, y.1, sliding.1, refl))
 
+-- in one way
 skips-once : (rule : LossRule) (flow : RuledFlow) (noted : Lasts) (fates : Fates) (number : ℕ) (skips others : List FlowEvent) → IsReached flow.first flow.width fates
     → AreSkips rule flow noted fates number skips → AreSkips rule flow noted fates number others → skips ≡ others
 skips-once Decided flow noted fates number skips others r p q = p ∙ sym q
@@ -86,6 +90,7 @@ ruled-some rule flow lasts fates (on_channel channel segment) r =
     let skips = skips-some rule flow noted fates segment.head.sequence r in
     (skips.0 ++ arrives segment ∷ [], noted, (x.0, skips.0, x.1, (last.0, last.1, refl), skips.1, refl))
 
+-- in one way
 ruled-once : (rule : LossRule) (flow : RuledFlow) (lasts : Lasts) (fates : Fates) (coming : Coming) (events others : List FlowEvent) (noted other : Lasts)
     → IsReached flow.first flow.width fates → IsRuled rule flow lasts fates coming events noted → IsRuled rule flow lasts fates coming others other
     → (events ≡ others) × (noted ≡ other)
@@ -108,6 +113,7 @@ rules-some rule flow lasts fates (coming ∷ comings) r =
     let rest = rules-some rule flow one.1 led.1 comings (reached-leads flow.first flow.width one.0 led.0 fates led.1 r led.2) in
     (one.0 ++ rest.0, rest.1, rest.2, (one.0, rest.0, led.0, one.1, led.1, one.2, led.2, rest.3, refl))
 
+-- in one way
 pub rules-once : (rule : LossRule) (flow : RuledFlow) (lasts : Lasts) (fates : Fates) (comings : List Coming) (events others : List FlowEvent) (noted other : Lasts)
     (after later : Fates) → IsReached flow.first flow.width fates → Rules rule flow lasts fates comings events noted after
     → Rules rule flow lasts fates comings others other later → (events ≡ others) × (noted ≡ other) × (after ≡ later)

@@ -64,6 +64,7 @@ module _ (flow : RuledFlow) (segments : List Segment) (comings : List Coming) (i
         → IsInStep flow comings index_at (length past) lasts fates
         × ((answers : List Applied) × IsAfter flow.first flow.width events answers fates × EachVerdict SaysKeptOrBeyond answers)
 
+    -- one coming more
     safe-step : (past behind : List Coming) (before : List FlowEvent) (lasts : Lasts) (fates : Fates) (coming : Coming) (events : List FlowEvent) (answers : List Applied)
         (noted : Lasts) (after : Fates) → AreRuled Passed flow past before lasts fates → IsSafeSoFar past (coming ∷ behind) before lasts fates
         → IsRuled Passed flow lasts fates coming events noted → Leads flow.first flow.width fates events answers after
@@ -97,6 +98,7 @@ module _ (flow : RuledFlow) (segments : List Segment) (comings : List Coming) (i
           ),
         )
 
+    -- so say all answers
     pub verdicts-safe : (events : List FlowEvent) (answers : List Applied) (lasts : Lasts) (fates : Fates) → AreRuled Passed flow comings events lasts fates
         → IsAfter flow.first flow.width events answers fates → EachVerdict SaysKeptOrBeyond answers
     verdicts-safe events answers lasts fates are is =

@@ -1,5 +1,5 @@
 -- The window that slides: no segment is beyond it.
-use Rattle.std.proofs.Common.{◌≡◌, ℕ, ◌+◌, ◌-◌, ◌<◌, ◌≤◌, ◌⊎◌, inl, inr, true, IsSome, Some, None, List, [], slice_get, refl, ap, sym, subst, ◌∙◌, arith}
+use Rattle.std.proofs.Common.{◌≡◌, ℕ, ◌+◌, ◌-◌, ◌<◌, ◌≤◌, inl, inr, true, IsSome, Some, None, List, [], slice_get, refl, ap, sym, subst, ◌∙◌, arith}
 use Rattle.std.proofs.lemmas.Bool.{cases_lt}
 use Rattle.std.proofs.lemmas.Option.{slice_get_within}
 use Rattle.reorder.proofs.Items.{get-insert_same}
@@ -16,7 +16,7 @@ use Rattle.flow_core.proofs.Skipping.{skip-reaches}
 use Rattle.loss_rule.specs.declared.rule.LossRule.TheVariants.{PassedOrSlid}
 use Rattle.loss_rule.specs.Rule.{RuledFlow, HasChannel, Lasts, IsSliding}
 use Rattle.loss_rule.specs.Inside.Reached.{IsReached}
-use Rattle.loss_rule.specs.Inside.Arrival.{IsUpToDate, ArrivesBy}
+use Rattle.loss_rule.specs.Inside.Arrival.{IsUpToDate, SlidTo, ArrivesBy}
 use Rattle.loss_rule.proofs.Noting.{noted-own, noted-bounded}
 use Rattle.loss_rule.proofs.InStep.{kept-or_beyond}
 use Rattle.loss_rule.proofs.Reaching.{fate-stays, reached-sound, expected-onward}
@@ -32,12 +32,6 @@ beyond-open width fates x i sound from =
       | inr (None, is) ↦ let below = sound.lost_below i is in absurd (omega arith)
       | inr (Some segment, is) ↦ let within = sound.kept_within i (segment, is) in absurd (omega arith)
     ]
-
--- The window slid: the number's index lies in it now and is open, or it lay in it already or not ahead.
-abbrev pub SlidTo : RuledFlow → ℕ → ℕ → ℕ → Fates → Fates → Type 0
-SlidTo flow number y z between slid =
-    ((index : ℕ) × IsAhead flow.first y number index × IsAhead flow.first z number index × (index < z + flow.width) × IsOpen slid index)
-    ⊎ (((index : ℕ) → IsAhead flow.first y number index → index < y + flow.width) × (slid ≡ between))
 
 module _ (flow : RuledFlow) (positive : 1 ≤ flow.width) (number y z : ℕ) (between slid : Fates) (sliding : List FlowEvent) (answers : List Applied)
     (r : IsReached flow.first flow.width between) (expected : IsExpected between y) (expected' : IsExpected slid z)
@@ -74,6 +68,7 @@ module _ (flow : RuledFlow) (positive : 1 ≤ flow.width) (lasts : Lasts) (fates
       slid-to flow positive segment.head.sequence t.y t.z t.between t.slid t.sliding t.sliding_answers
       (between-reached PassedOrSlid flow lasts fates channel segment events answers noted after r t) t.expected_between t.expected_slid t.slides t.leads_sliding
 
+  -- it isn't the answer to the arrival
   never-beyond : (back : Segment) → Changes flow.first flow.width t.z (arrives segment) (Arrival (Beyond back)) t.slid after → ⊥
   never-beyond back ((i, ahead, far, _), _) =
       elim slid-here [
@@ -86,6 +81,7 @@ module _ (flow : RuledFlow) (positive : 1 ≤ flow.width) (lasts : Lasts) (fates
             omega arith
       ]
 
+  -- nor any other
   pub none-beyond : (k : ℕ) (back : Segment) → slice_get answers k ≡ Some (Arrival (Beyond back)) → ⊥
   none-beyond k back is =
       never-beyond back (subst (λ a. Changes flow.first flow.width t.z (arrives segment) a t.slid after)

@@ -4,3 +4,4 @@ pub mod Leasts
 pub mod Arrival
 pub mod Order
 pub mod Verdicts
+pub mod InTurn

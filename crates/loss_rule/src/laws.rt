@@ -7,7 +7,7 @@ ghost use Rattle.std.specs.Prelude.{◌≡◌, ◌≢◌, ◌↔◌, ◌⊎◌, 
 ghost use Rattle.docsis_wire.specs.declared.segment.Segment.{Segment};
 ghost use Rattle.docsis_wire.specs.Cut.{IsLawfulCut};
 ghost use Rattle.ccf.specs.Filter.{FiltersTo};
-ghost use Rattle.reorder.specs.Limits.{numbers_ahead, width_max};
+ghost use Rattle.reorder.specs.Limits.{width_max};
 ghost use Rattle.reorder.specs.declared.verdict.Verdict.{Verdict};
 ghost use Rattle.flow_core.specs.declared.event.Applied.{Applied};
 ghost use Rattle.flow_core.specs.declared.counts.FlowCounts.{FlowCounts};
@@ -112,8 +112,8 @@ pub fn near_comings_make_near_events()
 
 /// **Nothing that came is dropped.** In a list in channel order of one lawful cut, with no decision
 /// handed in, where nothing comes further ahead than the window holds: each segment comes near the
-/// expected index, and is kept under its own index, and nothing else is kept. So no segment is late,
-/// beyond the window or a repeat.
+/// expected index and is kept under its own, and nothing else is kept. So no segment is late, beyond
+/// the window or a repeat.
 pub fn all_that_comes_is_kept()
     ensures near { (check : List ℕ → Bool) (frames chunks : List (List ℕ)) (fill : ℕ)
         (segments : List Segment) (rule : LossRule) (flow : RuledFlow) (comings : List Coming)
@@ -158,8 +158,8 @@ pub fn all_that_comes_is_kept()
 
 /// **What a closed flow gave, of all that came.** For every modem's frames, every lawful cut of
 /// them and every list in channel order that fits the window, with no decision handed in: with gaps
-/// after the rule's events until the flow is closed, what it gives by the definitions is exactly the
-/// modem's frames of which each segment came, in the modem's order.
+/// after the rule's events until the flow is closed, what it gives by the definitions is exactly
+/// the modem's frames of which each segment came, in the modem's order.
 pub fn closed_flow_gives_the_frames_that_all_came()
     ensures { (check : List ℕ → Bool) (frames chunks : List (List ℕ)) (fill n : ℕ)
         (segments : List Segment) (rule : LossRule) (flow : RuledFlow) (flow_record : FlowRecord)
@@ -179,10 +179,10 @@ pub fn closed_flow_gives_the_frames_that_all_came()
     flow_core::laws::gaps_leave_what_was_kept();
 }
 
-/// When what comes fits the window. Let each channel of the flow bring one of any `m` segments that
-/// the modem sends one after another, and let none come after one that was sent `d` or more later:
-/// then a window of `d + m` holds all. So it does for the whole of a cut that is dealt in turn over
-/// fewer channels than the window is wide: such a list meets every premise.
+/// When what comes fits the window: let each channel of the flow bring one of any `m` segments that
+/// the modem sent one after another, and let none come after one that was sent `d` or more later;
+/// then a window of `d + m` is wide enough. A whole cut that is dealt in turn over fewer channels
+/// than the window is wide meets every premise.
 pub fn spread_segments_fit_the_window()
     ensures spread { (segments : List Segment) (flow : RuledFlow) (comings : List Coming)
         (index_at : ℕ → ℕ) (d m : ℕ)
@@ -198,9 +198,8 @@ pub fn spread_segments_fit_the_window()
         × HaveNoDecision (dealt count segments) }
 {}
 
-/// **Prompt: the flow never waits for what can no longer come.** Each index that every channel has
-/// passed, since its last segment has a later one, is kept or lost. So the index that is expected
-/// is none of them.
+/// **Prompt: the flow never waits for what can no longer come.** Where a flow has a channel, an index
+/// that all its channels have passed is kept or lost. So the expected index is none of these.
 pub fn flow_never_waits_for_what_can_no_longer_come()
     ensures settled { (rule : LossRule) (flow : RuledFlow) (comings : List Coming)
         (events : List FlowEvent) (noted : Lasts) (fates : Fates) (own i : ℕ)

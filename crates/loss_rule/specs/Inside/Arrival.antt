@@ -1,11 +1,11 @@
 -- What a segment that comes on a channel does, step by step.
-use Rattle.std.specs.Prelude.{◌≡◌, ℕ, ◌+◌, ◌<◌, IsSome, List, [], ◌∷◌, ◌++◌, length}
+use Rattle.std.specs.Prelude.{◌≡◌, ℕ, ◌+◌, ◌<◌, ◌⊎◌, IsSome, List, [], ◌∷◌, ◌++◌, length}
 use Rattle.std.specs.FinMap as map
 use Rattle.docsis_wire.specs.declared.segment.Segment.{Segment}
 use Rattle.reorder.specs.Limits.{numbers_ahead}
 use Rattle.flow_core.specs.declared.event.Applied.{Applied}
-use Rattle.flow_core.specs.Fates.{Fates, IsExpected}
-use Rattle.flow_core.specs.Events.{FlowEvent, arrives, Changes, Leads}
+use Rattle.flow_core.specs.Fates.{Fates, IsOpen, IsExpected}
+use Rattle.flow_core.specs.Events.{FlowEvent, arrives, IsAhead, Changes, Leads}
 use Rattle.loss_rule.specs.declared.rule.LossRule.{LossRule}
 use Rattle.loss_rule.specs.declared.rule.LossRule.TheVariants.{Decided, Passed, PassedOrSlid}
 use Rattle.loss_rule.specs.Rule.{RuledFlow, HasChannel, Lasts, IsLastOn, IsPassed, Notes, IsPassing, IsSliding}
@@ -25,6 +25,23 @@ abbrev pub Slides : LossRule → RuledFlow → ℕ → ℕ → List FlowEvent �
 Slides Decided flow y number sliding = ⊥
 Slides Passed flow y number sliding = sliding ≡ []
 Slides PassedOrSlid flow y number sliding = IsSliding flow y number sliding
+
+-- The window slid: the number's index lies in it now and is open, or it lay in it already or not ahead.
+abbrev pub SlidTo : RuledFlow → ℕ → ℕ → ℕ → Fates → Fates → Type 0
+SlidTo flow number y z between slid =
+    ((index : ℕ) × IsAhead flow.first y number index × IsAhead flow.first z number index × (index < z + flow.width) × IsOpen slid index)
+    ⊎ (((index : ℕ) → IsAhead flow.first y number index → index < y + flow.width) × (slid ≡ between))
+
+-- Some skips, and at last the segment arrives.
+pub record ArrivesAtLast (flow : RuledFlow) (fates : Fates) (skips : List FlowEvent) (segment : Segment) (answers : List Applied) (after : Fates) : Type 0 where
+  pub skip_answers : List Applied
+  pub skipped : Fates
+  pub leads : Leads flow.first flow.width fates skips skip_answers skipped
+  pub z : ℕ
+  pub expected : IsExpected skipped z
+  pub answer : Applied
+  pub changes : Changes flow.first flow.width z (arrives segment) answer skipped after
+  pub answers_are : answers ≡ skip_answers ++ answer ∷ []
 
 -- A segment comes, by a rule that looks at what passed: it is noted, what every channel has passed is skipped, then the window may slide, and then
 -- it arrives.
