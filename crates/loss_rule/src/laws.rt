@@ -112,8 +112,8 @@ pub fn near_comings_make_near_events()
 
 /// **Nothing that came is dropped.** In a list in channel order of one lawful cut, with no decision
 /// handed in, where nothing comes further ahead than the window holds: each segment comes near the
-/// expected index and is kept under its own, and nothing else is kept. So no segment is late, beyond
-/// the window or a repeat.
+/// expected index and is kept under its own, and nothing else is kept. So no segment is late,
+/// beyond the window or a repeat.
 pub fn all_that_comes_is_kept()
     ensures near { (check : List ℕ → Bool) (frames chunks : List (List ℕ)) (fill : ℕ)
         (segments : List Segment) (rule : LossRule) (flow : RuledFlow) (comings : List Coming)
@@ -198,8 +198,8 @@ pub fn spread_segments_fit_the_window()
         × HaveNoDecision (dealt count segments) }
 {}
 
-/// **Prompt: the flow never waits for what can no longer come.** Where a flow has a channel, an index
-/// that all its channels have passed is kept or lost. So the expected index is none of these.
+/// **Prompt: the flow never waits for what can no longer come.** Where a flow has a channel, an
+/// index that all its channels have passed is kept or lost. So the expected index is none of these.
 pub fn flow_never_waits_for_what_can_no_longer_come()
     ensures settled { (rule : LossRule) (flow : RuledFlow) (comings : List Coming)
         (events : List FlowEvent) (noted : Lasts) (fates : Fates) (own i : ℕ)
