@@ -1,0 +1,7 @@
+-- What only proofs speak of.
+pub mod Reached
+pub mod Leasts
+pub mod Arrival
+pub mod Order
+pub mod Verdicts
+pub mod InTurn

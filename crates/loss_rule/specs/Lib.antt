@@ -1,0 +1,4 @@
+pub mod Rule
+pub mod InOrder
+pub mod Dealing
+pub mod Inside
