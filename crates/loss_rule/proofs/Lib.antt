@@ -1,0 +1,4 @@
+pub mod LeastNumber
+pub mod Forgetting
+pub mod TiedNumbers
+pub mod TiedSkips
