@@ -6,7 +6,7 @@ ghost use Rattle.std.specs.Option.{ForSome};
 ghost use Rattle.docsis_wire.specs.Limits.{sequence_modulus};
 ghost use Rattle.reorder.specs.Number.{offset};
 ghost use Rattle.loss_rule.specs.Numbers.{carried_of, numbers_of, ahead_number, still_ahead};
-ghost use Rattle.loss_rule.specs.Numbers.{no_numbers, IsPassedNumber};
+ghost use Rattle.loss_rule.specs.Numbers.{no_numbers, IsPassedByAll};
 
 use crate::last_number::LastNumber;
 use reorder::{NUMBERS_AHEAD, offset};
@@ -69,10 +69,8 @@ impl LastNumbers {
     /// the flow has no channel.
     pub fn passed_by_all(&self, expected: u16) -> Option<u16>
         requires { expected < sequence_modulus }
-        ensures passed { IfSome result
-            (λ number. IsPassedNumber (carried_of self.now) (numbers_of self.now) expected number) }
-        ensures waits { result ≡ None → (number : ℕ)
-            → ¬ (IsPassedNumber (carried_of self.now) (numbers_of self.now) expected number) }
+        ensures passed { IsPassedByAll (carried_of self.now) (numbers_of self.now) expected result }
+        ensures in_range { ForSome result (λ number. number < sequence_modulus) }
     {
         let mut least = None;
         for one in &self.channels {

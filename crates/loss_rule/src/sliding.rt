@@ -16,6 +16,8 @@ pub fn slid_to(expected: u16, width: u16, number: u16) -> Option<u16>
     ensures { IsSlidTo expected width number result }
 {
     let distance = offset(expected, number);
-    (width <= distance && distance < NUMBERS_AHEAD).then(|| (expected + (distance + 1 - width))
-        % MODULUS)
+    if distance < width || distance >= NUMBERS_AHEAD {
+        return None;
+    }
+    Some((expected + (distance + 1 - width)) % MODULUS)
 }
