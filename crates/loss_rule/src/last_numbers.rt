@@ -1,7 +1,7 @@
 //! Of each channel of a flow the number of the last segment that came there.
 //!
 //! It is what the rule knows in numbers: no number stands for longer than it lies ahead.
-ghost use Rattle.std.specs.Prelude.{◌≡◌, ◌<◌, ◌≤◌, ◌⊎◌, ℕ, IfOk, IfSome, length, map, slice_set};
+ghost use Rattle.std.specs.Prelude.{◌≡◌, ◌<◌, ◌≤◌, ◌⊎◌, ℕ, IfOk, IfSome, map, slice_set};
 ghost use Rattle.std.specs.Option.{ForSome};
 ghost use Rattle.docsis_wire.specs.Limits.{sequence_modulus};
 ghost use Rattle.reorder.specs.Number.{offset};
@@ -35,15 +35,18 @@ impl LastNumbers {
     }
 
     /// A segment with this number, 0 to 8191, came on a channel: the channel's number becomes this
-    /// one where it lies ahead of the expected number, 0 to 8191, and otherwise none.
+    /// one where it lies ahead of the expected number, 0 to 8191, and otherwise none. On any
+    /// other channel than those it knows it notes nothing.
     pub fn note(&mut self, channel: usize, number: u16, expected: u16)
-        requires channel { channel < length (carried_of self.old) }
         requires number { number < sequence_modulus }
         requires expected { expected < sequence_modulus }
         ensures carried { carried_of self.new ≡ carried_of self.old }
         ensures numbers { numbers_of self.new
             ≡ slice_set (numbers_of self.old) channel (ahead_number expected number) }
     {
+        if channel >= self.channels.len() {
+            return;
+        }
         let LastNumber { carried, .. } = self.channels[channel];
         let last = ahead(expected, number);
         self.channels[channel] = LastNumber { carried, last };
