@@ -1,3 +1,4 @@
 pub mod Rule
 pub mod InOrder
 pub mod Numbers
+pub mod Inside

@@ -15,6 +15,11 @@ pub data Coming : Type 0 where
   on_channel : ℕ → Segment → Coming
   handed_in : FlowEvent → Coming
 
+-- the event that it is by itself
+abbrev pub own_event : Coming → FlowEvent
+own_event (on_channel channel segment) = arrives segment
+own_event (handed_in event) = event
+
 -- What the rule has to know of a flow: the number of its first segment, the width of its window, and of each channel whether the flow has a service
 -- identifier there.
 pub record RuledFlow : Type 0 where
@@ -34,6 +39,10 @@ no_lasts flow = replicate (length flow.channels) None
 
 abbrev pub IsLastOn : Lasts → ℕ → ℕ → Type 0
 IsLastOn lasts channel index = slice_get lasts channel ≡ Some (Some index)
+
+-- every channel of the flow has passed the index: its last one lies after it
+abbrev pub IsPassed : RuledFlow → Lasts → ℕ → Type 0
+IsPassed flow lasts i = (channel : ℕ) → HasChannel flow channel → (index : ℕ) × IsLastOn lasts channel index × (i < index)
 
 -- the index of a number, where it lies ahead of the expected index x
 abbrev pub IsIndexAhead : ℕ → ℕ → ℕ → Option ℕ → Type 0

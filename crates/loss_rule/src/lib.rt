@@ -1,13 +1,19 @@
 //! The rule by which a receiver decides by itself that segments are lost.
 //!
-//! A [`LossRule`] says whether it does so at all. [`LastNumbers`] keeps of each channel of a flow
-//! the number of the last segment that came there; [`LastNumbers::passed_by_all`] says to which
-//! number every channel has come, and [`slid_to`] how far a window has to slide. [`number_laws`]
-//! ties them to the rule, which the definitions say by true indexes.
+//! On a channel the segments of a flow come in the modem's order. So once each channel of the flow
+//! has brought a segment, what lies before the least of their last ones can't come any more, and
+//! the flow skips to that one. [`LossRule`] says whether this is done, and whether the window also
+//! slides. [`laws`] says what follows.
+//!
+//! [`LastNumbers`] keeps of each channel of a flow the number of the last segment that came there:
+//! [`LastNumbers::passed_by_all`] says to which number every channel has come, and [`slid_to`] to
+//! which one a window slides. [`number_laws`] ties these numbers to the rule, which the definitions
+//! say by true indexes.
 #![tactic(auto)]
 
 mod last_number;
 mod last_numbers;
+pub mod laws;
 pub mod number_laws;
 mod rule;
 mod sliding;

@@ -1,0 +1,201 @@
+-- A segment that comes in channel order, where no decision was handed in: its index was open, and it is kept or lies beyond the window.
+use Rattle.std.proofs.Common.{◌≡◌, ℕ, ◌+◌, ◌<◌, ◌≤◌, ◌⊎◌, inl, inr, true, Some, None, List, refl, ap, sym, subst, ◌∙◌, arith}
+use Rattle.std.proofs.lemmas.Bool.{cases_eq, cases_lt}
+use Rattle.std.proofs.lemmas.Option.{slice_get_within}
+use Rattle.std.specs.FinMap as map
+use Rattle.docsis_wire.specs.declared.segment.Segment.{Segment}
+use Rattle.reorder.specs.declared.verdict.Verdict.TheVariants.{Late, Beyond, Repeat, Kept}
+use Rattle.reorder.proofs.Items.{get-insert_same, get-insert_other}
+use Rattle.flow_core.specs.declared.event.Applied.{Applied}
+use Rattle.flow_core.specs.declared.event.Applied.TheVariants.{Arrival, Decision, DecisionTo, DecisionSkip}
+use Rattle.flow_core.specs.Fates.{Fates, IsKept, IsLost, IsOpen, IsExpected}
+use Rattle.flow_core.specs.Events.{FlowEvent, arrives, IsAhead, Changes}
+use Rattle.flow_core.proofs.Deciding.{IsAhead-once, open_or_settled}
+use Rattle.flow_core.proofs.Nearness.{AreNumbered}
+use Rattle.flow_core.proofs.Outcome.{expected-unique, open_and_settled}
+use Rattle.loss_rule.specs.declared.rule.LossRule.{LossRule}
+use Rattle.loss_rule.specs.Rule.{Coming, RuledFlow, Lasts, IsLastOn, IsPassed}
+use Rattle.loss_rule.specs.InOrder.{Comes, AreInChannelOrder}
+use Rattle.loss_rule.specs.Inside.Reached.{IsReached}
+use Rattle.loss_rule.specs.Inside.Arrival.{AreBounded, IsUpToDate, ArrivesBy}
+use Rattle.loss_rule.specs.Inside.Order.{AreOfComings, IsInStep}
+use Rattle.loss_rule.proofs.Reaching.{expected-onward}
+use Rattle.loss_rule.proofs.Noting.{noted-other, noted-own, noted-bounded}
+use Rattle.loss_rule.proofs.Passing.{passing-lost, passing-keeps, passing-leaves}
+use Rattle.loss_rule.proofs.ChannelOrder.{comes-once, number-at, noted-of}
+
+-- a segment whose index is ahead and open is kept, or lies beyond the window
+abbrev pub IsKeptOrBeyond : ℕ → ℕ → ℕ → Segment → Applied → Fates → Fates → Type 0
+IsKeptOrBeyond width z k segment answer fates after =
+    ((answer ≡ Arrival Kept) × (k < z + width) × (after ≡ map.insert fates k (Some segment)))
+    ⊎ ((answer ≡ Arrival (Beyond segment)) × (z + width ≤ k) × (after ≡ fates))
+
+kept-or_beyond : (first width z k : ℕ) (segment : Segment) (answer : Applied) (fates after : Fates) → IsAhead first z segment.head.sequence k → IsOpen fates k
+    → Changes first width z (arrives segment) answer fates after → IsKeptOrBeyond width z k segment answer fates after
+kept-or_beyond first width z k segment (Arrival (Late back)) fates after ahead free changes = absurd (changes.0.0 k ahead)
+kept-or_beyond first width z k segment (Arrival (Beyond back)) fates after ahead free ((i, ahead', far, same), stays) =
+    let at : i ≡ k = IsAhead-once first z segment.head.sequence i k ahead' ahead in
+    inr (ap (λ s. Arrival (Beyond s)) same, omega arith, stays)
+kept-or_beyond first width z k segment (Arrival (Repeat back)) fates after ahead free ((i, ahead', near, kept, same), stays) =
+    let at = ap (map.get fates) (IsAhead-once first z segment.head.sequence i k ahead' ahead) in
+    let is = kept.1 in
+    absurd cc
+kept-or_beyond first width z k segment (Arrival Kept) fates after ahead free ((i, ahead', near, not_so), keeps) =
+    let at : i ≡ k = IsAhead-once first z segment.head.sequence i k ahead' ahead in
+    inl (refl, omega arith, keeps k ahead)
+kept-or_beyond first width z k segment (Decision declared) fates after ahead free changes = absurd changes
+kept-or_beyond first width z k segment (DecisionTo declared) fates after ahead free changes = absurd changes
+kept-or_beyond first width z k segment (DecisionSkip skipped) fates after ahead free changes = absurd changes
+
+module _ (flow : RuledFlow) (segments : List Segment) (comings : List Coming) (index_at : ℕ → ℕ) (numbered : AreNumbered flow.first segments)
+    (order : AreInChannelOrder flow segments comings index_at)
+    (n channel : ℕ) (segment : Segment) (here : Comes comings n channel segment) (lasts : Lasts) (fates : Fates)
+    (known : IsUpToDate flow lasts fates) (in_step : IsInStep flow comings index_at n lasts fates) where
+  -- its index was open
+  pub index-open : (x : ℕ) → IsExpected fates x → IsOpen fates (index_at n)
+  index-open x expected =
+      elim (open_or_settled fates (index_at n)) [
+        | inl free ↦ free
+        | inr (Some kept, is) ↦
+            let found = in_step.came (index_at n) (kept, is) in
+            let same = order.once found.0 n found.1 channel found.2 segment found.4 here found.5 in
+            let before = found.3 in
+            absurd (omega arith)
+        | inr (None, is) ↦
+            let found = in_step.passed (index_at n) is channel (order.on_flow n channel segment here) in
+            let last = in_step.of_comings channel found.0 found.1 in
+            let later = order.in_order last.0 n channel last.1 segment last.2 last.3 here in
+            let there = last.4 in
+            let passed = found.2 in
+            absurd (omega arith)
+      ]
+
+  pub index-from : (x : ℕ) → IsExpected fates x → x ≤ index_at n
+  index-from x expected =
+      elim (cases_lt (index_at n) x) [
+        | inl below ↦ absurd (open_and_settled fates (index_at n) (index-open x expected) (expected.settled (index_at n) below))
+        | inr from ↦ from
+      ]
+
+  module _ (rule : LossRule) (events : List FlowEvent) (answers : List Applied) (noted : Lasts) (after : Fates) (r : IsReached flow.first flow.width fates)
+      (t : ArrivesBy rule flow lasts fates channel segment events answers noted after) (near : index_at n < t.x + 4096) where
+    index-ahead : IsAhead flow.first t.x segment.head.sequence (index_at n)
+    index-ahead = record { from = index-from t.x t.expected; to = near; numbered = sym (number-at flow segments comings index_at numbered order n channel segment here) }
+
+    -- so it is noted
+    pub own-last : IsLastOn noted channel (index_at n)
+    own-last =
+        noted-own flow.first t.x channel segment.head.sequence lasts noted t.notes (index_at n)
+        (subst (λ l. channel < l) (sym known.size) (slice_get_within flow.channels channel true (order.on_flow n channel segment here))) index-ahead
+
+    still-of : AreOfComings comings index_at (n + 1) noted
+    still-of =
+        let from = index-from t.x t.expected in
+        noted-of flow segments comings index_at numbered order n t.x channel segment lasts noted here in_step.of_comings t.notes (omega arith) near
+
+    -- an earlier last index of a channel, or one later than it
+    still-last : (other index : ℕ) → IsLastOn lasts other index → (later : ℕ) × IsLastOn noted other later × (index ≤ later)
+    still-last other index is =
+        elim (cases_eq other channel) [
+          | inl same ↦
+              let last = in_step.of_comings other index is in
+              let later = order.in_order last.0 n channel last.1 segment last.2 (subst (λ k. Comes comings last.0 k last.1) same last.3) here in
+              let there = last.4 in
+              (index_at n, subst (λ k. IsLastOn noted k (index_at n)) (sym same) own-last, omega arith)
+          | inr differ ↦ (index, noted-other flow.first t.x channel segment.head.sequence lasts noted t.notes other index differ is, omega arith)
+        ]
+
+    still-passed : (i : ℕ) → IsPassed flow lasts i → IsPassed flow noted i
+    still-passed i passed other has =
+        let found = passed other has in
+        let later = still-last other found.0 found.1 in
+        (later.0, later.1, omega (arith, found.2, later.2))
+
+    pub still-latest : (p other : ℕ) (another : Segment) → p < n + 1 → Comes comings p other another → (index : ℕ) × IsLastOn noted other index × (index_at p ≤ index)
+    still-latest p other another before is =
+        elim (cases_eq p n) [
+          | inl same ↦
+              let one = comes-once comings n other channel another segment (subst (λ k. Comes comings k other another) same is) here in
+              (index_at n, subst (λ k. IsLastOn noted k (index_at n)) (sym one.0) own-last, (let e = ap index_at same in omega arith))
+          | inr differ ↦
+              let found = in_step.latest p other another (omega arith) is in
+              let later = still-last other found.0 found.1 in
+              (later.0, later.1, omega (arith, found.2, later.2))
+        ]
+
+    bounded : AreBounded noted t.x
+    bounded = noted-bounded flow.first t.x channel segment.head.sequence lasts noted t.notes (known.bounded t.x t.expected)
+
+    -- it is still open once the rule has skipped what every channel has passed, and lies ahead
+    between-open : IsOpen t.between (index_at n)
+    between-open =
+        passing-leaves flow noted t.x fates t.between t.passing t.passing_answers t.expected bounded t.passes t.leads_passing channel (index_at n) (index_at n)
+        (order.on_flow n channel segment here) own-last (omega arith)
+        ∙ index-open t.x t.expected
+
+    pub between-ahead : IsAhead flow.first t.y segment.head.sequence (index_at n)
+    between-ahead =
+        let onward = expected-onward flow.first flow.width t.x t.y t.passing t.passing_answers fates t.between r t.expected t.leads_passing t.expected_between in
+        record {
+          from = elim (cases_lt (index_at n) t.y) [
+            | inl below ↦ absurd (open_and_settled t.between (index_at n) between-open (t.expected_between.settled (index_at n) below))
+            | inr from ↦ from
+          ];
+          to = omega arith;
+          numbered = sym (number-at flow segments comings index_at numbered order n channel segment here);
+        }
+
+    -- where the window doesn't slide
+    module _ (stays : t.slid ≡ t.between) where
+      same-expected : t.z ≡ t.y
+      same-expected = expected-unique t.between t.z t.y (subst (λ (f : Fates). IsExpected f t.z) stays t.expected_slid) t.expected_between
+
+      pub own-answer : IsKeptOrBeyond flow.width t.y (index_at n) segment t.answer t.between after
+      own-answer =
+          kept-or_beyond flow.first flow.width t.y (index_at n) segment t.answer t.between after between-ahead between-open
+          (subst (λ k. Changes flow.first flow.width k (arrives segment) t.answer t.between after) same-expected
+          (subst (λ (f : Fates). Changes flow.first flow.width t.z (arrives segment) t.answer f after) stays t.changes))
+
+      -- what is kept after it was kept before, or is this one; what is lost was lost by the skip or before
+      kept-after : (i : ℕ) → IsKept after i → IsKept t.between i ⊎ (i ≡ index_at n)
+      kept-after i kept =
+          elim own-answer [
+            | inl (_, _, is) ↦ elim (cases_eq i (index_at n)) [
+              | inl same ↦ inr same
+              | inr differ ↦ inl (kept.0, sym (get-insert_other t.between (index_at n) (Some segment) i differ) ∙ ap (λ (f : Fates). map.get f i) (sym is) ∙ kept.1)
+            ]
+            | inr (_, _, is) ↦ inl (kept.0, ap (λ (f : Fates). map.get f i) (sym is) ∙ kept.1)
+          ]
+
+      lost-after : (i : ℕ) → IsLost after i → IsLost t.between i
+      lost-after i lost =
+          elim own-answer [
+            | inl (_, _, is) ↦
+                let there : map.get (map.insert t.between (index_at n) (Some segment)) i ≡ Some None = ap (λ (f : Fates). map.get f i) (sym is) ∙ lost in
+                elim (cases_eq i (index_at n)) [
+                  | inl same ↦
+                      let kept = get-insert_same t.between (index_at n) (Some segment) in
+                      let at = ap (map.get (map.insert t.between (index_at n) (Some segment))) same in
+                      absurd cc
+                  | inr differ ↦ sym (get-insert_other t.between (index_at n) (Some segment) i differ) ∙ there
+                ]
+            | inr (_, _, is) ↦ ap (λ (f : Fates). map.get f i) (sym is) ∙ lost
+          ]
+
+      pub in_step-after : IsInStep flow comings index_at (n + 1) noted after
+      in_step-after = record {
+        of_comings = still-of;
+        latest = still-latest;
+        came = λ i kept. elim (kept-after i kept) [
+          | inl before ↦
+              let same = (passing-keeps flow noted t.x fates t.between t.passing t.passing_answers t.expected bounded t.passes t.leads_passing i before.0).0 before.1 in
+              let found = in_step.came i (before.0, same) in
+              (found.0, found.1, found.2, (let past = found.3 in omega arith), found.4, found.5)
+          | inr same ↦ (n, channel, segment, omega arith, here, sym same)
+        ];
+        passed = λ i lost.
+            elim (passing-lost flow noted t.x fates t.between t.passing t.passing_answers t.expected bounded t.passes t.leads_passing i (lost-after i lost)) [
+              | inl before ↦ still-passed i (in_step.passed i before)
+              | inr passed ↦ passed
+            ];
+      }

@@ -1,0 +1,6 @@
+-- What only proofs speak of.
+pub mod Reached
+pub mod Leasts
+pub mod Arrival
+pub mod Order
+pub mod Verdicts

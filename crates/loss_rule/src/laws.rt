@@ -1,0 +1,199 @@
+//! Laws about the rule: what it makes of all that comes is one thing, it loses nothing that still
+//! comes, and where nothing comes further ahead than the window holds, a closed flow has given the
+//! modem's frames of which each segment came.
+//!
+//! Each function states a law in its contract; its body is empty or only calls other laws.
+ghost use Rattle.std.specs.Prelude.{◌≡◌, ◌≢◌, ◌↔◌, ◌⊎◌, ◌+◌, ◌<◌, ◌≤◌, ◌∷◌, ◌++◌, ℕ, Bool, Some, List, map, length, replicate, slice_get};
+ghost use Rattle.docsis_wire.specs.declared.segment.Segment.{Segment};
+ghost use Rattle.docsis_wire.specs.Cut.{IsLawfulCut};
+ghost use Rattle.ccf.specs.Filter.{FiltersTo};
+ghost use Rattle.reorder.specs.Limits.{numbers_ahead, width_max};
+ghost use Rattle.reorder.specs.declared.verdict.Verdict.{Verdict};
+ghost use Rattle.flow_core.specs.declared.event.Applied.{Applied};
+ghost use Rattle.flow_core.specs.declared.counts.FlowCounts.{FlowCounts};
+ghost use Rattle.flow_core.specs.declared.record.FlowRecord.{FlowRecord};
+ghost use Rattle.flow_core.specs.Fates.{Fates, IsKept, IsKeptAs, IsLost, IsExpected};
+ghost use Rattle.flow_core.specs.Events.{FlowEvent, gap, IsAhead, Leads, IsAfter};
+ghost use Rattle.flow_core.specs.Closing.{IsClosed};
+ghost use Rattle.flow_core.specs.Outcome.{IsFlowOutcome};
+ghost use Rattle.loss_rule.specs.declared.rule.LossRule.{LossRule};
+ghost use Rattle.loss_rule.specs.Rule.{Coming, on_channel, RuledFlow, HasChannel, Lasts, IsPassed, Notes, AreSkips, IsRuled, Rules, AreRuled, own_event};
+ghost use Rattle.loss_rule.specs.InOrder.{Comes, AreInChannelOrder, ComeNear, FitTheWindow, HaveNoDecision, IsAllCome};
+
+/// Whatever comes to a flow, the rule makes one list of events of it, and leads to one last index
+/// of each channel and one fate of each index. The events lead to those fates.
+pub fn ruled_events_are_one()
+    ensures some { (rule : LossRule) (flow : RuledFlow) (comings : List Coming)
+        → (events : List FlowEvent) × (noted : Lasts) × (fates : Fates)
+        × AreRuled rule flow comings events noted fates }
+    ensures only { (rule : LossRule) (flow : RuledFlow) (comings : List Coming)
+        (events others : List FlowEvent) (noted more : Lasts) (fates after : Fates)
+        → AreRuled rule flow comings events noted fates
+        → AreRuled rule flow comings others more after
+        → (events ≡ others) × (noted ≡ more) × (fates ≡ after) }
+    ensures after { (rule : LossRule) (flow : RuledFlow) (comings : List Coming)
+        (events : List FlowEvent) (noted : Lasts) (fates : Fates)
+        → AreRuled rule flow comings events noted fates
+        → (answers : List Applied) × IsAfter flow.first flow.width events answers fates }
+{}
+
+/// Two lists of what comes, one after the other, are ruled as the first one is and then the other.
+pub fn comings_are_ruled_in_turn()
+    ensures { (rule : LossRule) (flow : RuledFlow) (lasts noted : Lasts) (fates after : Fates)
+        (comings more : List Coming) (events : List FlowEvent)
+        → Rules rule flow lasts fates (comings ++ more) events noted after
+        ↔ ((front : List FlowEvent) × (back : List FlowEvent)
+        × (between_lasts : Lasts) × (between : Fates)
+        × Rules rule flow lasts fates comings front between_lasts between
+        × Rules rule flow between_lasts between more back noted after
+        × (events ≡ front ++ back)) }
+{}
+
+/// Where decisions that are handed in decide alone, the events are just what came, one for one.
+pub fn decided_rule_adds_nothing()
+    ensures events { (flow : RuledFlow) (comings : List Coming) (events : List FlowEvent)
+        (noted : Lasts) (fates : Fates)
+        → AreRuled LossRule.Decided flow comings events noted fates
+        → events ≡ map own_event comings }
+    ensures ruled { (flow : RuledFlow) (comings : List Coming) (answers : List Applied)
+        (fates : Fates)
+        → IsAfter flow.first flow.width (map own_event comings) answers fates
+        → (noted : Lasts)
+        × AreRuled LossRule.Decided flow comings (map own_event comings) noted fates }
+{}
+
+/// **Safe: the rule loses nothing that still comes.** In a near list in channel order of one lawful
+/// cut, an index that the skips before a segment lose is neither that segment's nor that of a later
+/// one. So where no decision is handed in, no segment is late and none a repeat: each is kept, or
+/// lies beyond the window.
+pub fn rule_loses_nothing_that_still_comes()
+    ensures lost { (check : List ℕ → Bool) (frames chunks : List (List ℕ)) (fill : ℕ)
+        (segments : List Segment) (flow : RuledFlow) (before behind : List Coming)
+        (index_at : ℕ → ℕ) (channel other q x : ℕ) (segment another : Segment)
+        (events skips : List FlowEvent) (answers : List Applied) (lasts noted : Lasts)
+        (fates after : Fates)
+        → IsLawfulCut check frames flow.first fill chunks segments
+        → AreInChannelOrder flow segments (before ++ on_channel channel segment ∷ behind) index_at
+        → ComeNear LossRule.Passed flow (before ++ on_channel channel segment ∷ behind) index_at
+        → AreRuled LossRule.Passed flow before events lasts fates → IsExpected fates x
+        → Notes flow.first x channel segment.head.sequence lasts noted
+        → AreSkips LossRule.Passed flow noted fates segment.head.sequence skips
+        → Leads flow.first flow.width fates skips answers after
+        → Comes (before ++ on_channel channel segment ∷ behind) q other another
+        → length before ≤ q → IsLost after (index_at q) → IsLost fates (index_at q) }
+    ensures verdicts { (check : List ℕ → Bool) (frames chunks : List (List ℕ)) (fill : ℕ)
+        (segments : List Segment) (flow : RuledFlow) (comings : List Coming)
+        (index_at : ℕ → ℕ) (events : List FlowEvent) (answers : List Applied) (noted : Lasts)
+        (fates : Fates) (k : ℕ) (verdict : Verdict Segment)
+        → IsLawfulCut check frames flow.first fill chunks segments
+        → AreInChannelOrder flow segments comings index_at
+        → ComeNear LossRule.Passed flow comings index_at → HaveNoDecision comings
+        → AreRuled LossRule.Passed flow comings events noted fates
+        → IsAfter flow.first flow.width events answers fates
+        → slice_get answers k ≡ Some (Applied.Arrival verdict)
+        → (verdict ≡ Verdict.Kept) ⊎ ((back : Segment) × (verdict ≡ Verdict.Beyond back)) }
+{}
+
+/// **Nothing that came is dropped.** In a list in channel order of one lawful cut, with no decision
+/// handed in, where nothing comes further ahead than the window holds: each segment comes near the
+/// expected index, and is kept under its own index, and nothing else is kept. So no segment is late,
+/// beyond the window or a repeat.
+pub fn all_that_comes_is_kept()
+    ensures near { (check : List ℕ → Bool) (frames chunks : List (List ℕ)) (fill : ℕ)
+        (segments : List Segment) (rule : LossRule) (flow : RuledFlow) (comings : List Coming)
+        (index_at : ℕ → ℕ)
+        → rule ≢ LossRule.Decided → flow.width ≤ width_max
+        → IsLawfulCut check frames flow.first fill chunks segments
+        → AreInChannelOrder flow segments comings index_at
+        → FitTheWindow flow comings index_at → HaveNoDecision comings
+        → ComeNear rule flow comings index_at }
+    ensures kept { (check : List ℕ → Bool) (frames chunks : List (List ℕ)) (fill : ℕ)
+        (segments : List Segment) (rule : LossRule) (flow : RuledFlow) (comings : List Coming)
+        (index_at : ℕ → ℕ) (events : List FlowEvent) (noted : Lasts) (fates : Fates)
+        (p channel : ℕ) (segment : Segment)
+        → rule ≢ LossRule.Decided → flow.width ≤ width_max
+        → IsLawfulCut check frames flow.first fill chunks segments
+        → AreInChannelOrder flow segments comings index_at
+        → FitTheWindow flow comings index_at → HaveNoDecision comings
+        → AreRuled rule flow comings events noted fates
+        → Comes comings p channel segment → IsKeptAs fates (index_at p) segment }
+    ensures came { (check : List ℕ → Bool) (frames chunks : List (List ℕ)) (fill : ℕ)
+        (segments : List Segment) (rule : LossRule) (flow : RuledFlow) (comings : List Coming)
+        (index_at : ℕ → ℕ) (events : List FlowEvent) (noted : Lasts) (fates : Fates) (i : ℕ)
+        → rule ≢ LossRule.Decided → flow.width ≤ width_max
+        → IsLawfulCut check frames flow.first fill chunks segments
+        → AreInChannelOrder flow segments comings index_at
+        → FitTheWindow flow comings index_at → HaveNoDecision comings
+        → AreRuled rule flow comings events noted fates → IsKept fates i
+        → (p channel : ℕ) × (segment : Segment)
+        × Comes comings p channel segment × (index_at p ≡ i) }
+    ensures verdicts { (check : List ℕ → Bool) (frames chunks : List (List ℕ)) (fill : ℕ)
+        (segments : List Segment) (rule : LossRule) (flow : RuledFlow) (comings : List Coming)
+        (index_at : ℕ → ℕ) (events : List FlowEvent) (answers : List Applied) (noted : Lasts)
+        (fates : Fates) (k : ℕ) (verdict : Verdict Segment)
+        → rule ≢ LossRule.Decided → flow.width ≤ width_max
+        → IsLawfulCut check frames flow.first fill chunks segments
+        → AreInChannelOrder flow segments comings index_at
+        → FitTheWindow flow comings index_at → HaveNoDecision comings
+        → AreRuled rule flow comings events noted fates
+        → IsAfter flow.first flow.width events answers fates
+        → slice_get answers k ≡ Some (Applied.Arrival verdict) → verdict ≡ Verdict.Kept }
+{}
+
+/// **What a closed flow gave, of all that came.** For every modem's frames, every lawful cut of
+/// them and every list in channel order that fits the window, with no decision handed in: with gaps
+/// after the rule's events until the flow is closed, what it gives by the definitions is exactly the
+/// modem's frames of which each segment came, in the modem's order.
+pub fn closed_flow_gives_the_frames_that_all_came()
+    ensures { (check : List ℕ → Bool) (frames chunks : List (List ℕ)) (fill n : ℕ)
+        (segments : List Segment) (rule : LossRule) (flow : RuledFlow) (flow_record : FlowRecord)
+        (comings : List Coming) (index_at : ℕ → ℕ) (events : List FlowEvent) (noted : Lasts)
+        (fates : Fates) (given : List (List ℕ)) (counts : FlowCounts)
+        → rule ≢ LossRule.Decided → flow.width ≤ width_max
+        → flow_record.first ≡ flow.first → flow_record.window ≡ flow.width
+        → IsLawfulCut check frames flow.first fill chunks segments
+        → AreInChannelOrder flow segments comings index_at
+        → FitTheWindow flow comings index_at → HaveNoDecision comings
+        → AreRuled rule flow comings events noted fates
+        → (outcome : IsFlowOutcome check flow_record (events ++ replicate n gap) given counts)
+        → IsClosed outcome.fates
+        → FiltersTo (IsAllCome frames chunks comings index_at) frames given }
+{
+    flow_core::laws::closed_flow_gives_the_frames_that_were_all_kept();
+    flow_core::laws::gaps_leave_what_was_kept();
+}
+
+/// **Prompt: the flow never waits for what can no longer come.** Each index that every channel has
+/// passed, since its last segment has a later one, is kept or lost. So the index that is expected
+/// is none of them.
+pub fn flow_never_waits_for_what_can_no_longer_come()
+    ensures settled { (rule : LossRule) (flow : RuledFlow) (comings : List Coming)
+        (events : List FlowEvent) (noted : Lasts) (fates : Fates) (own i : ℕ)
+        → rule ≢ LossRule.Decided → AreRuled rule flow comings events noted fates
+        → HasChannel flow own → IsPassed flow noted i → IsKept fates i ⊎ IsLost fates i }
+    ensures expected { (rule : LossRule) (flow : RuledFlow) (comings : List Coming)
+        (events : List FlowEvent) (noted : Lasts) (fates : Fates) (own x : ℕ)
+        → rule ≢ LossRule.Decided → AreRuled rule flow comings events noted fates
+        → HasChannel flow own → IsExpected fates x → ¬ (IsPassed flow noted x) }
+{}
+
+/// **Never stuck, where the window slides.** A segment that comes is never beyond the window. Once
+/// it came, each index that lies the width of the window or more before its own is kept or lost: a
+/// flow never holds its head back for longer.
+pub fn sliding_flow_is_never_stuck()
+    ensures beyond { (flow : RuledFlow) (before : List Coming) (events own : List FlowEvent)
+        (lasts noted : Lasts) (fates after : Fates) (channel k : ℕ) (segment back : Segment)
+        (answers : List Applied)
+        → 1 ≤ flow.width → AreRuled LossRule.PassedOrSlid flow before events lasts fates
+        → IsRuled LossRule.PassedOrSlid flow lasts fates (on_channel channel segment) own noted
+        → Leads flow.first flow.width fates own answers after
+        → ¬ (slice_get answers k ≡ Some (Applied.Arrival (Verdict.Beyond back))) }
+    ensures settled { (flow : RuledFlow) (before : List Coming) (events own : List FlowEvent)
+        (lasts noted : Lasts) (fates after : Fates) (channel x i j : ℕ) (segment : Segment)
+        (answers : List Applied)
+        → 1 ≤ flow.width → AreRuled LossRule.PassedOrSlid flow before events lasts fates
+        → IsRuled LossRule.PassedOrSlid flow lasts fates (on_channel channel segment) own noted
+        → Leads flow.first flow.width fates own answers after
+        → IsExpected fates x → IsAhead flow.first x segment.head.sequence i
+        → j + flow.width ≤ i → IsKept after j ⊎ IsLost after j }
+{}
