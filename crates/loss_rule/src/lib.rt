@@ -16,11 +16,11 @@ mod last_numbers;
 pub mod laws;
 pub mod number_laws;
 mod rule;
-mod sliding;
+mod slide;
 #[cfg(test)]
 mod tests;
 
 pub use last_number::LastNumber;
 pub use last_numbers::LastNumbers;
 pub use rule::LossRule;
-pub use sliding::slid_to;
+pub use slide::slid_to;
