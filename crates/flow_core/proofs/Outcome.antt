@@ -263,6 +263,22 @@ pub sound-changes : (first width x : ℕ) (event : FlowEvent) (answer : Applied)
 sound-changes first width x event answer fates after sound changes =
     Grows-sound width x fates after sound (Changes-grows first width x event answer fates after sound changes)
 
+-- Where the window is at most 4096 wide, the expected index moves on by at most 4096.
+pub onward-changes : (first width x y : ℕ) (event : FlowEvent) (answer : Applied) (fates after : Fates) → width ≤ 4096
+    → IsSound width fates x → Changes first width x event answer fates after → IsExpected after y
+    → (x ≤ y) × (y ≤ x + 4096)
+onward-changes first width x y event answer fates after narrow sound changes expected =
+    let grows = Changes-grows first width x event answer fates after sound changes in
+    let next = Grows-sound width x fates after sound grows in
+    let same = expected-unique after y next.0 expected next.2.expected in
+    let found = expected-exists after (x + 4096) (λ i from. elim (open_or_settled after i) [
+      | inl free ↦ free
+      | inr (None, is) ↦ let near = grows.near i is in absurd (omega arith)
+      | inr (Some segment, is) ↦ let near = grows.within i (segment, is) in absurd (omega arith)
+    ]) in
+    let same' = expected-unique after y found.0 expected found.1 in
+    (omega (arith, next.1), omega (arith, found.2))
+
 -- and so do events one after another
 pub sound-leads : (first width x : ℕ) (events : List FlowEvent) (answers : List Applied) (fates after : Fates)
     → IsSound width fates x → Leads first width fates events answers after

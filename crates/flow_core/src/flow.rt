@@ -193,6 +193,14 @@ impl Flow {
         self.window.next().is_none()
     }
 
+    /// The number that the window expects, 0 to 8191.
+    pub fn expected(&self) -> u16
+        ensures number { result ≡ self.now.window.expected }
+        ensures in_range { result < sequence_modulus }
+    {
+        self.window.expected()
+    }
+
     /// What was counted so far.
     pub fn counts(&self) -> FlowCounts
         ensures { result ≡ self.now.counts }

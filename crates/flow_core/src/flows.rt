@@ -24,6 +24,7 @@ pub struct Core<C> {
 
 impl<C: HeaderCheck + Drop> Core<C> {
     ghost use Rattle.std.specs.Prelude.{◌≡◌, ◌<◌, ◌↔◌, ℕ, length, IsTrue, IfOk, IsOk, OnErr, Ok, Err};
+    ghost use Rattle.docsis_wire.specs.Limits.{sequence_modulus};
     ghost use Rattle.flow_records.specs.Setup.{IsSetupFault, CanBeSetUp};
     ghost use Rattle.flow_core.specs.Flows.{flow_of, event_of, IsTakable, IsNewCore, HasFlow};
     ghost use Rattle.flow_core.specs.Flows.{IsDrainedAt, AdvancesAt, OthersStay, TakesEventAt};
@@ -88,6 +89,16 @@ impl<C: HeaderCheck + Drop> Core<C> {
         ensures { IsTrue result ↔ IsDrainedAt self.now flow }
     {
         self.flows[flow].is_drained()
+    }
+
+    /// The number that a flow expects, 0 to 8191. Of a drained flow it is that of its expected
+    /// index, by a law of [`crate::laws`].
+    pub fn expected(&self, flow: usize) -> u16
+        requires exists { flow < length self.now.flows.items }
+        ensures number { (one : Flow) → HasFlow self.now flow one → result ≡ one.window.expected }
+        ensures in_range { result < sequence_modulus }
+    {
+        self.flows[flow].expected()
     }
 
     /// How many flows there are, 0 to 64.

@@ -2,14 +2,14 @@
 //! and the delivery sequence only grows.
 //!
 //! Each function states a law in its contract; its body is empty or only calls other laws.
-ghost use Rattle.std.specs.Prelude.{◌≡◌, ◌↔◌, ◌⊎◌, ◌+◌, ◌<◌, ◌≤◌, ℕ, Bool, false, Option, List, IsTrue, [], ◌++◌, length, count_by, replicate};
+ghost use Rattle.std.specs.Prelude.{◌≡◌, ◌↔◌, ◌⊎◌, ◌+◌, ◌<◌, ◌≤◌, ℕ, Bool, false, Option, List, IsTrue, [], ◌∷◌, ◌++◌, length, count_by, replicate};
 ghost use Rattle.std.specs.List.{AllByRecursion};
 ghost use Rattle.docsis_wire.specs.declared.segment.Segment.{Segment};
 ghost use Rattle.docsis_wire.specs.Frame.{IsFrame};
 ghost use Rattle.docsis_wire.specs.Cut.{IsLawfulCut};
 ghost use Rattle.docsis_wire.specs.Span.{IsSettledOf};
 ghost use Rattle.ccf.specs.Filter.{FiltersTo};
-ghost use Rattle.reorder.specs.Limits.{numbers_ahead};
+ghost use Rattle.reorder.specs.Limits.{numbers_ahead, width_max};
 ghost use Rattle.ccf.specs.Join.{Joins};
 ghost use Rattle.flow_records.specs.declared.record.FlowRecord.{FlowRecord};
 ghost use Rattle.flow_core.specs.declared.flow.Flow.{Flow};
@@ -100,6 +100,27 @@ pub fn drained_flow_has_come_to_its_expected_index()
         → StandsFor check flow_record flow events answers y given
         → IsAfter flow_record.first flow_record.window events answers fates
         → IsDrained flow ↔ IsExpected fates y }
+{}
+
+/// A drained flow expects the number of its expected index.
+pub fn drained_flow_expects_the_number_of_its_expected_index()
+    ensures { (check : List ℕ → Bool) (flow_record : FlowRecord) (flow : Flow)
+        (events : List FlowEvent) (answers : List Applied) (x y : ℕ) (given : List (List ℕ))
+        (fates : Fates)
+        → StandsFor check flow_record flow events answers y given
+        → IsAfter flow_record.first flow_record.window events answers fates
+        → IsDrained flow → IsExpected fates x
+        → flow.window.expected ≡ number_of flow_record.first x }
+{}
+
+/// An event never moves the expected index back, and moves it on by at most 4,096.
+pub fn event_moves_the_expected_index_on_by_half_the_numbers_at_most()
+    ensures { (first width x y : ℕ) (events : List FlowEvent) (event : FlowEvent)
+        (answers more : List Applied) (fates after : Fates)
+        → width ≤ width_max
+        → IsAfter first width events answers fates → IsExpected fates x
+        → Leads first width fates (event ∷ []) more after → IsExpected after y
+        → (x ≤ y) × (y ≤ x + numbers_ahead) }
 {}
 
 /// **What a flow gave is the delivery sequence.** For every modem's frames, every lawful cut of

@@ -17,7 +17,7 @@
 //!    and appends the frames that come then; [`Core::close_gap`] is one such loss.
 //! 5. [`Core::counts`] says how many segments were kept, late, repeated, beyond the window and
 //!    lost, how many frames were given and how many bytes skipped; [`Core::flow_count`] how many
-//!    flows there are.
+//!    flows there are; [`Core::expected`] which number a flow expects.
 //!
 //! Contracts say which list of events a flow stands for, whatever it stood for before, and [`laws`]
 //! says what follows: over a modem's lawful cut and near events, what a drained flow gave is

@@ -1,3 +1,7 @@
+pub mod LeastNumber
+pub mod Forgetting
+pub mod TiedNumbers
+pub mod TiedSkips
 pub mod Reaching
 pub mod Leasts
 pub mod Rulings

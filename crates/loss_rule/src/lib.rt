@@ -4,9 +4,23 @@
 //! has brought a segment, what lies before the least of their last ones can't come any more, and
 //! the flow skips to that one. [`LossRule`] says whether this is done, and whether the window also
 //! slides. [`laws`] says what follows.
+//!
+//! [`LastNumbers`] keeps of each channel of a flow the number of the last segment that came there:
+//! [`LastNumbers::passed_by_all`] says to which number every channel has come, and [`slid_to`] to
+//! which one a window slides. [`number_laws`] ties these numbers to the rule, which the definitions
+//! say by true indexes.
 #![tactic(auto)]
 
+mod last_number;
+mod last_numbers;
 pub mod laws;
+pub mod number_laws;
 mod rule;
+mod slide;
+#[cfg(test)]
+mod tests;
 
+pub use last_number::LastNumber;
+pub use last_numbers::LastNumbers;
 pub use rule::LossRule;
+pub use slide::slid_to;

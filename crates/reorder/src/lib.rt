@@ -16,6 +16,8 @@
 //!    whether or not a later one is held. When to do so is for the caller to decide.
 //! 5. [`Window::expected`] and [`Window::held`] tell the state.
 //!
+//! [`offset`] says how far a number lies ahead of another one.
+//!
 //! Contracts see a window as its expected number, its width and a finite map from the held numbers
 //! to the items, and each call is an equation on these three. The contract that matters most is
 //! that of [`Window::offer`]: which verdict comes when, and that only `Kept` changes anything.
@@ -27,9 +29,11 @@
 #![tactic(auto)]
 
 pub mod laws;
+mod number;
 mod verdict;
 mod window;
 
+pub use number::offset;
 pub use verdict::{Declared, Verdict};
 pub use window::Window;
 
@@ -39,7 +43,7 @@ pub const MODULUS: u16 = 8192;
 
 /// How many numbers lie ahead of an expected number, itself included: half of them all. The others
 /// lie behind it.
-pub(crate) const NUMBERS_AHEAD: u16 = MODULUS / 2;
+pub const NUMBERS_AHEAD: u16 = MODULUS / 2;
 
 /// The greatest width of a window: as many numbers as lie ahead (this project's profile).
 pub const WIDTH_MAX: u16 = NUMBERS_AHEAD;

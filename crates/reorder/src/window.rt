@@ -3,13 +3,13 @@ ghost use Rattle.std.specs.Prelude.{◌≡◌, ◌<◌, ◌≤◌, IfOk};
 ghost use Rattle.std.specs.Option.{option_copied};
 ghost use Rattle.std.specs.FinMap as map;
 ghost use Rattle.reorder.specs.Limits.{modulus, width_max};
-ghost use Rattle.reorder.specs.Number.{offset, following};
 ghost use Rattle.reorder.specs.View.{IsLawful, held_at, empty_window, next_taken, moved_on_by};
 ghost use Rattle.reorder.specs.Verdicts.{IsVerdict, after_offer, after_take_next};
 ghost use Rattle.reorder.specs.Verdicts.{IsDeclared, after_declare, declared_count, skipped_count};
 
+use crate::NUMBERS_AHEAD;
+use crate::number::{number_after, offset};
 use crate::verdict::{Declared, Verdict};
-use crate::{MODULUS, NUMBERS_AHEAD};
 use circular_buffer::HeapCircularBuffer;
 use std::alloc::{AllocError, Global};
 use std::marker::Model;
@@ -76,7 +76,7 @@ impl<T> Window<T> {
         ensures after { self.new ≡ after_offer self.old number item result }
         ensures lawful { IsLawful self.new }
     {
-        let offset = offset_of(self.expected, number);
+        let offset = offset(self.expected, number);
         if offset >= NUMBERS_AHEAD {
             return Verdict::Late(item);
         }
@@ -148,7 +148,7 @@ impl<T> Window<T> {
         ensures after { self.new ≡ moved_on_by self.old result }
         ensures lawful { IsLawful self.new }
     {
-        let ahead = offset_of(self.expected, number);
+        let ahead = offset(self.expected, number);
         if ahead >= NUMBERS_AHEAD {
             return 0;
         }
@@ -170,7 +170,7 @@ impl<T> Window<T> {
         ensures after { self.new ≡ moved_on_by self.old result }
         ensures lawful { IsLawful self.new }
     {
-        let distance = offset_of(self.expected, number);
+        let distance = offset(self.expected, number);
         if distance >= NUMBERS_AHEAD {
             return 0;
         }
@@ -213,19 +213,4 @@ impl<T> Window<T> {
         self.expected = number_after(self.expected);
         item
     }
-}
-
-fn offset_of(expected: u16, number: u16) -> u16
-    requires expected_in_range { expected < modulus }
-    requires number_in_range { number < modulus }
-    ensures { result ≡ offset expected number }
-{
-    (number + MODULUS - expected) % MODULUS
-}
-
-fn number_after(number: u16) -> u16
-    requires { number < modulus }
-    ensures { result ≡ following number }
-{
-    (number + 1) % MODULUS
 }

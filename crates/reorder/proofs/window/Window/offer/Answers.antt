@@ -13,7 +13,7 @@ invariant_of-self-then-is_some g c =
 
 pub returns-then-is_some-clause-verdict : goal.returns-then-is_some-clause-verdict
 returns-then-is_some-clause-verdict g c =
-    let place = c.from.ensures ∙ c.offset_of-offset.ensures in
+    let place = c.from.ensures ∙ c.offset-offset.ensures in
     let there = sym c.in-Some.ensures.value in
     let held = held-at_place _ _ _ c.self.invariant c.args.number _ _ c.requires place there in
     subst (λ (w : WindowView _). (offset w.expected c.args.number < w.width) × IsHeld w c.args.number × (c.args.item ≡ c.args.item)) c.self.view_is
@@ -31,20 +31,20 @@ overflow_add-self g c = let small = count-small _ _ _ c.self.invariant in omega 
 
 pub invariant_of-self-in-Some : goal.invariant_of-self-in-Some
 invariant_of-self-in-Some g c =
-    let place = c.from.ensures ∙ c.offset_of-offset.ensures in
+    let place = c.from.ensures ∙ c.offset-offset.ensures in
     let there = sym c.in-Some.ensures.value ∙ ap Some (sym c.in-None-replace.ensures.value) in
     subst (λ p. IsKept c.self.inside.expected (c.self.inside.held + 1) (buffer (slice_set c.self.inside.places.items c.from.result p) c.self.inside.places.capacity)) (sym c.replace.ensures.after) (kept-put _ _ _ c.self.invariant c.args.number _ c.args.item c.requires place there)
 
 pub returns-in-None-clause-verdict : goal.returns-in-None-clause-verdict
 returns-in-None-clause-verdict g c =
-    let place = c.from.ensures ∙ c.offset_of-offset.ensures in
+    let place = c.from.ensures ∙ c.offset-offset.ensures in
     let past = past_places _ _ c.in-None.ensures.value in
     subst (λ (w : WindowView _). (offset w.expected c.args.number < 4096) × (w.width ≤ offset w.expected c.args.number) × (c.args.item ≡ c.args.item)) c.self.view_is
-    (subst (λ n. n < 4096) c.offset_of-offset.ensures c.if-offset-ge-NUMBERS_AHEAD.false, subst (λ n. length c.self.inside.places.items ≤ n) place past, refl)
+    (subst (λ n. n < 4096) c.offset-offset.ensures c.if-offset-ge-NUMBERS_AHEAD.false, subst (λ n. length c.self.inside.places.items ≤ n) place past, refl)
 
 pub returns-in-None-replace-clause-verdict : goal.returns-in-None-replace-clause-verdict
 returns-in-None-replace-clause-verdict g c =
-    let place = c.from.ensures ∙ c.offset_of-offset.ensures in
+    let place = c.from.ensures ∙ c.offset-offset.ensures in
     let there = sym c.in-Some.ensures.value ∙ ap Some (sym c.in-None-replace.ensures.value) in
     let free = held-at_place _ _ _ c.self.invariant c.args.number _ _ c.requires place there in
     subst (λ (w : WindowView _). (offset w.expected c.args.number < w.width) × ¬ (IsHeld w c.args.number)) c.self.view_is
@@ -52,7 +52,7 @@ returns-in-None-replace-clause-verdict g c =
 
 pub returns-in-None-replace-clause-after : goal.returns-in-None-replace-clause-after
 returns-in-None-replace-clause-after g c =
-    let place = c.from.ensures ∙ c.offset_of-offset.ensures in
+    let place = c.from.ensures ∙ c.offset-offset.ensures in
     let there = sym c.in-Some.ensures.value in
     ap (λ p. seen c.self.inside.expected (slice_set c.self.inside.places.items c.from.result p)) c.replace.ensures.after
     ∙ seen-put _ _ _ c.self.invariant c.args.number _ c.args.item c.requires place (slice_get_within _ _ _ there)

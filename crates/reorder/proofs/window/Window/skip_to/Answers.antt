@@ -14,13 +14,13 @@ loop-count-preserved g c = record {
 pub returns-then-is_some-clause-count : goal.returns-then-is_some-clause-count
 returns-then-is_some-clause-count g c =
     let lawful : IsLawful c.args.self.now = subst (λ (w : WindowView _). IsLawful w) c.self.view_is c.self.invariant.lawful in
-    let is : c.offset_of-distance.result ≡ offset_in c.args.self.now c.args.number = c.offset_of-distance.ensures ∙ ap (λ (w : WindowView _). offset_in w c.args.number) c.self.view_is in
+    let is : c.offset-distance.result ≡ offset_in c.args.self.now c.args.number = c.offset-distance.ensures ∙ ap (λ (w : WindowView _). offset_in w c.args.number) c.self.view_is in
     let held : IsHeld c.loop-count.self c.loop-count.self.expected = search rules in
     skipped_count-at_held c.args.self.now c.args.number lawful c.loop-count.count c.loop-count.invariant.free (omega arith) (omega arith) (subst (λ (w : WindowView _). IsHeld w w.expected) c.loop-count.invariant.moved held)
 
 pub returns-clause-count : goal.returns-clause-count
 returns-clause-count g c =
     let lawful : IsLawful c.args.self.now = subst (λ (w : WindowView _). IsLawful w) c.self.view_is c.self.invariant.lawful in
-    let is : c.offset_of-distance.result ≡ offset_in c.args.self.now c.args.number = c.offset_of-distance.ensures ∙ ap (λ (w : WindowView _). offset_in w c.args.number) c.self.view_is in
-    let all : c.loop-count.count ≡ c.offset_of-distance.result = omega arith in
+    let is : c.offset-distance.result ≡ offset_in c.args.self.now c.args.number = c.offset-distance.ensures ∙ ap (λ (w : WindowView _). offset_in w c.args.number) c.self.view_is in
+    let all : c.loop-count.count ≡ c.offset-distance.result = omega arith in
     sym all ∙ skipped_count-reached c.args.self.now c.args.number lawful c.loop-count.count c.loop-count.invariant.free (all ∙ is) (omega arith)

@@ -1,0 +1,121 @@
+//! Of each channel of a flow the number of the last segment that came there.
+//!
+//! It is what the rule knows in numbers: no number stands for longer than it lies ahead.
+ghost use Rattle.std.specs.Prelude.{◌≡◌, ◌<◌, ◌≤◌, ◌⊎◌, ℕ, IfOk, IfSome, map, slice_set};
+ghost use Rattle.std.specs.Option.{ForSome};
+ghost use Rattle.docsis_wire.specs.Limits.{sequence_modulus};
+ghost use Rattle.reorder.specs.Number.{offset};
+ghost use Rattle.loss_rule.specs.Numbers.{carried_of, numbers_of, ahead_number, still_ahead};
+ghost use Rattle.loss_rule.specs.Numbers.{no_numbers, IsPassedByAll};
+
+use crate::last_number::LastNumber;
+use reorder::{NUMBERS_AHEAD, offset};
+use std::alloc::{AllocError, Global};
+
+/// What is known of each channel of one flow.
+#[derive(Drop)]
+pub struct LastNumbers {
+    channels: Vec<LastNumber>,
+}
+
+impl LastNumbers {
+    /// Nothing came yet on any of the channels, of which each is carried or not.
+    pub fn new(alloc: Global, channels: &[bool]) -> Result<LastNumbers, AllocError>
+        ensures carried { IfOk result (λ lasts. carried_of lasts ≡ channels.now) }
+        ensures numbers { IfOk result (λ lasts. numbers_of lasts ≡ no_numbers channels.now) }
+    {
+        let mut known = Vec::with_capacity(alloc, channels.len())?;
+        for carried in channels {
+            known.push_reserved(LastNumber {
+                carried: *carried,
+                last: None,
+            });
+        }
+        Ok(LastNumbers { channels: known })
+    }
+
+    /// A segment with this number, 0 to 8191, came on a channel: the channel's number becomes this
+    /// one where it lies ahead of the expected number, 0 to 8191, and otherwise none. On any
+    /// other channel than those it knows it notes nothing.
+    pub fn note(&mut self, channel: usize, number: u16, expected: u16)
+        requires number { number < sequence_modulus }
+        requires expected { expected < sequence_modulus }
+        ensures carried { carried_of self.new ≡ carried_of self.old }
+        ensures numbers { numbers_of self.new
+            ≡ slice_set (numbers_of self.old) channel (ahead_number expected number) }
+    {
+        if channel >= self.channels.len() {
+            return;
+        }
+        let LastNumber { carried, .. } = self.channels[channel];
+        let last = ahead(expected, number);
+        self.channels[channel] = LastNumber { carried, last };
+    }
+
+    /// Drops each number that doesn't lie ahead of the expected one, 0 to 8191. It has to be called
+    /// after every change of the expected number: a number that stands while the expected one moves
+    /// on by more than 4,096 would be taken for one ahead.
+    pub fn forget_passed(&mut self, expected: u16)
+        requires { expected < sequence_modulus }
+        ensures carried { carried_of self.new ≡ carried_of self.old }
+        ensures numbers { numbers_of self.new ≡ map (still_ahead expected) (numbers_of self.old) }
+    {
+        for channel in 0..self.channels.len() {
+            let LastNumber { carried, last } = self.channels[channel];
+            let last = still_ahead(expected, last);
+            self.channels[channel] = LastNumber { carried, last };
+        }
+    }
+
+    /// The number that each channel of the flow has come to: where each of them has a number, the
+    /// one of these with the least offset from the expected number, 0 to 8191. It is none where
+    /// the flow has no channel.
+    pub fn passed_by_all(&self, expected: u16) -> Option<u16>
+        requires { expected < sequence_modulus }
+        ensures passed { IsPassedByAll (carried_of self.now) (numbers_of self.now) expected result }
+        ensures in_range { ForSome result (λ number. number < sequence_modulus) }
+    {
+        let mut least = None;
+        for one in &self.channels {
+            if one.carried {
+                least = Some(nearer(expected, least, one.last?));
+            }
+        }
+        least
+    }
+}
+
+/// The number, where it lies ahead of the expected one.
+fn ahead(expected: u16, number: u16) -> Option<u16>
+    requires expected { expected < sequence_modulus }
+    requires number { number < sequence_modulus }
+    ensures ahead { result ≡ ahead_number expected number }
+    ensures in_range { ForSome result (λ one. one < sequence_modulus) }
+{
+    (offset(expected, number) < NUMBERS_AHEAD).then_some(number)
+}
+
+/// What is left of a channel's number.
+fn still_ahead(expected: u16, last: Option<u16>) -> Option<u16>
+    requires expected { expected < sequence_modulus }
+    requires last { ForSome last (λ number. number < sequence_modulus) }
+    ensures left { result ≡ still_ahead expected last }
+    ensures in_range { ForSome result (λ one. one < sequence_modulus) }
+{
+    ahead(expected, last?)
+}
+
+/// The one of two numbers with the smaller offset from the expected one.
+fn nearer(expected: u16, least: Option<u16>, number: u16) -> u16
+    requires expected { expected < sequence_modulus }
+    requires least { ForSome least (λ other. other < sequence_modulus) }
+    requires number { number < sequence_modulus }
+    ensures one { (result ≡ number) ⊎ (least ≡ Some result) }
+    ensures number { offset expected result ≤ offset expected number }
+    ensures least { IfSome least (λ other. offset expected result ≤ offset expected other) }
+{
+    match least {
+        Some(least) if offset(expected, least) <= offset(expected, number) => least,
+        _ => number,
+    }
+}
