@@ -1,5 +1,5 @@
 //! The seven workers.
-ghost use Rattle.std.specs.Prelude.{◌≡◌, IfOk, IfSome};
+ghost use Rattle.std.specs.Prelude.{◌≡◌, IfOk, IfSome, Ok, Some};
 ghost use Rattle.uplink.specs.Inside.Working.{DidLane, DidDecide, DidSchedule, DidConsumeAll};
 
 use crate::decision_worker::{self, DecidingWork, DecisionWorker};
@@ -17,6 +17,13 @@ use mailbox::{ClosedPort, Mouth};
 use std::alloc::{AllocError, Global};
 use std::sync::Wait;
 use std::thread::{Promise, PromisedHandle, Threads};
+
+/// Both, if both are there.
+fn both_done<A: Drop, B: Drop>(one: Option<A>, other: Option<B>) -> Option<(A, B)>
+    ensures { IfSome result (λ pair. (one ≡ Some pair.0) × (other ≡ Some pair.1)) }
+{
+    Some((one?, other?))
+}
 
 /// What the workers are started with.
 #[derive(Drop)]
@@ -88,40 +95,77 @@ where
     let taps = work.taps;
     let scheduler = request_worker::start(alloc, rt, &start, work.requests, taps.requests);
     let consumers = frame_worker::start(alloc, rt, &start, work.takers, taps.frames);
-    match (l0, l1, l2, l3, decider, scheduler, consumers) {
-        (Ok(l0), Ok(l1), Ok(l2), Ok(l3), Ok(decider), Ok(scheduler), Ok(consumers)) => {
-            start.go();
-            Ok(Team {
-                l0,
-                l1,
-                l2,
-                l3,
-                decider,
-                scheduler,
-                consumers,
-            })
-        }
-        (l0, l1, l2, l3, decider, scheduler, consumers) => {
+    let lanes = both_started(
+        rt,
+        &start,
+        both_started(rt, &start, l0, l1),
+        both_started(rt, &start, l2, l3),
+    );
+    let others = both_started(
+        rt,
+        &start,
+        both_started(rt, &start, decider, scheduler),
+        consumers,
+    );
+    let (((l0, l1), (l2, l3)), ((decider, scheduler), consumers)) = both_started(
+        rt, &start, lanes, others,
+    )?;
+    start.go();
+    Ok(Team {
+        l0,
+        l1,
+        l2,
+        l3,
+        decider,
+        scheduler,
+        consumers,
+    })
+}
+
+/// Both workers, or parts of the team, that were started. Where one wasn't, all are told to stop,
+/// and the other is waited for.
+fn both_started<A: Workers + Drop, B: Workers + Drop, R: Threads>(
+    rt: &R,
+    start: &StartWord,
+    one: Result<A, AllocError>,
+    other: Result<B, AllocError>,
+) -> Result<(A, B), AllocError>
+    ensures { IfOk result (λ pair. (one ≡ Ok pair.0) × (other ≡ Ok pair.1)) }
+{
+    match (one, other) {
+        (Ok(one), Ok(other)) => Ok((one, other)),
+        (one, other) => {
             start.stop();
-            end(rt, l0);
-            end(rt, l1);
-            end(rt, l2);
-            end(rt, l3);
-            end(rt, decider);
-            end(rt, scheduler);
-            end(rt, consumers);
+            end_started(rt, one);
+            end_started(rt, other);
             Err(AllocError)
         }
     }
 }
 
-/// Waits for a worker that was started and told to stop.
-fn end<T: Drop, P: Promise<T>, R: Threads>(
-    rt: &R,
-    worker: Result<PromisedHandle<T, P>, AllocError>,
-) {
-    if let Ok(worker) = worker {
-        worker.join(rt);
+/// Workers that were started.
+trait Workers {
+    /// Waits until all have returned.
+    fn end<R: Threads>(self, rt: &R);
+}
+
+impl<T: Drop, P: Promise<T>> Workers for PromisedHandle<T, P> {
+    fn end<R: Threads>(self, rt: &R) {
+        self.join(rt);
+    }
+}
+
+impl<A: Workers, B: Workers> Workers for (A, B) {
+    fn end<R: Threads>(self, rt: &R) {
+        self.0.end(rt);
+        self.1.end(rt);
+    }
+}
+
+/// Waits for workers that were started and told to stop.
+fn end_started<W: Workers, R: Threads>(rt: &R, workers: Result<W, AllocError>) {
+    if let Ok(workers) = workers {
+        workers.end(rt);
     }
 }
 
@@ -155,14 +199,21 @@ impl<S0: Source, S1: Source, S2: Source, S3: Source, D: Decisions> Team<S0, S1, 
         let decided = self.decider.join(rt);
         let scheduled = self.scheduler.join(rt);
         let consumed = self.consumers.join(rt);
+        let (first, second) = (both_done(l0, l1), both_done(l2, l3));
+        let (lanes, others) = both_done(
+            both_done(first, second),
+            both_done(both_done(decided, scheduled), consumed),
+        )?;
+        let ((l0, l1), (l2, l3)) = lanes;
+        let ((decided, scheduled), consumed) = others;
         Some(Done {
-            l0: l0?,
-            l1: l1?,
-            l2: l2?,
-            l3: l3?,
-            decided: decided?,
-            scheduled: scheduled?,
-            consumed: consumed?,
+            l0,
+            l1,
+            l2,
+            l3,
+            decided,
+            scheduled,
+            consumed,
         })
     }
 }
