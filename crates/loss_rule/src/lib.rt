@@ -17,8 +17,6 @@ pub mod laws;
 pub mod number_laws;
 mod rule;
 mod slide;
-#[cfg(test)]
-mod tests;
 
 pub use last_number::LastNumber;
 pub use last_numbers::LastNumbers;

@@ -1,5 +1,5 @@
 //! What no clause says: that the definitions give the answers that were worked out by hand.
-use crate::{LastNumbers, slid_to};
+use loss_rule::{LastNumbers, slid_to};
 use std::alloc::{AllocError, Global};
 use std::process::Abort;
 use std::test::Fail;
