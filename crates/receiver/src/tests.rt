@@ -117,93 +117,17 @@ fn tally_of(rt: &impl Abort, outcome: &Outcome) -> Tally {
     }
 }
 
-#[test]
-fn losses_by_a_rule(rt: HostRuntime) -> Result<(), Fail> {
-    let alone = [On(0, 0), On(0, 2), On(0, 1)];
-    let outage = [On(0, 0), On(0, 10), On(0, 11)];
-    let waits = [On(0, 0), On(0, 2), On(1, 1), On(1, 3)];
-    let silent = [On(0, 0), On(0, 2), On(0, 9), On(0, 10)];
-    let rows: [(&str, LossRule, u8, &[On], [u64; 5]); 11] = [
-        (
-            "a number comes again a round later",
-            LossRule::Decided,
-            1,
-            &alone,
-            [3, 0, 0, 0, 3],
-        ),
-        (
-            "it is late by the rule",
-            LossRule::Passed,
-            1,
-            &alone,
-            [2, 1, 0, 1, 2],
-        ),
-        (
-            "and by the sliding one",
-            LossRule::PassedOrSlid,
-            1,
-            &alone,
-            [2, 1, 0, 1, 2],
-        ),
-        (
-            "an outage beyond the window",
-            LossRule::Decided,
-            1,
-            &outage,
-            [1, 0, 2, 0, 1],
-        ),
-        (
-            "the rule passes it",
-            LossRule::Passed,
-            1,
-            &outage,
-            [3, 0, 0, 9, 3],
-        ),
-        (
-            "so does the sliding one",
-            LossRule::PassedOrSlid,
-            1,
-            &outage,
-            [3, 0, 0, 9, 3],
-        ),
-        (
-            "another channel is behind",
-            LossRule::Passed,
-            2,
-            &waits,
-            [4, 0, 0, 0, 4],
-        ),
-        (
-            "and with the sliding rule",
-            LossRule::PassedOrSlid,
-            2,
-            &waits,
-            [4, 0, 0, 0, 4],
-        ),
-        (
-            "another channel is silent",
-            LossRule::Decided,
-            2,
-            &silent,
-            [2, 0, 2, 1, 2],
-        ),
-        (
-            "the rule waits for it",
-            LossRule::Passed,
-            2,
-            &silent,
-            [2, 0, 2, 1, 2],
-        ),
-        (
-            "the window slides",
-            LossRule::PassedOrSlid,
-            2,
-            &silent,
-            [4, 0, 0, 7, 4],
-        ),
-    ];
-    for (name, rule, channels, segments, [kept, late, beyond, lost, frames]) in rows {
-        let outcome = replayed(&rt, rt.alloc(), rule, channels, segments)?;
+/// Replays the same segments by each rule, and compares how many were kept, came late, lay beyond
+/// the window and were lost, and how many frames were given.
+fn expect_tallies(
+    rt: &impl Abort,
+    alloc: Global,
+    channels: u8,
+    segments: &[On],
+    rows: [(LossRule, [u64; 5]); 3],
+) -> Result<(), Fail> {
+    for (rule, [kept, late, beyond, lost, frames]) in rows {
+        let outcome = replayed(rt, alloc, rule, channels, segments)?;
         let wanted = Tally {
             kept,
             late,
@@ -211,7 +135,51 @@ fn losses_by_a_rule(rt: HostRuntime) -> Result<(), Fail> {
             lost,
             frames: frames as usize,
         };
-        assert_eq!(&rt; tally_of(&rt, &outcome), wanted, "{name}");
+        assert_eq!(rt; tally_of(rt, &outcome), wanted, "{rule:?}");
     }
     Ok(())
+}
+
+#[test]
+fn number_comes_again_a_round_later(rt: HostRuntime) -> Result<(), Fail> {
+    let segments = [On(0, 0), On(0, 2), On(0, 1)];
+    let rows = [
+        (LossRule::Decided, [3, 0, 0, 0, 3]),
+        (LossRule::Passed, [2, 1, 0, 1, 2]),
+        (LossRule::PassedOrSlid, [2, 1, 0, 1, 2]),
+    ];
+    expect_tallies(&rt, rt.alloc(), 1, &segments, rows)
+}
+
+#[test]
+fn outage_is_longer_than_the_window(rt: HostRuntime) -> Result<(), Fail> {
+    let segments = [On(0, 0), On(0, 10), On(0, 11)];
+    let rows = [
+        (LossRule::Decided, [1, 0, 2, 0, 1]),
+        (LossRule::Passed, [3, 0, 0, 9, 3]),
+        (LossRule::PassedOrSlid, [3, 0, 0, 9, 3]),
+    ];
+    expect_tallies(&rt, rt.alloc(), 1, &segments, rows)
+}
+
+#[test]
+fn another_channel_is_behind(rt: HostRuntime) -> Result<(), Fail> {
+    let segments = [On(0, 0), On(0, 2), On(1, 1), On(1, 3)];
+    let rows = [
+        (LossRule::Decided, [4, 0, 0, 0, 4]),
+        (LossRule::Passed, [4, 0, 0, 0, 4]),
+        (LossRule::PassedOrSlid, [4, 0, 0, 0, 4]),
+    ];
+    expect_tallies(&rt, rt.alloc(), 2, &segments, rows)
+}
+
+#[test]
+fn another_channel_is_silent(rt: HostRuntime) -> Result<(), Fail> {
+    let segments = [On(0, 0), On(0, 2), On(0, 9), On(0, 10)];
+    let rows = [
+        (LossRule::Decided, [2, 0, 2, 1, 2]),
+        (LossRule::Passed, [2, 0, 2, 1, 2]),
+        (LossRule::PassedOrSlid, [4, 0, 0, 7, 4]),
+    ];
+    expect_tallies(&rt, rt.alloc(), 2, &segments, rows)
 }
