@@ -17,7 +17,9 @@ use Rattle.lane.specs.Limits.{channel_limit}
 use Rattle.lane.specs.Inputs.{AnsweredInput}
 use Rattle.receiver.specs.Items.{Incoming, IsLaneOf, AreLanesOf, IsItem, items_of, are_items, gap_of, event_of_decision, names_a_flow, names_a_number}
 use Rattle.receiver.specs.Order.{senders, lengths_of, IsLawfulOrder, IsOrderFault, IsMergeOf}
-use Rattle.receiver.specs.Outcome.{IsOutcome, AreOutcomesOfFlows, requests_on}
+use Rattle.loss_rule.specs.declared.rule.LossRule.{LossRule}
+use Rattle.receiver.specs.Outcome.{requests_on}
+use Rattle.receiver.specs.Ruled.{IsOutcomeBy, AreRuledOutcomes}
 use Rattle.receiver.specs.Faults.{HasBadOrder}
 use Rattle.lane.specs.Report.{IsReportOf}
 use Rattle.receiver.specs.AdmittedOrder.{input_counts}
@@ -104,12 +106,12 @@ module _ (setup : Setup) (incoming : Incoming) (received : FourReceived) (have :
         (All-same (IsItem n) _ _ e4 (decided-are_items n incoming.decisions))
 
     -- what the flows gave, with what the lanes gave, is the outcome
-    pub outcome-is : (order : List ℕ) (check : List ℕ → Bool) (items : List Event) (outcome : Outcome) → IsMergeOf (left_of merging) order items
-        → AreOutcomesOfFlows check setup.flows.items items outcome.flows.items
+    pub outcome-is : (order : List ℕ) (rule : LossRule) (check : List ℕ → Bool) (items : List Event) (outcome : Outcome) → IsMergeOf (left_of merging) order items
+        → AreRuledOutcomes rule check setup order items outcome.flows.items
         → outcome.requests ≡ received.r0.requests ∷ received.r1.requests ∷ received.r2.requests ∷ received.r3.requests ∷ []
         → outcome.lanes ≡ received.r0.report ∷ received.r1.report ∷ received.r2.report ∷ received.r3.report ∷ []
-        → outcome.order.items ≡ order → IsOutcome check setup incoming order outcome
-    outcome-is order check items outcome merged flows requests lanes order_is =
+        → outcome.order.items ≡ order → IsOutcomeBy rule check setup incoming order outcome
+    outcome-is order rule check items outcome merged flows requests lanes order_is =
         let asked : (channel : ℕ) → requests_on outcome channel ≡ slice_index_or (map (λ r. r.items) (received.r0.requests ∷ received.r1.requests ∷ received.r2.requests ∷ received.r3.requests ∷ [])) channel [] =
         λ channel. ap (λ l. slice_index_or (map (λ r. r.items) l) channel []) requests in
         let told : (channel : ℕ) (report : LaneReport) → slice_get outcome.lanes channel ≡ Some report

@@ -30,10 +30,10 @@ module _ (items : List Event) (event : Event) where
       ap (map event_of) (filter-append of_flow items (event ∷ []) ∙ ap (λ b. filter of_flow items ++ cond b (event ∷ []) []) is)
       ∙ map-append event_of (filter of_flow items) (cond named (event ∷ []) [])
 
-  event_taken : events_at (flow_of event) (items ++ event ∷ []) ≡ events_at (flow_of event) items ++ event_of event ∷ []
+  pub event_taken : events_at (flow_of event) (items ++ event ∷ []) ≡ events_at (flow_of event) items ++ event_of event ∷ []
   event_taken = more_events (flow_of event) true (eq-eqb (flow_of event) (flow_of event) refl)
 
-  event_of_another : (k : ℕ) → k ≢ flow_of event → events_at k (items ++ event ∷ []) ≡ events_at k items
+  pub event_of_another : (k : ℕ) → k ≢ flow_of event → events_at k (items ++ event ∷ []) ≡ events_at k items
   event_of_another k apart = more_events k false (ne_eqb (flow_of event) k (λ same. apart (sym same))) ∙ append-nil (events_at k items)
 
 -- a flow that is as it was has given what it had

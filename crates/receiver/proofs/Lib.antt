@@ -6,3 +6,7 @@ pub mod FlowsClosed
 pub mod ChannelInputs
 pub mod MergedLists
 pub mod OneReplay
+pub mod Ruling
+pub mod RuleSkips
+pub mod RuledItems
+pub mod NewNumbers

@@ -1,2 +1,3 @@
 pub mod Assembly
 pub mod Received
+pub mod Ruling

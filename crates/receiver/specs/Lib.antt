@@ -6,3 +6,4 @@ pub mod AdmittedOrder
 pub mod Faults
 pub mod SameOutcome
 pub mod Inside
+pub mod Ruled

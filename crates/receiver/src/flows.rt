@@ -1,12 +1,16 @@
 //! All flows, and the frames that each gave.
-ghost use Rattle.std.specs.Prelude.{◌≡◌, ◌++◌, ◌∷◌, [], ℕ, Bool, List, length, IfOk};
+ghost use Rattle.std.specs.Prelude.{◌≡◌, ◌<◌, ◌++◌, ◌∷◌, [], ℕ, Bool, Some, List, length, slice_get, IfOk};
 ghost use Rattle.flow_records.specs.declared.record.FlowRecord.{FlowRecord};
+ghost use Rattle.docsis_wire.specs.Limits.{sequence_modulus};
 ghost use Rattle.flow_core.specs.declared.event.Event.{Event};
+ghost use Rattle.flow_core.specs.declared.event.Applied.{Applied};
+ghost use Rattle.flow_core.specs.Fates.{Fates, number_of, IsExpected};
+ghost use Rattle.flow_core.specs.Events.{IsAfter};
 ghost use Rattle.flow_records.specs.Setup.{CanBeSetUp};
 ghost use Rattle.flow_core.specs.declared.flow.Flow.{Flow};
 ghost use Rattle.flow_core.specs.Flows.{flow_of, HasFlow, IsDrainedAt, OthersStay};
 ghost use Rattle.flow_core.specs.Giving.{IsRunning, ClosesFlow};
-ghost use Rattle.receiver.specs.Items.{IsItem};
+ghost use Rattle.receiver.specs.Items.{IsItem, events_at};
 ghost use Rattle.receiver.specs.Outcome.{AreOutcomesOfFlows};
 ghost use Rattle.receiver.specs.Inside.Assembly.{IsTaking, TakesItem, GivesTheRest};
 ghost use Rattle.receiver.specs.Inside.Assembly.{HasAssembled, IsAssembling};
@@ -89,6 +93,23 @@ impl<C: HeaderCheck + Drop> Assembler<C> {
         ensures { result ≡ length self.now.core.flows.items }
     {
         self.core.flow_count()
+    }
+
+    /// The number that a flow expects, 0 to 8191: that of its expected index.
+    pub fn expected(&self, flow: usize) -> u16
+        requires exists { flow < length self.now.core.flows.items }
+        ensures in_range { result < sequence_modulus }
+        ensures number { (accepted : List ℕ → Bool) (records : List FlowRecord)
+            (flow_record : FlowRecord) (items : List Event) (answers : List Applied)
+            (fates : Fates) (x : ℕ)
+            → HasAssembled C.accepts self.now accepted records items
+            → slice_get records flow ≡ Some flow_record
+            → IsAfter flow_record.first flow_record.window (events_at flow items) answers fates
+            → IsExpected fates x → result ≡ number_of flow_record.first x }
+    {
+        laws::drained_flow_expects_the_number_of_its_expected_index();
+        laws::events_have_one_outcome();
+        self.core.expected(flow)
     }
 
     /// Takes an item, and collects the frames that its flow then gives. Where an allocation failed

@@ -14,6 +14,8 @@ ghost use Rattle.receiver.specs.AdmittedOrder.{IsAdmittedOrder};
 ghost use Rattle.receiver.specs.Faults.{CanReceive, HasBadOrder};
 ghost use Rattle.receiver.specs.Intake.{IsIntake};
 ghost use Rattle.receiver.specs.Outcome.{IsOutcome};
+ghost use Rattle.receiver.specs.Ruled.{IsOutcomeBy};
+ghost use Rattle.loss_rule.specs.declared.rule.LossRule.{LossRule};
 ghost use Rattle.receiver.specs.Faults.{IsReplayFault, IsTagsFault};
 ghost use Rattle.receiver.specs.SameOutcome.{IsSameOutcome};
 ghost use Rattle.lane.specs.Limits.{channel_limit};
@@ -94,4 +96,12 @@ pub fn replay_has_one_fault()
         → fault ≢ ReplayFault.OutOfMemory → other ≢ ReplayFault.OutOfMemory
         → IsTagsFault setup incoming tags fault → IsTagsFault setup incoming tags other
         → fault ≡ other }
+{}
+
+/// A replay by decisions alone is a replay.
+pub fn replay_by_decisions_alone_is_a_replay()
+    ensures { (check : List ℕ → Bool) (setup : Setup) (incoming : Incoming) (order : List ℕ)
+        (outcome : Outcome)
+        → IsOutcomeBy LossRule.Decided check setup incoming order outcome
+        → IsOutcome check setup incoming order outcome }
 {}

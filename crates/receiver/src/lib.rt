@@ -10,7 +10,7 @@
 //! 1. [`admitted_order`] makes the order of the items from the senders of all inputs and decisions;
 //!    [`check_order`] checks one.
 //! 2. [`replay`] plays recorded inputs in such an order. Its contract is the one-thread answer of
-//!    the definitions.
+//!    the definitions. [`replay_by`] decides besides by a rule which segments are lost.
 //!
 //! [`take_item`] and [`close_flow`] are what each receiver does with an item and with a flow's
 //! close. [`laws`] says what follows from the definitions, such as that a replay has one outcome.
@@ -22,10 +22,13 @@ pub mod laws;
 mod one_thread;
 mod order;
 mod outcome;
+mod ruled;
 mod setup;
+#[cfg(test)]
+mod tests;
 
 pub use flows::{close_flow, take_item};
-pub use one_thread::{ReplayFault, admitted_order, replay};
+pub use one_thread::{ReplayFault, admitted_order, replay, replay_by};
 pub use order::check_order;
 pub use outcome::{FlowOutcome, Outcome};
 pub use setup::{BadSetup, Decision, Lists, Setup};

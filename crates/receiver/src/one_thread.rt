@@ -5,21 +5,24 @@ ghost use Rattle.flow_records.specs.Setup.{CanBeSetUp};
 ghost use Rattle.receiver.specs.declared.one_thread.ReplayFault.{ReplayFault};
 ghost use Rattle.receiver.specs.Items.{incoming_of, IsItem, event_of_decision, names_a_flow};
 ghost use Rattle.receiver.specs.Order.{senders, lengths_of, kept_places, IsLawfulOrder, IsMergeOf};
-ghost use Rattle.receiver.specs.Outcome.{IsOutcome, AreOutcomesOfFlows};
+ghost use Rattle.receiver.specs.Outcome.{IsOutcome};
+ghost use Rattle.receiver.specs.Ruled.{IsOutcomeBy, AreRuledOutcomes};
 ghost use Rattle.receiver.specs.AdmittedOrder.{IsAdmittedOrder, input_counts};
 ghost use Rattle.receiver.specs.Faults.{CanReceive};
 ghost use Rattle.receiver.specs.Faults.{IsReplayFault, IsTagsFault};
 ghost use Rattle.receiver.specs.Inside.Received.{HaveReceived, AreFlagsOf, left_of};
 
-use crate::flows::Assembler;
 use crate::incoming::{FourReceived, receive};
+use crate::laws;
 use crate::order::check_order;
 use crate::order::merge::Merging;
 use crate::outcome::{FlowOutcome, Outcome};
+use crate::ruled::RuledAssembler;
 use crate::setup::{BadSetup, Lists, Setup};
 use docsis_wire::HeaderCheck;
-use flow_core::{Event, FlowRecord, SetupFault};
+use flow_core::{Event, SetupFault};
 use lane::LaneFault;
+use loss_rule::LossRule;
 use std::alloc::{AllocError, Global};
 use thiserror::Error;
 
@@ -202,6 +205,25 @@ pub fn replay<C: HeaderCheck + Drop>(
     ensures can_receive { IfOk result (λ _. CanReceive setup.now) }
     ensures fault { IfErr result (IsReplayFault setup.now (incoming_of lists.now) order.now) }
 {
+    laws::replay_by_decisions_alone_is_a_replay();
+    replay_by(LossRule::Decided, alloc, setup, lists, order, check)
+}
+
+/// Replays as [`replay`] does, and decides besides by this rule which segments are lost: before a
+/// segment is taken, what the rule says is lost is skipped.
+pub fn replay_by<C: HeaderCheck + Drop>(
+    rule: LossRule,
+    alloc: Global,
+    setup: &Setup,
+    lists: &Lists,
+    order: &[u8],
+    check: C,
+) -> Result<Outcome, ReplayFault>
+    ensures outcome { IfOk result (IsOutcomeBy rule (C.accepts check) setup.now
+        (incoming_of lists.now) order.now) }
+    ensures can_receive { IfOk result (λ _. CanReceive setup.now) }
+    ensures fault { IfErr result (IsReplayFault setup.now (incoming_of lists.now) order.now) }
+{
     setup.check()?;
     let received = receive_all(alloc, setup, lists)?;
     let decided = decisions_of(alloc, setup, lists)?;
@@ -210,7 +232,7 @@ pub fn replay<C: HeaderCheck + Drop>(
     }
     let FourReceived { r0, r1, r2, r3 } = received;
     let merging = Merging::of(r0.items, r1.items, r2.items, r3.items, decided);
-    let flows = assemble(alloc, &setup.flows, merging, order, check)?;
+    let flows = assemble(alloc, rule, setup, merging, order, check)?;
     Ok(Outcome {
         flows,
         requests: [r0.requests, r1.requests, r2.requests, r3.requests],
@@ -234,29 +256,31 @@ fn item_counts(received: &FourReceived, decided: &[Event]) -> [usize; 5]
     ]
 }
 
-/// What all flows give once they have taken the items of five senders in this order.
+/// What all flows give once they have taken the items of five senders in this order, and by this
+/// rule.
 fn assemble<C: HeaderCheck + Drop>(
     alloc: Global,
-    records: &[FlowRecord],
+    rule: LossRule,
+    setup: &Setup,
     merging: Merging<Event>,
     order: &[u8],
     check: C,
 ) -> Result<Vec<FlowOutcome>, AllocError>
-    requires set_up { CanBeSetUp records.now }
+    requires set_up { CanBeSetUp setup.now.flows.items }
     requires items { (sender : ℕ) → sender < senders
-        → All (IsItem (length records.now)) (left_of merging sender) }
+        → All (IsItem (length setup.now.flows.items)) (left_of merging sender) }
     requires lawful { IsLawfulOrder (lengths_of (left_of merging)) order.now }
     ensures { IfOk result (λ flows. (items : List Event)
         × IsMergeOf (left_of merging) order.now items
-        × AreOutcomesOfFlows (C.accepts check) records.now items flows.items) }
+        × AreRuledOutcomes rule (C.accepts check) setup.now order.now items flows.items) }
 {
     let mut merging = merging;
-    let mut assembler = Assembler::new(alloc, records, check)?;
+    let mut assembler = RuledAssembler::new(alloc, rule, setup, check)?;
     for sender in order {
         let Some(item) = merging.next(*sender) else {
             unreachable!()
         };
-        assembler.take(alloc, item)?;
+        assembler.take(alloc, *sender, item)?;
     }
-    assembler.finish(alloc, records)
+    assembler.finish(alloc, setup)
 }

@@ -1,13 +1,10 @@
 -- What the channels gave, with what the flows then gave, is the outcome.
-use Rattle.std.proofs.Common.{◌<◌, ◌∷◌, [], ℕ, All, List, length, refl, sym, subst, ◌∙◌}
-use Rattle.flow_records.specs.declared.record.FlowRecord.{FlowRecord}
+use Rattle.std.proofs.Common.{◌∷◌, [], refl, subst, ◌∙◌}
 use Rattle.receiver.specs.declared.outcome.Outcome.{Outcome}
-use Rattle.receiver.specs.Items.{incoming_of, IsItem}
-use Rattle.receiver.specs.Order.{senders, IsOrderFault}
-use Rattle.receiver.specs.Outcome.{AreOutcomesOfFlows}
-use Rattle.receiver.specs.Inside.Received.{left_of}
+use Rattle.receiver.specs.Items.{incoming_of}
+use Rattle.receiver.specs.Order.{IsOrderFault}
 use Rattle.receiver.proofs.FourLanes.{items-takable, bad-order, outcome-is}
-use Rattle.receiver.proofs.one_thread.replay.Goals as goal
+use Rattle.receiver.proofs.one_thread.replay_by.Goals as goal
 
 pub returns-in-Err-clause-fault : goal.returns-in-Err-clause-fault
 returns-in-Err-clause-fault g c = (
@@ -20,9 +17,8 @@ returns-in-Err-clause-fault g c = (
 pub assemble-requires-clause-items : goal.assemble-requires-clause-items
 assemble-requires-clause-items g c =
     let merging = c.of-merging.ensures in
-    subst (λ (records : List FlowRecord). (s : ℕ) → s < senders → All (IsItem (length records)) (left_of c.of-merging.result s)) (sym c.deref-2.ensures.value)
-    (items-takable c.args.setup.now (incoming_of c.args.lists.now) c.in_ok-received.received c.in_ok-received.ensures c.of-merging.result
-    merging.l0 merging.l1 merging.l2 merging.l3 (merging.l4 ∙ c.in_ok-decided.ensures))
+    items-takable c.args.setup.now (incoming_of c.args.lists.now) c.in_ok-received.received c.in_ok-received.ensures c.of-merging.result
+    merging.l0 merging.l1 merging.l2 merging.l3 (merging.l4 ∙ c.in_ok-decided.ensures)
 
 pub returns-clause-outcome : goal.returns-clause-outcome
 returns-clause-outcome g c =
@@ -38,6 +34,5 @@ returns-clause-outcome g c =
     let gave = c.in_ok-flows.ensures in
     outcome-is c.args.setup.now (incoming_of c.args.lists.now) received c.in_ok-received.ensures c.of-merging.result
     merging.l0 merging.l1 merging.l2 merging.l3 (merging.l4 ∙ c.in_ok-decided.ensures)
-    c.args.order.now check gave.0 outcome gave.1
-    (subst (λ records. AreOutcomesOfFlows check records gave.0 c.in_ok-flows.flows.items) c.deref-2.ensures.value gave.2)
+    c.args.order.now c.args.rule check gave.0 outcome gave.1 gave.2
     refl refl c.in_ok-from_slice.ensures.items

@@ -1,0 +1,233 @@
+//! All flows, and what the loss rule has to know of each.
+ghost use Rattle.std.specs.Prelude.{◌≡◌, IfOk};
+ghost use Rattle.receiver.specs.Ruled.{carries, channels_of};
+ghost use Rattle.receiver.specs.Inside.Ruling.{AreNewNumbers};
+
+use crate::flows::Assembler;
+use crate::outcome::FlowOutcome;
+use crate::setup::Setup;
+use docsis_wire::{HeaderCheck, Segment};
+use flow_core::Event;
+use lane::{CHANNELS, SidRow};
+use loss_rule::{LastNumbers, LossRule, slid_to};
+use std::alloc::{AllocError, Global};
+
+/// What the loss rule has to know of a flow.
+#[derive(Drop)]
+pub struct RuledNumbers {
+    /// The width of the flow's window.
+    pub width: u16,
+    /// Of each channel the number of the last segment that came there.
+    pub lasts: LastNumbers,
+}
+
+/// All flows, each drained, and what the loss rule has to know of each.
+#[derive(Drop)]
+pub struct RuledAssembler<C> {
+    rule: LossRule,
+    assembler: Assembler<C>,
+    numbers: Vec<RuledNumbers>,
+}
+
+impl<C: HeaderCheck + Drop> RuledAssembler<C> {
+    ghost use Rattle.std.specs.Prelude.{◌≡◌, ◌≢◌, ◌++◌, ◌∷◌, [], ℕ, ◌<◌, Bool, List, length, IfOk};
+    ghost use Rattle.docsis_wire.specs.Ready.{IsReady};
+    ghost use Rattle.docsis_wire.specs.Limits.{sequence_modulus};
+    ghost use Rattle.flow_core.specs.declared.event.Event.{Event};
+    ghost use Rattle.flow_records.specs.Setup.{CanBeSetUp};
+    ghost use Rattle.flow_core.specs.Flows.{flow_of, IsTakable};
+    ghost use Rattle.loss_rule.specs.declared.rule.LossRule.{LossRule};
+    ghost use Rattle.loss_rule.specs.Rule.{on_channel};
+    ghost use Rattle.receiver.specs.declared.setup.Setup.{Setup};
+    ghost use Rattle.receiver.specs.Items.{IsItem};
+    ghost use Rattle.receiver.specs.Ruled.{AreRuledOutcomes};
+    ghost use Rattle.receiver.specs.Inside.Ruling.{HasRuled, IsRuling, IsNoting, KeepsRule};
+    ghost use Rattle.receiver.specs.Inside.Ruling.{TakesNoted, SkipsPassed, Slides, SkipsBefore};
+    ghost use Rattle.receiver.specs.Inside.Ruling.{TakesComing};
+
+    /// Flows that have taken nothing yet, for records that have no fault.
+    pub fn new(
+        alloc: Global,
+        rule: LossRule,
+        setup: &Setup,
+        check: C,
+    ) -> Result<RuledAssembler<C>, AllocError>
+        requires set_up { CanBeSetUp setup.now.flows.items }
+        ensures taken { IfOk result (λ ruled.
+            HasRuled C.accepts ruled (C.accepts check) setup.now [] []) }
+        ensures rule { IfOk result (λ ruled. ruled.rule ≡ rule) }
+    {
+        let numbers = new_numbers(alloc, setup)?;
+        let assembler = Assembler::new(alloc, &setup.flows, check)?;
+        Ok(RuledAssembler {
+            rule,
+            assembler,
+            numbers,
+        })
+    }
+
+    /// Takes an item of this sender, and before a segment skips what by the rule is lost then.
+    /// Where an allocation failed nothing is promised any more.
+    pub fn take(&mut self, alloc: Global, sender: u8, item: Event) -> Result<(), AllocError>
+        requires item { IsItem (length self.old.assembler.core.flows.items) item }
+        requires ruling { IsRuling C.accepts self.old }
+        ensures taken { IfOk result (λ _.
+            (accepted : List ℕ → Bool) (setup : Setup) (order : List ℕ) (items : List Event)
+            → HasRuled C.accepts self.old accepted setup order items
+            → HasRuled C.accepts self.new accepted setup
+            (order ++ sender ∷ []) (items ++ item ∷ [])) }
+        ensures rule { IfOk result (λ _. self.new.rule ≡ self.old.rule) }
+    {
+        match item {
+            Event::Arrive { flow, segment } => {
+                self.arrive(alloc, usize::from(sender), flow, segment)
+            }
+            decision => self.take_event(alloc, decision),
+        }
+    }
+
+    /// Takes a segment that comes on this channel, and before it skips what by the rule is lost.
+    fn arrive(
+        &mut self,
+        alloc: Global,
+        channel: usize,
+        flow: usize,
+        segment: Segment,
+    ) -> Result<(), AllocError>
+        requires noting { IsNoting C.accepts self.old flow }
+        requires ready { IsReady segment }
+        ensures takes { IfOk result (λ _.
+            TakesComing C.accepts self.old flow (on_channel channel segment) self.new) }
+        ensures kept { IfOk result (λ _. KeepsRule self.old self.new flow) }
+    {
+        self.skip_before(alloc, channel, flow, segment.head.sequence)?;
+        self.take_event(alloc, Event::Arrive { flow, segment })
+    }
+
+    /// Notes a segment with this number that comes on this channel, and skips what by the rule is
+    /// lost before it is taken.
+    fn skip_before(
+        &mut self,
+        alloc: Global,
+        channel: usize,
+        flow: usize,
+        number: u16,
+    ) -> Result<(), AllocError>
+        requires noting { IsNoting C.accepts self.old flow }
+        requires number { number < sequence_modulus }
+        ensures skips { IfOk result (λ _.
+            SkipsBefore C.accepts self.old flow channel number self.new) }
+        ensures kept { IfOk result (λ _. KeepsRule self.old self.new flow) }
+    {
+        match self.rule {
+            LossRule::Decided => Ok(()),
+            LossRule::Passed => self.skip_passed(alloc, channel, flow, number),
+            LossRule::PassedOrSlid => {
+                self.skip_passed(alloc, channel, flow, number)?;
+                self.slide(alloc, flow, number)
+            }
+        }
+    }
+
+    /// Notes the segment, and skips to the number to which every channel of the flow has come.
+    fn skip_passed(
+        &mut self,
+        alloc: Global,
+        channel: usize,
+        flow: usize,
+        number: u16,
+    ) -> Result<(), AllocError>
+        requires noting { IsNoting C.accepts self.old flow }
+        requires number { number < sequence_modulus }
+        requires rule { self.old.rule ≢ LossRule.Decided }
+        ensures skips { IfOk result (λ _.
+            SkipsPassed C.accepts self.old flow channel number self.new) }
+        ensures kept { IfOk result (λ _. KeepsRule self.old self.new flow) }
+    {
+        let expected = self.assembler.expected(flow);
+        self.numbers[flow].lasts.note(channel, number, expected);
+        match self.numbers[flow].lasts.passed_by_all(expected) {
+            None => Ok(()),
+            Some(passed) => self.take_event(
+                alloc,
+                Event::SkipTo {
+                    flow,
+                    number: passed,
+                },
+            ),
+        }
+    }
+
+    /// Skips as far as the window has to slide so that it takes the segment in.
+    fn slide(&mut self, alloc: Global, flow: usize, number: u16) -> Result<(), AllocError>
+        requires noting { IsNoting C.accepts self.old flow }
+        requires number { number < sequence_modulus }
+        ensures slides { IfOk result (λ _. Slides C.accepts self.old flow number self.new) }
+        ensures kept { IfOk result (λ _. KeepsRule self.old self.new flow) }
+    {
+        let expected = self.assembler.expected(flow);
+        match slid_to(expected, self.numbers[flow].width, number) {
+            None => Ok(()),
+            Some(slid) => self.take_event(alloc, Event::SkipTo { flow, number: slid }),
+        }
+    }
+
+    /// Takes an event, and drops the numbers that its flow has then come past.
+    fn take_event(&mut self, alloc: Global, event: Event) -> Result<(), AllocError>
+        requires noting { IsNoting C.accepts self.old (flow_of event) }
+        requires takable { IsTakable event }
+        ensures takes { IfOk result (λ _. TakesNoted C.accepts self.old event self.new) }
+        ensures kept { IfOk result (λ _. KeepsRule self.old self.new (flow_of event)) }
+    {
+        let flow = event.flow();
+        self.assembler.take(alloc, event)?;
+        let expected = self.assembler.expected(flow);
+        self.numbers[flow].lasts.forget_passed(expected);
+        Ok(())
+    }
+
+    /// Closes all flows, and answers what each gave, in the order of the records.
+    pub fn finish(self, alloc: Global, setup: &Setup) -> Result<Vec<FlowOutcome>, AllocError>
+        requires ruling { (accepted : List ℕ → Bool) × (order : List ℕ) × (items : List Event)
+            × HasRuled C.accepts self accepted setup.now order items }
+        ensures { IfOk result (λ flows.
+            (accepted : List ℕ → Bool) (order : List ℕ) (items : List Event)
+            → HasRuled C.accepts self accepted setup.now order items
+            → AreRuledOutcomes self.rule accepted setup.now order items flows.items) }
+    {
+        self.assembler.finish(alloc, &setup.flows)
+    }
+}
+
+/// What is known of each flow at first.
+fn new_numbers(alloc: Global, setup: &Setup) -> Result<Vec<RuledNumbers>, AllocError>
+    ensures { IfOk result (λ numbers. AreNewNumbers setup.now numbers.items) }
+{
+    let mut numbers = Vec::with_capacity(alloc, setup.flows.len())?;
+    for (flow, record) in setup.flows.iter().enumerate() {
+        numbers.push_reserved(RuledNumbers {
+            width: record.window,
+            lasts: LastNumbers::new(alloc, &channels_of(&setup.sids, flow))?,
+        });
+    }
+    Ok(numbers)
+}
+
+/// Of each channel whether a row gives the flow a service identifier there.
+fn channels_of(rows: &[SidRow], flow: usize) -> [bool; CHANNELS]
+    ensures { result ≡ channels_of rows.now flow }
+{
+    [
+        carries(rows, flow, 0),
+        carries(rows, flow, 1),
+        carries(rows, flow, 2),
+        carries(rows, flow, 3),
+    ]
+}
+
+/// Whether a row gives the flow a service identifier on this channel.
+fn carries(rows: &[SidRow], flow: usize, channel: u8) -> bool
+    ensures { result ≡ carries rows.now flow channel }
+{
+    (rows.iter()).any(|row| row.flow == flow && row.channel == channel)
+}
