@@ -24,8 +24,6 @@ mod order;
 mod outcome;
 mod ruled;
 mod setup;
-#[cfg(test)]
-mod tests;
 
 pub use flows::{close_flow, take_item};
 pub use one_thread::{ReplayFault, admitted_order, replay, replay_by};

@@ -11,6 +11,8 @@ mod outcomes;
 #[cfg(test)]
 mod replayed;
 #[cfg(test)]
+mod ruled_replays;
+#[cfg(test)]
 mod run;
 #[cfg(test)]
 mod sources;

@@ -2,11 +2,11 @@
 //! are lost.
 ghost use Rattle.std.specs.Prelude.{◌<◌};
 
-use crate::{Lists, Outcome, Setup, replay_by};
 use docsis_wire::{Bytes, NoCheck};
 use flow_core::FlowRecord;
 use lane::{Input, SidRow};
 use loss_rule::LossRule;
+use receiver::{Lists, Outcome, Setup, replay_by};
 use std::alloc::{AllocError, Global};
 use std::process::Abort;
 use std::test::Fail;
