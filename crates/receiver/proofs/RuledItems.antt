@@ -1,5 +1,5 @@
 -- What all flows take by a rule, item by item.
-use Rattle.std.proofs.Common.{◌≡◌, ◌≢◌, ℕ, ◌+◌, ◌<◌, ◌==◌, inl, inr, Bool, true, false, cond, Some, List, [], ◌∷◌, ◌++◌, map, filter, length, slice_get, refl, ap, sym, subst, ◌∙◌, append-nil, length-append, arith}
+use Rattle.std.proofs.Common.{◌≡◌, ◌≢◌, ℕ, ◌+◌, ◌<◌, ◌==◌, inl, inr, Bool, true, false, cond, Some, List, [], ◌∷◌, ◌++◌, map, filter, replicate, length, slice_get, refl, ap, sym, subst, ◌∙◌, append-nil, length-append, arith}
 use Rattle.std.proofs.lemmas.Bool.{cases_eq, eq-eqb, ne_eqb}
 use Rattle.std.proofs.lemmas.Option.{same_Some}
 use Rattle.docsis_wire.proofs.StreamPlaces.{element_at}
@@ -7,14 +7,15 @@ use Rattle.flow_records.specs.declared.record.FlowRecord.{FlowRecord}
 use Rattle.flow_core.specs.declared.event.Event.{Event}
 use Rattle.flow_core.specs.declared.event.Event.TheVariants.{Arrive, Gap, GapTo, SkipTo}
 use Rattle.flow_core.specs.Fates.{no_fates}
-use Rattle.flow_core.specs.Events.{IsAfter}
+use Rattle.flow_core.specs.Events.{gap, IsAfter}
 use Rattle.flow_core.specs.Flows.{flow_of, event_of}
 use Rattle.flow_core.proofs.Outcome.{sound-none}
+use Rattle.flow_core.proofs.Turns.{leads-split}
 use Rattle.loss_rule.specs.declared.rule.LossRule.TheVariants.{Decided}
 use Rattle.loss_rule.specs.Rule.{Coming, handed_in, own_event, no_lasts, AreRuled}
 use Rattle.loss_rule.specs.Numbers.{AreNumbersOf}
 use Rattle.loss_rule.proofs.RuledTurns.{ruled-append}
-use Rattle.loss_rule.proofs.DecidedRule.{decided-events}
+use Rattle.loss_rule.proofs.DecidedRule.{decided-events, decided-rules}
 use Rattle.loss_rule.proofs.TiedNumbers.{tied-none}
 use Rattle.receiver.specs.declared.outcome.FlowOutcome.{FlowOutcome}
 use Rattle.receiver.specs.declared.setup.Setup.{Setup}
@@ -201,4 +202,23 @@ decided-outcomes check setup order items flows paired are = record {
       let flow = ruled_flow setup.sids.items k r in
       let same = decided-events flow (no_lasts flow) no_fates (comings_at k order items) one.2.events one.2.lasts one.2.fates one.2.ruled in
       (one.0, one.1, subst (λ events. IsOutcomeOfFlow check r events one.0) (same ∙ own-events k order items paired) one.2.gave);
+}
+
+-- and what comes of the items as they are is what comes of them then
+pub outcomes-decided : (check : List ℕ → Bool) (setup : Setup) (order : List ℕ) (items : List Event) (flows : List FlowOutcome) → length order ≡ length items
+    → AreOutcomesOfFlows check setup.flows.items items flows → AreRuledOutcomes Decided check setup order items flows
+outcomes-decided check setup order items flows paired are = record {
+  count = are.count;
+  each = λ k r of_flow.
+      let one = are.each k r of_flow in
+      let flow = ruled_flow setup.sids.items k r in
+      let comings = comings_at k order items in
+      let same = own-events k order items paired in
+      let gives = one.2.gives in
+      let s = leads-split r.first r.window (events_at k items) (replicate gives.n gap) gives.outcome.answers no_fates gives.outcome.fates gives.outcome.after in
+      let ruled = decided-rules flow (no_lasts flow) no_fates comings s.0 s.2 (subst (λ events. IsAfter r.first r.window events s.0 s.2) (sym same) s.3) in (
+        one.0,
+        one.1,
+        record { events = map own_event comings; lasts = ruled.0; fates = s.2; ruled = ruled.1; gave = subst (λ events. IsOutcomeOfFlow check r events one.0) (sym same) one.2 },
+      );
 }

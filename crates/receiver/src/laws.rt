@@ -98,10 +98,14 @@ pub fn replay_has_one_fault()
         → fault ≡ other }
 {}
 
-/// A replay by decisions alone is a replay.
+/// Where the decisions that are handed in decide alone, a replay by the rule is a replay.
 pub fn replay_by_decisions_alone_is_a_replay()
-    ensures { (check : List ℕ → Bool) (setup : Setup) (incoming : Incoming) (order : List ℕ)
-        (outcome : Outcome)
+    ensures replay { (check : List ℕ → Bool) (setup : Setup) (incoming : Incoming)
+        (order : List ℕ) (outcome : Outcome)
         → IsOutcomeBy LossRule.Decided check setup incoming order outcome
         → IsOutcome check setup incoming order outcome }
+    ensures by_rule { (check : List ℕ → Bool) (setup : Setup) (incoming : Incoming)
+        (order : List ℕ) (outcome : Outcome)
+        → IsOutcome check setup incoming order outcome
+        → IsOutcomeBy LossRule.Decided check setup incoming order outcome }
 {}
