@@ -15,7 +15,7 @@ use Rattle.receiver.specs.declared.flows.Assembler.{Assembler}
 use Rattle.receiver.specs.declared.outcome.FlowOutcome.{FlowOutcome}
 use Rattle.receiver.specs.Items.{events_at}
 use Rattle.receiver.specs.Outcome.{GivesAtItsClose, IsOutcomeOfFlow, AreOutcomesOfFlows}
-use Rattle.receiver.specs.Inside.Assembly.{GivesTheRest, HasAssembled, collected}
+use Rattle.receiver.specs.Inside.Assembly.{GivesTheRest, none_handed, HasAssembled, collected}
 use Rattle.receiver.proofs.ItemsTaken.{another_drained, drained_at, running_at}
 
 -- the first of what is left of a list after its first k
@@ -38,7 +38,7 @@ module _ {C : Type 0} (accepts : C → List ℕ → Bool) (assembler : Assembler
         → HasDrained accepts core k accepted flow_record (events_at k items) (collected assembler k)
 
   -- none is closed at first
-  pub none_closed : HasAssembled accepts assembler accepted records items → AreClosedBelow assembler.core []
+  pub none_closed : HasAssembled accepts assembler accepted none_handed records items → AreClosedBelow assembler.core []
   none_closed has = record {
     few = omega arith;
     count = has.has_taken.count;
@@ -57,7 +57,7 @@ module _ {C : Type 0} (accepts : C → List ℕ → Bool) (assembler : Assembler
         (there.0, there.1, closed.outcomes k r there.0 of_flow there.1);
   }
 
-  module _ (has : HasAssembled accepts assembler accepted records items) (core : Core C) (flows : List FlowOutcome)
+  module _ (has : HasAssembled accepts assembler accepted none_handed records items) (core : Core C) (flows : List FlowOutcome)
       (closed : AreClosedBelow core flows) (r : FlowRecord) (of_flow : slice_get records (length flows) ≡ Some r) where
     abbrev next : ℕ
     next = length flows

@@ -1,10 +1,11 @@
 -- What one more item makes of what the flows have taken and given.
-use Rattle.std.proofs.Common.{◌≡◌, ◌≢◌, ℕ, zero, suc, ◌<◌, ◌==◌, ⊎_elim, Bool, Some, List, [], ◌∷◌, ◌++◌, map, filter, replicate, cond, true, false, length, slice_get, slice_index_or, slice_set, Vec, refl, ap, sym, subst, ◌∙◌, arith}
+use Rattle.std.proofs.Common.{◌≡◌, ◌≢◌, ℕ, zero, suc, ◌<◌, ◌==◌, ⊎_elim, Bool, Some, List, [], ◌∷◌, ◌++◌, map, filter, replicate, cond, true, false, length, slice_get, slice_index_or, slice_set, Vec, refl, ap, sym, subst, ◌∙◌, append_assoc, arith}
 use Rattle.std.proofs.lemmas.Bool.{cases_eq, eq-eqb, ne_eqb}
 use Rattle.std.proofs.lemmas.List.{append-nil, map-append, map-set, length-map, get_or-map, get_or-set_same, get_or-set_other, length-set, length-replicate}
 use Rattle.std.proofs.lemmas.List.Elements.{filter-append}
 use Rattle.std.proofs.lemmas.Option.{slice_get_within, same_Some}
 use Rattle.std.specs.Global.{Global}
+use Rattle.std.specs.Vec.{with_item}
 use Rattle.docsis_wire.specs.declared.buffer.Bytes.{Bytes}
 use Rattle.docsis_wire.proofs.StreamPlaces.{element_at}
 use Rattle.flow_records.specs.declared.record.FlowRecord.{FlowRecord}
@@ -19,7 +20,7 @@ use Rattle.flow_core.specs.Flows.{flow_of, event_of, OthersStay, TakesEventAt, I
 use Rattle.flow_core.specs.Giving.{HasGiven, HasDrained, IsRunning, Drains}
 use Rattle.receiver.specs.Items.{events_at}
 use Rattle.receiver.specs.declared.flows.Assembler.{Assembler}
-use Rattle.receiver.specs.Inside.Assembly.{HasTaken, IsTaking, TakesItem, HasAssembled, collected}
+use Rattle.receiver.specs.Inside.Assembly.{HasTaken, IsTaking, TakesItem, none_handed, HasAssembled, HandsOver, collected}
 
 -- the events of one item: it is one of its flow, and none of any other
 module _ (items : List Event) (event : Event) where
@@ -148,6 +149,16 @@ module _ {C : Type 0} (accepts : C → List ℕ → Bool) (core : Core C) (event
     };
   }
 
+-- what a core has taken and given is the same where what it gave is
+module _ {C : Type 0} (accepts : C → List ℕ → Bool) (core : Core C) (accepted : List ℕ → Bool) (records : List FlowRecord) (items : List Event) where
+  pub given_alike : (given given' : ℕ → List (List ℕ)) → HasTaken accepts core accepted records items given → ((k : ℕ) → given' k ≡ given k)
+      → HasTaken accepts core accepted records items given'
+  given_alike given given' has same = record {
+    set_up = has.set_up;
+    count = has.count;
+    each = λ k r of_flow. subst (λ gave. HasDrained accepts core k accepted r (events_at k items) gave) (sym (same k)) (has.each k r of_flow);
+  }
+
 -- one of some lists has grown
 module _ {V : Type 0} (contents : V → List (List ℕ)) (lists : List V) (i : ℕ) (grown : V) where
   it_has_grown : (before : V) (more : List (List ℕ)) → i < length lists → before ≡ slice_index_or lists i before
@@ -170,9 +181,9 @@ module _ {C : Type 0} (accepts : C → List ℕ → Bool) (assembler after : Ass
       → flow_of event < length assembler.core.flows.items
       → frames ≡ slice_index_or assembler.frames.items (flow_of event) frames
       → after.frames.items ≡ slice_set assembler.frames.items (flow_of event) grown
-      → (accepted : List ℕ → Bool) (records : List FlowRecord) (items : List Event)
-      → HasAssembled accepts assembler accepted records items → HasAssembled accepts after accepted records (items ++ event ∷ [])
-  item_collected takes exists there written accepted records items has =
+      → (accepted : List ℕ → Bool) (handed : ℕ → List (List ℕ)) (records : List FlowRecord) (items : List Event)
+      → HasAssembled accepts assembler accepted handed records items → HasAssembled accepts after accepted handed records (items ++ event ∷ [])
+  item_collected takes exists there written accepted handed records items has =
       let lists = assembler.frames.items in
       let n = flow_of event in
       let contents : Vec Bytes Global → List (List ℕ) = λ one. one.items in
@@ -180,10 +191,53 @@ module _ {C : Type 0} (accepts : C → List ℕ → Bool) (assembler after : Ass
       let gave = ap (λ l. slice_index_or (map contents l) n []) written
       ∙ it_has_grown contents lists n grown frames takes.more within there takes.appended in
       record {
-        has_taken = takes.takes accepted records items (collected assembler) (collected after) has.has_taken gave
-            (λ k apart. ap (λ l. slice_index_or (map contents l) k []) written ∙ no_other_has contents lists n grown k apart);
+        has_taken = takes.takes accepted records items (λ k. handed k ++ collected assembler k) (λ k. handed k ++ collected after k) has.has_taken
+            (ap (λ l. handed n ++ l) gave ∙ sym (append_assoc (handed n) (collected assembler n) takes.more))
+            (λ k apart. ap (λ l. handed k ++ l) (ap (λ l. slice_index_or (map contents l) k []) written ∙ no_other_has contents lists n grown k apart));
         count = ap length written ∙ length-set lists n grown ∙ has.count;
       }
+
+-- the frames that were collected of a flow are handed over
+module _ {C : Type 0} (accepts : C → List ℕ → Bool) (assembler : Assembler C) (i : ℕ) (frames none : Vec Bytes Global)
+    (within : i < length assembler.frames.items) (there : frames ≡ slice_index_or assembler.frames.items i frames) (empty : none.items ≡ []) where
+  abbrev lists : List (Vec Bytes Global)
+  lists = assembler.frames.items
+
+  abbrev contents : Vec Bytes Global → List (List ℕ)
+  contents one = one.items
+
+  -- what of each flow was not handed over
+  abbrev left : ℕ → List (List ℕ)
+  left k = slice_index_or (map contents (slice_set lists i none)) k []
+
+  was_collected : collected assembler i ≡ frames.items
+  was_collected = get_or-map contents lists i frames [] within ∙ sym (ap contents there)
+
+  now_none : left i ≡ []
+  now_none =
+      ap (λ l. slice_index_or l i []) (map-set contents lists i none)
+      ∙ get_or-set_same (map contents lists) i (contents none) [] (subst (λ n. i < n) (sym (length-map lists contents)) within) ∙ empty
+
+  the_same : (handed handed' : ℕ → List (List ℕ)) → handed' i ≡ handed i ++ frames.items → ((j : ℕ) → j ≢ i → handed' j ≡ handed j)
+      → (k : ℕ) → handed' k ++ left k ≡ handed k ++ collected assembler k
+  the_same handed handed' own others k =
+      ⊎_elim
+      (λ (same : k ≡ i).
+      subst (λ j. handed' j ++ left j ≡ handed j ++ collected assembler j) (sym same)
+      (ap (λ l. handed' i ++ l) now_none ∙ append-nil (handed' i) ∙ own ∙ ap (λ l. handed i ++ l) (sym was_collected)))
+      (λ (apart : k ≢ i).
+      ap (λ l. l ++ left k) (others k apart) ∙ ap (λ l. handed k ++ l) (no_other_has contents lists i none k apart))
+      (cases_eq k i)
+
+  pub handed_over : HandsOver accepts assembler i frames.items (record assembler { frames = with_item assembler.frames i none })
+  handed_over = record {
+    core = refl;
+    hands = λ accepted handed handed' records items has own others. record {
+      has_taken = given_alike accepts assembler.core accepted records items (λ k. handed k ++ collected assembler k) (λ k. handed' k ++ left k)
+          has.has_taken (the_same handed handed' own others);
+      count = length-set lists i none ∙ has.count;
+    };
+  }
 
 -- a core of new flows has taken nothing, and given nothing
 module _ {C : Type 0} (accepts : C → List ℕ → Bool) (check : C) (records : List FlowRecord) where
@@ -218,7 +272,7 @@ module _ {C : Type 0} (accepts : C → List ℕ → Bool) (check : C) (records :
 
   pub nothing_assembled : CanBeSetUp records → IsNewCore check records assembler.core
       → map (λ (one : Vec Bytes Global). one.items) assembler.frames.items ≡ replicate (length records) []
-      → HasAssembled accepts assembler (accepts check) records []
+      → HasAssembled accepts assembler (accepts check) none_handed records []
   nothing_assembled set_up is_new empty = record {
     has_taken = nothing_taken accepts check records assembler.core (collected assembler) set_up is_new
         (λ k. ap (λ l. slice_index_or l k []) empty ∙ nothing_at (length records) k);

@@ -39,14 +39,14 @@ module _ {C : Type 0} (accepts : C → List ℕ → Bool) where
       (width : is.width ≡ was.width) (carried : carried_of is.lasts ≡ carried_of was.lasts)
       (expects : Expects accepts ruled.assembler k expected)
       (wrote : numbers_of is.lasts ≡ slice_set (numbers_of was.lasts) channel (ahead_number expected number)) where
-    pub noted-between : (accepted : List ℕ → Bool) (setup : Setup) (r : FlowRecord) (items : List Event) (lasts noted : Lasts) (fates : Fates) (x : ℕ)
-        → HasNoted accepts ruled accepted setup k r items lasts fates x → Notes r.first x channel number lasts noted
-        → HasNoted accepts between accepted setup k r items noted fates x
-    noted-between accepted setup r items lasts noted fates x has notes =
+    pub noted-between : (accepted : List ℕ → Bool) (handed : ℕ → List (List ℕ)) (setup : Setup) (r : FlowRecord) (items : List Event) (lasts noted : Lasts) (fates : Fates) (x : ℕ)
+        → HasNoted accepts ruled accepted handed setup k r items lasts fates x → Notes r.first x channel number lasts noted
+        → HasNoted accepts between accepted handed setup k r items noted fates x
+    noted-between accepted handed setup r items lasts noted fates x has notes =
         let old : was ≡ has.numbers = same_Some was has.numbers (sym there ∙ has.there) in
-        let at = expects accepted setup.flows.items r items has.answers fates x has.assembled has.of_flow has.after has.expected in
+        let at = expects accepted handed setup.flows.items r items has.answers fates x has.assembled has.of_flow has.after has.expected in
         record {
-          assembled = subst (λ a. HasAssembled accepts a accepted setup.flows.items items) (sym assembler) has.assembled;
+          assembled = subst (λ a. HasAssembled accepts a accepted handed setup.flows.items items) (sym assembler) has.assembled;
           of_flow = has.of_flow;
           numbers = is;
           there = then;
@@ -71,23 +71,24 @@ module _ {C : Type 0} (accepts : C → List ℕ → Bool) where
         let notes = notes-some noting.flow_record.first noting.x channel number noting.lasts in
         record {
           accepted = noting.accepted;
+          handed = noting.handed;
           setup = noting.setup;
           flow_record = noting.flow_record;
           items = noting.items;
           lasts = notes.0;
           fates = noting.fates;
           x = noting.x;
-          has = noted-between noting.accepted noting.setup noting.flow_record noting.items noting.lasts notes.0 noting.fates noting.x noting.has notes.1;
+          has = noted-between noting.accepted noting.handed noting.setup noting.flow_record noting.items noting.lasts notes.0 noting.fates noting.x noting.has notes.1;
         }
 
     -- and the number to which every channel has come is then that of the rule
     module _ (asks : ruled.rule ≢ Decided) (passed : Option ℕ) (by_all : IsPassedByAll (carried_of is.lasts) (numbers_of is.lasts) expected passed) where
-      passing-is : (accepted : List ℕ → Bool) (setup : Setup) (r : FlowRecord) (items : List Event) (lasts noted : Lasts) (fates : Fates) (x : ℕ)
-          → HasNoted accepts ruled accepted setup k r items lasts fates x → HasNoted accepts between accepted setup k r items noted fates x
+      passing-is : (accepted : List ℕ → Bool) (handed : ℕ → List (List ℕ)) (setup : Setup) (r : FlowRecord) (items : List Event) (lasts noted : Lasts) (fates : Fates) (x : ℕ)
+          → HasNoted accepts ruled accepted handed setup k r items lasts fates x → HasNoted accepts between accepted handed setup k r items noted fates x
           → IsPassing (ruled_flow setup.sids.items k r) noted x (skips_to passed)
-      passing-is accepted setup r items lasts noted fates x has now =
+      passing-is accepted handed setup r items lasts noted fates x has now =
           let same : is ≡ now.numbers = same_Some is now.numbers (sym then ∙ now.there) in
-          let at = expects accepted setup.flows.items r items has.answers fates x has.assembled has.of_flow has.after has.expected in
+          let at = expects accepted handed setup.flows.items r items has.answers fates x has.assembled has.of_flow has.after has.expected in
           let tied = numbers-tied between.rule (AreNumbersOf r.first x noted (numbers_of now.numbers.lasts)) (λ decided. asks (sym rule ∙ decided)) now.tied in
           let of_flow : IsPassedByAll (channels_of setup.sids.items k) (numbers_of now.numbers.lasts) (number_of r.first x) passed =
           subst (λ n. IsPassedByAll (channels_of setup.sids.items k) (numbers_of now.numbers.lasts) n passed) at
@@ -96,44 +97,44 @@ module _ {C : Type 0} (accepts : C → List ℕ → Bool) where
           (tied-passing (ruled_flow setup.sids.items k r) x noted (numbers_of now.numbers.lasts) tied passed (skips_to passed) of_flow).1 refl
 
     pub passed-none : ruled.rule ≢ Decided → IsPassedByAll (carried_of is.lasts) (numbers_of is.lasts) expected None → SkipsPassed accepts ruled k channel number between
-    passed-none asks none accepted setup r items lasts noted fates x has notes =
-        let now = noted-between accepted setup r items lasts noted fates x has notes in
-        ([], passing-is asks None none accepted setup r items lasts noted fates x has now, led-none accepts between accepted setup k r items noted fates x now)
+    passed-none asks none accepted handed setup r items lasts noted fates x has notes =
+        let now = noted-between accepted handed setup r items lasts noted fates x has notes in
+        ([], passing-is asks None none accepted handed setup r items lasts noted fates x has now, led-none accepts between accepted handed setup k r items noted fates x now)
 
     pub passed-some : (n : ℕ) (after : RuledAssembler C) → ruled.rule ≢ Decided → IsPassedByAll (carried_of is.lasts) (numbers_of is.lasts) expected (Some n)
         → TakesNoted accepts between (SkipTo k n) after → SkipsPassed accepts ruled k channel number after
-    passed-some n after asks some takes accepted setup r items lasts noted fates x has notes =
-        let now = noted-between accepted setup r items lasts noted fates x has notes in
-        (skip_to n ∷ [], passing-is asks (Some n) some accepted setup r items lasts noted fates x has now, takes accepted setup r items noted fates x now)
+    passed-some n after asks some takes accepted handed setup r items lasts noted fates x has notes =
+        let now = noted-between accepted handed setup r items lasts noted fates x has notes in
+        (skip_to n ∷ [], passing-is asks (Some n) some accepted handed setup r items lasts noted fates x has now, takes accepted handed setup r items noted fates x now)
 
   -- The window slides.
   module _ (ruled : RuledAssembler C) (k number expected : ℕ) (was : RuledNumbers) (small : number < 8192)
       (there : slice_get ruled.numbers.items k ≡ Some was) (expects : Expects accepts ruled.assembler k expected) where
     sliding-is : (slid : Option ℕ) → IsSlidTo expected was.width number slid
-        → (accepted : List ℕ → Bool) (setup : Setup) (r : FlowRecord) (items : List Event) (lasts : Lasts) (fates : Fates) (x : ℕ)
-        → HasNoted accepts ruled accepted setup k r items lasts fates x → IsSliding (ruled_flow setup.sids.items k r) x number (skips_to slid)
-    sliding-is slid to accepted setup r items lasts fates x has =
+        → (accepted : List ℕ → Bool) (handed : ℕ → List (List ℕ)) (setup : Setup) (r : FlowRecord) (items : List Event) (lasts : Lasts) (fates : Fates) (x : ℕ)
+        → HasNoted accepts ruled accepted handed setup k r items lasts fates x → IsSliding (ruled_flow setup.sids.items k r) x number (skips_to slid)
+    sliding-is slid to accepted handed setup r items lasts fates x has =
         let same : was ≡ has.numbers = same_Some was has.numbers (sym there ∙ has.there) in
-        let at = expects accepted setup.flows.items r items has.answers fates x has.assembled has.of_flow has.after has.expected in
-        let in_range = noted-range accepts ruled accepted setup k r items lasts fates x has in
+        let at = expects accepted handed setup.flows.items r items has.answers fates x has.assembled has.of_flow has.after has.expected in
+        let in_range = noted-range accepts ruled accepted handed setup k r items lasts fates x has in
         (tied-sliding (ruled_flow setup.sids.items k r) x number slid (skips_to slid) in_range.window_positive in_range.window_in_range small
         (subst (λ n. IsSlidTo n r.window number slid) at
         (subst (λ w. IsSlidTo expected w number slid) (ap (λ (one : RuledNumbers). one.width) same ∙ has.known.width) to))).1 refl
 
     pub slid-none : IsSlidTo expected was.width number None → Slides accepts ruled k number ruled
-    slid-none none accepted setup r items lasts fates x has =
-        ([], sliding-is None none accepted setup r items lasts fates x has, led-none accepts ruled accepted setup k r items lasts fates x has)
+    slid-none none accepted handed setup r items lasts fates x has =
+        ([], sliding-is None none accepted handed setup r items lasts fates x has, led-none accepts ruled accepted handed setup k r items lasts fates x has)
 
     pub slid-some : (n : ℕ) (after : RuledAssembler C) → IsSlidTo expected was.width number (Some n) → TakesNoted accepts ruled (SkipTo k n) after → Slides accepts ruled k number after
-    slid-some n after some takes accepted setup r items lasts fates x has =
-        (skip_to n ∷ [], sliding-is (Some n) some accepted setup r items lasts fates x has, takes accepted setup r items lasts fates x has)
+    slid-some n after some takes accepted handed setup r items lasts fates x has =
+        (skip_to n ∷ [], sliding-is (Some n) some accepted handed setup r items lasts fates x has, takes accepted handed setup r items lasts fates x has)
 
   -- the skips of each rule
   pub before-decided : (ruled : RuledAssembler C) (k channel number : ℕ) → ruled.rule ≡ Decided → SkipsBefore accepts ruled k channel number ruled
-  before-decided ruled k channel number is accepted setup r items lasts noted fates x has notes = (
+  before-decided ruled k channel number is accepted handed setup r items lasts noted fates x has notes = (
     [],
     subst (λ rule. AreSkips rule (ruled_flow setup.sids.items k r) noted fates number []) (sym is) refl,
-    led-none accepts ruled accepted setup k r items noted fates x (record {
+    led-none accepts ruled accepted handed setup k r items noted fates x (record {
       assembled = has.assembled;
       of_flow = has.of_flow;
       numbers = has.numbers;
@@ -148,8 +149,8 @@ module _ {C : Type 0} (accepts : C → List ℕ → Bool) where
 
   pub before-passed : (ruled after : RuledAssembler C) (k channel number : ℕ) → ruled.rule ≡ Passed → SkipsPassed accepts ruled k channel number after
       → SkipsBefore accepts ruled k channel number after
-  before-passed ruled after k channel number is skips accepted setup r items lasts noted fates x has notes =
-      let passing = skips accepted setup r items lasts noted fates x has notes in (
+  before-passed ruled after k channel number is skips accepted handed setup r items lasts noted fates x has notes =
+      let passing = skips accepted handed setup r items lasts noted fates x has notes in (
         passing.0,
         subst (λ rule. AreSkips rule (ruled_flow setup.sids.items k r) noted fates number passing.0) (sym is) (x, has.expected, passing.1),
         passing.2,
@@ -157,23 +158,24 @@ module _ {C : Type 0} (accepts : C → List ℕ → Bool) where
 
   pub before-slid : (ruled between after : RuledAssembler C) (k channel number : ℕ) → ruled.rule ≡ PassedOrSlid → SkipsPassed accepts ruled k channel number between
       → Slides accepts between k number after → SkipsBefore accepts ruled k channel number after
-  before-slid ruled between after k channel number is skips slides accepted setup r items lasts noted fates x has notes =
-      let passing = skips accepted setup r items lasts noted fates x has notes in
+  before-slid ruled between after k channel number is skips slides accepted handed setup r items lasts noted fates x has notes =
+      let passing = skips accepted handed setup r items lasts noted fates x has notes in
       let led = passing.2 in
-      let sliding = slides accepted setup r led.more noted led.after led.y led.has in (
+      let sliding = slides accepted handed setup r led.more noted led.after led.y led.has in (
         passing.0 ++ sliding.0,
         subst (λ rule. AreSkips rule (ruled_flow setup.sids.items k r) noted fates number (passing.0 ++ sliding.0)) (sym is)
             (x, led.y, passing.0, sliding.0, led.answers, led.after, has.expected, passing.1, led.led, led.has.expected, sliding.1, refl),
-        led-both accepts between after accepted setup k r items noted noted fates passing.0 sliding.0 led sliding.2,
+        led-both accepts between after accepted handed setup k r items noted noted fates passing.0 sliding.0 led sliding.2,
       )
 
   -- after the skips the flow has still noted something
   pub noting-skipped : (ruled after : RuledAssembler C) (k channel number : ℕ) → SkipsBefore accepts ruled k channel number after → IsNoting accepts ruled k → IsNoting accepts after k
   noting-skipped ruled after k channel number skips noting =
       let notes = notes-some noting.flow_record.first noting.x channel number noting.lasts in
-      let led = (skips noting.accepted noting.setup noting.flow_record noting.items noting.lasts notes.0 noting.fates noting.x noting.has notes.1).2 in
+      let led = (skips noting.accepted noting.handed noting.setup noting.flow_record noting.items noting.lasts notes.0 noting.fates noting.x noting.has notes.1).2 in
       record {
         accepted = noting.accepted;
+        handed = noting.handed;
         setup = noting.setup;
         flow_record = noting.flow_record;
         items = led.more;
@@ -186,9 +188,10 @@ module _ {C : Type 0} (accepts : C → List ℕ → Bool) where
   pub noting-passed : (ruled after : RuledAssembler C) (k channel number : ℕ) → SkipsPassed accepts ruled k channel number after → IsNoting accepts ruled k → IsNoting accepts after k
   noting-passed ruled after k channel number skips noting =
       let notes = notes-some noting.flow_record.first noting.x channel number noting.lasts in
-      let led = (skips noting.accepted noting.setup noting.flow_record noting.items noting.lasts notes.0 noting.fates noting.x noting.has notes.1).2 in
+      let led = (skips noting.accepted noting.handed noting.setup noting.flow_record noting.items noting.lasts notes.0 noting.fates noting.x noting.has notes.1).2 in
       record {
         accepted = noting.accepted;
+        handed = noting.handed;
         setup = noting.setup;
         flow_record = noting.flow_record;
         items = led.more;
@@ -201,12 +204,12 @@ module _ {C : Type 0} (accepts : C → List ℕ → Bool) where
   -- a segment that comes makes the skips before it, and then it arrives
   pub arrives-after : (ruled between after : RuledAssembler C) (k channel : ℕ) (segment : Segment) → SkipsBefore accepts ruled k channel segment.head.sequence between
       → TakesNoted accepts between (Arrive k segment) after → TakesComing accepts ruled k (on_channel channel segment) after
-  arrives-after ruled between after k channel segment skips takes accepted setup r items lasts fates x has =
+  arrives-after ruled between after k channel segment skips takes accepted handed setup r items lasts fates x has =
       let notes = notes-some r.first x channel segment.head.sequence lasts in
-      let before = skips accepted setup r items lasts notes.0 fates x has notes.1 in
+      let before = skips accepted handed setup r items lasts notes.0 fates x has notes.1 in
       let led = before.2 in (
         before.0 ++ arrives segment ∷ [],
         notes.0,
         (x, before.0, has.expected, notes.1, before.1, refl),
-        led-both accepts between after accepted setup k r items notes.0 notes.0 fates before.0 (arrives segment ∷ []) led (takes accepted setup r led.more notes.0 led.after led.y led.has),
+        led-both accepts between after accepted handed setup k r items notes.0 notes.0 fates before.0 (arrives segment ∷ []) led (takes accepted handed setup r led.more notes.0 led.after led.y led.has),
       )

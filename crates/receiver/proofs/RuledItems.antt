@@ -1,5 +1,5 @@
 -- What all flows take by a rule, item by item.
-use Rattle.std.proofs.Common.{◌≡◌, ◌≢◌, ℕ, ◌+◌, ◌<◌, ◌==◌, inl, inr, Bool, true, false, cond, Some, List, [], ◌∷◌, ◌++◌, map, filter, replicate, length, slice_get, refl, ap, sym, subst, ◌∙◌, append-nil, length-append, arith}
+use Rattle.std.proofs.Common.{◌≡◌, ◌≢◌, ℕ, ◌+◌, ◌<◌, ◌==◌, inl, inr, Bool, true, false, cond, Some, List, [], ◌∷◌, ◌++◌, map, filter, replicate, length, slice_get, Vec, refl, ap, sym, subst, ◌∙◌, append-nil, length-append, arith}
 use Rattle.std.proofs.lemmas.Bool.{cases_eq, eq-eqb, ne_eqb}
 use Rattle.std.proofs.lemmas.Option.{same_Some}
 use Rattle.docsis_wire.proofs.StreamPlaces.{element_at}
@@ -23,7 +23,9 @@ use Rattle.receiver.specs.declared.ruled.RuledAssembler.{RuledAssembler}
 use Rattle.receiver.specs.Items.{events_at}
 use Rattle.receiver.specs.Outcome.{IsOutcomeOfFlow, AreOutcomesOfFlows}
 use Rattle.receiver.specs.Ruled.{ruled_flow, coming_of, comings_at, AreRuledOutcomes}
-use Rattle.receiver.specs.Inside.Assembly.{HasAssembled}
+use Rattle.receiver.specs.Inside.Assembly.{none_handed, HasAssembled, HandsOver}
+use Rattle.receiver.specs.declared.ruled.RuledNumbers.{RuledNumbers}
+use Rattle.std.specs.Global.{Global}
 use Rattle.receiver.specs.Inside.Ruling.{AreNewNumbers, IsNoting, KeepsRule, TakesNoted, TakesComing, HasRuledFlow, HasRuled, IsRuling}
 
 -- what comes to a flow of one item more
@@ -72,7 +74,7 @@ own-events k (sender ∷ order) (item ∷ items) paired = own-here (flow_of item
 module _ {C : Type 0} (accepts : C → List ℕ → Bool) where
   -- a decision makes just its event
   pub decision-taken : (ruled after : RuledAssembler C) (event : Event) → TakesNoted accepts ruled event after → TakesComing accepts ruled (flow_of event) (handed_in (event_of event)) after
-  decision-taken ruled after event takes accepted setup r items lasts fates x has = (event_of event ∷ [], lasts, (refl, refl), takes accepted setup r items lasts fates x has)
+  decision-taken ruled after event takes accepted handed setup r items lasts fates x has = (event_of event ∷ [], lasts, (refl, refl), takes accepted handed setup r items lasts fates x has)
 
   -- what is noted of each flow
   pub ruling-noting : (ruled : RuledAssembler C) (k : ℕ) → IsRuling accepts ruled → k < length ruled.assembler.core.flows.items → IsNoting accepts ruled k
@@ -83,6 +85,7 @@ module _ {C : Type 0} (accepts : C → List ℕ → Bool) where
       let own = has.each k at.0 at.1 in
       record {
         accepted = ruling.accepted;
+        handed = ruling.handed;
         setup = ruling.setup;
         flow_record = at.0;
         items = has.taken;
@@ -95,14 +98,14 @@ module _ {C : Type 0} (accepts : C → List ℕ → Bool) where
   -- one item more is taken
   module _ (ruled after : RuledAssembler C) (sender : ℕ) (item : Event) (takes : TakesComing accepts ruled (flow_of item) (coming_of sender item) after)
       (kept : KeepsRule ruled after (flow_of item)) (within : flow_of item < length ruled.assembler.core.flows.items) where
-    pub item-ruled : (accepted : List ℕ → Bool) (setup : Setup) (order : List ℕ) (items : List Event)
-        → HasRuled accepts ruled accepted setup order items → HasRuled accepts after accepted setup (order ++ sender ∷ []) (items ++ item ∷ [])
-    item-ruled accepted setup order items has =
+    pub item-ruled : (accepted : List ℕ → Bool) (handed : ℕ → List (List ℕ)) (setup : Setup) (order : List ℕ) (items : List Event)
+        → HasRuled accepts ruled accepted handed setup order items → HasRuled accepts after accepted handed setup (order ++ sender ∷ []) (items ++ item ∷ [])
+    item-ruled accepted handed setup order items has =
         let k = flow_of item in
         let count = has.assembled.has_taken.count in
         let at = element_at setup.flows.items k (omega arith) in
         let own = has.each k at.0 at.1 in
-        let step = takes accepted setup at.0 has.taken own.lasts own.fates own.x own.noted in
+        let step = takes accepted handed setup at.0 has.taken own.lasts own.fates own.x own.noted in
         let led = step.3 in
         record {
           taken = led.more;
@@ -110,9 +113,9 @@ module _ {C : Type 0} (accepts : C → List ℕ → Bool) where
           paired = length-append order (sender ∷ []) ∙ ap (λ n. n + 1) has.paired ∙ sym (length-append items (item ∷ []));
           each = λ j r of_flow. elim (cases_eq j k) [
             | inl same ↦
-                subst (λ i. (r : FlowRecord) → slice_get setup.flows.items i ≡ Some r → HasRuledFlow accepts after accepted setup i r (comings_at i (order ++ sender ∷ []) (items ++ item ∷ [])) led.more)
+                subst (λ i. (r : FlowRecord) → slice_get setup.flows.items i ≡ Some r → HasRuledFlow accepts after accepted handed setup i r (comings_at i (order ++ sender ∷ []) (items ++ item ∷ [])) led.more)
                 (sym same)
-                (λ r' of_flow'. subst (λ one. HasRuledFlow accepts after accepted setup k one (comings_at k (order ++ sender ∷ []) (items ++ item ∷ [])) led.more)
+                (λ r' of_flow'. subst (λ one. HasRuledFlow accepts after accepted handed setup k one (comings_at k (order ++ sender ∷ []) (items ++ item ∷ [])) led.more)
                 (same_Some at.0 r' (sym at.1 ∙ of_flow'))
                 (record {
                   lasts = step.1;
@@ -151,9 +154,9 @@ module _ {C : Type 0} (accepts : C → List ℕ → Bool) where
         }
 
   -- nothing came yet
-  pub nothing-ruled : (ruled : RuledAssembler C) (accepted : List ℕ → Bool) (setup : Setup) → HasAssembled accepts ruled.assembler accepted setup.flows.items []
-      → AreNewNumbers setup ruled.numbers.items → HasRuled accepts ruled accepted setup [] []
-  nothing-ruled ruled accepted setup assembled known = record {
+  pub nothing-ruled : (ruled : RuledAssembler C) (accepted : List ℕ → Bool) (handed : ℕ → List (List ℕ)) (setup : Setup) → HasAssembled accepts ruled.assembler accepted handed setup.flows.items []
+      → AreNewNumbers setup ruled.numbers.items → HasRuled accepts ruled accepted handed setup [] []
+  nothing-ruled ruled accepted handed setup assembled known = record {
     taken = [];
     assembled = assembled;
     paired = refl;
@@ -178,10 +181,44 @@ module _ {C : Type 0} (accepts : C → List ℕ → Bool) where
         };
   }
 
+  -- the frames of a flow are handed over
+  pub handed-ruled : (ruled after : RuledAssembler C) (k : ℕ) (frames : List (List ℕ)) → HandsOver accepts ruled.assembler k frames after.assembler
+      → after.rule ≡ ruled.rule → after.numbers ≡ ruled.numbers
+      → (accepted : List ℕ → Bool) (handed handed' : ℕ → List (List ℕ)) (setup : Setup) (order : List ℕ) (items : List Event)
+      → HasRuled accepts ruled accepted handed setup order items
+      → handed' k ≡ handed k ++ frames → ((j : ℕ) → j ≢ k → handed' j ≡ handed j)
+      → HasRuled accepts after accepted handed' setup order items
+  handed-ruled ruled after k frames over rule numbers accepted handed handed' setup order items has own others =
+      let assembled = over.hands accepted handed handed' setup.flows.items has.taken has.assembled own others in
+      record {
+        taken = has.taken;
+        assembled = assembled;
+        paired = has.paired;
+        each = λ j r of_flow.
+            let one = has.each j r of_flow in
+            record {
+              lasts = one.lasts;
+              fates = one.fates;
+              x = one.x;
+              noted = record {
+                assembled = assembled;
+                of_flow = of_flow;
+                numbers = one.noted.numbers;
+                there = ap (λ (all : Vec RuledNumbers Global). slice_get all.items j) numbers ∙ one.noted.there;
+                known = one.noted.known;
+                answers = one.noted.answers;
+                after = one.noted.after;
+                expected = one.noted.expected;
+                tied = elim one.noted.tied [ inl decided ↦ inl (rule ∙ decided) | inr tied ↦ inr tied ];
+              };
+              made = subst (λ by. AreRuled by (ruled_flow setup.sids.items j r) (comings_at j order items) (events_at j has.taken) one.lasts one.fates) (sym rule) one.made;
+            };
+      }
+
   -- what all flows gave is what by the rule comes of the items
   pub all-ruled : (ruled : RuledAssembler C) (accepted : List ℕ → Bool) (setup : Setup) (order : List ℕ) (items : List Event) (flows : List FlowOutcome)
-      → ((accepted : List ℕ → Bool) (taken : List Event) → HasAssembled accepts ruled.assembler accepted setup.flows.items taken → AreOutcomesOfFlows accepted setup.flows.items taken flows)
-      → HasRuled accepts ruled accepted setup order items → AreRuledOutcomes ruled.rule accepted setup order items flows
+      → ((accepted : List ℕ → Bool) (taken : List Event) → HasAssembled accepts ruled.assembler accepted none_handed setup.flows.items taken → AreOutcomesOfFlows accepted setup.flows.items taken flows)
+      → HasRuled accepts ruled accepted none_handed setup order items → AreRuledOutcomes ruled.rule accepted setup order items flows
   all-ruled ruled accepted setup order items flows gave has =
       let all = gave accepted has.taken has.assembled in
       record {

@@ -42,8 +42,8 @@ module _ {C : Type 0} (accepts : C → List ℕ → Bool) where
   -- what an assembler says of the number that a flow expects
   abbrev pub Expects : Assembler C → ℕ → ℕ → Type 0
   Expects assembler k expected =
-      (accepted : List ℕ → Bool) (records : List FlowRecord) (flow_record : FlowRecord) (items : List Event) (answers : List Applied) (fates : Fates) (x : ℕ)
-      → HasAssembled accepts assembler accepted records items → slice_get records k ≡ Some flow_record
+      (accepted : List ℕ → Bool) (handed : ℕ → List (List ℕ)) (records : List FlowRecord) (flow_record : FlowRecord) (items : List Event) (answers : List Applied) (fates : Fates) (x : ℕ)
+      → HasAssembled accepts assembler accepted handed records items → slice_get records k ≡ Some flow_record
       → IsAfter flow_record.first flow_record.window (events_at k items) answers fates → IsExpected fates x → expected ≡ number_of flow_record.first x
 
   -- nothing is kept differently
@@ -54,17 +54,17 @@ module _ {C : Type 0} (accepts : C → List ℕ → Bool) where
   kept-both ruled between after k p q = record { rule = q.rule ∙ p.rule; count = q.count ∙ p.count; others = λ j apart. q.others j apart ∙ p.others j apart }
 
   -- no event leads nowhere
-  pub led-none : (ruled : RuledAssembler C) (accepted : List ℕ → Bool) (setup : Setup) (k : ℕ) (r : FlowRecord) (items : List Event) (lasts : Lasts) (fates : Fates) (x : ℕ)
-      → HasNoted accepts ruled accepted setup k r items lasts fates x → HasLed accepts ruled accepted setup k r items lasts fates []
-  led-none ruled accepted setup k r items lasts fates x has =
+  pub led-none : (ruled : RuledAssembler C) (accepted : List ℕ → Bool) (handed : ℕ → List (List ℕ)) (setup : Setup) (k : ℕ) (r : FlowRecord) (items : List Event) (lasts : Lasts) (fates : Fates) (x : ℕ)
+      → HasNoted accepts ruled accepted handed setup k r items lasts fates x → HasLed accepts ruled accepted handed setup k r items lasts fates []
+  led-none ruled accepted handed setup k r items lasts fates x has =
       record { more = items; added = add-none k items; answers = []; after = fates; led = (refl, refl); y = x; has = has }
 
   -- events, and then others
-  pub led-both : (between after : RuledAssembler C) (accepted : List ℕ → Bool) (setup : Setup) (k : ℕ) (r : FlowRecord) (items : List Event) (lasts noted : Lasts) (fates : Fates)
-      (events others : List FlowEvent) → (first : HasLed accepts between accepted setup k r items lasts fates events)
-      → HasLed accepts after accepted setup k r first.more noted first.after others
-      → HasLed accepts after accepted setup k r items noted fates (events ++ others)
-  led-both between after accepted setup k r items lasts noted fates events others p q = record {
+  pub led-both : (between after : RuledAssembler C) (accepted : List ℕ → Bool) (handed : ℕ → List (List ℕ)) (setup : Setup) (k : ℕ) (r : FlowRecord) (items : List Event) (lasts noted : Lasts) (fates : Fates)
+      (events others : List FlowEvent) → (first : HasLed accepts between accepted handed setup k r items lasts fates events)
+      → HasLed accepts after accepted handed setup k r first.more noted first.after others
+      → HasLed accepts after accepted handed setup k r items noted fates (events ++ others)
+  led-both between after accepted handed setup k r items lasts noted fates events others p q = record {
     more = q.more;
     added = add-both k items p.more q.more events others p.added q.added;
     answers = p.answers ++ q.answers;
@@ -74,8 +74,8 @@ module _ {C : Type 0} (accepts : C → List ℕ → Bool) where
     has = q.has;
   }
 
-  module _ (ruled : RuledAssembler C) (accepted : List ℕ → Bool) (setup : Setup) (k : ℕ) (r : FlowRecord) (items : List Event) (lasts : Lasts) (fates : Fates) (x : ℕ)
-      (has : HasNoted accepts ruled accepted setup k r items lasts fates x) where
+  module _ (ruled : RuledAssembler C) (accepted : List ℕ → Bool) (handed : ℕ → List (List ℕ)) (setup : Setup) (k : ℕ) (r : FlowRecord) (items : List Event) (lasts : Lasts) (fates : Fates) (x : ℕ)
+      (has : HasNoted accepts ruled accepted handed setup k r items lasts fates x) where
     -- the flow is one of the core, and something is known of it
     pub noted-flow : k < length ruled.assembler.core.flows.items
     noted-flow = let count = has.assembled.has_taken.count in let within = slice_get_within setup.flows.items k r has.of_flow in omega arith
@@ -89,19 +89,19 @@ module _ {C : Type 0} (accepts : C → List ℕ → Bool) where
 
   -- What becomes of a flow that takes an event and forgets the numbers that it has then come past.
   module _ (ruled after : RuledAssembler C) (event : Event) (was is : RuledNumbers) (expected : ℕ)
-      (assembled : (accepted : List ℕ → Bool) (records : List FlowRecord) (items : List Event)
-      → HasAssembled accepts ruled.assembler accepted records items → HasAssembled accepts after.assembler accepted records (items ++ event ∷ []))
+      (assembled : (accepted : List ℕ → Bool) (handed : ℕ → List (List ℕ)) (records : List FlowRecord) (items : List Event)
+      → HasAssembled accepts ruled.assembler accepted handed records items → HasAssembled accepts after.assembler accepted handed records (items ++ event ∷ []))
       (rule : after.rule ≡ ruled.rule)
       (there : slice_get ruled.numbers.items (flow_of event) ≡ Some was) (then : slice_get after.numbers.items (flow_of event) ≡ Some is)
       (width : is.width ≡ was.width) (carried : carried_of is.lasts ≡ carried_of was.lasts)
       (expects : Expects after.assembler (flow_of event) expected)
       (forgot : numbers_of is.lasts ≡ map (still_ahead expected) (numbers_of was.lasts)) where
     pub event-led : TakesNoted accepts ruled event after
-    event-led accepted setup r items lasts fates x has =
+    event-led accepted handed setup r items lasts fates x has =
         let k = flow_of event in
-        let taken = assembled accepted setup.flows.items items has.assembled in
+        let taken = assembled accepted handed setup.flows.items items has.assembled in
         let stands = (taken.has_taken.each k r has.of_flow).has_given.stands in
-        let in_range = noted-range ruled accepted setup k r items lasts fates x has in
+        let in_range = noted-range ruled accepted handed setup k r items lasts fates x has in
         let narrow = in_range.window_in_range in
         let all : IsAfter r.first r.window (events_at k items ++ event_of event ∷ []) (taken.has_taken.each k r has.of_flow).has_given.answers stands.fates =
         subst (λ e. IsAfter r.first r.window e (taken.has_taken.each k r has.of_flow).has_given.answers stands.fates) (event_taken items event) stands.after in
@@ -114,7 +114,7 @@ module _ {C : Type 0} (accepts : C → List ℕ → Bool) where
           | inl decided ↦ inl (rule ∙ decided)
           | inr numbers ↦
               let moved = onward-one r.first r.window x stands.x (event_of event) (events_at k items) has.answers s.1 fates stands.fates (omega arith) has.after has.expected led stands.expected in
-              let at = expects accepted setup.flows.items r (items ++ event ∷ []) (taken.has_taken.each k r has.of_flow).has_given.answers stands.fates stands.x
+              let at = expects accepted handed setup.flows.items r (items ++ event ∷ []) (taken.has_taken.each k r has.of_flow).has_given.answers stands.fates stands.x
               taken has.of_flow stands.after stands.expected in
               inr (subst (AreNumbersOf r.first stands.x lasts)
               (ap (λ (one : RuledNumbers). map (still_ahead (number_of r.first stands.x)) (numbers_of one.lasts)) (sym old)

@@ -13,14 +13,15 @@ ghost use Rattle.flow_core.specs.Giving.{IsRunning, ClosesFlow};
 ghost use Rattle.receiver.specs.Items.{IsItem, events_at};
 ghost use Rattle.receiver.specs.Outcome.{AreOutcomesOfFlows};
 ghost use Rattle.receiver.specs.Inside.Assembly.{IsTaking, TakesItem, GivesTheRest};
-ghost use Rattle.receiver.specs.Inside.Assembly.{HasAssembled, IsAssembling};
+ghost use Rattle.receiver.specs.Inside.Assembly.{none_handed, HasAssembled, IsAssembling, HandsOver};
 
 use crate::outcome::FlowOutcome;
 use docsis_wire::{Bytes, HeaderCheck};
 use flow_core::{Core, Event, FlowCounts, FlowRecord, laws};
 use std::alloc::{AllocError, Global};
+use std::mem;
 
-/// All flows, each drained, and the frames that each has given so far.
+/// All flows, each drained, and the frames that each has given and that weren't handed over.
 #[derive(Drop)]
 pub struct Assembler<C> {
     core: Core<C>,
@@ -75,7 +76,7 @@ impl<C: HeaderCheck + Drop> Assembler<C> {
     pub fn new(alloc: Global, records: &[FlowRecord], check: C) -> Result<Assembler<C>, AllocError>
         requires set_up { CanBeSetUp records.now }
         ensures { IfOk result (λ assembler.
-            HasAssembled C.accepts assembler (C.accepts check) records.now []) }
+            HasAssembled C.accepts assembler (C.accepts check) none_handed records.now []) }
     {
         let mut frames = Vec::with_capacity(alloc, records.len())?;
         for _ in records {
@@ -99,10 +100,11 @@ impl<C: HeaderCheck + Drop> Assembler<C> {
     pub fn expected(&self, flow: usize) -> u16
         requires exists { flow < length self.now.core.flows.items }
         ensures in_range { result < sequence_modulus }
-        ensures number { (accepted : List ℕ → Bool) (records : List FlowRecord)
+        ensures number { (accepted : List ℕ → Bool) (handed : ℕ → List (List ℕ))
+            (records : List FlowRecord)
             (flow_record : FlowRecord) (items : List Event) (answers : List Applied)
             (fates : Fates) (x : ℕ)
-            → HasAssembled C.accepts self.now accepted records items
+            → HasAssembled C.accepts self.now accepted handed records items
             → slice_get records flow ≡ Some flow_record
             → IsAfter flow_record.first flow_record.window (events_at flow items) answers fates
             → IsExpected fates x → result ≡ number_of flow_record.first x }
@@ -118,25 +120,42 @@ impl<C: HeaderCheck + Drop> Assembler<C> {
         requires item { IsItem (length self.old.core.flows.items) event }
         requires assembling { IsAssembling C.accepts self.old }
         ensures { IfOk result (λ _.
-            (accepted : List ℕ → Bool) (records : List FlowRecord) (items : List Event)
-            → HasAssembled C.accepts self.old accepted records items
-            → HasAssembled C.accepts self.new accepted records (items ++ event ∷ [])) }
+            (accepted : List ℕ → Bool) (handed : ℕ → List (List ℕ)) (records : List FlowRecord)
+            (items : List Event) → HasAssembled C.accepts self.old accepted handed records items
+            → HasAssembled C.accepts self.new accepted handed records (items ++ event ∷ [])) }
     {
         let flow = event.flow();
         take_item(alloc, &mut self.core, event, &mut self.frames[flow])
     }
 
-    /// Closes all flows, and answers what each gave, in the order of the records.
+    /// Hands over the frames that were collected of a flow, which are then collected no more.
+    pub fn hand_over(&mut self, alloc: Global, flow: usize) -> Vec<Bytes>
+        requires exists { flow < length self.old.frames.items }
+        ensures hands { HandsOver C.accepts self.old flow result.items self.new }
+    {
+        mem::replace(&mut self.frames[flow], Vec::new(alloc))
+    }
+
+    /// The flows, and of each the frames that weren't handed over.
+    pub fn into_parts(self) -> (Core<C>, Vec<Vec<Bytes>>)
+        ensures core { result.0 ≡ self.core }
+        ensures frames { result.1 ≡ self.frames }
+    {
+        (self.core, self.frames)
+    }
+
+    /// Closes all flows, of which nothing was handed over, and answers what each gave, in the order
+    /// of the records.
     pub fn finish(
         self,
         alloc: Global,
         records: &[FlowRecord],
     ) -> Result<Vec<FlowOutcome>, AllocError>
         requires assembling { (accepted : List ℕ → Bool) × (items : List Event)
-            × HasAssembled C.accepts self accepted records.now items }
+            × HasAssembled C.accepts self accepted none_handed records.now items }
         ensures { IfOk result (λ flows.
             (accepted : List ℕ → Bool) (items : List Event)
-            → HasAssembled C.accepts self accepted records.now items
+            → HasAssembled C.accepts self accepted none_handed records.now items
             → AreOutcomesOfFlows accepted records.now items flows.items) }
     {
         let Assembler { mut core, frames } = self;

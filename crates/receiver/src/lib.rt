@@ -25,8 +25,9 @@ mod outcome;
 mod ruled;
 mod setup;
 
-pub use flows::{close_flow, take_item};
+pub use flows::close_flow;
 pub use one_thread::{ReplayFault, admitted_order, replay, replay_by};
 pub use order::check_order;
 pub use outcome::{FlowOutcome, Outcome};
+pub use ruled::RuledAssembler;
 pub use setup::{BadSetup, Decision, Lists, Setup};

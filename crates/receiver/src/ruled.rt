@@ -6,8 +6,8 @@ ghost use Rattle.receiver.specs.Inside.Ruling.{AreNewNumbers};
 use crate::flows::Assembler;
 use crate::outcome::FlowOutcome;
 use crate::setup::Setup;
-use docsis_wire::{HeaderCheck, Segment};
-use flow_core::Event;
+use docsis_wire::{Bytes, HeaderCheck, Segment};
+use flow_core::{Core, Event};
 use lane::{CHANNELS, SidRow};
 use loss_rule::{LastNumbers, LossRule, slid_to};
 use std::alloc::{AllocError, Global};
@@ -41,6 +41,7 @@ impl<C: HeaderCheck + Drop> RuledAssembler<C> {
     ghost use Rattle.receiver.specs.declared.setup.Setup.{Setup};
     ghost use Rattle.receiver.specs.Items.{IsItem};
     ghost use Rattle.receiver.specs.Ruled.{AreRuledOutcomes};
+    ghost use Rattle.receiver.specs.Inside.Assembly.{none_handed};
     ghost use Rattle.receiver.specs.Inside.Ruling.{HasRuled, IsRuling, IsNoting, KeepsRule};
     ghost use Rattle.receiver.specs.Inside.Ruling.{TakesNoted, SkipsPassed, Slides, SkipsBefore};
     ghost use Rattle.receiver.specs.Inside.Ruling.{TakesComing};
@@ -54,7 +55,7 @@ impl<C: HeaderCheck + Drop> RuledAssembler<C> {
     ) -> Result<RuledAssembler<C>, AllocError>
         requires set_up { CanBeSetUp setup.now.flows.items }
         ensures taken { IfOk result (λ ruled.
-            HasRuled C.accepts ruled (C.accepts check) setup.now [] []) }
+            HasRuled C.accepts ruled (C.accepts check) none_handed setup.now [] []) }
         ensures rule { IfOk result (λ ruled. ruled.rule ≡ rule) }
     {
         let numbers = new_numbers(alloc, setup)?;
@@ -72,9 +73,10 @@ impl<C: HeaderCheck + Drop> RuledAssembler<C> {
         requires item { IsItem (length self.old.assembler.core.flows.items) item }
         requires ruling { IsRuling C.accepts self.old }
         ensures taken { IfOk result (λ _.
-            (accepted : List ℕ → Bool) (setup : Setup) (order : List ℕ) (items : List Event)
-            → HasRuled C.accepts self.old accepted setup order items
-            → HasRuled C.accepts self.new accepted setup
+            (accepted : List ℕ → Bool) (handed : ℕ → List (List ℕ)) (setup : Setup)
+            (order : List ℕ) (items : List Event)
+            → HasRuled C.accepts self.old accepted handed setup order items
+            → HasRuled C.accepts self.new accepted handed setup
             (order ++ sender ∷ []) (items ++ item ∷ [])) }
         ensures rule { IfOk result (λ _. self.new.rule ≡ self.old.rule) }
     {
@@ -186,13 +188,44 @@ impl<C: HeaderCheck + Drop> RuledAssembler<C> {
         Ok(())
     }
 
-    /// Closes all flows, and answers what each gave, in the order of the records.
+    /// How many flows there are.
+    pub fn flow_count(&self) -> usize
+        ensures { result ≡ length self.now.assembler.core.flows.items }
+    {
+        self.assembler.flow_count()
+    }
+
+    /// Hands over the frames that a flow has given since its frames were last handed over.
+    pub fn hand_over(&mut self, alloc: Global, flow: usize) -> Vec<Bytes>
+        requires ruling { IsRuling C.accepts self.old }
+        requires exists { flow < length self.old.assembler.core.flows.items }
+        ensures hands { (accepted : List ℕ → Bool) (handed handed' : ℕ → List (List ℕ))
+            (setup : Setup) (order : List ℕ) (items : List Event)
+            → HasRuled C.accepts self.old accepted handed setup order items
+            → handed' flow ≡ handed flow ++ result.items
+            → ((k : ℕ) → k ≢ flow → handed' k ≡ handed k)
+            → HasRuled C.accepts self.new accepted handed' setup order items }
+        ensures rule { self.new.rule ≡ self.old.rule }
+    {
+        self.assembler.hand_over(alloc, flow)
+    }
+
+    /// The flows, and of each the frames that weren't handed over.
+    pub fn into_parts(self) -> (Core<C>, Vec<Vec<Bytes>>)
+        ensures core { result.0 ≡ self.assembler.core }
+        ensures frames { result.1 ≡ self.assembler.frames }
+    {
+        self.assembler.into_parts()
+    }
+
+    /// Closes all flows, of which nothing was handed over, and answers what each gave, in the order
+    /// of the records.
     pub fn finish(self, alloc: Global, setup: &Setup) -> Result<Vec<FlowOutcome>, AllocError>
         requires ruling { (accepted : List ℕ → Bool) × (order : List ℕ) × (items : List Event)
-            × HasRuled C.accepts self accepted setup.now order items }
+            × HasRuled C.accepts self accepted none_handed setup.now order items }
         ensures { IfOk result (λ flows.
             (accepted : List ℕ → Bool) (order : List ℕ) (items : List Event)
-            → HasRuled C.accepts self accepted setup.now order items
+            → HasRuled C.accepts self accepted none_handed setup.now order items
             → AreRuledOutcomes self.rule accepted setup.now order items flows.items) }
     {
         self.assembler.finish(alloc, &setup.flows)

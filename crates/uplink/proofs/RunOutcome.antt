@@ -34,15 +34,17 @@ use Rattle.uplink.specs.declared.finish.Ended.{Ended}
 use Rattle.receiver.specs.declared.setup.Setup.{Setup}
 use Rattle.lane.specs.Inputs.{AnsweredInput}
 use Rattle.lane.specs.Report.{admitted_of, requests_of}
-use Rattle.receiver.specs.Items.{Incoming, IsLaneOf, AreLanesOf, IsItem, lane_setup, items_of, event_of_admitted, event_of_decision, names_a_flow, events_at}
+use Rattle.receiver.specs.Items.{Incoming, IsLaneOf, AreLanesOf, IsItem, lane_setup, items_of, event_of_admitted, event_of_decision, names_a_flow}
 use Rattle.lane.specs.Limits.{channel_limit}
 use Rattle.receiver.specs.Order.{senders, picked, IsMergeOf}
-use Rattle.receiver.specs.Outcome.{IsOutcome, GivesAtItsClose, IsOutcomeOfFlow, AreOutcomesOfFlows, requests_on}
+use Rattle.receiver.specs.Outcome.{GivesAtItsClose, requests_on}
+use Rattle.receiver.specs.Ruled.{ruled_flow, comings_at, IsRuledOutcome, AreRuledOutcomes, IsOutcomeBy}
+use Rattle.loss_rule.specs.declared.rule.LossRule.{LossRule}
 use Rattle.lane.specs.Report.{IsReportOf}
 use Rattle.lane.specs.Stands.{StandsFor}
 use Rattle.uplink.specs.Inside.Carried.{carried}
 use Rattle.uplink.specs.Inside.Working.{HasPosted, HasSent, HasServed, DidLane, kept_of}
-use Rattle.uplink.specs.Inside.Offering.{NamesOneOf}
+use Rattle.uplink.specs.Inside.Offering.{NamesOneOf, GivesByRule}
 use Rattle.uplink.specs.Inside.Running.{IsOpened, HasEnded, CanSettle, HasConcluded, closed_arrivals, closed_requests, all_posted}
 use Rattle.receiver.proofs.ChannelInputs.{items-admitted}
 use Rattle.receiver.proofs.Interleaving.{five}
@@ -121,8 +123,8 @@ done-on setup incoming channel lane arrivals requests done stands did =
     let its = did.did (lane_setup setup channel) stands in
     record { answered = its.0; lane = record { answers = its.1; inputs = its.2 }; served = its.3 }
 
-module _ {C : Type 0} (accepts : C → List ℕ → Bool) (accepted : List ℕ → Bool) (setup : Setup) (opened : Opened C)
-    (is : IsOpened accepts accepted setup opened) where
+module _ {C : Type 0} (accepts : C → List ℕ → Bool) (accepted : List ℕ → Bool) (rule : LossRule) (setup : Setup) (opened : Opened C)
+    (is : IsOpened accepts accepted rule setup opened) where
   -- there is a taker for each flow
   takers-counted : length opened.rings.takers.items ≡ length setup.flows.items
   takers-counted =
@@ -263,7 +265,7 @@ module _ {C : Type 0} (accepts : C → List ℕ → Bool) (accepted : List ℕ �
         pub count : FlowCounts
         pub took : slice_get end.done.consumed.items k ≡ Some one
         pub counted : slice_get end.assembled.counts.items k ≡ Some count
-        pub gives : GivesAtItsClose accepted flow_record (events_at k has.items) one.frames.items count
+        pub gives : GivesByRule rule accepted setup k flow_record end.assembled.order.items has.items one.frames.items count
 
       -- it did so through its ring
       gave-through : (k : ℕ) (flow_record : FlowRecord) (feeder : Feeder) (closed : ClosedFeeder) (taker : Taker)
@@ -271,7 +273,7 @@ module _ {C : Type 0} (accepts : C → List ℕ → Bool) (accepted : List ℕ �
           → slice_get end.feeders.items k ≡ Some closed → slice_get opened.rings.takers.items k ≡ Some taker → DidFlow k flow_record
       gave-through k flow_record feeder closed taker of_flow at_feeder at_closed at_taker =
           let its = has.consumed.each k taker at_taker in
-          let gave = has.has_assembled.gives accepted setup.flows.items k flow_record feeder closed is.core all-exist of_flow at_feeder at_closed in
+          let gave = has.has_assembled.gives accepted setup k flow_record feeder closed is.flows all-exist of_flow at_feeder at_closed in
           let none_offered = all-at (λ f. offered f ≡ []) opened.rings.feeders.items k feeder is.rings.none_offered at_feeder in
           let none_taken = all-at (λ t. takers.taken t ≡ []) opened.rings.takers.items k taker is.rings.none_taken at_taker in
           let given : closed_offered closed ≡ gave.0 = gave.3 ∙ ap (λ l. l ++ gave.0) none_offered in
@@ -282,7 +284,8 @@ module _ {C : Type 0} (accepts : C → List ℕ → Bool) (accepted : List ℕ �
             count = gave.1;
             took = its.1;
             counted = gave.2;
-            gives = subst (λ l. GivesAtItsClose accepted flow_record (events_at k has.items) l gave.1) frames gave.4;
+            gives = subst (λ by. GivesByRule by accepted setup k flow_record end.assembled.order.items has.items its.0.frames.items gave.1) is.rule
+                (subst (λ l. GivesByRule opened.flows.rule accepted setup k flow_record end.assembled.order.items has.items l gave.1) frames gave.4);
           }
 
       -- and so did each flow
@@ -296,28 +299,40 @@ module _ {C : Type 0} (accepts : C → List ℕ → Bool) (accepted : List ℕ �
 
       -- and the outcome says so
       flow-is : (k : ℕ) (flow_record : FlowRecord) (flow : FlowOutcome) → slice_get setup.flows.items k ≡ Some flow_record
-          → slice_get outcome.flows.items k ≡ Some flow → IsOutcomeOfFlow accepted flow_record (events_at k has.items) flow
+          → slice_get outcome.flows.items k ≡ Some flow
+          → IsRuledOutcome rule accepted (ruled_flow setup.sids.items k flow_record) flow_record (comings_at k end.assembled.order.items has.items) flow
       flow-is k flow_record flow of_flow at =
-          let Gives : List (List ℕ) → FlowCounts → Type 0 = GivesAtItsClose accepted flow_record (events_at k has.items) in
           let gave = flow-gave k flow_record of_flow in
+          let by = gave.gives in
+          let Gives : List (List ℕ) → FlowCounts → Type 0 = GivesAtItsClose accepted flow_record by.events in
           let frames : Consumed → Vec Bytes Global = λ one. one.frames in
           let took : slice_get (map frames end.done.consumed.items) k ≡ Some (frames gave.one) =
           slice_get-map frames end.done.consumed.items k ∙ ap (option_map frames) gave.took in
           let says = concluded.flows.each k flow flow_record (frames gave.one) gave.count at of_flow took gave.counted in
           record {
-            sfid = says.0;
-            gives =
-                subst (Gives flow.frames.items) (sym says.2)
-                (subst (λ (given : Vec Bytes Global). Gives given.items gave.count) (sym says.1) gave.gives);
+            events = by.events;
+            lasts = by.lasts;
+            fates = by.fates;
+            ruled = by.ruled;
+            gave = record {
+              sfid = says.0;
+              gives =
+                  subst (Gives flow.frames.items) (sym says.2)
+                  (subst (λ (given : Vec Bytes Global). Gives given.items gave.count) (sym says.1) by.gives);
+            };
           }
 
-      flows-are : AreOutcomesOfFlows accepted setup.flows.items has.items outcome.flows.items
+      flows-are : AreRuledOutcomes rule accepted setup outcome.order.items has.items outcome.flows.items
       flows-are = record {
         count = concluded.flows.count;
         each = λ k flow_record of_flow.
             let within = slice_get_within setup.flows.items k flow_record of_flow in
-            let flow = element_at outcome.flows.items k (let count = concluded.flows.count in omega arith) in
-            (flow.0, flow.1, flow-is k flow_record flow.0 of_flow flow.1);
+            let flow = element_at outcome.flows.items k (let count = concluded.flows.count in omega arith) in (
+              flow.0,
+              flow.1,
+              subst (λ order. IsRuledOutcome rule accepted (ruled_flow setup.sids.items k flow_record) flow_record (comings_at k order has.items) flow.0)
+                  (ap (λ order. order.items) (sym concluded.order_is)) (flow-is k flow_record flow.0 of_flow flow.1),
+            );
       }
 
       -- each channel's report is that of its answers
@@ -334,7 +349,7 @@ module _ {C : Type 0} (accepts : C → List ℕ → Bool) (accepted : List ℕ �
           channel below (ap (λ l. slice_get l channel) (sym concluded.lanes_are) ∙ at)
 
       -- what is concluded is the outcome for what came in, in the order in which it was taken
-      pub outcome-of-run : IsOutcome accepted setup incoming outcome.order.items outcome
+      pub outcome-of-run : IsOutcomeBy rule accepted setup incoming outcome.order.items outcome
       outcome-of-run = record {
         intake = record {
           answered = answered;

@@ -9,6 +9,7 @@ ghost use Rattle.uplink.specs.Faults.{CanRun, IsRunFault};
 ghost use Rattle.uplink.specs.Headline.{KeepsTheHeadline};
 ghost use Rattle.receiver.specs.Items.{incoming_from};
 ghost use Rattle.receiver.specs.Outcome.{IsOutcome};
+ghost use Rattle.receiver.specs.Ruled.{IsOutcomeBy};
 ghost use Rattle.uplink.specs.Inside.Running.{CanStart, HasEnded};
 
 use crate::assembler::{AssembledAll, assemble};
@@ -23,6 +24,7 @@ use crate::team::{Work, start_team};
 use docsis_wire::{Bytes, HeaderCheck};
 use flow_core::SetupFault;
 use lane::{LaneFault, Request};
+use loss_rule::LossRule;
 use receiver::{BadSetup, Outcome, Setup};
 use std::alloc::{AllocError, Global};
 use std::sync::Wait;
@@ -131,8 +133,51 @@ where
     ensures fault { IfErr result (IsRunFault setup) }
 {
     crate::laws::consumers_take_the_delivery_sequence();
+    crate::laws::replay_by_decisions_alone_is_a_replay();
+    run_by(
+        LossRule::Decided,
+        alloc,
+        rt,
+        setup,
+        sources,
+        decisions,
+        taps,
+        check,
+    )
+}
+
+/// Runs as [`run`] does, and decides besides by this rule which segments are lost: before a segment
+/// is taken, what the rule says is lost is skipped. The outcome is the one that one thread gives by
+/// the rule for that order.
+pub fn run_by<S0, S1, S2, S3, D, F, Q, C, R>(
+    rule: LossRule,
+    alloc: Global,
+    rt: R,
+    setup: Setup,
+    sources: Sources<S0, S1, S2, S3>,
+    decisions: D,
+    taps: Taps<F, Q>,
+    check: C,
+) -> Result<Outcome, RunFault>
+where
+    S0: Source + Drop + Send + 'static,
+    S1: Source + Drop + Send + 'static,
+    S2: Source + Drop + Send + 'static,
+    S3: Source + Drop + Send + 'static,
+    D: Decisions + Drop + Send + 'static,
+    F: Tap<Bytes> + Drop + Send + 'static,
+    Q: Tap<Request> + Drop + Send + 'static,
+    C: HeaderCheck + Drop,
+    R: Threads + Wait + Copy + Send + 'static,
+    ensures answer { IfOk result (λ outcome. IsOutcomeBy rule (C.accepts check) setup
+        (incoming_from (S0.gives sources.s0 ∷ S1.gives sources.s1 ∷ S2.gives sources.s2
+        ∷ S3.gives sources.s3 ∷ []) (D.decides decisions))
+        outcome.order.items outcome) }
+    ensures can_run { IfOk result (λ _. CanRun setup) }
+    ensures fault { IfErr result (IsRunFault setup) }
+{
     check_setup(&setup)?;
-    let opened = open_all(alloc, &setup, check)?;
+    let opened = open_all(alloc, rule, &setup, check)?;
     let flow_count = setup.flows.len();
     let end = run_opened(alloc, &rt, flow_count, opened, sources, decisions, taps)?;
     Ok(conclude(alloc, &rt, &setup.flows, end)?)
@@ -165,7 +210,7 @@ where
 {
     let Opened {
         lanes,
-        core,
+        flows,
         rings,
         closed,
         arrivals,
@@ -191,7 +236,7 @@ where
         mouth,
         feeders,
         done: assembled,
-    } = assemble(alloc, rt, core, arrivals.mouth, rings.feeders, closed);
+    } = assemble(alloc, rt, flows, arrivals.mouth, rings.feeders, closed);
     let done = team.join(rt);
     let (Some(done), Some(assembled)) = (done, assembled) else {
         return Err(AllocError);

@@ -35,7 +35,8 @@ pub use lane::laws::{
 };
 pub use receiver::laws::{
     admitted_order_is_lawful, admitted_segments_are_of_the_flows, lawful_order_has_no_fault,
-    lists_have_one_merge, order_has_one_intake, replay_has_one_fault, replay_has_one_outcome,
+    lists_have_one_merge, order_has_one_intake, replay_by_decisions_alone_is_a_replay,
+    replay_has_one_fault, replay_has_one_outcome,
 };
 
 /// **The headline.** Whatever the four channels interleave, delay or lose and whenever gaps are

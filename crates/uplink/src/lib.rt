@@ -33,14 +33,15 @@ mod start_word;
 mod tap;
 mod team;
 
-pub use eight_threads::{RunFault, run};
+pub use eight_threads::{RunFault, run, run_by};
 pub use lane::{
     Admitted, Answer, CHANNELS, Input, Lane, LaneFault, LaneReport, Refusal, Request, SeenSids,
     SidRow,
 };
+pub use loss_rule::LossRule;
 pub use receiver::{
     BadSetup, Decision, FlowOutcome, Lists, Outcome, ReplayFault, Setup, admitted_order,
-    check_order, replay,
+    check_order, replay, replay_by,
 };
 pub use source::{Decisions, ListDecisions, ListSource, Source, Sources};
 pub use tap::{NoTap, Tap, Taps};

@@ -9,10 +9,11 @@ ghost use Rattle.uplink.specs.Inside.Running.{ring_of};
 use crate::item::Item;
 use delivery::{ClosedFeeder, Feeder, Taker, ring};
 use docsis_wire::HeaderCheck;
-use flow_core::{Core, FlowRecord};
+use flow_core::FlowRecord;
 use lane::{Lane, Request};
+use loss_rule::LossRule;
 use mailbox::{Mouth, Ports, open};
-use receiver::Setup;
+use receiver::{RuledAssembler, Setup};
 use std::alloc::{AllocError, Global};
 
 /// The lanes of the four channels.
@@ -43,28 +44,27 @@ pub struct OpenMailbox<T> {
 #[derive(Drop)]
 pub struct Opened<C> {
     pub lanes: Lanes,
-    pub core: Core<C>,
+    pub flows: RuledAssembler<C>,
     pub rings: Rings,
     pub closed: Vec<ClosedFeeder>,
     pub arrivals: OpenMailbox<Item>,
     pub requests: OpenMailbox<Request>,
 }
 
-/// Opens all that a receiver needs, for a setup without a fault and a capacity above 0.
+/// Opens all that a receiver needs that decides by this rule which segments are lost, for a setup
+/// without a fault and a capacity above 0.
 pub fn open_all<C: HeaderCheck + Drop>(
     alloc: Global,
+    rule: LossRule,
     setup: &Setup,
     check: C,
 ) -> Result<Opened<C>, AllocError>
     requires { CanReceive setup.now }
-    ensures { IfOk result (IsOpened C.accepts (C.accepts check) setup.now) }
+    ensures { IfOk result (IsOpened C.accepts (C.accepts check) rule setup.now) }
 {
-    let Ok(core) = Core::new(alloc, &setup.flows, check) else {
-        return Err(AllocError);
-    };
     Ok(Opened {
         lanes: open_lanes(alloc, setup)?,
-        core,
+        flows: RuledAssembler::new(alloc, rule, setup, check)?,
         rings: open_rings(alloc, &setup.flows)?,
         closed: Vec::with_capacity(alloc, setup.flows.len())?,
         arrivals: open_mailbox(alloc, setup.mailbox)?,

@@ -12,6 +12,10 @@ use Rattle.receiver.specs.declared.flows.Assembler.{Assembler}
 use Rattle.receiver.specs.Items.{events_at}
 use Rattle.receiver.specs.Outcome.{GivesAtItsClose}
 
+-- nothing was handed over of any flow
+abbrev pub none_handed : ℕ → List (List ℕ)
+none_handed k = []
+
 module _ {C : Type 0} where
   -- Each flow of the core has taken its events among these items, is drained, and has given these frames, by its index.
   pub record HasTaken (accepts : C → List ℕ → Bool) (core : Core C) (accepted : List ℕ → Bool) (records : List FlowRecord) (items : List Event) (given : ℕ → List (List ℕ)) : Type 0 where
@@ -51,14 +55,23 @@ module _ {C : Type 0} where
   abbrev pub collected : Assembler C → ℕ → List (List ℕ)
   collected assembler k = slice_index_or (map (λ frames. frames.items) assembler.frames.items) k []
 
-  -- an assembler has taken these items, and has collected what its flows gave
-  pub record HasAssembled (accepts : C → List ℕ → Bool) (assembler : Assembler C) (accepted : List ℕ → Bool) (records : List FlowRecord) (items : List Event) : Type 0 where
-    pub has_taken : HasTaken accepts assembler.core accepted records items (collected assembler)
+  -- an assembler has taken these items, and what its flows gave is what was handed over of each, and then what is collected
+  pub record HasAssembled (accepts : C → List ℕ → Bool) (assembler : Assembler C) (accepted : List ℕ → Bool) (handed : ℕ → List (List ℕ)) (records : List FlowRecord) (items : List Event) : Type 0 where
+    pub has_taken : HasTaken accepts assembler.core accepted records items (λ k. handed k ++ collected assembler k)
     pub count : length assembler.frames.items ≡ length records
 
   -- it has done so with some items
   pub record IsAssembling (accepts : C → List ℕ → Bool) (assembler : Assembler C) : Type 0 where
     pub accepted : List ℕ → Bool
+    pub handed : ℕ → List (List ℕ)
     pub records : List FlowRecord
     pub items : List Event
-    pub has_assembled : HasAssembled accepts assembler accepted records items
+    pub has_assembled : HasAssembled accepts assembler accepted handed records items
+
+  -- the frames that were collected of flow k are handed over: what was handed over is more by them, and less is collected
+  pub record HandsOver (accepts : C → List ℕ → Bool) (assembler : Assembler C) (k : ℕ) (frames : List (List ℕ)) (after : Assembler C) : Type 0 where
+    pub core : after.core ≡ assembler.core
+    pub hands : (accepted : List ℕ → Bool) (handed handed' : ℕ → List (List ℕ)) (records : List FlowRecord) (items : List Event)
+        → HasAssembled accepts assembler accepted handed records items
+        → handed' k ≡ handed k ++ frames → ((j : ℕ) → j ≢ k → handed' j ≡ handed j)
+        → HasAssembled accepts after accepted handed' records items

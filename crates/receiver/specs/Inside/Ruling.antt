@@ -36,8 +36,8 @@ AreNewNumbers setup numbers =
 module _ {C : Type 0} where
   -- Flow k has taken its events among these items, which lead to these fates, with the expected index x; and what is known of its channels are the
   -- numbers of these last indexes, if the rule asks for them.
-  pub record HasNoted (accepts : C → List ℕ → Bool) (ruled : RuledAssembler C) (accepted : List ℕ → Bool) (setup : Setup) (k : ℕ) (flow_record : FlowRecord) (items : List Event) (lasts : Lasts) (fates : Fates) (x : ℕ) : Type 0 where
-    pub assembled : HasAssembled accepts ruled.assembler accepted setup.flows.items items
+  pub record HasNoted (accepts : C → List ℕ → Bool) (ruled : RuledAssembler C) (accepted : List ℕ → Bool) (handed : ℕ → List (List ℕ)) (setup : Setup) (k : ℕ) (flow_record : FlowRecord) (items : List Event) (lasts : Lasts) (fates : Fates) (x : ℕ) : Type 0 where
+    pub assembled : HasAssembled accepts ruled.assembler accepted handed setup.flows.items items
     pub of_flow : slice_get setup.flows.items k ≡ Some flow_record
     pub numbers : RuledNumbers
     pub there : slice_get ruled.numbers.items k ≡ Some numbers
@@ -50,23 +50,24 @@ module _ {C : Type 0} where
   -- it has done so with some items
   pub record IsNoting (accepts : C → List ℕ → Bool) (ruled : RuledAssembler C) (k : ℕ) : Type 0 where
     pub accepted : List ℕ → Bool
+    pub handed : ℕ → List (List ℕ)
     pub setup : Setup
     pub flow_record : FlowRecord
     pub items : List Event
     pub lasts : Lasts
     pub fates : Fates
     pub x : ℕ
-    pub has : HasNoted accepts ruled accepted setup k flow_record items lasts fates x
+    pub has : HasNoted accepts ruled accepted handed setup k flow_record items lasts fates x
 
   -- Flow k has taken these events more than its events among these items, which had led to these fates.
-  pub record HasLed (accepts : C → List ℕ → Bool) (ruled : RuledAssembler C) (accepted : List ℕ → Bool) (setup : Setup) (k : ℕ) (flow_record : FlowRecord) (items : List Event) (lasts : Lasts) (fates : Fates) (events : List FlowEvent) : Type 0 where
+  pub record HasLed (accepts : C → List ℕ → Bool) (ruled : RuledAssembler C) (accepted : List ℕ → Bool) (handed : ℕ → List (List ℕ)) (setup : Setup) (k : ℕ) (flow_record : FlowRecord) (items : List Event) (lasts : Lasts) (fates : Fates) (events : List FlowEvent) : Type 0 where
     pub more : List Event
     pub added : AddEvents k items more events
     pub answers : List Applied
     pub after : Fates
     pub led : Leads flow_record.first flow_record.window fates events answers after
     pub y : ℕ
-    pub has : HasNoted accepts ruled accepted setup k flow_record more lasts after y
+    pub has : HasNoted accepts ruled accepted handed setup k flow_record more lasts after y
 
   -- the rule is the same, and what is known of all other flows than k
   pub record KeepsRule (ruled after : RuledAssembler C) (k : ℕ) : Type 0 where
@@ -77,63 +78,64 @@ module _ {C : Type 0} where
   -- whatever its flow has taken, it takes the event
   abbrev pub TakesNoted : (C → List ℕ → Bool) → RuledAssembler C → Event → RuledAssembler C → Type 0
   TakesNoted accepts ruled event after =
-      (accepted : List ℕ → Bool) (setup : Setup) (flow_record : FlowRecord) (items : List Event) (lasts : Lasts) (fates : Fates) (x : ℕ)
-      → HasNoted accepts ruled accepted setup (flow_of event) flow_record items lasts fates x
-      → HasLed accepts after accepted setup (flow_of event) flow_record items lasts fates (event_of event ∷ [])
+      (accepted : List ℕ → Bool) (handed : ℕ → List (List ℕ)) (setup : Setup) (flow_record : FlowRecord) (items : List Event) (lasts : Lasts) (fates : Fates) (x : ℕ)
+      → HasNoted accepts ruled accepted handed setup (flow_of event) flow_record items lasts fates x
+      → HasLed accepts after accepted handed setup (flow_of event) flow_record items lasts fates (event_of event ∷ [])
 
   -- it notes a segment with this number on a channel, and takes the skip to what every channel has passed
   abbrev pub SkipsPassed : (C → List ℕ → Bool) → RuledAssembler C → ℕ → ℕ → ℕ → RuledAssembler C → Type 0
   SkipsPassed accepts ruled k channel number after =
-      (accepted : List ℕ → Bool) (setup : Setup) (flow_record : FlowRecord) (items : List Event) (lasts noted : Lasts) (fates : Fates) (x : ℕ)
-      → HasNoted accepts ruled accepted setup k flow_record items lasts fates x → Notes flow_record.first x channel number lasts noted
+      (accepted : List ℕ → Bool) (handed : ℕ → List (List ℕ)) (setup : Setup) (flow_record : FlowRecord) (items : List Event) (lasts noted : Lasts) (fates : Fates) (x : ℕ)
+      → HasNoted accepts ruled accepted handed setup k flow_record items lasts fates x → Notes flow_record.first x channel number lasts noted
       → (skips : List FlowEvent) × IsPassing (ruled_flow setup.sids.items k flow_record) noted x skips
-      × HasLed accepts after accepted setup k flow_record items noted fates skips
+      × HasLed accepts after accepted handed setup k flow_record items noted fates skips
 
   -- it takes the skip after which the number is the last of the window
   abbrev pub Slides : (C → List ℕ → Bool) → RuledAssembler C → ℕ → ℕ → RuledAssembler C → Type 0
   Slides accepts ruled k number after =
-      (accepted : List ℕ → Bool) (setup : Setup) (flow_record : FlowRecord) (items : List Event) (lasts : Lasts) (fates : Fates) (x : ℕ)
-      → HasNoted accepts ruled accepted setup k flow_record items lasts fates x
+      (accepted : List ℕ → Bool) (handed : ℕ → List (List ℕ)) (setup : Setup) (flow_record : FlowRecord) (items : List Event) (lasts : Lasts) (fates : Fates) (x : ℕ)
+      → HasNoted accepts ruled accepted handed setup k flow_record items lasts fates x
       → (skips : List FlowEvent) × IsSliding (ruled_flow setup.sids.items k flow_record) x number skips
-      × HasLed accepts after accepted setup k flow_record items lasts fates skips
+      × HasLed accepts after accepted handed setup k flow_record items lasts fates skips
 
   -- it takes the skips before a segment with this number, which comes on a channel
   abbrev pub SkipsBefore : (C → List ℕ → Bool) → RuledAssembler C → ℕ → ℕ → ℕ → RuledAssembler C → Type 0
   SkipsBefore accepts ruled k channel number after =
-      (accepted : List ℕ → Bool) (setup : Setup) (flow_record : FlowRecord) (items : List Event) (lasts noted : Lasts) (fates : Fates) (x : ℕ)
-      → HasNoted accepts ruled accepted setup k flow_record items lasts fates x → Notes flow_record.first x channel number lasts noted
+      (accepted : List ℕ → Bool) (handed : ℕ → List (List ℕ)) (setup : Setup) (flow_record : FlowRecord) (items : List Event) (lasts noted : Lasts) (fates : Fates) (x : ℕ)
+      → HasNoted accepts ruled accepted handed setup k flow_record items lasts fates x → Notes flow_record.first x channel number lasts noted
       → (skips : List FlowEvent) × AreSkips ruled.rule (ruled_flow setup.sids.items k flow_record) noted fates number skips
-      × HasLed accepts after accepted setup k flow_record items noted fates skips
+      × HasLed accepts after accepted handed setup k flow_record items noted fates skips
 
   -- it takes the events that a coming makes by the rule
   abbrev pub TakesComing : (C → List ℕ → Bool) → RuledAssembler C → ℕ → Coming → RuledAssembler C → Type 0
   TakesComing accepts ruled k coming after =
-      (accepted : List ℕ → Bool) (setup : Setup) (flow_record : FlowRecord) (items : List Event) (lasts : Lasts) (fates : Fates) (x : ℕ)
-      → HasNoted accepts ruled accepted setup k flow_record items lasts fates x
+      (accepted : List ℕ → Bool) (handed : ℕ → List (List ℕ)) (setup : Setup) (flow_record : FlowRecord) (items : List Event) (lasts : Lasts) (fates : Fates) (x : ℕ)
+      → HasNoted accepts ruled accepted handed setup k flow_record items lasts fates x
       → (events : List FlowEvent) × (noted : Lasts)
       × IsRuled ruled.rule (ruled_flow setup.sids.items k flow_record) lasts fates coming events noted
-      × HasLed accepts after accepted setup k flow_record items noted fates events
+      × HasLed accepts after accepted handed setup k flow_record items noted fates events
 
   -- Flow k has taken, with its events among these items, what by the rule comes of all that came to it.
-  pub record HasRuledFlow (accepts : C → List ℕ → Bool) (ruled : RuledAssembler C) (accepted : List ℕ → Bool) (setup : Setup) (k : ℕ) (flow_record : FlowRecord) (comings : List Coming) (taken : List Event) : Type 0 where
+  pub record HasRuledFlow (accepts : C → List ℕ → Bool) (ruled : RuledAssembler C) (accepted : List ℕ → Bool) (handed : ℕ → List (List ℕ)) (setup : Setup) (k : ℕ) (flow_record : FlowRecord) (comings : List Coming) (taken : List Event) : Type 0 where
     pub lasts : Lasts
     pub fates : Fates
     pub x : ℕ
-    pub noted : HasNoted accepts ruled accepted setup k flow_record taken lasts fates x
+    pub noted : HasNoted accepts ruled accepted handed setup k flow_record taken lasts fates x
     pub made : AreRuled ruled.rule (ruled_flow setup.sids.items k flow_record) comings (events_at k taken) lasts fates
 
   -- Each flow has taken what by the rule comes of these items, in an order that names the sender of each.
-  pub record HasRuled (accepts : C → List ℕ → Bool) (ruled : RuledAssembler C) (accepted : List ℕ → Bool) (setup : Setup) (order : List ℕ) (items : List Event) : Type 0 where
+  pub record HasRuled (accepts : C → List ℕ → Bool) (ruled : RuledAssembler C) (accepted : List ℕ → Bool) (handed : ℕ → List (List ℕ)) (setup : Setup) (order : List ℕ) (items : List Event) : Type 0 where
     pub taken : List Event
-    pub assembled : HasAssembled accepts ruled.assembler accepted setup.flows.items taken
+    pub assembled : HasAssembled accepts ruled.assembler accepted handed setup.flows.items taken
     pub paired : length order ≡ length items
     pub each : (k : ℕ) (flow_record : FlowRecord) → slice_get setup.flows.items k ≡ Some flow_record
-        → HasRuledFlow accepts ruled accepted setup k flow_record (comings_at k order items) taken
+        → HasRuledFlow accepts ruled accepted handed setup k flow_record (comings_at k order items) taken
 
   -- they have done so with some items
   pub record IsRuling (accepts : C → List ℕ → Bool) (ruled : RuledAssembler C) : Type 0 where
     pub accepted : List ℕ → Bool
+    pub handed : ℕ → List (List ℕ)
     pub setup : Setup
     pub order : List ℕ
     pub items : List Event
-    pub has_ruled : HasRuled accepts ruled accepted setup order items
+    pub has_ruled : HasRuled accepts ruled accepted handed setup order items

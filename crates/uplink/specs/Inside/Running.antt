@@ -25,7 +25,9 @@ use Rattle.uplink.specs.declared.open.Opened.{Opened}
 use Rattle.uplink.specs.declared.open.Rings.{Rings}
 use Rattle.uplink.specs.declared.finish.Ended.{Ended}
 use Rattle.receiver.specs.declared.setup.Setup.{Setup}
-use Rattle.receiver.specs.Inside.Assembly.{HasTaken, IsTaking}
+use Rattle.loss_rule.specs.declared.rule.LossRule.{LossRule}
+use Rattle.receiver.specs.Inside.Assembly.{none_handed}
+use Rattle.receiver.specs.Inside.Ruling.{HasRuled, IsRuling}
 use Rattle.receiver.specs.Items.{Incoming, lane_setup}
 use Rattle.lane.specs.Limits.{channel_limit}
 use Rattle.uplink.specs.Inside.Offering.{HasCollected, HasAssembledAll}
@@ -59,20 +61,21 @@ pub record IsOpenMailbox {T : Type 0} (entries : ℕ) (mailbox : OpenMailbox T) 
   pub none_posted : NonePosted mailbox.ports
   pub none_taken : NoneTaken mailbox.mouth
 
--- what a receiver of this setup needs before its workers start
-pub record IsOpened {C : Type 0} (accepts : C → List ℕ → Bool) (accepted : List ℕ → Bool) (setup : Setup) (opened : Opened C) : Type 0 where
+-- what a receiver of this setup and this rule needs before its workers start
+pub record IsOpened {C : Type 0} (accepts : C → List ℕ → Bool) (accepted : List ℕ → Bool) (rule : LossRule) (setup : Setup) (opened : Opened C) : Type 0 where
   pub lanes : AreOpenLanes setup opened.lanes
-  pub core : HasTaken accepts opened.core accepted setup.flows.items [] (λ k. [])
+  pub flows : HasRuled accepts opened.flows accepted none_handed setup [] []
+  pub rule : opened.flows.rule ≡ rule
   pub rings : AreOpenRings setup.flows.items opened.rings
   pub none_closed : opened.closed.items ≡ []
   pub room : length setup.flows.items ≤ opened.closed.cap
   pub arrivals : IsOpenMailbox setup.mailbox opened.arrivals
   pub requests : IsOpenMailbox setup.mailbox opened.requests
 
--- what can be started: the core has taken some items, there is a feeder for each flow, and room for it once it is closed
+-- what can be started: the flows have taken some items, there is a feeder for each flow, and room for it once it is closed
 pub record CanStart {C : Type 0} (accepts : C → List ℕ → Bool) (opened : Opened C) : Type 0 where
-  pub taking : IsTaking accepts opened.core
-  pub flows : length opened.core.flows.items ≡ length opened.rings.feeders.items
+  pub ruling : IsRuling accepts opened.flows
+  pub flows : length opened.flows.assembler.core.flows.items ≡ length opened.rings.feeders.items
   pub none_closed : opened.closed.items ≡ []
   pub room : length opened.rings.feeders.items ≤ opened.closed.cap
 
@@ -92,7 +95,7 @@ pub record HasEnded {C : Type 0} (accepts : C → List ℕ → Bool) (flow_count
   pub rings : map closed_ring end.feeders.items ≡ map feeder_ring opened.rings.feeders.items
   pub items : List Event
   pub has_collected : HasCollected (taken opened.arrivals.mouth) (taken end.mouth) end.assembled.order.items items
-  pub has_assembled : HasAssembledAll accepts opened.core items opened.rings.feeders.items end.feeders.items end.assembled.counts.items
+  pub has_assembled : HasAssembledAll accepts opened.flows end.assembled.order.items items opened.rings.feeders.items end.feeders.items end.assembled.counts.items
 
 -- the closed ports of the two mailboxes
 abbrev pub closed_arrivals : Ended → ClosedPorts Item

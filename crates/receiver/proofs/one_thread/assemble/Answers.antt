@@ -7,6 +7,7 @@ use Rattle.receiver.specs.Items.{IsItem}
 use Rattle.receiver.specs.Order.{senders, IsMergeOf}
 use Rattle.receiver.specs.Ruled.{AreRuledOutcomes}
 use Rattle.receiver.specs.Inside.Received.{left_of}
+use Rattle.receiver.specs.Inside.Assembly.{none_handed}
 use Rattle.receiver.specs.Inside.Ruling.{HasRuled}
 use Rattle.receiver.proofs.Interleaving.{none-merged, next-comes, left-all, one-more, all-merged}
 use Rattle.receiver.proofs.one_thread.assemble.Goals as goal
@@ -45,6 +46,7 @@ take-requires-clause-ruling g c =
     let so_far = c.loop-sender.invariant in
     record {
       accepted = g.C.HeaderCheck.accepts c.args.check;
+      handed = none_handed;
       setup = c.args.setup.now;
       order = take c.loop-sender.sender-index c.args.order.now;
       items = so_far.items;
@@ -61,8 +63,8 @@ loop-sender-preserved g c =
       items = so_far.items ++ c.in-Some.item ∷ [];
       merged = one-more (left_of c.args.merging) (left_of c.loop-sender.merging) order k so_far.items so_far.merged
           (left_of c.next.new.self) c.in-Some.item c.loop-sender-test.true c.in-Some.ensures.item c.in-Some.ensures.others;
-      ruled = subst (λ tags. HasRuled g.C.HeaderCheck.accepts c.take.new.self check c.args.setup.now tags (so_far.items ++ c.in-Some.item ∷ [])) (sym (take_more order k 0 c.loop-sender-test.true))
-          (c.in_ok-take.ensures.taken check c.args.setup.now (take k order) so_far.items so_far.ruled);
+      ruled = subst (λ tags. HasRuled g.C.HeaderCheck.accepts c.take.new.self check none_handed c.args.setup.now tags (so_far.items ++ c.in-Some.item ∷ [])) (sym (take_more order k 0 c.loop-sender-test.true))
+          (c.in_ok-take.ensures.taken check none_handed c.args.setup.now (take k order) so_far.items so_far.ruled);
       rule = c.in_ok-take.ensures.rule ∙ so_far.rule;
     }
 
@@ -81,7 +83,7 @@ returns g c =
     c.requires.lawful c.loop-sender-test.false in
     let whole = take_all c.loop-sender.sender-index order c.loop-sender-test.false in
     IfOk-weaker c.finish.result
-    (λ flows. (accepted : List ℕ → Bool) (order : List ℕ) (items : List Event) → HasRuled g.C.HeaderCheck.accepts c.loop-sender.assembler accepted setup order items
+    (λ flows. (accepted : List ℕ → Bool) (order : List ℕ) (items : List Event) → HasRuled g.C.HeaderCheck.accepts c.loop-sender.assembler accepted none_handed setup order items
     → AreRuledOutcomes c.loop-sender.assembler.rule accepted setup order items flows.items)
     (λ flows. (items : List Event) × IsMergeOf (left_of c.args.merging) order items × AreRuledOutcomes c.args.rule check setup order items flows.items)
     (λ flows gave. (

@@ -12,7 +12,7 @@ use Rattle.uplink.proofs.assembler.assemble.Goals as goal
 pub returns-clause-done : goal.returns-clause-done
 returns-clause-done g c =
     let accepts = g.C.HeaderCheck.accepts in
-    let core = c.args.core in
+    let flows = c.args.flows in
     let first = c.as_mut_slice-all_feeders.result.now in
     let value = c.as_mut_slice-all_feeders.ensures.value in
     let before = taken c.args.mouth in
@@ -24,6 +24,6 @@ returns-clause-done g c =
     let same : map closed_offered closed ≡ map offered after =
     c.close_feeders-feeders.ensures.offered ∙ ap (λ (all : List Feeder). map offered all) (with_items_is c.args.feeders after as_long) in
     subst (λ (feeders : List Feeder). IfSome done (λ d.
-    (items : List Event) × HasCollected before now d.order.items items × HasAssembledAll accepts core items feeders closed d.counts.items)) value
-    (assembled accepts core first before now c.take_items-taking.new.feeders after closed c.take_items-taking.result c.take_items-taking.ensures.rings
+    (items : List Event) × HasCollected before now d.order.items items × HasAssembledAll accepts flows d.order.items items feeders closed d.counts.items)) value
+    (assembled accepts flows first before now c.take_items-taking.new.feeders after closed c.take_items-taking.result c.take_items-taking.ensures.rings
     c.take_items-taking.ensures.so_far same done c.close_flows-done.ensures.counts c.close_flows-done.ensures.closed)

@@ -9,14 +9,14 @@ loop-init g c =
     record {
       places_are = refl;
       rings = refl;
-      so_far = begins g.C.HeaderCheck.accepts c.args.core c.args.feeders.now (taken c.args.mouth.now)
-          (record { core = c.args.core; order = c.new.result }) refl c.new.ensures.items c.requires.taking;
+      so_far = begins g.C.HeaderCheck.accepts c.args.flows c.args.feeders.now (taken c.args.mouth.now)
+          (record { flows = c.args.flows; order = c.new.result }) refl c.new.ensures.items c.requires.ruling;
     }
 
 pub with_item-taking-requires-clause-flows : goal.with_item-taking-requires-clause-flows
 with_item-taking-requires-clause-flows g c =
     let loop = c.loop in
-    flows_as_feeders g.C.HeaderCheck.accepts c.args.core c.args.feeders.now (taken c.args.mouth.now) (taken loop.mouth) loop.feeders loop.taking
+    flows_as_feeders g.C.HeaderCheck.accepts c.args.flows c.args.feeders.now (taken c.args.mouth.now) (taken loop.mouth) loop.feeders loop.taking
     c.requires.flows loop.invariant.rings loop.invariant.so_far
 
 pub loop-preserved-in-Item : goal.loop-preserved-in-Item
@@ -26,7 +26,7 @@ loop-preserved-in-Item g c =
     record {
       places_are = search rules;
       rings = search rules;
-      so_far = item_made g.C.HeaderCheck.accepts c.args.core c.args.feeders.now (taken c.args.mouth.now) (taken loop.mouth)
+      so_far = item_made g.C.HeaderCheck.accepts c.args.flows c.args.feeders.now (taken c.args.mouth.now) (taken loop.mouth)
           (taken c.next-in-loop.new.self) loop.feeders c.with_item-taking.new.feeders c.in-Item.from c.in-Item.item loop.taking c.with_item-taking.result
           takes.five takes.taken_is c.with_item-taking.ensures.order loop.invariant.so_far;
     }
@@ -37,7 +37,7 @@ loop-preserved-in-End g c =
     record {
       places_are = search rules;
       rings = search rules;
-      so_far = nothing_made g.C.HeaderCheck.accepts c.args.core c.args.feeders.now (taken c.args.mouth.now) (taken loop.mouth)
+      so_far = nothing_made g.C.HeaderCheck.accepts c.args.flows c.args.feeders.now (taken c.args.mouth.now) (taken loop.mouth)
           (taken c.next-in-loop.new.self) loop.feeders loop.feeders loop.taking c.in-End.ensures.takes.taken_is refl loop.invariant.so_far;
     }
 
@@ -47,7 +47,7 @@ loop-preserved g c =
     record {
       places_are = search rules;
       rings = search rules;
-      so_far = nothing_made g.C.HeaderCheck.accepts c.args.core c.args.feeders.now (taken c.args.mouth.now) (taken loop.mouth)
+      so_far = nothing_made g.C.HeaderCheck.accepts c.args.flows c.args.feeders.now (taken c.args.mouth.now) (taken loop.mouth)
           (taken c.next-in-loop.new.self) loop.feeders c.flush_all.new.feeders loop.taking c.in-Empty.ensures.takes.taken_is
           c.flush_all.ensures.offered loop.invariant.so_far;
     }

@@ -10,5 +10,5 @@ invariant-loop g l =
     record {
       places_are : places l.mouth ≡ places l.fn.mouth;
       rings : map feeder_ring l.feeders ≡ map feeder_ring l.fn.feeders;
-      so_far : IfSome l.taking (HasAssembledSoFar g.C.HeaderCheck.accepts l.fn.core l.fn.feeders (taken l.fn.mouth) (taken l.mouth) l.feeders);
+      so_far : IfSome l.taking (HasAssembledSoFar g.C.HeaderCheck.accepts l.fn.flows l.fn.feeders (taken l.fn.mouth) (taken l.mouth) l.feeders);
     }

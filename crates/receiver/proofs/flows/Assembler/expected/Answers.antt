@@ -4,7 +4,7 @@ use Rattle.receiver.specs.Items.{events_at}
 use Rattle.receiver.proofs.flows.Assembler.expected.Goals as goal
 
 pub returns-clause-number : goal.returns-clause-number
-returns-clause-number g c = λ accepted records r items answers fates x has of_flow after expected.
+returns-clause-number g c = λ accepted handed records r items answers fates x has of_flow after expected.
     let d = has.has_taken.each c.args.flow r of_flow in
     let events = events_at c.args.flow items in
     let same = (c.events_have_one_outcome.ensures.only r.first r.window events answers d.has_given.answers fates d.has_given.stands.fates after d.has_given.stands.after).0 in

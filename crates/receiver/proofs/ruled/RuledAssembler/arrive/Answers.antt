@@ -8,7 +8,7 @@ use Rattle.receiver.proofs.ruled.RuledAssembler.arrive.Goals as goal
 pub take_event-requires-clause-noting : goal.take_event-requires-clause-noting
 take_event-requires-clause-noting g c =
     noting-skipped g.C.HeaderCheck.accepts c.args.self.now c.skip_before.new.self c.args.flow c.args.channel c.args.segment.head.sequence
-    (λ accepted setup r items. c.in_ok-skip_before.ensures.skips accepted setup r items) c.requires.noting
+    (λ accepted handed setup r items. c.in_ok-skip_before.ensures.skips accepted handed setup r items) c.requires.noting
 
 pub returns-clause-takes : goal.returns-clause-takes
 returns-clause-takes g c =
@@ -17,5 +17,5 @@ returns-clause-takes g c =
     (λ _. TakesComing accepts c.args.self.now c.args.flow (on_channel c.args.channel c.args.segment) c.take_event.new.self)
     (λ _ takes.
     arrives-after accepts c.args.self.now c.skip_before.new.self c.take_event.new.self c.args.flow c.args.channel c.args.segment
-    (λ accepted setup r items. c.in_ok-skip_before.ensures.skips accepted setup r items) takes)
+    (λ accepted handed setup r items. c.in_ok-skip_before.ensures.skips accepted handed setup r items) takes)
     c.take_event.ensures.takes

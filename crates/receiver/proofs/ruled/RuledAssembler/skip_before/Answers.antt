@@ -6,7 +6,7 @@ use Rattle.receiver.proofs.ruled.RuledAssembler.skip_before.Goals as goal
 pub slide-requires-clause-noting : goal.slide-requires-clause-noting
 slide-requires-clause-noting g c =
     noting-passed g.C.HeaderCheck.accepts c.args.self.now c.skip_passed-in-PassedOrSlid.new.self c.args.flow c.args.channel c.args.number
-    (λ accepted setup r items. c.in_ok-skip_passed-in-PassedOrSlid.ensures.skips accepted setup r items) c.requires.noting
+    (λ accepted handed setup r items. c.in_ok-skip_passed-in-PassedOrSlid.ensures.skips accepted handed setup r items) c.requires.noting
 
 pub returns-in-Decided-clause-skips : goal.returns-in-Decided-clause-skips
 returns-in-Decided-clause-skips g c = before-decided g.C.HeaderCheck.accepts c.args.self.now c.args.flow c.args.channel c.args.number c.in-Decided.is
@@ -27,5 +27,5 @@ returns-in_ok-skip_passed-in-PassedOrSlid-clause-skips g c =
     (λ _. SkipsBefore accepts c.args.self.now c.args.flow c.args.channel c.args.number c.slide.new.self)
     (λ _ slides.
     before-slid accepts c.args.self.now between c.slide.new.self c.args.flow c.args.channel c.args.number c.in-PassedOrSlid.is
-    (λ accepted setup r items. c.in_ok-skip_passed-in-PassedOrSlid.ensures.skips accepted setup r items) slides)
+    (λ accepted handed setup r items. c.in_ok-skip_passed-in-PassedOrSlid.ensures.skips accepted handed setup r items) slides)
     c.slide.ensures.slides

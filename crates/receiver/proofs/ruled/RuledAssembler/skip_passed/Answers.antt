@@ -16,7 +16,7 @@ use Rattle.receiver.proofs.ruled.RuledAssembler.skip_passed.Goals as goal
 -- what is known of the flow is written, and read again
 module _ {C : Type 0} (accepts : C → List ℕ → Bool) (ruled : RuledAssembler C) (k : ℕ) (noting : IsNoting accepts ruled k) (was is again : RuledNumbers) where
   within : k < length ruled.numbers.items
-  within = noted-numbers accepts ruled noting.accepted noting.setup k noting.flow_record noting.items noting.lasts noting.fates noting.x noting.has
+  within = noted-numbers accepts ruled noting.accepted noting.handed noting.setup k noting.flow_record noting.items noting.lasts noting.fates noting.x noting.has
 
   read : was ≡ get_or ruled.numbers.items k was → slice_get ruled.numbers.items k ≡ Some was
   read at = slice_get_read ruled.numbers.items _ k was refl within at
@@ -40,7 +40,7 @@ take_event-requires-clause-noting g c =
     let is : RuledNumbers = record { width = c.index_mut.result.now.width; lasts = c.note.new.self } in
     noting-between accepts ruled (record ruled { numbers = with_item ruled.numbers k is }) k c.args.channel c.args.number c.expected-expected.result c.index_mut.result.now is c.requires.number
     refl refl (read accepts ruled k c.requires.noting c.index_mut.result.now is is c.index_mut.ensures.value) (wrote accepts ruled k c.requires.noting is is is) refl c.note.ensures.carried
-    (λ accepted records r items. c.expected-expected.ensures.number accepted records r items) c.note.ensures.numbers c.requires.noting
+    (λ accepted handed records r items. c.expected-expected.ensures.number accepted handed records r items) c.note.ensures.numbers c.requires.noting
 
 pub returns-in-None-clause-skips : goal.returns-in-None-clause-skips
 returns-in-None-clause-skips g c =
@@ -51,7 +51,7 @@ returns-in-None-clause-skips g c =
     let one = same accepts ruled k c.requires.noting is is c.index.result.now c.index.ensures in
     passed-none accepts ruled (record ruled { numbers = with_item ruled.numbers k is }) k c.args.channel c.args.number c.expected-expected.result c.index_mut.result.now is c.requires.number
     refl refl (read accepts ruled k c.requires.noting c.index_mut.result.now is is c.index_mut.ensures.value) (wrote accepts ruled k c.requires.noting is is is) refl c.note.ensures.carried
-    (λ accepted records r items. c.expected-expected.ensures.number accepted records r items) c.note.ensures.numbers c.requires.rule
+    (λ accepted handed records r items. c.expected-expected.ensures.number accepted handed records r items) c.note.ensures.numbers c.requires.rule
     (subst (λ (n : RuledNumbers). IsPassedByAll (carried_of n.lasts) (numbers_of n.lasts) c.expected-expected.result None) one
     (subst (IsPassedByAll (carried_of c.index.result.now.lasts) (numbers_of c.index.result.now.lasts) c.expected-expected.result) c.in-None.is c.passed_by_all.ensures.passed))
 
@@ -71,7 +71,7 @@ returns-in-Some-clause-skips g c =
     (λ _ takes.
     passed-some accepts ruled (record ruled { numbers = with_item ruled.numbers k is }) k c.args.channel c.args.number c.expected-expected.result c.index_mut.result.now is c.requires.number
     refl refl (read accepts ruled k c.requires.noting c.index_mut.result.now is is c.index_mut.ensures.value) (wrote accepts ruled k c.requires.noting is is is) refl c.note.ensures.carried
-    (λ accepted records r items. c.expected-expected.ensures.number accepted records r items) c.note.ensures.numbers c.in-Some.passed c.take_event.new.self c.requires.rule
+    (λ accepted handed records r items. c.expected-expected.ensures.number accepted handed records r items) c.note.ensures.numbers c.in-Some.passed c.take_event.new.self c.requires.rule
     (subst (λ (n : RuledNumbers). IsPassedByAll (carried_of n.lasts) (numbers_of n.lasts) c.expected-expected.result (Some c.in-Some.passed)) one
     (subst (IsPassedByAll (carried_of c.index.result.now.lasts) (numbers_of c.index.result.now.lasts) c.expected-expected.result) c.in-Some.is c.passed_by_all.ensures.passed))
     takes)

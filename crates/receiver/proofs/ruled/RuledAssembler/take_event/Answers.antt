@@ -12,8 +12,8 @@ pub expected-expected-requires : goal.expected-expected-requires
 expected-expected-requires g c =
     let noting = c.requires.noting in
     let k = flow_of c.args.event in
-    let taken = c.in_ok-take.ensures noting.accepted noting.setup.flows.items noting.items noting.has.assembled in
-    let within = noted-flow g.C.HeaderCheck.accepts c.args.self.now noting.accepted noting.setup k noting.flow_record noting.items noting.lasts noting.fates noting.x noting.has in
+    let taken = c.in_ok-take.ensures noting.accepted noting.handed noting.setup.flows.items noting.items noting.has.assembled in
+    let within = noted-flow g.C.HeaderCheck.accepts c.args.self.now noting.accepted noting.handed noting.setup k noting.flow_record noting.items noting.lasts noting.fates noting.x noting.has in
     let before = noting.has.assembled.has_taken.count in
     let after = taken.has_taken.count in
     let is = c.flow-flow.ensures in
@@ -22,7 +22,7 @@ expected-expected-requires g c =
 pub index_mut-requires : goal.index_mut-requires
 index_mut-requires g c =
     let noting = c.requires.noting in
-    let within = noted-numbers g.C.HeaderCheck.accepts c.args.self.now noting.accepted noting.setup (flow_of c.args.event) noting.flow_record noting.items noting.lasts noting.fates noting.x noting.has in
+    let within = noted-numbers g.C.HeaderCheck.accepts c.args.self.now noting.accepted noting.handed noting.setup (flow_of c.args.event) noting.flow_record noting.items noting.lasts noting.fates noting.x noting.has in
     let is = c.flow-flow.ensures in
     omega (arith, c.args.self.now.numbers.ok.0)
 
@@ -32,7 +32,7 @@ returns-clause-takes g c =
     let accepts = g.C.HeaderCheck.accepts in
     let k = flow_of c.args.event in
     let all = c.args.self.now.numbers.items in
-    let within = noted-numbers accepts c.args.self.now noting.accepted noting.setup k noting.flow_record noting.items noting.lasts noting.fates noting.x noting.has in
+    let within = noted-numbers accepts c.args.self.now noting.accepted noting.handed noting.setup k noting.flow_record noting.items noting.lasts noting.fates noting.x noting.has in
     let is : RuledNumbers = record { width = c.index_mut.result.now.width; lasts = c.forget_passed.new.self } in
     let at : c.flow-flow.result ≡ k = c.flow-flow.ensures in
     let there : slice_get all k ≡ Some c.index_mut.result.now =
@@ -40,8 +40,8 @@ returns-clause-takes g c =
     let then : slice_get (slice_set all c.flow-flow.result is) k ≡ Some is = subst (λ i. slice_get (slice_set all i is) k ≡ Some is) (sym at) (written all k is within) in
     event-led accepts c.args.self.now (record { rule = c.args.self.now.rule; assembler = c.take.new.self; numbers = with_item c.args.self.now.numbers c.flow-flow.result is })
     c.args.event c.index_mut.result.now is c.expected-expected.result
-    (λ accepted records items. c.in_ok-take.ensures accepted records items) refl there then refl c.forget_passed.ensures.carried
-    (subst (λ i. Expects accepts c.take.new.self i c.expected-expected.result) at (λ accepted records r items. c.expected-expected.ensures.number accepted records r items))
+    (λ accepted handed records items. c.in_ok-take.ensures accepted handed records items) refl there then refl c.forget_passed.ensures.carried
+    (subst (λ i. Expects accepts c.take.new.self i c.expected-expected.result) at (λ accepted handed records r items. c.expected-expected.ensures.number accepted handed records r items))
     c.forget_passed.ensures.numbers
 
 pub returns-clause-kept : goal.returns-clause-kept
