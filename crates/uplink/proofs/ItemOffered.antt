@@ -46,6 +46,26 @@ module _ {C : Type 0} (accepts : C → List ℕ → Bool) (flows : RuledAssemble
     };
   }
 
+  -- after the item the flows have taken some items, and are as many
+  module _ (between : RuledAssembler C)
+      (takes : (accepted : List ℕ → Bool) (handed : ℕ → List (List ℕ)) (setup : Setup) (order : List ℕ) (items : List Event)
+      → HasRuled accepts flows accepted handed setup order items → HasRuled accepts between accepted handed setup (order ++ from ∷ []) (items ++ item ∷ [])) where
+    it_ruled : HasRuled accepts between ruling.accepted ruling.handed ruling.setup (ruling.order ++ from ∷ []) (ruling.items ++ item ∷ [])
+    it_ruled = takes ruling.accepted ruling.handed ruling.setup ruling.order ruling.items ruling.has_ruled
+
+    pub ruling_with : IsRuling accepts between
+    ruling_with = record {
+      accepted = ruling.accepted;
+      handed = ruling.handed;
+      setup = ruling.setup;
+      order = ruling.order ++ from ∷ [];
+      items = ruling.items ++ item ∷ [];
+      has_ruled = it_ruled;
+    }
+
+    pub as_many_with : length between.assembler.core.flows.items ≡ length flows.assembler.core.flows.items
+    as_many_with = it_ruled.assembled.has_taken.count ∙ sym ruling.has_ruled.assembled.has_taken.count
+
   -- what the item's flow gives is offered to its feeder
   module _ (between flows' : RuledAssembler C) (more : List (List ℕ))
       (rule : flows'.rule ≡ flows.rule)

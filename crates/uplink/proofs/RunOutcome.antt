@@ -284,7 +284,7 @@ module _ {C : Type 0} (accepts : C → List ℕ → Bool) (accepted : List ℕ �
             count = gave.1;
             took = its.1;
             counted = gave.2;
-            gives = subst (λ by. GivesByRule by accepted setup k flow_record end.assembled.order.items has.items its.0.frames.items gave.1) is.rule
+            gives = subst (λ by. GivesByRule by accepted setup k flow_record end.assembled.order.items has.items its.0.frames.items gave.1) is.by_rule
                 (subst (λ l. GivesByRule opened.flows.rule accepted setup k flow_record end.assembled.order.items has.items l gave.1) frames gave.4);
           }
 

@@ -65,7 +65,7 @@ pub record IsOpenMailbox {T : Type 0} (entries : ℕ) (mailbox : OpenMailbox T) 
 pub record IsOpened {C : Type 0} (accepts : C → List ℕ → Bool) (accepted : List ℕ → Bool) (rule : LossRule) (setup : Setup) (opened : Opened C) : Type 0 where
   pub lanes : AreOpenLanes setup opened.lanes
   pub flows : HasRuled accepts opened.flows accepted none_handed setup [] []
-  pub rule : opened.flows.rule ≡ rule
+  pub by_rule : opened.flows.rule ≡ rule
   pub rings : AreOpenRings setup.flows.items opened.rings
   pub none_closed : opened.closed.items ≡ []
   pub room : length setup.flows.items ≤ opened.closed.cap

@@ -3,4 +3,4 @@ use Rattle.std.proofs.Common.{rules}
 use Rattle.uplink.proofs.assembler.with_item.Goals as goal
 
 pub returns-clause-order : goal.returns-clause-order
-returns-clause-order g c = (c.in_ok-core.field-0, c.in_ok-core.was, search rules, search rules)
+returns-clause-order g c = (c.in_ok-flows.field-0, c.in_ok-flows.was, search rules, search rules)
