@@ -12,7 +12,7 @@
 //! 2. [`replay`] plays recorded inputs in such an order. Its contract is the one-thread answer of
 //!    the definitions. [`replay_by`] decides besides by a rule which segments are lost.
 //!
-//! [`take_item`] and [`close_flow`] are what each receiver does with an item and with a flow's
+//! [`RuledAssembler`] and [`close_flow`] are what each receiver does with an item and with a flow's
 //! close. [`laws`] says what follows from the definitions, such as that a replay has one outcome.
 #![tactic(auto)]
 
