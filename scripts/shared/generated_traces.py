@@ -154,6 +154,70 @@ class Uplink:
             self.rng.choices(steps, weights)[0]()
 
 
+class DealtFlow:
+    """A flow whose segments a modem deals over one to four channels, each channel's in order. Some are lost on the way, a few
+    come once more on another channel, and there may be outages, channels that fall silent and decisions."""
+
+    def __init__(self, rng, index, count):
+        self.rng, self.index = rng, index
+        self.first = rng.choice([8190, 8191, 8185, 8100, 4095, 0, rng.randrange(MODULUS)])
+        self.window = rng.choice([rng.randrange(1, 21), rng.randrange(1, 21), AHEAD])
+        self.kind = rng.choice(["cut", "any"])
+        self.cut = Cut(rng, self.first, count) if self.kind == "cut" else None
+        self.queues = {channel: [] for channel in rng.sample(range(CHANNELS), rng.choice([1, 2, 2, 3, 4]))}
+        self.losses, self.repeats, self.decisions = (rng.choice([0, 0.1, often]) for often in (0.4, 0.02, 0.05))
+        self.deal(count)
+
+    def number(self, index):
+        return (self.first + index) % MODULUS
+
+    def jump(self):
+        """How many segments an outage takes, in most cases none. A cut has too few segments for a long one."""
+        far = [] if self.cut else [self.window - 1, self.window, self.window + 1, 70, 4000, AHEAD - 1]
+        return self.rng.choice([*[0] * 60, 2, 5, *far])
+
+    def deal(self, count):
+        """Puts each segment that isn't lost into its channel's queue."""
+        rng, live, index = self.rng, list(self.queues), 0
+        for at in range(count):
+            index += self.jump()
+            if self.cut is not None and index >= count:
+                return
+            if len(live) > 1 and rng.random() < 0.02:
+                live.pop(rng.randrange(len(live)))
+            if rng.random() >= self.losses:
+                own = live[at % len(live)] if rng.random() < 0.9 else rng.choice(live)
+                channels = {own, rng.choice(live)} if rng.random() < self.repeats else {own}
+                for channel in channels:
+                    self.queues[channel].append((index, self.segment(index)))
+            index += 1
+
+    def segment(self, index):
+        pointer, number, payload = 0x8000, self.number(index), some_frame(self.rng)
+        if self.cut is not None:
+            pointer, number, payload = self.cut.segments[index]
+        return header_of([pointer, number << 3 | self.rng.randrange(8), self.rng.choice([0, 0, 7]), 0]) + payload
+
+    def next(self):
+        """The channel and the segment that come next: in most cases the first of all that wait."""
+        waiting = [channel for channel, queue in self.queues.items() if queue]
+        least = min(waiting, key=lambda channel: self.queues[channel][0])
+        channel = least if self.rng.random() < 0.7 else self.rng.choice(waiting)
+        return channel, self.queues[channel].pop(0)
+
+    def lines(self):
+        """The words of the lines of what comes. Each flow has the one SID that is its index."""
+        at = 0
+        while any(self.queues.values()):
+            channel, (index, segment) = self.next()
+            number = self.index << 16 | at
+            yield [["grant", channel, number, self.index, len(segment)], ["burst", channel, number, "ok", segment]]
+            if self.rng.random() < self.decisions:
+                near = self.number(index + self.rng.choice([-self.window, -2, -1, 0, 1]))
+                yield [["gap", self.index, *self.rng.choice([[], [near]])]]
+            at += 1
+
+
 def plain_word(value):
     return value.hex() or "-" if isinstance(value, bytes) else str(value)
 
@@ -235,8 +299,10 @@ def some_words(rng):
 
 def some_trace(rng):
     """A text, and its flows where it is lawful."""
-    kinds = dict(plain=48, dressed=10, faulty=24, front=6, edited=8, words=2, bytes=2)
+    kinds = dict(plain=36, dressed=8, dealt=30, faulty=16, front=3, edited=3, words=2, bytes=2)
     kind = rng.choices(list(kinds), kinds.values())[0]
+    if kind == "dealt":
+        return some_dealt_trace(rng)
     if kind == "bytes":
         return rng.choice([rng.randbytes(rng.randrange(40)), bytes(rng.choices(BYTES, k=rng.randrange(40)))]), []
     if kind == "words":
@@ -267,6 +333,26 @@ def some_calm_trace(rng):
     uplink = Uplink(rng, 0.05, calm=True)
     uplink.add_inputs(rng.choice([20, 60, 100, 300]))
     return plain_text(uplink.lines)
+
+
+def some_dealt_trace(rng, most=60):
+    """A lawful text of flows whose segments are dealt over channels, and its flows."""
+    flows = [DealtFlow(rng, index, rng.randrange(1, most)) for index in range(rng.choice([1, 1, 2]))]
+    lines = [["flow", flow.index + 7, flow.first, flow.window, rng.randrange(1, 9)] for flow in flows]
+    lines += [["sid", channel, flow.index, flow.index] for flow in flows for channel in flow.queues]
+    coming = [flow.lines() for flow in flows]
+    while coming:
+        one = rng.choice(coming)
+        more = next(one, None)
+        if more is None:
+            coming.remove(one)
+        else:
+            lines += more
+    return plain_text(lines), flows
+
+
+def some_small_dealt_trace(rng):
+    return some_dealt_trace(rng, 14)[0]
 
 
 def a_window_of_all_numbers(rng):

@@ -10,6 +10,12 @@ import time
 
 from shared import children, scratch
 from shared.long_texts import MIB, write_up_to
+from shared.tree import path
+
+
+def load():
+    """The load of the machine in the last minute."""
+    return f"{os.getloadavg()[0]:.1f}"
 
 
 def once(program, words, file, cores=None):
@@ -45,13 +51,19 @@ def show(name, program, command, lines, size, runs):
     print(f"  time at {2 * size / MIB:.0f} MiB is {twice / seconds:.2f} times that", flush=True)
 
 
+# What `bench/sent`, a library that benches share, uses.
+SENT = "docsis_wire flow_core"
+
+
 def prove_and_build(room, runner, uses, layers):
     """The program of a bench, whose sources are beside its runner, proved and built over copies of these crates, of which
-    it uses these and libraries of the toolchain."""
+    it uses these, libraries of the toolchain and `sent` where it names that."""
     folder = os.path.dirname(os.path.abspath(runner))
     name = f"{os.path.basename(folder)}_bench"
     scratch.copy_crates(room, layers)
-    crate = scratch.add_program(room, name, uses, folder)
+    if "sent" in uses.split():
+        scratch.add_crate(room, "sent", SENT, path("bench", "sent"))
+    crate = scratch.add_crate(room, name, uses, folder)
     built = children.run(["rt", "run"], cwd=crate)
     if built.returncode != 0:
         sys.exit(built.stdout)

@@ -11,8 +11,8 @@ import copy
 import itertools
 import math
 
-from shared.plain_reading import AHEAD, MODULUS, header
-from shared.plain_receiver import CHANNELS, DECISION, FlowOutcome, report_of_lanes, text_of
+from shared.plain_reading import AHEAD, DECIDED, MODULUS, header
+from shared.plain_receiver import CHANNELS, DECISION, report_of_lanes, text_of
 
 SENDERS = range(DECISION + 1)
 # More standings than this aren't followed.
@@ -37,13 +37,27 @@ def has_one_verdict_each(first, window, segments):
     return stay_far and len(near) + len(far) == len(offsets)
 
 
-def is_settled(record, items, flow):
+def are_all_kept(first, window, lanes):
+    """Whether each of these segments of channels, with no decision among them, is kept by any rule wherever it comes: they
+    have different numbers inside the window of the first number, and those of a channel come in their order, so that no
+    rule loses one that comes."""
+    offsets = [[(header(segment).number - first) % MODULUS for segment in lane] for lane in lanes]
+    flat = [offset for lane in offsets for offset in lane]
+    return all(lane == sorted(lane) for lane in offsets) and len(set(flat)) == len(flat) and max(flat) < window
+
+
+def is_settled(record, rule, items, flow):
     """Whether this flow's part of the report is the same in every order."""
     own = [[what for index, what in of_sender if index == flow] for of_sender in items]
     if sum(map(bool, own)) <= 1:
         return True
+    if own[DECISION]:
+        return False
     _, first, window, _ = record
-    return not own[DECISION] and has_one_verdict_each(first, window, [segment for lane in own for segment in lane])
+    lanes = own[:CHANNELS]
+    if rule == DECIDED:
+        return has_one_verdict_each(first, window, [segment for lane in lanes for segment in lane])
+    return are_all_kept(first, window, lanes)
 
 
 def copied(flow):
@@ -51,6 +65,7 @@ def copied(flow):
     one = copy.copy(flow)
     one.flow, one.verdicts, one.gaps = copy.copy(flow.flow), dict(flow.verdicts), list(flow.gaps)
     one.flow.kept, one.flow.declared = dict(flow.flow.kept), set(flow.flow.declared)
+    one.flow.lasts = dict(flow.flow.lasts)
     return one
 
 
@@ -65,7 +80,10 @@ class Standing:
         index, what = item
         flow = copied(self.flows[index])
         flow.take(sender, what)
-        mark = frozenset(flow.flow.kept.items()), frozenset(flow.flow.declared), tuple(flow.verdicts.values())
+        # A last segment behind the expected one is as good as none.
+        ahead = {it: last for it, last in flow.flow.lasts.items() if last is not None and last >= flow.flow.expected}
+        fates = frozenset(flow.flow.kept.items()), frozenset(flow.flow.declared)
+        mark = *fates, frozenset(ahead.items()), tuple(flow.verdicts.values())
         taken = tuple(count + (other == sender) for other, count in enumerate(self.taken))
         return Standing(taken, {**self.flows, index: flow}, {**self.marks, index: mark})
 
@@ -75,12 +93,12 @@ class Standing:
                 yield self.after(sender, items[sender][self.taken[sender]])
 
 
-def standings_in_the_end(records, items):
+def standings_in_the_end(trace, rule, items):
     """How the flows of these items may stand once all were taken, or None where that is too long to find out."""
     if math.prod(len(of_sender) + 1 for of_sender in items) > MOST_STANDINGS:
         return None
     concerned = sorted({index for of_sender in items for index, _ in of_sender})
-    flows = {index: FlowOutcome(records[index]) for index in concerned}
+    flows = {index: trace.new_flow(index, rule) for index in concerned}
     standings, followed = [Standing((0,) * len(SENDERS), flows, dict.fromkeys(flows))], 0
     for _ in range(sum(map(len, items))):
         after = (one for standing in standings for one in standing.following(items))
@@ -91,10 +109,10 @@ def standings_in_the_end(records, items):
     return standings
 
 
-def possible_parts(records, items):
+def possible_parts(trace, rule, items):
     """What the flows of these items may report: for each lawful order the lines of each flow. None where that is too long
     to find out."""
-    standings = standings_in_the_end(records, items)
+    standings = standings_in_the_end(trace, rule, items)
     if standings is None:
         return None
     for standing in standings:
@@ -115,22 +133,22 @@ def parts_of(report):
 
 
 class Answers:
-    """What the reports of a trace may say. `outcome` is what comes of its lines taken in their order."""
+    """What the reports of a trace by a rule may say. `outcome` is what comes of its lines taken in their order."""
 
-    def __init__(self, trace, outcome):
+    def __init__(self, trace, rule, outcome):
         items = items_of_senders(trace, outcome.lanes)
 
         def items_of(flows):
             return [[item for item in of_sender if item[0] in flows] for of_sender in items]
 
         flows = range(len(trace.flows))
-        self.settled = {flow for flow in flows if is_settled(trace.flows[flow], items, flow)}
+        self.settled = {flow for flow in flows if is_settled(trace.flows[flow], rule, items, flow)}
         self.outcome, self.moving = outcome, [flow for flow in flows if flow not in self.settled]
         # Merges of the items of some flows are those that the merges of all items make of them.
-        self.together = possible_parts(trace.flows, items_of(self.moving))
+        self.together = possible_parts(trace, rule, items_of(self.moving))
         self.alone = {}
         if self.together is None:
-            self.alone = {flow: possible_parts(trace.flows, items_of([flow])) for flow in self.moving}
+            self.alone = {flow: possible_parts(trace, rule, items_of([flow])) for flow in self.moving}
         self.arrivals = [sum(index == flow for lane in items[:CHANNELS] for index, _ in lane) for flow in flows]
 
     def are_one(self):

@@ -1,14 +1,18 @@
-"""A plain, slow reading of frames, of how segments are joined and of what becomes of a flow's segments, and a modem's
-cut, for the scripts that compare them with the code.
+"""A plain, slow reading of frames, of how segments are joined, of what becomes of a flow's segments and of the rule by
+which a receiver decides itself what is lost, and a modem's cut, for the scripts that compare them with the code.
 
 A frame is known only by its grammar: every length is tried for a whole frame in front of some bytes. A segment is its
 bytes, of which the first eight are its header.
 """
 
 import collections
+import itertools
 
 MODULUS, AHEAD = 8192, 4096
 Header = collections.namedtuple("Header", "pfi pointer number cluster request")
+# By what is decided what is lost: by what is handed in alone, besides by what every channel has passed, and besides by
+# what lies too far behind a segment that comes.
+RULES = DECIDED, PASSED, SLID = "decided", "passed", "slid"
 
 
 def header(segment):
@@ -118,6 +122,40 @@ class Flow:
             given, unfinished = feed(unfinished, self.kept[index]) if index in self.kept else ([], b"")
             frames += given
         return frames, unfinished
+
+
+class RuledFlow(Flow):
+    """A flow that decides besides by a rule what is lost. Of each channel of the flow it knows the true index of the last
+    segment that came there: None where none came yet, or where its number lay behind."""
+
+    def __init__(self, first, window, rule, channels):
+        super().__init__(first, window)
+        self.rule, self.lasts = rule, dict.fromkeys(channels)
+        self.lost_by_rule = frozenset()
+
+    def come(self, channel, segment):
+        """A segment comes on this channel of the flow. It is noted, then the rule loses what it does, and then it
+        arrives."""
+        number = header(segment).number
+        if self.rule != DECIDED:
+            index = self.index(number)
+            self.lasts[channel] = index if index >= self.expected else None
+            self.lose(self.is_passed)
+        if self.rule == SLID and self.index(number) >= self.expected + self.window:
+            end = self.index(number)
+            self.lose(lambda index: index + self.window <= end)
+        return self.arrive(segment)
+
+    def is_passed(self, index):
+        """Whether the last segment of each of the flow's channels lies after the index, so that it can't come any more."""
+        return all(last is not None and index < last for last in self.lasts.values())
+
+    def lose(self, is_lost):
+        """Declares all that is missing from the expected index on, up to the first index that isn't lost."""
+        lost = set(itertools.takewhile(is_lost, itertools.count(self.expected))) - self.kept.keys()
+        self.declared |= lost
+        self.lost_by_rule |= lost
+        self.pass_settled()
 
 
 class Cut:

@@ -1,14 +1,14 @@
 """A plain, slow reading of what `segrx replay` answers: of traces, of what a channel admits, and of reports.
 
-The joining of segments and what becomes of a flow's segments are in plain_reading.py, and what `segrx run` may answer in
-plain_orders.py.
+The joining of segments, what becomes of a flow's segments and the rule by which some are lost are in plain_reading.py, and
+what `segrx run` may answer in plain_orders.py.
 """
 
 import collections
 import re
 import sys
 
-from shared.plain_reading import Flow, header
+from shared.plain_reading import DECIDED, RuledFlow, header
 
 CHANNELS, MOST_FLOWS, MOST_GRANTS = 4, 64, 65536
 DECISION = 4
@@ -60,6 +60,14 @@ class Trace:
             channel, *rest = values
             self.inputs[channel].append(Grant(*rest) if kind == b"grant" else Burst(*rest))
             self.tags.append(channel)
+
+    def channels_of(self, flow):
+        """The channels on which a line gives the flow a SID."""
+        return sorted({channel for (channel, _), other in self.sids.items() if other == flow})
+
+    def new_flow(self, flow, rule):
+        """The flow with this index, to which nothing has come yet."""
+        return FlowOutcome(self.flows[flow], rule, self.channels_of(flow))
 
 
 class LineFault(Exception):
@@ -205,9 +213,9 @@ def report_of_lanes(lanes):
 class FlowOutcome:
     """A flow with the events of its items in some order and then its close."""
 
-    def __init__(self, record):
+    def __init__(self, record, rule, channels):
         self.sfid, first, window, _ = record
-        self.flow = Flow(first, window)
+        self.flow = RuledFlow(first, window, rule, channels)
         self.verdicts = dict(kept=0, late=0, repeat=0, beyond=0)
         self.gaps = [0, 0]  # how many decisions declared nothing, and how many declared something
         self.frames, self.skipped = [], 0
@@ -217,7 +225,7 @@ class FlowOutcome:
         if sender == DECISION:
             self.gaps[self.flow.gap(what)] += 1
         else:
-            self.verdicts[self.flow.arrive(what)] += 1
+            self.verdicts[self.flow.come(sender, what)] += 1
 
     def close(self):
         while self.flow.gap():
@@ -238,11 +246,11 @@ class FlowOutcome:
 
 
 class Outcome:
-    """What comes of a trace whose lines are taken in their order."""
+    """What comes of a trace whose lines are taken in their order, by this rule."""
 
-    def __init__(self, trace):
+    def __init__(self, trace, rule):
         self.lanes = [Lane(channel, trace) for channel in range(CHANNELS)]
-        self.flows = [FlowOutcome(record) for record in trace.flows]
+        self.flows = [trace.new_flow(flow, rule) for flow in range(len(trace.flows))]
         items = [lane.admitted() for lane in self.lanes] + [iter(trace.decisions)]
         for tag in trace.tags:
             item = next(items[tag])
@@ -261,11 +269,11 @@ def text_of(lines):
     return "".join(line + "\n" for line in lines).encode()
 
 
-def replay(text):
-    """What the program has to answer to a text: its standard output, its standard error and its exit status. The
-    outcome, or the line's fault, stands behind them."""
+def replay(text, rule=DECIDED):
+    """What the program has to answer to a text by this rule: its standard output, its standard error and its exit status.
+    The outcome, or the line's fault, stands behind them."""
     try:
-        outcome = Outcome(read_trace(text))
+        outcome = Outcome(read_trace(text), rule)
     except LineFault as fault:
         return b"", f"segrx: {fault}\n".encode(), 1, fault
     return text_of(outcome.report()), b"", 0, outcome

@@ -59,9 +59,9 @@ def copy_crates(room, crates, parts=PARTS):
                     shutil.copytree(path("crates", crate, part), os.path.join(room, "crates", crate, part))
 
 
-def add_program(room, name, uses, sources):
+def add_crate(room, name, uses, sources):
     """Adds a crate to the repository, and returns its folder. Of the files of the folder `sources`, NAME.rt.txt becomes the
-    source NAME.rt, and NAME.antt.txt the answers of the function NAME's proof."""
+    source NAME.rt, and FOLDER.NAME.antt.txt the file proofs/FOLDER/NAME.antt."""
     crate = os.path.join(room, "crates", name)
     with open(os.path.join(room, "crates.txt"), "a") as lines:
         lines.write(f"{name}: {uses}\n")
@@ -70,7 +70,7 @@ def add_program(room, name, uses, sources):
         if file.endswith(".rt.txt"):
             to = os.path.join(crate, "src", file.removesuffix(".txt"))
         elif file.endswith(".antt.txt"):
-            to = os.path.join(crate, "proofs", file.removesuffix(".antt.txt"), "Answers.antt")
+            to = os.path.join(crate, "proofs", *file.removesuffix(".antt.txt").split(".")) + ".antt"
         if to is not None:
             os.makedirs(os.path.dirname(to), exist_ok=True)
             shutil.copy(os.path.join(sources, file), to)

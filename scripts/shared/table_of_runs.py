@@ -7,7 +7,14 @@ import re
 import subprocess
 import sys
 
+from shared.plain_reading import DECIDED, RULES
 from shared.tree import path
+
+# A command whose report is known: what makes its input, the program's command, the rule, and what takes its output.
+ASKED = re.compile(
+    r"(?:(?P<maker>.*) \| )?(?:taskset -c \d+ )?segrx (?P<command>\w+)"
+    r"(?: --(?:mailbox|ring)[ =]\d+| --losses[ =](?P<rule>\w+))*(?: \| (?P<taker>.*))?"
+)
 
 
 class Run:
@@ -31,8 +38,12 @@ def add_line(run, mark, rest):
         run.input += text_of(rest) + b"\n"
     elif mark == "<.":
         run.input += text_of(rest)
+    elif mark == "<<":
+        run.input += contents(path("examples", rest))
     elif mark == ">":
         run.output += text_of(rest) + b"\n"
+    elif mark == ">>":
+        run.output += contents(path("examples", rest))
     elif mark == ">~":
         run.parts.append(text_of(rest))
     elif mark == "!":
@@ -64,18 +75,42 @@ def of_command(run, command):
     return one
 
 
-def input_of(run, maker):
-    """What a run's program reads: what the commands before it print, where there are any, or the run's own input."""
-    return subprocess.run(["bash", "-c", maker], capture_output=True, check=True).stdout if maker else run.input
+def printed_by(command, given=b""):
+    """What a command prints that a shell runs on this input."""
+    return subprocess.run(["bash", "-c", command], input=given, stdout=subprocess.PIPE, check=True).stdout
+
+
+def taken_by(taker, answer):
+    """What a shell's command makes of the program's standard output, and then the exit status. Without one it stays."""
+    if not taker:
+        return answer
+    ran = subprocess.run(["bash", "-c", taker], input=answer[0], stdout=subprocess.PIPE, check=False)
+    return ran.stdout, answer[1], ran.returncode
+
+
+def reports_of(command):
+    """The runs of one of the program's commands that have an answer to their input: each with the rule that it asks for, its
+    input, and what is to be made of the program's standard output before it is compared."""
+    for run in read_table():
+        asked = ASKED.fullmatch(run.command)
+        if asked and asked["command"] == command and not run.parts and run.status in (0, 1):
+            given = printed_by(asked["maker"], run.input) if asked["maker"] else run.input
+            yield run, asked["rule"] or DECIDED, given, asked["taker"]
 
 
 def read_examples():
-    """A replay of each trace in examples/, whose report stands beside it."""
+    """Replays of the traces in examples/, whose reports stand beside them: NAME.report by decisions alone, and
+    NAME.RULE.report by this rule."""
+    commands = {f"{rule}.report": [f"segrx replay --losses {rule}"] for rule in RULES}
+    commands["report"] = ["segrx replay"]
+    commands[f"{DECIDED}.report"].append("segrx replay")
     for trace in sorted(glob.glob(path("examples", "*.trace"))):
-        run = Run("examples", os.path.basename(trace))
-        run.commands.append("segrx replay")
-        run.input, run.output = contents(trace), contents(trace.removesuffix(".trace") + ".report")
-        yield run
+        for ending, replays in commands.items():
+            report = trace.removesuffix("trace") + ending
+            if os.path.exists(report):
+                run = Run("examples", os.path.basename(report))
+                run.commands, run.input, run.output = replays, contents(trace), contents(report)
+                yield run
 
 
 def contents(file):

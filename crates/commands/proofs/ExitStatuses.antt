@@ -8,13 +8,14 @@ use Rattle.texts.specs.declared.fault.TextFault.{TextFault}
 use Rattle.texts.specs.declared.fault.TextFault.TheVariants as text_fault
 use Rattle.texts.specs.Join.{IsJoined, IsJoinFault}
 use Rattle.texts.specs.Cut.{IsCutText, IsCutFault}
-use Rattle.texts.specs.Replay.{IsReplayed, IsReplayFault, IsReportFault}
-use Rattle.texts.specs.Run.{IsRunText}
+use Rattle.texts.specs.Replay.{IsReplayed, IsReplayedBy, IsReplayFault, IsReportFault}
+use Rattle.texts.specs.Run.{IsRunText, IsRunTextBy}
 use Rattle.engines.specs.Device.{inner_of}
 use Rattle.engines.specs.Fault.{status_of, exit_status_of}
-use Rattle.engines.specs.Command.{AsksToJoin, AsksToReplay}
+use Rattle.loss_rule.specs.declared.rule.LossRule.{LossRule}
+use Rattle.engines.specs.Command.{AsksToJoin, AsksToReplay, AsksToReplayBy}
 use Rattle.engines.specs.Engine.{engine_fault, WritesText, IsFaultOfKnown, HasCause, RunsEngine}
-use Rattle.commands.specs.Program.{AsksToCutOnly, AsksToRunOnly, AsksForNothing, IsRefused, Obeys, RunsWords, IsStatus, HasJoinedText, HasCutText, HasReport, HasRunReport, HasRunFault, SaysOf}
+use Rattle.commands.specs.Program.{AsksToCutOnly, AsksToRunOnly, AsksToRunByOnly, AsksForNothing, IsRefused, Obeys, RunsWords, IsStatus, HasJoinedText, HasCutText, HasReport, HasReportBy, HasRunReport, HasRunReportBy, HasRunFault, SaysOf}
 
 -- a status other than 0 and 1 says nothing
 says_nothing : (HasText : List ℕ → Type 0) (IsFault : List ℕ → TextFault → Type 0) (status : ℕ) (input : List ℕ) → 1 < status → SaysOf HasText IsFault status input
@@ -111,6 +112,9 @@ pub record SaysOfWords {R : Type 0} (remaining : R → Option (List ℕ)) (words
   pub replay : AsksToReplay words → IfSome (remaining reader) (SaysOf HasReport IsReplayFault n)
   pub replay_is_known : AsksToReplay words → n ≢ 2
   pub run : AsksToRunOnly words → IfSome (remaining reader) (SaysOf HasRunReport HasRunFault n)
+  pub replay_by : (rule : LossRule) → AsksToReplayBy rule words → IfSome (remaining reader) (SaysOf (HasReportBy rule) IsReplayFault n)
+  pub replay_by_is_known : (rule : LossRule) → AsksToReplayBy rule words → n ≢ 2
+  pub run_by : (rule : LossRule) → AsksToRunByOnly rule words → IfSome (remaining reader) (SaysOf (HasRunReportBy rule) HasRunFault n)
   pub usage : AsksForNothing words → (n ≡ 2) ⊎ (n ≡ 3)
 
 -- so does that of what came of them
@@ -139,6 +143,18 @@ SaysOfWords-outcome remaining contents words reader reader' writer writer' resul
             (SaysOf-engine remaining contents HasRunReport (IsRunText ran.1 ran.0) (IsReportFault ran.1) reader reader' writer writer' result
             (λ input text is. (ran.0, ran.1, text, ran.2, ran.3, is)) ran.4)
         | inr refused ↦ SaysOf-above HasRunReport HasRunFault (remaining (inner_of reader)) (exit_status_of result) (refused_status reader reader' writer writer' result refused)
+      ];
+  replay_by = λ rule asks.
+      SaysOf-engine remaining contents (HasReportBy rule) (IsReplayedBy rule) IsReplayFault reader reader' writer writer' result (λ input text is. (text, is))
+      (obeyed.replay_by rule asks);
+  replay_by_is_known = λ rule asks. known_status remaining contents (IsReplayedBy rule) IsReplayFault reader reader' writer writer' result (obeyed.replay_by rule asks);
+  run_by = λ rule asks.
+      elim (obeyed.run_by rule asks) [
+        | inl ran ↦
+            SaysOf-weaker (HasRunReportBy rule) (IsReportFault ran.1) HasRunFault (remaining (inner_of reader)) (exit_status_of result) (λ input fault is. (ran.1, ran.3, is))
+            (SaysOf-engine remaining contents (HasRunReportBy rule) (IsRunTextBy rule ran.1 ran.0) (IsReportFault ran.1) reader reader' writer writer' result
+            (λ input text is. (ran.0, ran.1, text, ran.2, ran.3, is)) ran.4)
+        | inr refused ↦ SaysOf-above (HasRunReportBy rule) HasRunFault (remaining (inner_of reader)) (exit_status_of result) (refused_status reader reader' writer writer' result refused)
       ];
   usage = λ asks. refused_status reader reader' writer writer' result (obeyed.nothing asks);
 }

@@ -5,14 +5,15 @@ use Rattle.lane.specs.declared.input.Input.{Input}
 use Rattle.receiver.specs.declared.outcome.Outcome.{Outcome}
 use Rattle.uplink.specs.declared.eight_threads.RunFault.{RunFault}
 use Rattle.uplink.specs.declared.eight_threads.RunFault.TheVariants as run_fault
-use Rattle.receiver.specs.declared.setup.Decision.{Decision}
+use Rattle.flow_records.specs.declared.decision.Decision.{Decision}
 use Rattle.receiver.specs.declared.setup.Lists.{Lists}
 use Rattle.receiver.specs.declared.setup.Setup.{Setup}
 use Rattle.lane.specs.Limits.{channel_limit}
 use Rattle.receiver.specs.Items.{incoming_of, incoming_from, inputs_on}
-use Rattle.receiver.specs.Outcome.{IsOutcome}
+use Rattle.loss_rule.specs.declared.rule.LossRule.{LossRule}
+use Rattle.receiver.specs.Ruled.{IsOutcomeBy}
 use Rattle.uplink.specs.Faults.{IsRunFault, CanRun}
-use Rattle.texts.proofs.OneReplay.{outcome_moved}
+use Rattle.texts.proofs.OneReplay.{outcome_by_moved}
 use Rattle.texts.proofs.OutOfMemoryAlone.{HaveNoFault, no_setup_fault}
 
 -- the inputs of four channels, by the channel
@@ -25,13 +26,14 @@ four_inputs lists i0 i1 i2 i3 e0 e1 e2 e3 (suc (suc (suc zero))) below = e3
 four_inputs lists i0 i1 i2 i3 e0 e1 e2 e3 (suc (suc (suc (suc channel)))) below = absurd (omega arith)
 
 -- what came from the sources of these lists is what the lists have
-pub received : (check : List ℕ → Bool) (setup : Setup) (lists : Lists) (i0 i1 i2 i3 : List Input) (decisions : List Decision) (order : List ℕ) (outcome : Outcome)
+pub received : (rule : LossRule) (check : List ℕ → Bool) (setup : Setup) (lists : Lists) (i0 i1 i2 i3 : List Input) (decisions : List Decision) (order : List ℕ) (outcome : Outcome)
     → i0 ≡ inputs_on lists 0 → i1 ≡ inputs_on lists 1 → i2 ≡ inputs_on lists 2 → i3 ≡ inputs_on lists 3 → decisions ≡ lists.decisions.items
-    → IsOutcome check setup (incoming_from (i0 ∷ i1 ∷ i2 ∷ i3 ∷ []) decisions) order outcome → IsOutcome check setup (incoming_of lists) order outcome
-received check setup lists i0 i1 i2 i3 decisions order outcome e0 e1 e2 e3 e4 is =
+    → IsOutcomeBy rule check setup (incoming_from (i0 ∷ i1 ∷ i2 ∷ i3 ∷ []) decisions) order outcome
+    → IsOutcomeBy rule check setup (incoming_of lists) order outcome
+received rule check setup lists i0 i1 i2 i3 decisions order outcome e0 e1 e2 e3 e4 is =
     let incoming = incoming_from (i0 ∷ i1 ∷ i2 ∷ i3 ∷ []) decisions in
     let inputs : (channel : ℕ) → channel < channel_limit → incoming.inputs channel ≡ inputs_on lists channel = four_inputs lists i0 i1 i2 i3 e0 e1 e2 e3 in
-    outcome_moved setup setup incoming (incoming_of lists) refl refl inputs e4 check order outcome is
+    outcome_by_moved setup setup incoming (incoming_of lists) refl refl inputs e4 rule check order outcome is
 
 -- a setup that can be run has no fault
 pub out_of_memory_alone : (setup : Setup) (answer : Result Outcome RunFault) → HaveNoFault → CanRun setup → IfErr answer (IsRunFault setup)

@@ -3,6 +3,7 @@ use Rattle.std.specs.Prelude.{◌≡◌, ◌≢◌, ◌⊎◌, ◌<◌, ◌≤�
 use Rattle.std.specs.Io.KnownBytes.{Appends}
 use Rattle.docsis_wire.specs.declared.pieces.FillByte.{FillByte}
 use Rattle.docsis_wire.specs.Limits.{sequence_modulus}
+use Rattle.loss_rule.specs.declared.rule.LossRule.{LossRule}
 use Rattle.engines.specs.declared.device.Device.{Device}
 use Rattle.engines.specs.declared.fault.WriteFault.{WriteFault}
 use Rattle.engines.specs.declared.fault.EngineFault.{EngineFault}
@@ -12,11 +13,11 @@ use Rattle.engines.specs.Device.{inner_of, has_failed, is_flushed, IsFresh}
 use Rattle.engines.specs.Transfer.{AppendsFront, IsLeftFlushed, IsReadFault, IsRead}
 use Rattle.engines.specs.Fault.{status_of, exit_status_of, fault_line}
 use Rattle.engines.specs.Engine.{engine_fault, RunsEngine}
-use Rattle.engines.specs.Command.{AsksToJoin, AsksToCut, AsksToReplay, AsksToRun, AsksForAnEngine, AsksForHelp, HasNoHelpWord}
+use Rattle.engines.specs.Command.{AsksToJoin, AsksToCut, AsksToReplay, AsksToReplayBy, AsksToRun, AsksToRunBy, AsksForAnEngine, AsksForHelp, HasNoHelpWord}
 use Rattle.texts.specs.Join.{IsJoined, IsJoinFault}
 use Rattle.texts.specs.Cut.{IsCutText, IsCutFault}
-use Rattle.texts.specs.Replay.{IsReplayed, IsReplayFault, IsReportFault}
-use Rattle.texts.specs.Run.{IsRunText}
+use Rattle.texts.specs.Replay.{IsReplayed, IsReplayedBy, IsReplayFault, IsReportFault}
+use Rattle.texts.specs.Run.{IsRunText, IsRunTextBy}
 
 -- the words ask to cut and not for help
 abbrev pub AsksToCutOnly : List (List ℕ) → Type 0
@@ -25,6 +26,10 @@ AsksToCutOnly words = AsksToCut words × ¬ AsksForHelp words
 -- the words ask to run and not for help
 abbrev pub AsksToRunOnly : List (List ℕ) → Type 0
 AsksToRunOnly words = AsksToRun words × ¬ AsksForHelp words
+
+-- so by a loss rule
+abbrev pub AsksToRunByOnly : LossRule → List (List ℕ) → Type 0
+AsksToRunByOnly rule words = AsksToRunBy rule words × ¬ AsksForHelp words
 
 -- the words ask for nothing
 abbrev pub AsksForNothing : List (List ℕ) → Type 0
@@ -66,6 +71,12 @@ RunsRun remaining contents reader reader' writer writer' result =
     (mailbox ring : ℕ) × (1 ≤ mailbox) × (1 ≤ ring)
     × RunsEngine remaining contents (IsRunText ring mailbox) (IsReportFault ring) reader reader' writer writer' result
 
+-- so by a loss rule
+abbrev pub RunsRunBy : {R W : Type 0} → LossRule → (R → Option (List ℕ)) → (W → Option (List ℕ)) → Device R → Device R → Device W → Device W → Result (Unit {0}) EngineFault → Type 0
+RunsRunBy rule remaining contents reader reader' writer writer' result =
+    (mailbox ring : ℕ) × (1 ≤ mailbox) × (1 ≤ ring)
+    × RunsEngine remaining contents (IsRunTextBy rule ring mailbox) (IsReportFault ring) reader reader' writer writer' result
+
 -- what comes of words, the program's name first, over a fresh reader and a fresh writer: `remaining` are the bytes that a reader is known
 -- to have left, `contents` those that a writer is known to hold
 pub record Obeys {R W : Type 0} (remaining : R → Option (List ℕ)) (contents : W → Option (List ℕ)) (words : List (List ℕ))
@@ -75,6 +86,11 @@ pub record Obeys {R W : Type 0} (remaining : R → Option (List ℕ)) (contents 
   pub cut : AsksToCutOnly words → RunsCut remaining contents reader reader' writer writer' result ⊎ IsRefused reader reader' writer writer' result
   pub replay : AsksToReplay words → RunsEngine remaining contents IsReplayed IsReplayFault reader reader' writer writer' result
   pub run : AsksToRunOnly words → RunsRun remaining contents reader reader' writer writer' result ⊎ IsRefused reader reader' writer writer' result
+  -- and just the loss rule decides that the words ask for
+  pub replay_by : (rule : LossRule) → AsksToReplayBy rule words
+      → RunsEngine remaining contents (IsReplayedBy rule) IsReplayFault reader reader' writer writer' result
+  pub run_by : (rule : LossRule) → AsksToRunByOnly rule words
+      → RunsRunBy rule remaining contents reader reader' writer writer' result ⊎ IsRefused reader reader' writer writer' result
   pub nothing : AsksForNothing words → IsRefused reader reader' writer writer' result
   pub help : ¬ AsksToJoin words → ¬ HasNoHelpWord words → Helps contents reader reader' writer writer' result ⊎ IsRefused reader reader' writer writer' result
   -- where the work was done all that was written is flushed
@@ -135,6 +151,13 @@ HasReport input = (text : List ℕ) × IsReplayed input text
 -- some text may stand for an input of `run`
 abbrev pub HasRunReport : List ℕ → Type 0
 HasRunReport input = (mailbox ring : ℕ) × (text : List ℕ) × (1 ≤ mailbox) × (1 ≤ ring) × IsRunText ring mailbox input text
+
+-- so by a loss rule
+abbrev pub HasReportBy : LossRule → List ℕ → Type 0
+HasReportBy rule input = (text : List ℕ) × IsReplayedBy rule input text
+
+abbrev pub HasRunReportBy : LossRule → List ℕ → Type 0
+HasRunReportBy rule input = (mailbox ring : ℕ) × (text : List ℕ) × (1 ≤ mailbox) × (1 ≤ ring) × IsRunTextBy rule ring mailbox input text
 
 -- an input of `run` has this fault
 abbrev pub HasRunFault : List ℕ → TextFault → Type 0

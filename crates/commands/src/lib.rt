@@ -2,9 +2,10 @@
 //! two writers.
 //!
 //! [`run_text`] is the engine of `run`: it reads its whole input, has the receiver take it on
-//! threads, and writes the report. [`program`] is the whole program: it reads what its words ask
-//! for and runs that command's engine, of this crate or of `engines`; [`run_words`] is it between
-//! devices, and [`report_outcome`] its end.
+//! threads, and writes the report; [`run_text_by`] decides besides by a rule which segments are
+//! lost. [`program`] is the whole program: it reads what its words ask for and runs that command's
+//! engine, of this crate or of `engines`; [`run_words`] is it between devices, and
+//! [`report_outcome`] its end.
 //!
 //! `run_text` writes a text that may stand for the lines it reads, or it reports the first faulty
 //! line and its least kind of fault, and then writes nothing.
@@ -14,5 +15,5 @@ mod run;
 mod run_lines;
 mod whole_program;
 
-pub use run::run_text;
+pub use run::{run_text, run_text_by};
 pub use whole_program::{program, report_outcome, run_words};

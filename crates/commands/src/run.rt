@@ -3,16 +3,17 @@ ghost use Rattle.std.specs.Prelude.{◌≤◌};
 ghost use Rattle.engines.specs.Device.{IsFresh};
 ghost use Rattle.engines.specs.Engine.{RunsEngine};
 ghost use Rattle.texts.specs.Replay.{IsReportFault};
-ghost use Rattle.texts.specs.Run.{IsRunText};
+ghost use Rattle.texts.specs.Run.{IsRunText, IsRunTextBy};
 
 use crate::run_lines::run_lines;
 use docsis_wire::Bytes;
 use engines::{Device, EngineFault, read_input, write_text};
+use loss_rule::LossRule;
 use std::alloc::Global;
 use std::io::{Read, Write};
 use std::sync::Wait;
 use std::thread::Threads;
-use texts::Capacities;
+use texts::{Capacities, laws};
 use uplink::{Request, Tap, Taps};
 
 /// Receives the trace that a reader gives, each channel's inputs and the decisions on a thread of
@@ -44,9 +45,45 @@ where
     ensures { RunsEngine R.remaining W.contents (IsRunText ring mailbox) (IsReportFault ring)
         reader.old reader.new writer.old writer.new result }
 {
+    laws::run_by_decisions_alone_is_a_run();
+    run_text_by(
+        LossRule::Decided,
+        alloc,
+        rt,
+        mailbox,
+        ring,
+        taps,
+        reader,
+        writer,
+    )
+}
+
+/// Receives as [`run_text`] does, where besides the decisions of the trace this rule decides which
+/// segments are lost.
+pub fn run_text_by<F, Q, T, R: Read, W: Write>(
+    rule: LossRule,
+    alloc: Global,
+    rt: T,
+    mailbox: u16,
+    ring: u16,
+    taps: Taps<F, Q>,
+    reader: &mut Device<R>,
+    writer: &mut Device<W>,
+) -> Result<(), EngineFault>
+where
+    F: Tap<Bytes> + Drop + Send + 'static,
+    Q: Tap<Request> + Drop + Send + 'static,
+    T: Threads + Wait + Copy + Send + 'static,
+    requires mailbox { 1 ≤ mailbox }
+    requires ring { 1 ≤ ring }
+    requires reader { IsFresh reader.old }
+    requires writer { IsFresh writer.old }
+    ensures { RunsEngine R.remaining W.contents (IsRunTextBy rule ring mailbox) (IsReportFault ring)
+        reader.old reader.new writer.old writer.new result }
+{
     let input = read_input(alloc, reader)?;
     let capacities = Capacities { mailbox, ring };
-    let text = run_lines(alloc, rt, input, capacities, taps)?;
+    let text = run_lines(rule, alloc, rt, input, capacities, taps)?;
     write_text(writer, &text)?;
     Ok(())
 }

@@ -4,16 +4,17 @@ ghost use Rattle.uplink.specs.Faults.{CanRun};
 ghost use Rattle.uplink.specs.declared.eight_threads.RunFault.TheVariants as run_fault;
 ghost use Rattle.receiver.specs.Items.{inputs_on};
 ghost use Rattle.texts.specs.Replay.{IsReportFault};
-ghost use Rattle.texts.specs.Run.{IsReceived, IsRunText};
+ghost use Rattle.texts.specs.Run.{IsReceivedBy, IsRunTextBy};
 
 use docsis_wire::{Bytes, NoCheck};
+use loss_rule::LossRule;
 use std::alloc::{AllocError, Global};
 use std::sync::Wait;
 use std::thread::Threads;
 use texts::{Capacities, TextFault, Trace, laws, read_trace, report};
 use uplink::{
     Decisions, ListDecisions, ListSource, Lists, Outcome, Request, RunFault, Source, Sources, Tap,
-    Taps, run,
+    Taps, run_by,
 };
 
 /// The sources of the inputs of four lists.
@@ -37,8 +38,9 @@ fn sources_of(lists: Lists) -> (ListSources, ListDecisions)
     (sources, ListDecisions::new(decisions))
 }
 
-/// What a trace gives when its inputs come from four sources at once.
+/// What a trace gives by this rule when its inputs come from four sources at once.
 fn run_trace<F, Q, R>(
+    rule: LossRule,
     alloc: Global,
     rt: R,
     trace: Trace,
@@ -49,12 +51,12 @@ where
     Q: Tap<Request> + Drop + Send + 'static,
     R: Threads + Wait + Copy + Send + 'static,
     requires { CanRun trace.setup }
-    ensures { IfOk result (IsReceived trace) }
+    ensures { IfOk result (IsReceivedBy rule trace) }
 {
     lane::laws::rows_have_one_first_fault();
     let Trace { setup, lists, .. } = trace;
     let (sources, decisions) = sources_of(lists);
-    let answer = run(alloc, rt, setup, sources, decisions, taps, NoCheck);
+    let answer = run_by(rule, alloc, rt, setup, sources, decisions, taps, NoCheck);
     expect_outcome(answer)
 }
 
@@ -70,13 +72,14 @@ fn expect_outcome(answer: Result<Outcome, RunFault>) -> Result<Outcome, AllocErr
 }
 
 /// The report of a trace whose inputs are received on threads, each channel's on its own. Items of
-/// different channels are taken in the order in which they happen to come. The capacities are at
-/// least 1.
+/// different channels are taken in the order in which they happen to come. Besides the decisions of
+/// the trace this rule decides which segments are lost. The capacities are at least 1.
 ///
 /// Otherwise it reports the first faulty line, or that an allocation failed or a thread could not
 /// be started. That an input never has both a text and a faulty line is stated by
 /// [`faulty_input_has_no_report`](texts::laws::faulty_input_has_no_report).
 pub fn run_lines<F, Q, R>(
+    rule: LossRule,
     alloc: Global,
     rt: R,
     input: Vec<u8>,
@@ -90,11 +93,11 @@ where
     requires ring { 1 ≤ capacities.ring }
     requires mailbox { 1 ≤ capacities.mailbox }
     ensures text { IfOk result
-        (λ text. IsRunText capacities.ring capacities.mailbox input.items text.items) }
+        (λ text. IsRunTextBy rule capacities.ring capacities.mailbox input.items text.items) }
     ensures fault { IfErr result (IsReportFault capacities.ring input.items) }
 {
     laws::trace_passes_the_checks();
     let trace = read_trace(alloc, input, capacities)?;
-    let outcome = run_trace(alloc, rt, trace, taps)?;
+    let outcome = run_trace(rule, alloc, rt, trace, taps)?;
     Ok(report(alloc, &outcome)?)
 }

@@ -1,19 +1,20 @@
 //! The whole program, over any reader and any two writers.
 ghost use Rattle.std.specs.Prelude.{◌≡◌, ◌≢◌, ◌⊎◌, map, Result, IfSome};
+ghost use Rattle.loss_rule.specs.declared.rule.LossRule.{LossRule};
 ghost use Rattle.engines.specs.declared.fault.EngineFault.{EngineFault};
 ghost use Rattle.engines.specs.Device.{IsFresh};
 ghost use Rattle.engines.specs.Fault.{exit_status_of};
-ghost use Rattle.engines.specs.Command.{AsksToJoin, AsksToReplay};
+ghost use Rattle.engines.specs.Command.{AsksToJoin, AsksToReplay, AsksToReplayBy};
 ghost use Rattle.texts.specs.Join.{IsJoinFault};
 ghost use Rattle.texts.specs.Cut.{IsCutFault};
 ghost use Rattle.texts.specs.Replay.{IsReplayFault};
-ghost use Rattle.commands.specs.Program.{AsksToCutOnly, AsksToRunOnly, AsksForNothing, Obeys, IsReported, RunsWords, ComesOf};
+ghost use Rattle.commands.specs.Program.{AsksToCutOnly, AsksToRunOnly, AsksToRunByOnly, AsksForNothing, Obeys, IsReported, RunsWords, ComesOf};
 ghost use Rattle.commands.specs.Inside.Program.{Performs, IsInRange};
-ghost use Rattle.commands.specs.Program.{IsStatus, HasJoinedText, HasCutText, HasReport, HasRunReport, HasRunFault, SaysOf};
+ghost use Rattle.commands.specs.Program.{IsStatus, HasJoinedText, HasCutText, HasReport, HasReportBy, HasRunReport, HasRunReportBy, HasRunFault, SaysOf};
 
-use crate::run::run_text;
+use crate::run::run_text_by;
 use engines::{
-    Command, Device, EngineFault, cut_text, exit_status, join_text, read_words, replay_text,
+    Command, Device, EngineFault, cut_text, exit_status, join_text, read_words, replay_text_by,
     write_fault, write_text,
 };
 use std::alloc::Global;
@@ -21,6 +22,7 @@ use std::convert::AsStr;
 use std::io::{Read, Write};
 use std::sync::Wait;
 use std::thread::Threads;
+use texts::laws;
 use uplink::{NoTap, Taps};
 
 /// Does what a command asks for: runs its engine between the reader and the writer, or writes the
@@ -41,13 +43,17 @@ fn perform<T: Threads + Wait + Copy + Send + 'static, R: Read, W: Write>(
     match command {
         Command::Join => join_text(alloc, reader, out),
         Command::Cut { first, fill } => cut_text(alloc, first, fill, reader, out),
-        Command::Replay => replay_text(alloc, reader, out),
-        Command::Run { mailbox, ring } => {
+        Command::Replay { rule } => replay_text_by(rule, alloc, reader, out),
+        Command::Run {
+            rule,
+            mailbox,
+            ring,
+        } => {
             let taps = Taps {
                 frames: NoTap,
                 requests: NoTap,
             };
-            run_text(alloc, rt, mailbox, ring, taps, reader, out)
+            run_text_by(rule, alloc, rt, mailbox, ring, taps, reader, out)
         }
         Command::Help(text) => Ok(write_text(out, text.as_bytes())?),
     }
@@ -66,6 +72,8 @@ fn obey<S: AsStr, T: Threads + Wait + Copy + Send + 'static, R: Read, W: Write>(
     ensures { Obeys R.remaining W.contents (map S.text words.now)
         reader.old reader.new out.old out.new result }
 {
+    laws::replay_by_decisions_alone_is_a_replay();
+    laws::run_by_decisions_alone_is_a_run();
     let command = read_words(alloc, words)?;
     perform(alloc, rt, command, reader, out)
 }
@@ -133,6 +141,12 @@ where
     ensures replay_is_known { AsksToReplay (map S.text words.now) → result ≢ 2 }
     ensures run { AsksToRunOnly (map S.text words.now)
         → IfSome (R.remaining reader) (SaysOf HasRunReport HasRunFault result) }
+    ensures replay_by { (rule : LossRule) → AsksToReplayBy rule (map S.text words.now)
+        → IfSome (R.remaining reader) (SaysOf (HasReportBy rule) IsReplayFault result) }
+    ensures replay_by_is_known { (rule : LossRule) → AsksToReplayBy rule (map S.text words.now)
+        → result ≢ 2 }
+    ensures run_by { (rule : LossRule) → AsksToRunByOnly rule (map S.text words.now)
+        → IfSome (R.remaining reader) (SaysOf (HasRunReportBy rule) HasRunFault result) }
     ensures usage { AsksForNothing (map S.text words.now) → (result ≡ 2) ⊎ (result ≡ 3) }
 {
     let mut reader = Device::new(reader);

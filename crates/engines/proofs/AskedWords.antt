@@ -1,10 +1,14 @@
--- The second word, and a word that asks for help.
-use Rattle.std.proofs.Common.{◌≡◌, ℕ, zero, suc, ◌+◌, ◌<◌, ◌≤◌, inl, inr, Some, List, [], ◌∷◌, ◌++◌, length, get_or, slice_get, take, ap, sym, ◌∙◌, subst, arith}
+-- The second word, the words behind it, and a word that asks for help.
+use Rattle.std.proofs.Common.{◌≡◌, ℕ, zero, suc, ◌+◌, ◌-◌, ◌<◌, ◌≤◌, inl, inr, true, Option, Some, None, List, [], ◌∷◌, ◌++◌, length, get_or, slice_get, take, drop, refl, ap, sym, ◌∙◌, subst, arith}
 use Rattle.std.proofs.lemmas.Bool.{cases_lt}
-use Rattle.std.proofs.lemmas.List.{length-map, length-take}
+use Rattle.std.proofs.lemmas.List.{length-map, length-take, take_all}
 use Rattle.std.proofs.lemmas.Option.{same_Some, slice_get_within}
-use Rattle.std.specs.Prelude.{map, ◌↔◌}
-use Rattle.engines.specs.Command.{IsCommandAlone, IsCommand, IsHelpWord, HasNoHelpWord, StandsBeforeHelp}
+use Rattle.std.specs.Prelude.{map, is_some, ◌↔◌}
+use Rattle.loss_rule.specs.declared.rule.LossRule.{LossRule}
+use Rattle.engines.specs.declared.command.Command.{Command}
+use Rattle.engines.specs.declared.command.Command.TheVariants.{Join, Cut, Replay, Run, Help}
+use Rattle.engines.specs.Inside.Command.{AsksWithOptions}
+use Rattle.engines.specs.Command.{IsCommandAlone, IsCommand, options_in, AsksToReplayBy, AsksForAnEngine, IsHelpWord, HasNoHelpWord, StandsBeforeHelp}
 
 -- of two words the second is a command's alone
 pub IsCommandAlone-two : {X : Type 0} (command : List ℕ) (text : X → List ℕ) (words : List X) (word : X) → 2 ≤ length words → length words < 3 → word ≡ get_or words 1 word
@@ -20,6 +24,19 @@ pub IsCommand-second : {X : Type 0} (command : List ℕ) (text : X → List ℕ)
 IsCommand-second command text [] word some is = absurd (omega arith)
 IsCommand-second command text (name ∷ []) word some is = absurd (omega arith)
 IsCommand-second command text (name ∷ second ∷ more) word some is = (λ e. ap text (sym is) ∙ e, λ e. ap text is ∙ e)
+
+-- there is a second word where words begin with a command
+pub IsCommand-long : {X : Type 0} (command : List ℕ) (text : X → List ℕ) (words : List X) → length words < 2 → IsCommand command (map text words) → ⊥
+IsCommand-long command text [] few is = is
+IsCommand-long command text (name ∷ []) few is = is
+IsCommand-long command text (name ∷ second ∷ more) few is = omega arith
+
+-- the options are the words from the third one on
+pub options_behind : {X : Type 0} (text : X → List ℕ) (words : List X) → 2 ≤ length words
+    → options_in (map text words) ≡ map text (take (length words - 2) (drop 2 words))
+options_behind text [] some = absurd (omega arith)
+options_behind text (name ∷ []) some = absurd (omega arith)
+options_behind text (name ∷ second ∷ more) some = ap (map text) (sym (take_all (length (name ∷ second ∷ more) - 2) more (omega arith)))
 
 -- none of the words after the name and before this place asks for help
 abbrev pub HasNoneBefore : List (List ℕ) → ℕ → Type 0
@@ -80,3 +97,17 @@ StandsBeforeHelp-at text words place word shown within is text_is help later non
       help = subst IsHelpWord text_is help;
       first = λ k found later at. let in_whole = in_front text words place k found at in none k found later in_whole.0 in_whole.1;
     }
+
+-- words that are read with options ask for an engine
+pub AsksForAnEngine-with_options : (words : List (List ℕ)) (command : Command) → AsksWithOptions words command → AsksForAnEngine words
+AsksForAnEngine-with_options words Join asks = absurd asks
+AsksForAnEngine-with_options words (Cut first fill) asks = inr (inl asks.0)
+AsksForAnEngine-with_options words (Replay rule) asks = absurd asks
+AsksForAnEngine-with_options words (Run rule mailbox ring) asks = inr (inr (inr (rule, asks.0)))
+AsksForAnEngine-with_options words (Help text) asks = absurd asks
+
+-- so do words that ask to replay by some rule
+pub AsksForAnEngine-replay : (words : List (List ℕ)) (result : Option LossRule) → ((rule : LossRule) → (result ≡ Some rule) ↔ AsksToReplayBy rule words)
+    → is_some result ≡ true → AsksForAnEngine words
+AsksForAnEngine-replay words None asked some = absurd cc
+AsksForAnEngine-replay words (Some rule) asked some = inr (inr (inl (rule, (asked rule).0 refl)))

@@ -1,2 +1,4 @@
 pub mod WrittenFront
 pub mod AskedWords
+pub mod AskedRules
+pub mod WeakerTexts

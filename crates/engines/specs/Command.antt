@@ -1,6 +1,8 @@
 -- Words that ask for what the program does, the program's name first.
-use Rattle.std.specs.Prelude.{◌≡◌, ◌<◌, ◌≤◌, ◌⊎◌, ℕ, List, [], ◌∷◌, ◌++◌, length, codes, slice_get, Some}
+use Rattle.std.specs.Prelude.{◌≡◌, ◌<◌, ◌≤◌, ◌⊎◌, ℕ, List, [], ◌∷◌, ◌++◌, length, drop, codes, slice_get, Some}
 use Rattle.docsis_wire.specs.Limits.{sequence_modulus}
+use Rattle.loss_rule.specs.declared.rule.LossRule.{LossRule}
+use Rattle.engines.specs.Losses.{HasNoLossesWord, AskForRule, AskForRuleAlone}
 use Rattle.engines.specs.declared.command.Command.{Command}
 use Rattle.engines.specs.declared.command.Command.TheVariants.{Join, Cut, Replay, Run, Help}
 
@@ -24,16 +26,27 @@ IsCommand command [] = ⊥
 IsCommand command (name ∷ []) = ⊥
 IsCommand command (name ∷ word ∷ options) = word ≡ command
 
--- to cut and to run have options, which are read by the library
+-- the words behind the command's
+abbrev pub options_in : List (List ℕ) → List (List ℕ)
+options_in = drop 2
+
+-- to cut has options, which are read by the library
 abbrev pub AsksToCut : List (List ℕ) → Type 0
 AsksToCut words = IsCommand (codes "cut") words
 
+-- to run has some too; by a loss rule, where one of them asks for it
 abbrev pub AsksToRun : List (List ℕ) → Type 0
-AsksToRun words = IsCommand (codes "run") words
+AsksToRun words = IsCommand (codes "run") words × HasNoLossesWord (options_in words)
 
--- to replay, the command's word alone follows the name
+abbrev pub AsksToRunBy : LossRule → List (List ℕ) → Type 0
+AsksToRunBy rule words = IsCommand (codes "run") words × AskForRule rule (options_in words)
+
+-- to replay, the command's word alone follows the name; by a loss rule, the option for it behind that and nothing else
 abbrev pub AsksToReplay : List (List ℕ) → Type 0
 AsksToReplay words = IsCommandAlone (codes "replay") words
+
+abbrev pub AsksToReplayBy : LossRule → List (List ℕ) → Type 0
+AsksToReplayBy rule words = IsCommand (codes "replay") words × AskForRuleAlone rule (options_in words)
 
 -- the word asks for help
 abbrev pub IsHelpWord : List ℕ → Type 0
@@ -52,9 +65,10 @@ pub record StandsBeforeHelp (before words : List (List ℕ)) : Type 0 where
   pub help : IsHelpWord word
   pub first : HasNoHelpWord before
 
--- the words ask for an engine
+-- the words ask for an engine, to run or to replay by some loss rule, which is `Decided` where none is asked for
 abbrev pub AsksForAnEngine : List (List ℕ) → Type 0
-AsksForAnEngine words = AsksToJoin words ⊎ AsksToCut words ⊎ AsksToReplay words ⊎ AsksToRun words
+AsksForAnEngine words =
+    AsksToJoin words ⊎ AsksToCut words ⊎ ((rule : LossRule) × AsksToReplayBy rule words) ⊎ ((rule : LossRule) × AsksToRunBy rule words)
 
 -- a word asks for help, and the words before it ask for an engine
 abbrev pub AsksForHelp : List (List ℕ) → Type 0
@@ -65,6 +79,6 @@ AsksForHelp words = (before : List (List ℕ)) × StandsBeforeHelp before words 
 abbrev pub Asks : List (List ℕ) → Command → Type 0
 Asks words Join = AsksToJoin words
 Asks words (Cut first fill) = AsksToCut words × HasNoHelpWord words × (first < sequence_modulus)
-Asks words Replay = AsksToReplay words
-Asks words (Run mailbox ring) = AsksToRun words × HasNoHelpWord words × (1 ≤ mailbox) × (1 ≤ ring)
+Asks words (Replay rule) = AsksToReplayBy rule words
+Asks words (Run rule mailbox ring) = AsksToRunBy rule words × HasNoHelpWord words × (1 ≤ mailbox) × (1 ≤ ring)
 Asks words (Help text) = AsksForHelp words

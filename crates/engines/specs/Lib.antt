@@ -3,5 +3,6 @@ pub mod Device
 pub mod Fault
 pub mod Transfer
 pub mod Engine
+pub mod Losses
 pub mod Command
 pub mod Inside

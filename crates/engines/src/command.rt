@@ -1,16 +1,20 @@
 //! What the program's arguments ask for.
 ghost use Rattle.std.specs.Prelude.{◌≡◌, ◌<◌, ◌↔◌, map, codes, IsTrue, IfOk, MatchOption};
+ghost use Rattle.loss_rule.specs.declared.rule.LossRule.{LossRule};
 ghost use Rattle.engines.specs.declared.command.UsageFault.TheVariants.{OutOfMemory};
-ghost use Rattle.engines.specs.Command.{IsCommandAlone, IsCommand, AsksToJoin, AsksToReplay};
-ghost use Rattle.engines.specs.Command.{IsHelpWord, HasNoHelpWord, StandsBeforeHelp, Asks};
+ghost use Rattle.engines.specs.Command.{IsCommandAlone, IsCommand, options_in, AsksToJoin};
+ghost use Rattle.engines.specs.Command.{AsksToReplayBy, AsksToRunBy, Asks};
+ghost use Rattle.engines.specs.Command.{IsHelpWord, HasNoHelpWord, StandsBeforeHelp};
 ghost use Rattle.engines.specs.Inside.Command.{AsksWithOptions};
 ghost use Rattle.engines.specs.Inside.Options.{ReadsOptions, ReadsCapacity, ReadsCapacities};
 ghost use Rattle.clap.specs.Matches.{found_of, first_value};
 
 use crate::command_line::command_line;
+use crate::losses::{asked_rule, asked_rule_alone};
 use clap::ArgMatches;
 use clap::error::ErrorKind;
 use docsis_wire::FillByte;
+use loss_rule::LossRule;
 use std::alloc::{AllocError, Global};
 use std::convert::AsStr;
 use std::io;
@@ -30,9 +34,14 @@ pub enum Command {
         fill: FillByte,
     },
     /// To replay a trace, and report what a receiver gives for it.
-    Replay,
+    Replay {
+        /// By what losses are decided.
+        rule: LossRule,
+    },
     /// To receive a trace on threads, and report what that gave.
     Run {
+        /// By what losses are decided.
+        rule: LossRule,
         /// How many entries each of the two mailboxes has room for, end marks included: 1 to
         /// 65,535.
         mailbox: u16,
@@ -106,21 +115,42 @@ fn asks_to_join<S: AsStr>(words: &[S]) -> bool
     }
 }
 
-/// Whether the words, the program's name first, ask to replay and for nothing else.
-fn asks_to_replay<S: AsStr>(words: &[S]) -> bool
-    ensures { IsTrue result ↔ AsksToReplay (map S.text words.now) }
+/// The words behind this command, if the words, the program's name first, begin with it.
+fn options_of<'a, S: AsStr>(words: &'a [S], command: &str) -> Option<&'a [S]>
+    ensures { MatchOption result (¬ IsCommand command.now (map S.text words.now))
+        (λ options. IsCommand command.now (map S.text words.now)
+        × (options_in (map S.text words.now) ≡ map S.text options.now)) }
 {
-    is_command_alone(words, "replay")
+    let [_, word, options @ ..] = words else {
+        return None;
+    };
+    if word.as_str() != command {
+        return None;
+    }
+    Some(options)
 }
 
 /// Whether the words, the program's name first, begin with this command.
 fn is_command<S: AsStr>(words: &[S], command: &str) -> bool
     ensures { IsTrue result ↔ IsCommand command.now (map S.text words.now) }
 {
-    match words {
-        [_, word, ..] => word.as_str() == command,
-        _ => false,
-    }
+    options_of(words, command).is_some()
+}
+
+/// The rule by which the words, the program's name first, ask to replay and for nothing else.
+fn asked_replay<S: AsStr>(words: &[S]) -> Option<LossRule>
+    ensures { (rule : LossRule)
+        → (result ≡ Some rule) ↔ AsksToReplayBy rule (map S.text words.now) }
+{
+    asked_rule_alone(options_of(words, "replay")?)
+}
+
+/// The rule by which the words, the program's name first, ask to run.
+fn asked_run<S: AsStr>(words: &[S]) -> Option<LossRule>
+    ensures { (rule : LossRule)
+        → (result ≡ Some rule) ↔ AsksToRunBy rule (map S.text words.now) }
+{
+    asked_rule(options_of(words, "run")?)
 }
 
 /// Whether a word asks for help.
@@ -200,8 +230,8 @@ fn read_with_options<'a, S: AsStr>(alloc: Global, words: &'a [S]) -> Result<Comm
     ensures { IfOk result (AsksWithOptions (map S.text words.now)) }
 {
     let cuts = is_command(words, "cut");
-    let runs = is_command(words, "run");
-    if !cuts && !runs || ends_options(words) {
+    let run_rule = asked_run(words);
+    if !cuts && run_rule.is_none() || ends_options(words) {
         return Err(UsageFault::Usage);
     }
     let matches = command_line(alloc)?.try_get_matches_from(words)?;
@@ -209,9 +239,15 @@ fn read_with_options<'a, S: AsStr>(alloc: Global, words: &'a [S]) -> Result<Comm
         let (first, fill) = read_cut(options)?;
         return Ok(Command::Cut { first, fill });
     }
-    if runs && let Some(options) = matches.subcommand_matches("run") {
+    if let Some(rule) = run_rule
+        && let Some(options) = matches.subcommand_matches("run")
+    {
         let Capacities { mailbox, ring } = read_run(options)?;
-        return Ok(Command::Run { mailbox, ring });
+        return Ok(Command::Run {
+            rule,
+            mailbox,
+            ring,
+        });
     }
     Err(UsageFault::Usage)
 }
@@ -231,23 +267,24 @@ fn help_text<'a, S: AsStr>(alloc: Global, words: &'a [S]) -> Result<String, Usag
 ///
 /// `-h` or `--help` asks for help, whatever follows it, where the words before it are lawful. Words
 /// that ask for nothing that the program does are `Usage`: an unknown word or option, an option of
-/// another command, one that is repeated or has no value or one out of range, `help`, `--version`
-/// and `--`.
+/// another command, one that is repeated or has no value or one out of range, a rule of another
+/// name, `help`, `--version` and `--`.
 pub fn read_words<'a, S: AsStr>(alloc: Global, words: &'a [S]) -> Result<Command, UsageFault>
     ensures asked { IfOk result (Asks (map S.text words.now)) }
     ensures join { AsksToJoin (map S.text words.now) → result ≡ Ok Command.Join }
-    ensures replay { AsksToReplay (map S.text words.now) → result ≡ Ok Command.Replay }
+    ensures replay { (rule : LossRule)
+        → AsksToReplayBy rule (map S.text words.now) → result ≡ Ok (Command.Replay rule) }
 {
     if asks_to_join(words) {
         return Ok(Command::Join);
     }
-    if asks_to_replay(words) {
-        return Ok(Command::Replay);
+    if let Some(rule) = asked_replay(words) {
+        return Ok(Command::Replay { rule });
     }
     let Some(before) = before_help(words) else {
         return read_with_options(alloc, words);
     };
-    if !asks_to_join(before) && !asks_to_replay(before) {
+    if !asks_to_join(before) && asked_replay(before).is_none() {
         read_with_options(alloc, before)?;
     }
     Ok(Command::Help(help_text(alloc, words)?))

@@ -32,8 +32,11 @@ begins with #, is skipped. At most 268435456 bytes are read.
 join prints one frame a line, and cut one segment a line. replay and run print a
 report of each flow with its frames, of the requests and of the channels. replay
 takes what came in in the order of its lines; run gives each channel a thread,
-and takes it in the order in which it happens to come. Nothing is printed before
-the whole input was read and is without fault.
+and takes it in the order in which it happens to come. Which segments are lost
+say the gap lines alone by the rule decided; by passed, lost is also what each
+channel of the flow has passed, since on each a later segment came; by slid, so
+is what has to leave the window for one that comes beyond it. Nothing is printed
+before the whole input was read and is without fault.
 
 Exit status:
   0  done
@@ -42,6 +45,15 @@ Exit status:
   3  out of memory
   4  reading or writing failed, or the input is too long
 Each fault is reported by one line on standard error.";
+
+/// The option of `replay` and `run` that names a loss rule.
+fn losses_option<'a>(alloc: Global) -> Arg<'a> {
+    Arg::new(alloc, "losses")
+        .long("losses")
+        .value_name("RULE")
+        .action(ArgAction::Set)
+        .help("What is lost: decided, passed or slid [default: decided]")
+}
 
 /// The options of the command `cut`.
 fn cut_command<'a>(alloc: Global) -> Result<Command<'a>, AllocError> {
@@ -63,6 +75,15 @@ fn cut_command<'a>(alloc: Global) -> Result<Command<'a>, AllocError> {
         .arg(fill)
 }
 
+/// The options of the command `replay`.
+fn replay_command<'a>(alloc: Global) -> Result<Command<'a>, AllocError> {
+    Command::new(alloc, "replay")
+        .about("Replays a trace, and prints what each flow gave")
+        .override_usage("segrx replay [--losses RULE] < TRACE > REPORT")
+        .after_help(FORMATS)
+        .arg(losses_option(alloc))
+}
+
 /// The options of the command `run`.
 fn run_command<'a>(alloc: Global) -> Result<Command<'a>, AllocError> {
     let mailbox = Arg::new(alloc, "mailbox")
@@ -77,8 +98,9 @@ fn run_command<'a>(alloc: Global) -> Result<Command<'a>, AllocError> {
         .help("Frames that a ring holds, 1 to 65535 [default: 16]");
     Command::new(alloc, "run")
         .about("Receives a trace on threads, and prints what each flow gave")
-        .override_usage("segrx run [--mailbox N] [--ring N] < TRACE > REPORT")
+        .override_usage("segrx run [--losses RULE] [--mailbox N] [--ring N] < TRACE > REPORT")
         .after_help(FORMATS)
+        .arg(losses_option(alloc))?
         .arg(mailbox)?
         .arg(ring)
 }
@@ -89,22 +111,18 @@ pub fn command_line<'a>(alloc: Global) -> Result<Command<'a>, AllocError> {
         .about("Joins segments, and prints their frames; the default")
         .override_usage("segrx join < SEGMENTS > FRAMES")
         .after_help(FORMATS);
-    let replay = Command::new(alloc, "replay")
-        .about("Replays a trace, and prints what each flow gave")
-        .override_usage("segrx replay < TRACE > REPORT")
-        .after_help(FORMATS);
     Command::new(alloc, "segrx")
         .about("Receives DOCSIS 3.0 upstream service flows that are bonded over channels")
         .override_usage(
             "segrx [join] < SEGMENTS > FRAMES
        segrx cut [--first N] [--fill zero|ones] < FRAMES_AND_PIECES > SEGMENTS
-       segrx replay < TRACE > REPORT
-       segrx run [--mailbox N] [--ring N] < TRACE > REPORT",
+       segrx replay [--losses RULE] < TRACE > REPORT
+       segrx run [--losses RULE] [--mailbox N] [--ring N] < TRACE > REPORT",
         )
         .after_help(FORMATS)
         .disable_help_subcommand(true)
         .subcommand(join)?
         .subcommand(cut_command(alloc)?)?
-        .subcommand(replay)?
+        .subcommand(replay_command(alloc)?)?
         .subcommand(run_command(alloc)?)
 }

@@ -7,7 +7,7 @@
 //! - [`read_words`] reads what the arguments of the program ask for.
 //! - [`join_text`], [`cut_text`] and [`replay_text`] are the engines. Each reads its whole input
 //!   ([`read_input`]), makes the whole text by the call of the crate `texts`, and then writes it
-//!   ([`write_text`]).
+//!   ([`write_text`]). [`replay_text_by`] decides besides by a rule which segments are lost.
 //! - [`write_fault`] writes the line of a fault, and [`status`] is its exit status.
 //!
 //! What matters most: they write exactly the text that stands for the lines they read; or they
@@ -26,6 +26,7 @@ mod engine;
 mod fault;
 mod fault_line;
 mod join;
+mod losses;
 mod replay;
 mod transfer;
 
@@ -35,5 +36,5 @@ pub use device::Device;
 pub use fault::{EngineFault, WriteFault, exit_status, status};
 pub use fault_line::write_fault;
 pub use join::join_text;
-pub use replay::replay_text;
+pub use replay::{replay_text, replay_text_by};
 pub use transfer::{INPUT_MAX, read_input, write_text};

@@ -15,10 +15,10 @@ use Rattle.flow_core.specs.Events.{FlowEvent, IsDeclaredTo, Declares, DeclaresTo
 use Rattle.flow_core.specs.Delivery.{IsDelivered, IsDeliverySequence}
 use Rattle.flow_core.specs.Stands.{StandsFor}
 use Rattle.flow_core.specs.Flows.{IsLoss}
-use Rattle.flow_core.specs.Closing.{IsClosed, IsAllKept, HaveNoSkip}
+use Rattle.flow_core.specs.Closing.{IsClosed, IsAllKept, HaveNoSkip, IsSkippedBy}
 use Rattle.flow_core.proofs.Deciding.{IsAhead-once}
 use Rattle.flow_core.proofs.Outcome.{expected-unique}
-use Rattle.flow_core.proofs.LaterKept.{later-after}
+use Rattle.flow_core.proofs.LaterKept.{lost-lawfully}
 use Rattle.flow_core.proofs.Giving.{same_fates}
 use Rattle.flow_core.proofs.Standing.{settled-cases, open-kept, expected-after}
 
@@ -34,18 +34,25 @@ module _ (check : List ℕ → Bool) (flow_record : FlowRecord) (flow : Flow) (e
   pub draining-ends : (i : ℕ) → IsKept fates i → i < y + flow_record.window
   draining-ends i kept = s.window.within i (subst (λ (f : Fates). IsKept f i) (sym (same_fates check flow_record flow events answers y given s fates is)) kept)
 
-  -- without a skip also the expected index does
+  -- what lies further on and before the expected index was skipped
+  pub draining-skipped : (x i : ℕ) → IsExpected fates x → y + flow_record.window ≤ i → i < x → IsSkippedBy flow_record.first flow_record.window events i
+  draining-skipped x i expected from below =
+      elim (settled-cases fates i (expected.settled i below)) [
+        | inl kept ↦ absurd (omega (arith, draining-ends i kept))
+        | inr lost ↦ elim (lost-lawfully flow_record.first flow_record.window events answers fates is i lost) [
+          | inl later ↦ absurd (omega (arith, later.1, draining-ends later.0 later.2))
+          | inr skipped ↦ skipped
+        ]
+      ]
+
+  -- without a skip there is no such index
   pub draining-near : (x : ℕ) → IsExpected fates x → HaveNoSkip events → x ≤ y + flow_record.window
   draining-near x expected none =
-      let i : ℕ = y + flow_record.window in
-      elim (cases_lt i x) [
+      elim (cases_lt (y + flow_record.window) x) [
         | inr near ↦ near
-        | inl beyond ↦ elim (settled-cases fates i (expected.settled i beyond)) [
-          | inl kept ↦ absurd (omega (arith, draining-ends i kept))
-          | inr lost ↦
-              let later = later-after flow_record.first flow_record.window events answers fates is none i lost in
-              absurd (omega (arith, later.1, draining-ends later.0 later.2))
-        ]
+        | inl beyond ↦
+            let skipped = draining-skipped x (y + flow_record.window) expected (omega arith) beyond in
+            absurd (none skipped.before skipped.behind skipped.number skipped.events_are)
       ]
 
 -- a closed flow has come past all that was kept

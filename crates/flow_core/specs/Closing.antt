@@ -7,7 +7,7 @@ use Rattle.reorder.specs.declared.verdict.Declared.TheVariants.{Lost}
 use Rattle.flow_core.specs.declared.event.Applied.{Applied}
 use Rattle.flow_core.specs.declared.event.Applied.TheVariants.{Decision}
 use Rattle.flow_core.specs.Fates.{Fates, IsKept, IsExpected, HasLaterKept}
-use Rattle.flow_core.specs.Events.{FlowEvent, arrives, gap, skip_to, Leads}
+use Rattle.flow_core.specs.Events.{FlowEvent, arrives, gap, skip_to, IsSkippedTo, Leads, IsAfter}
 
 -- no declared loss would change anything any more
 abbrev pub IsClosed : Fates → Type 0
@@ -34,3 +34,16 @@ HaveNoArrival events = (before behind : List FlowEvent) (segment : Segment) → 
 -- nothing is skipped
 abbrev pub HaveNoSkip : List FlowEvent → Type 0
 HaveNoSkip events = (before behind : List FlowEvent) (number : ℕ) → ¬ (events ≡ before ++ skip_to number ∷ behind)
+
+-- A skip among the events passed the index: it was open then, and lay before the one with the skip's number.
+pub record IsSkippedBy (first width : ℕ) (events : List FlowEvent) (i : ℕ) : Type 0 where
+  pub before : List FlowEvent
+  pub behind : List FlowEvent
+  pub number : ℕ
+  pub events_are : events ≡ before ++ skip_to number ∷ behind
+  pub answers : List Applied
+  pub fates : Fates
+  pub after : IsAfter first width before answers fates
+  pub x : ℕ
+  pub expected : IsExpected fates x
+  pub skipped : IsSkippedTo first x number fates i

@@ -1,12 +1,10 @@
 -- All flows of a core, and what becomes of them.
 use Rattle.std.specs.Prelude.{◌≡◌, ◌≢◌, ℕ, ◌<◌, ◌↔◌, Bool, IsTrue, Some, List, [], length, slice_get}
-use Rattle.docsis_wire.specs.Ready.{IsReady}
-use Rattle.docsis_wire.specs.Limits.{sequence_modulus}
 use Rattle.flow_records.specs.declared.record.FlowRecord.{FlowRecord}
 use Rattle.flow_core.specs.declared.flow.Flow.{Flow}
 use Rattle.flow_core.specs.declared.flows.Core.{Core}
-use Rattle.flow_core.specs.declared.event.Event.{Event}
-use Rattle.flow_core.specs.declared.event.Event.TheVariants.{Arrive, Gap, GapTo, SkipTo}
+use Rattle.flow_records.specs.declared.event.Event.{Event}
+use Rattle.flow_records.specs.declared.event.Event.TheVariants.{Arrive, Gap, GapTo, SkipTo}
 use Rattle.flow_core.specs.declared.event.Applied.{Applied}
 use Rattle.flow_core.specs.declared.event.Applied.TheVariants.{Decision}
 use Rattle.flow_core.specs.declared.event.Step.{Step}
@@ -16,25 +14,12 @@ use Rattle.flow_core.specs.Fates.{HasLaterKept}
 use Rattle.flow_core.specs.Events.{FlowEvent, arrives, gap, gap_to, skip_to}
 use Rattle.flow_core.specs.Stands.{StandsFor, IsDrained, TakesEvent, Advances}
 
--- the flow that an event names, and what happens to it
-abbrev pub flow_of : Event → ℕ
-flow_of (Arrive flow segment) = flow
-flow_of (Gap flow) = flow
-flow_of (GapTo flow number) = flow
-flow_of (SkipTo flow number) = flow
-
+-- what happens to the flow that an event names
 abbrev pub event_of : Event → FlowEvent
 event_of (Arrive flow segment) = arrives segment
 event_of (Gap flow) = gap
 event_of (GapTo flow number) = gap_to number
 event_of (SkipTo flow number) = skip_to number
-
--- an arriving segment is ready, and losses are declared up to a sequence number
-abbrev pub IsTakable : Event → Type 0
-IsTakable (Arrive flow segment) = IsReady segment
-IsTakable (Gap flow) = Unit {0}
-IsTakable (GapTo flow number) = number < sequence_modulus
-IsTakable (SkipTo flow number) = number < sequence_modulus
 
 -- the answer is that a number was declared lost
 abbrev pub IsLoss : Declared → Type 0

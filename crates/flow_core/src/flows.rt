@@ -7,10 +7,10 @@ ghost use Rattle.flow_records.specs.Limits.{flows_max};
 mod draining;
 
 use crate::counts::FlowCounts;
-use crate::event::{Applied, Event, Step};
+use crate::event::{Applied, Step};
 use crate::flow::{Flow, new_flows};
 use docsis_wire::HeaderCheck;
-use flow_records::{FlowRecord, SetupFault, check_records};
+use flow_records::{Event, FlowRecord, SetupFault, check_records};
 use reorder::Declared;
 use std::alloc::{AllocError, Global};
 
@@ -26,7 +26,8 @@ impl<C: HeaderCheck + Drop> Core<C> {
     ghost use Rattle.std.specs.Prelude.{◌≡◌, ◌<◌, ◌↔◌, ℕ, length, IsTrue, IfOk, IsOk, OnErr, Ok, Err};
     ghost use Rattle.docsis_wire.specs.Limits.{sequence_modulus};
     ghost use Rattle.flow_records.specs.Setup.{IsSetupFault, CanBeSetUp};
-    ghost use Rattle.flow_core.specs.Flows.{flow_of, event_of, IsTakable, IsNewCore, HasFlow};
+    ghost use Rattle.flow_core.specs.Flows.{event_of, IsNewCore, HasFlow};
+    ghost use Rattle.flow_records.specs.Events.{flow_of, IsTakable};
     ghost use Rattle.flow_core.specs.Flows.{IsDrainedAt, AdvancesAt, OthersStay, TakesEventAt};
     ghost use Rattle.flow_core.specs.Flows.{ClosesGapAt};
     ghost use Rattle.flow_core.specs.declared.event.Step.{Step};

@@ -21,7 +21,7 @@ ghost use Rattle.flow_core.specs.Near.{AreNear, AreOfCut, AreSkipsWithin};
 ghost use Rattle.flow_core.specs.Delivery.{IsDelivered, IsDeliverySequence};
 ghost use Rattle.flow_core.specs.Stands.{StandsFor, IsDrained};
 ghost use Rattle.flow_core.specs.Outcome.{IsFlowOutcome};
-ghost use Rattle.flow_core.specs.Closing.{IsClosed, Closes, says_lost, IsAllKept, HaveNoArrival, HaveNoSkip};
+ghost use Rattle.flow_core.specs.Closing.{IsClosed, Closes, says_lost, IsAllKept, HaveNoArrival, HaveNoSkip, IsSkippedBy};
 ghost use Rattle.flow_core.specs.Flows.{IsLoss};
 ghost use Rattle.reorder.specs.declared.verdict.Declared.{Declared};
 
@@ -175,7 +175,7 @@ pub fn flow_has_one_close()
 /// The index that a flow has come to is never after the expected one, and each segment that was
 /// kept lies before it or less than the width of its window after it: no more segments than that
 /// are next, one after another. Where nothing is skipped, the expected index too lies at most the
-/// width after it.
+/// width after it: what lies between further on was skipped.
 pub fn draining_ends()
     ensures onward { (check : List ℕ → Bool) (flow_record : FlowRecord) (flow : Flow)
         (events : List FlowEvent) (answers : List Applied) (x y : ℕ) (given : List (List ℕ))
@@ -195,6 +195,13 @@ pub fn draining_ends()
         → StandsFor check flow_record flow events answers y given
         → IsAfter flow_record.first flow_record.window events answers fates
         → IsExpected fates x → HaveNoSkip events → x ≤ y + flow_record.window }
+    ensures skipped { (check : List ℕ → Bool) (flow_record : FlowRecord) (flow : Flow)
+        (events : List FlowEvent) (answers : List Applied) (x y i : ℕ) (given : List (List ℕ))
+        (fates : Fates)
+        → StandsFor check flow_record flow events answers y given
+        → IsAfter flow_record.first flow_record.window events answers fates
+        → IsExpected fates x → y + flow_record.window ≤ i → i < x
+        → IsSkippedBy flow_record.first flow_record.window events i }
 {}
 
 /// Two lists of events, one after the other, lead as the first one does and then the other.
@@ -308,7 +315,7 @@ pub fn outcome_of_near_events_is_the_delivery_sequence()
 }
 
 /// Each index that was lost lies before the expected one, so the losses that a drained flow has
-/// counted are all. Where nothing is skipped, a later one was kept.
+/// counted are all. A later one was kept, or a skip passed it: nothing else loses an index.
 pub fn lost_indexes_lie_before_the_expected_one()
     ensures before { (first width x i : ℕ) (events : List FlowEvent) (answers : List Applied)
         (fates : Fates)
@@ -318,6 +325,10 @@ pub fn lost_indexes_lie_before_the_expected_one()
         (fates : Fates)
         → IsAfter first width events answers fates → HaveNoSkip events
         → IsLost fates i → HasLaterKept fates i }
+    ensures skipped { (first width i : ℕ) (events : List FlowEvent) (answers : List Applied)
+        (fates : Fates)
+        → IsAfter first width events answers fates
+        → IsLost fates i → HasLaterKept fates i ⊎ IsSkippedBy first width events i }
 {}
 
 /// However many gaps close a flow, the frames and the counts are the same.

@@ -37,8 +37,8 @@ mod sequence;
 mod up_to;
 
 pub use counts::FlowCounts;
-pub use event::{Applied, Event, Step};
+pub use event::{Applied, Step};
 pub use flow_records::{
-    CLUSTERS_MAX, FLOWS_MAX, FlowRecord, SetupFault, WINDOW_MAX, check_records,
+    CLUSTERS_MAX, Event, FLOWS_MAX, FlowRecord, SetupFault, WINDOW_MAX, check_records,
 };
 pub use flows::Core;

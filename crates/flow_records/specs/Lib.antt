@@ -1,3 +1,5 @@
 pub mod Limits
 pub mod Setup
 pub mod Counted
+pub mod Events
+pub mod Decisions

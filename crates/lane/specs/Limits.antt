@@ -5,6 +5,10 @@ use Rattle.std.specs.Prelude.{ℕ}
 abbrev pub channel_limit : ℕ
 channel_limit = 4
 
+-- with the decisions, which come beside the channels, there are five senders
+abbrev pub senders : ℕ
+senders = 5
+
 -- a service identifier has 14 bits, and is below this
 abbrev pub sid_limit : ℕ
 sid_limit = 16384

@@ -2,6 +2,8 @@
 use Rattle.std.specs.Prelude.{◌≡◌, ℕ, ◌<◌, ◌+◌, Option, Some, None, Ok, Err, List, [], ◌∷◌, ◌++◌, length, is_some, filter_map, slice_get, if◌then◌else◌}
 use Rattle.docsis_wire.specs.Limits.{sequence_modulus}
 use Rattle.flow_records.specs.Counted.{counted}
+use Rattle.flow_records.specs.declared.event.Event.{Event}
+use Rattle.flow_records.specs.declared.event.Event.TheVariants.{Arrive}
 use Rattle.flow_records.specs.declared.record.FlowRecord.{FlowRecord}
 use Rattle.lane.specs.declared.admitted.Admitted.{Admitted}
 use Rattle.lane.specs.declared.admitted.Request.{Request}
@@ -44,6 +46,10 @@ requests_in answer = filter_map (λ one. one.request) (admitted_in answer)
 -- what was admitted, in order
 abbrev pub admitted_of : List AnsweredInput → List Admitted
 admitted_of taken = filter_map (λ one. admitted_by one.answer) taken
+
+-- what an admitted segment is to the flows
+abbrev pub event_of_admitted : Admitted → Event
+event_of_admitted admitted = Arrive admitted.flow admitted.segment
 
 -- the requests of what was admitted, in order
 abbrev pub requests_of : List AnsweredInput → List Request

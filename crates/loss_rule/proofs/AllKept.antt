@@ -1,4 +1,4 @@
--- Where nothing comes further ahead than the window holds, each segment that comes is kept.
+-- Where each segment falls into the window and decisions are safe, each segment that comes is kept.
 use Rattle.std.proofs.Common.{◌≡◌, ◌≢◌, ℕ, ◌+◌, ◌<◌, ◌≤◌, inl, inr, Some, List, [], ◌∷◌, ◌++◌, length, refl, ap, sym, subst, ◌∙◌, arith, append_assoc, append-nil}
 use Rattle.std.proofs.lemmas.Bool.{cases_eq}
 use Rattle.std.proofs.lemmas.Option.{slice_get_within}
@@ -11,47 +11,48 @@ use Rattle.flow_core.specs.declared.event.Applied.TheVariants.{Arrival}
 use Rattle.flow_core.specs.Fates.{Fates, no_fates, IsKept, IsKeptAs, IsExpected}
 use Rattle.flow_core.specs.Events.{FlowEvent, arrives, Leads, IsAfter}
 use Rattle.flow_core.specs.Near.{AreNear}
+use Rattle.flow_core.specs.Closing.{HaveNoArrival}
 use Rattle.flow_core.proofs.Nearness.{AreNumbered}
 use Rattle.flow_core.proofs.Outcome.{expected-unique}
 use Rattle.flow_core.proofs.OneFates.{after-once}
-use Rattle.flow_core.proofs.Turns.{leads-in_turn}
+use Rattle.flow_core.proofs.Turns.{leads-in_turn, near-behind}
 use Rattle.loss_rule.specs.declared.rule.LossRule.{LossRule}
 use Rattle.loss_rule.specs.declared.rule.LossRule.TheVariants.{Decided}
-use Rattle.loss_rule.specs.Rule.{Coming, on_channel, handed_in, RuledFlow, Lasts, IsRuled, AreRuled}
-use Rattle.loss_rule.specs.InOrder.{Comes, AreInChannelOrder, ComeNear, FitTheWindow, HaveNoDecision}
+use Rattle.loss_rule.specs.Rule.{Coming, on_channel, handed_in, RuledFlow, Lasts, IsLastOn, IsRuled, AreRuled}
+use Rattle.loss_rule.specs.InOrder.{Comes, AreInChannelOrder, ComeNear, FallIntoTheWindow, DecideSafely}
 use Rattle.loss_rule.specs.Inside.Reached.{IsReached}
 use Rattle.loss_rule.specs.Inside.Arrival.{IsUpToDate, ArrivesBy}
-use Rattle.loss_rule.specs.Inside.Order.{IsInStep, AreKept}
+use Rattle.loss_rule.specs.Inside.Order.{IsInStep, AreKept, AreWithin}
 use Rattle.loss_rule.specs.Inside.Verdicts.{EachVerdict, SaysKept}
-use Rattle.loss_rule.proofs.Reaching.{fate-stays}
+use Rattle.loss_rule.proofs.Reaching.{reached-leads, leads-some, reached-expected, fate-stays}
 use Rattle.loss_rule.proofs.RuledTurns.{ruled-reached, holds-after}
 use Rattle.loss_rule.proofs.Arrivals.{arrival-by}
-use Rattle.loss_rule.proofs.ArrivalAnswers.{answer-last, verdicts-in_turn}
+use Rattle.loss_rule.proofs.ArrivalAnswers.{answer-last, no_arrival-verdicts, verdicts-in_turn}
 use Rattle.loss_rule.proofs.Prompt.{up_to_date-after}
 use Rattle.loss_rule.proofs.ChannelOrder.{comes-once, comes-here, one-longer}
 use Rattle.loss_rule.proofs.InStep.{index-from, between-ahead, own-answer, in_step-after}
-use Rattle.loss_rule.proofs.Fitting.{index-near, near-x, index-within, no-slide}
+use Rattle.loss_rule.proofs.Falling.{no-slide}
+use Rattle.loss_rule.proofs.HandedIn.{decided-no_arrival, came-earlier, in_step-decided}
+use Rattle.loss_rule.proofs.Rulings.{notes-some}
+use Rattle.loss_rule.proofs.Leasts.{passing-some}
 use Rattle.loss_rule.proofs.SafeLoss.{in_step-none}
 use Rattle.loss_rule.proofs.NearArrivals.{near-arrival}
 
-module _ (rule : LossRule) (looks : rule ≢ Decided) (flow : RuledFlow) (narrow : flow.width ≤ 4096) (segments : List Segment) (comings : List Coming) (index_at : ℕ → ℕ)
-    (numbered : AreNumbered flow.first segments) (order : AreInChannelOrder flow segments comings index_at) (fit : FitTheWindow flow comings index_at) where
+module _ (rule : LossRule) (looks : rule ≢ Decided) (flow : RuledFlow) (segments : List Segment) (comings : List Coming) (index_at : ℕ → ℕ)
+    (numbered : AreNumbered flow.first segments) (order : AreInChannelOrder flow segments comings index_at) where
   -- one segment
   module _ (n channel : ℕ) (segment : Segment) (here : Comes comings n channel segment) (lasts : Lasts) (fates : Fates) (known : IsUpToDate flow lasts fates)
       (in_step : IsInStep flow comings index_at n lasts fates) (events : List FlowEvent) (answers : List Applied) (noted : Lasts) (after : Fates)
       (r : IsReached flow.first flow.width fates) (leads : Leads flow.first flow.width fates events answers after)
-      (t : ArrivesBy rule flow lasts fates channel segment events answers noted after) where
-    near : index_at n < t.x + 4096
-    near = near-x flow narrow segments comings index_at numbered order fit n channel segment here lasts fates known in_step rule events answers noted after r t
-
-    -- and the window doesn't slide
+      (t : ArrivesBy rule flow lasts fates channel segment events answers noted after) (near : index_at n < t.x + 4096)
+      (within : index_at n < t.y + flow.width) where
+    -- the window doesn't slide
     stays : t.slid ≡ t.between
-    stays = no-slide flow narrow segments comings index_at numbered order fit n channel segment here lasts fates known in_step rule events answers noted after r t
+    stays = no-slide flow segments comings index_at numbered order n channel segment here lasts fates known in_step rule events answers noted after r t near within
 
     -- it is kept
     own-kept : (t.answer ≡ Arrival Kept) × (after ≡ map.insert t.between (index_at n) (Some segment))
     own-kept =
-        let within = index-within flow narrow segments comings index_at numbered order fit n channel segment here lasts fates known in_step rule events answers noted after r t in
         elim (own-answer flow segments comings index_at numbered order n channel segment here lasts fates known in_step rule events answers noted after r t near stays) [
           | inl (kept, _, is) ↦ (kept, is)
           | inr (_, far, _) ↦ absurd (omega arith)
@@ -90,8 +91,8 @@ module _ (rule : LossRule) (looks : rule ≢ Decided) (flow : RuledFlow) (narrow
         near-arrival rule flow lasts fates channel segment events answers noted after t segments (index_at n) before so_far (order.of_cut n channel segment here)
         (omega arith) (omega arith) is near_before
 
-  -- and all, where no decision was handed in
-  module _ (undecided : HaveNoDecision comings) where
+  -- and all, where each falls into the window
+  module _ (all_within : AreWithin rule flow comings index_at) (safely : DecideSafely rule flow comings index_at) where
     abbrev AreAllKept : List Coming → List Coming → List FlowEvent → Lasts → Fates → Type 0
     AreAllKept past behind events lasts fates =
         (later : List Coming) → comings ≡ past ++ (behind ++ later)
@@ -105,7 +106,25 @@ module _ (rule : LossRule) (looks : rule ≢ Decided) (flow : RuledFlow) (narrow
         → IsRuled rule flow lasts fates coming events noted → Leads flow.first flow.width fates events answers after
         → AreAllKept (past ++ coming ∷ []) behind (before ++ events) noted after
     kept-step past behind before lasts fates (handed_in event) events answers noted after are so_far ruled leads later e =
-        absurd (undecided (length past) event (comes-here comings past (behind ++ later) (handed_in event) (e ∙ append_assoc past (handed_in event ∷ []) (behind ++ later))))
+        let e' : comings ≡ past ++ handed_in event ∷ (behind ++ later) = e ∙ append_assoc past (handed_in event ∷ []) (behind ++ later) in
+        let held = so_far later e' in
+        let longer = sym (one-longer past (handed_in event)) in
+        let r = ruled-reached rule flow past before lasts fates are in
+        let alone : Leads flow.first flow.width fates (event ∷ []) answers after = subst (λ v. Leads flow.first flow.width fates v answers after) ruled.0 leads in
+        let none : HaveNoArrival events = subst HaveNoArrival (sym ruled.0)
+        (decided-no_arrival rule flow comings index_at safely past (behind ++ later) before lasts fates event answers after e' are alone) in (
+          subst (λ k. IsInStep flow comings index_at k noted after) longer (subst (λ l. IsInStep flow comings index_at (length past + 1) l after) (sym ruled.1)
+              (in_step-decided rule flow comings index_at safely past (behind ++ later) before lasts fates event answers after e' are alone held.0)),
+          subst (λ k. AreKept comings index_at k after) longer (λ p channel segment earlier is.
+              fate-stays flow.first flow.width (index_at p) (Some segment) events answers fates after r leads (held.1 p channel segment
+              (came-earlier rule flow comings index_at safely past (behind ++ later) before lasts fates event answers after e' are alone p channel segment earlier is) is)),
+          (
+            held.2.0 ++ answers,
+            leads-in_turn flow.first flow.width before events (held.2.0 ++ answers) no_fates after (held.2.0, answers, fates, held.2.1, leads, refl),
+            verdicts-in_turn SaysKept held.2.0 answers held.2.2 (no_arrival-verdicts SaysKept flow.first flow.width events answers fates after none leads),
+          ),
+          near-behind flow.first flow.width segments before events held.3 none,
+        )
     kept-step past behind before lasts fates (on_channel channel segment) events answers noted after are so_far ruled leads later e =
         let e' : comings ≡ past ++ on_channel channel segment ∷ (behind ++ later) = e ∙ append_assoc past (on_channel channel segment ∷ []) (behind ++ later) in
         let n = length past in
@@ -114,15 +133,17 @@ module _ (rule : LossRule) (looks : rule ≢ Decided) (flow : RuledFlow) (narrow
         let t = arrival-by rule flow lasts fates channel segment events answers noted after looks r ruled leads in
         let known = up_to_date-after rule flow looks past before lasts fates are in
         let held = so_far later e' in
+        let fits = all_within past (behind ++ later) channel t.x t.y segment before t.passing t.passing_answers lasts noted fates t.between e' are held.0 t.expected
+        t.notes t.passes t.leads_passing t.expected_between in
         let longer = sym (one-longer past (on_channel channel segment)) in (
-          subst (λ k. IsInStep flow comings index_at k noted after) longer (still-in_step n channel segment here lasts fates known held.0 events answers noted after r leads t),
-          subst (λ k. AreKept comings index_at k after) longer (still-kept n channel segment here lasts fates known held.0 events answers noted after r leads t held.1),
+          subst (λ k. IsInStep flow comings index_at k noted after) longer (still-in_step n channel segment here lasts fates known held.0 events answers noted after r leads t fits.0 fits.1),
+          subst (λ k. AreKept comings index_at k after) longer (still-kept n channel segment here lasts fates known held.0 events answers noted after r leads t fits.0 fits.1 held.1),
           (
             held.2.0 ++ answers,
             leads-in_turn flow.first flow.width before events (held.2.0 ++ answers) no_fates after (held.2.0, answers, fates, held.2.1, leads, refl),
-            verdicts-in_turn SaysKept held.2.0 answers held.2.2 (own-verdict n channel segment here lasts fates known held.0 events answers noted after r leads t),
+            verdicts-in_turn SaysKept held.2.0 answers held.2.2 (own-verdict n channel segment here lasts fates known held.0 events answers noted after r leads t fits.0 fits.1),
           ),
-          own-near n channel segment here lasts fates known held.0 events answers noted after r leads t before held.2.0 held.2.1 held.3,
+          own-near n channel segment here lasts fates known held.0 events answers noted after r leads t fits.0 fits.1 before held.2.0 held.2.1 held.3,
         )
 
     -- so after each front of them
@@ -143,14 +164,26 @@ module _ (rule : LossRule) (looks : rule ≢ Decided) (flow : RuledFlow) (narrow
         nothing-behind [] after event wrong = cc
         nothing-behind (b ∷ before) after event wrong = cc
 
-    -- they come near
+    -- so each falls into the window
+    pub falls : FallIntoTheWindow rule flow comings index_at
+    falls before behind channel x y segment events passing answers lasts noted fates between e are expected notes passes leads expected' =
+        let held = all-kept before (on_channel channel segment ∷ behind) events lasts fates e are in
+        (all_within before behind channel x y segment events passing answers lasts noted fates between e are held.0 expected notes passes leads expected').1
+
+    -- and comes near
     pub come-near : ComeNear rule flow comings index_at
     come-near before behind channel x segment events lasts fates e are expected =
         let held = all-kept before (on_channel channel segment ∷ behind) events lasts fates e are in
         let known = up_to_date-after rule flow looks before events lasts fates are in
         let here = comes-here comings before behind (on_channel channel segment) e in
         let from = index-from flow segments comings index_at numbered order (length before) channel segment here lasts fates known held.0 x expected in
-        (omega arith, index-near flow narrow segments comings index_at numbered order fit (length before) channel segment here lasts fates known held.0 x expected)
+        let r = ruled-reached rule flow before events lasts fates are in
+        let noted = notes-some flow.first x channel segment.head.sequence lasts in
+        let passing = passing-some flow noted.0 x in
+        let led = leads-some flow.first flow.width passing.0 fates r in
+        let next = reached-expected flow.first flow.width led.1 (reached-leads flow.first flow.width passing.0 led.0 fates led.1 r led.2) in
+        let fits = all_within before behind channel x next.0 segment events passing.0 led.0 lasts noted.0 fates led.1 e are held.0 expected noted.1 passing.1 led.2 next.1 in
+        (omega arith, fits.0)
 
     -- each is kept under its index
     module _ (events : List FlowEvent) (lasts : Lasts) (fates : Fates) (are : AreRuled rule flow comings events lasts fates) where
@@ -163,6 +196,11 @@ module _ (rule : LossRule) (looks : rule ≢ Decided) (flow : RuledFlow) (narrow
       kept-came i kept =
           let found = (all-kept comings [] events lasts fates (sym (append-nil comings)) are).0.came i kept in
           (found.0, found.1, found.2, found.4, found.5)
+
+      -- and on its channel none has a later one than the last
+      pub kept-latest : (p channel : ℕ) (segment : Segment) → Comes comings p channel segment → (index : ℕ) × IsLastOn lasts channel index × (index_at p ≤ index)
+      kept-latest p channel segment is =
+          (all-kept comings [] events lasts fates (sym (append-nil comings)) are).0.latest p channel segment (slice_get_within comings p (on_channel channel segment) is) is
 
       -- so say the answers
       pub kept-verdicts : (answers : List Applied) → IsAfter flow.first flow.width events answers fates → EachVerdict SaysKept answers

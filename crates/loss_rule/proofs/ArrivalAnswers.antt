@@ -102,3 +102,8 @@ verdicts-in_turn P front back p q k verdict is =
       | inl early ↦ p k verdict early
       | inr late ↦ q late.0 verdict late.1
     ]
+
+-- and of each verdict among answers to events of which none is an arrival
+pub no_arrival-verdicts : (P : Verdict Segment → Type 0) (first width : ℕ) (events : List FlowEvent) (answers : List Applied) (fates after : Fates) → HaveNoArrival events
+    → Leads first width fates events answers after → EachVerdict P answers
+no_arrival-verdicts P first width events answers fates after none leads k verdict is = absurd (no_arrival-answers first width k verdict events answers fates after none leads is)

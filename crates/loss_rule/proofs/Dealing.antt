@@ -68,7 +68,7 @@ dealt-comes count k (s ∷ segments) (suc p) segment is =
     dealt-comes count (k + 1) segments p segment is ∙ ap (λ j. Some (on_channel (j % count) segment)) e
 
 -- no decision is among them
-dealt-undecided : (count k : ℕ) (segments : List Segment) → HaveNoDecision (dealt_from count k segments)
+pub dealt-undecided : (count k : ℕ) (segments : List Segment) → HaveNoDecision (dealt_from count k segments)
 dealt-undecided count k [] p event is = absurd cc
 dealt-undecided count k (s ∷ segments) zero event is = let wrong : Some (on_channel (k % count) s) ≡ Some (handed_in event) = is in absurd cc
 dealt-undecided count k (s ∷ segments) (suc p) event is = dealt-undecided count (k + 1) segments p event is
@@ -128,7 +128,3 @@ module _ (segments : List Segment) (flow : RuledFlow) (count : ℕ) (some : 1 �
   dealt-fits wide narrow =
       spread-fits flow (dealt count segments) (λ p. p) 1 count (omega arith) dealt-spread
       (λ p q own channel segment other is is' before. omega arith) narrow dealt-order.on_flow
-
-  -- and has no decision
-  pub dealt-no_decision : HaveNoDecision (dealt count segments)
-  dealt-no_decision = dealt-undecided count 0 segments

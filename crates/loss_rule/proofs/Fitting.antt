@@ -1,30 +1,27 @@
--- Where nothing comes further ahead than the window holds, each segment comes near the expected index, and within the window once the rule has skipped.
-use Rattle.std.proofs.Common.{◌≡◌, ℕ, ◌+◌, ◌<◌, ◌≤◌, ◌⊎◌, inl, inr, List, sym, subst, arith}
+-- Where nothing comes further ahead than the window holds, each segment comes near the expected index, and falls into the window once the rule has
+-- skipped.
+use Rattle.std.proofs.Common.{◌≢◌, ℕ, ◌+◌, ◌<◌, ◌≤◌, ◌⊎◌, inl, inr, List, length, sym, subst, arith}
 use Rattle.std.proofs.lemmas.Bool.{cases_eq, cases_lt}
 use Rattle.docsis_wire.specs.declared.segment.Segment.{Segment}
 use Rattle.flow_core.specs.declared.event.Applied.{Applied}
 use Rattle.flow_core.specs.Fates.{Fates, IsExpected}
 use Rattle.flow_core.specs.Events.{FlowEvent, Leads}
-use Rattle.flow_core.proofs.Deciding.{IsAhead-once}
 use Rattle.flow_core.proofs.Nearness.{AreNumbered}
 use Rattle.flow_core.proofs.Outcome.{open_and_settled}
 use Rattle.loss_rule.specs.declared.rule.LossRule.{LossRule}
-use Rattle.loss_rule.specs.declared.rule.LossRule.TheVariants.{Decided, Passed, PassedOrSlid}
-use Rattle.loss_rule.specs.Rule.{Coming, RuledFlow, HasChannel, Lasts, IsPassed}
+use Rattle.loss_rule.specs.declared.rule.LossRule.TheVariants.{Decided}
+use Rattle.loss_rule.specs.Rule.{Coming, on_channel, RuledFlow, HasChannel, Lasts, HaveComeTo, Notes, IsPassing}
 use Rattle.loss_rule.specs.InOrder.{Comes, AreInChannelOrder, FitTheWindow}
 use Rattle.loss_rule.specs.Inside.Reached.{IsReached}
-use Rattle.loss_rule.specs.Inside.Leasts.{IsLeast}
-use Rattle.loss_rule.specs.Inside.Arrival.{IsUpToDate, Slides, ArrivesBy}
-use Rattle.loss_rule.specs.Inside.Order.{IsInStep}
-use Rattle.loss_rule.proofs.Leasts.{last-once, least-cases}
+use Rattle.loss_rule.specs.Inside.Arrival.{IsUpToDate}
+use Rattle.loss_rule.specs.Inside.Order.{IsInStep, AreWithin}
+use Rattle.loss_rule.proofs.Leasts.{last-once, least-cases, come-passed}
+use Rattle.loss_rule.proofs.RuledTurns.{ruled-reached}
+use Rattle.loss_rule.proofs.Prompt.{up_to_date-after}
 use Rattle.loss_rule.proofs.Noting.{noted-bounded}
 use Rattle.loss_rule.proofs.Passing.{passing-reaches}
-use Rattle.loss_rule.proofs.ChannelOrder.{comes-once}
-use Rattle.loss_rule.proofs.InStep.{still-latest, between-ahead}
-
--- every channel has passed what lies before the least last index
-least-passed : (flow : RuledFlow) (lasts : Lasts) (least i : ℕ) → IsLeast flow lasts least → i < least → IsPassed flow lasts i
-least-passed flow lasts least i is below channel has = let found = is.each channel has in (found.0, found.1, omega (arith, found.2))
+use Rattle.loss_rule.proofs.ChannelOrder.{comes-once, comes-here}
+use Rattle.loss_rule.proofs.InStep.{still-latest}
 
 module _ (flow : RuledFlow) (narrow : flow.width ≤ 4096) (segments : List Segment) (comings : List Coming) (index_at : ℕ → ℕ) (numbered : AreNumbered flow.first segments)
     (order : AreInChannelOrder flow segments comings index_at) (fit : FitTheWindow flow comings index_at)
@@ -60,7 +57,7 @@ module _ (flow : RuledFlow) (narrow : flow.width ≤ 4096) (segments : List Segm
             let reached : least ≤ x = elim (cases_lt x least) [
               | inl below ↦
                   absurd (open_and_settled fates x expected.open_itself
-                  (known.settled channel x (order.on_flow n channel segment here) (least-passed flow lasts least x is below)))
+                  (known.settled channel x (order.on_flow n channel segment here) (come-passed flow lasts least x is below)))
               | inr from ↦ from
             ] in
             elim (before-on is.own is.has) [
@@ -72,15 +69,25 @@ module _ (flow : RuledFlow) (narrow : flow.width ≤ 4096) (segments : List Segm
             ]
       ]
 
-  module _ (rule : LossRule) (events : List FlowEvent) (answers : List Applied) (noted : Lasts) (after : Fates) (r : IsReached flow.first flow.width fates)
-      (t : ArrivesBy rule flow lasts fates channel segment events answers noted after) where
-    pub near-x : index_at n < t.x + 4096
-    near-x = index-near t.x t.expected
+  -- and within the window once what every channel has passed is skipped
+  module _ (x y : ℕ) (noted : Lasts) (between : Fates) (passing : List FlowEvent) (answers : List Applied) (r : IsReached flow.first flow.width fates)
+      (expected : IsExpected fates x) (notes : Notes flow.first x channel segment.head.sequence lasts noted) (passes : IsPassing flow noted x passing)
+      (leads : Leads flow.first flow.width fates passing answers between) (expected_between : IsExpected between y) where
+    -- each last index that is the least lies at or before the expected one then
+    least-reached : (least : ℕ) → HaveComeTo flow noted least → least ≤ y
+    least-reached least is =
+        elim (cases_lt y least) [
+          | inl below ↦
+              let bounded = noted-bounded flow.first x channel segment.head.sequence lasts noted notes (known.bounded x expected) in
+              let passed = passing-reaches flow noted x fates between passing answers expected bounded passes leads y y channel r expected_between
+              (order.on_flow n channel segment here) (come-passed flow noted least y is below) in
+              absurd (omega arith)
+          | inr from ↦ from
+        ]
 
-    -- and within the window once the rule has skipped what passed
-    pub index-within : index_at n < t.y + flow.width
+    pub index-within : index_at n < y + flow.width
     index-within =
-        let latest = still-latest flow segments comings index_at numbered order n channel segment here lasts fates known in_step rule events answers noted after r t near-x in
+        let latest = still-latest flow segments comings index_at numbered order n channel segment here lasts fates known in_step x expected noted notes (index-near x expected) in
         elim (least-cases flow noted) [
           | inl lacks ↦ elim (fit.skew n channel lacks.channel segment here lacks.has) [
             | inl low ↦ omega arith
@@ -88,14 +95,7 @@ module _ (flow : RuledFlow) (narrow : flow.width ≤ 4096) (segments : List Segm
           ]
           | inr (inr none) ↦ absurd (none channel (order.on_flow n channel segment here))
           | inr (inl (least, is)) ↦
-              let bounded = noted-bounded flow.first t.x channel segment.head.sequence lasts noted t.notes (known.bounded t.x t.expected) in
-              let reached : least ≤ t.y = elim (cases_lt t.y least) [
-                | inl below ↦
-                    let passed = passing-reaches flow noted t.x fates t.between t.passing t.passing_answers t.expected bounded t.passes t.leads_passing t.y t.y channel r
-                    t.expected_between (order.on_flow n channel segment here) (least-passed flow noted least t.y is below) in
-                    absurd (omega arith)
-                | inr from ↦ from
-              ] in
+              let reached = least-reached least is in
               elim (fit.skew n channel is.own segment here is.has) [
                 | inl low ↦ omega arith
                 | inr (q, last, up_to, comes, within) ↦
@@ -105,16 +105,16 @@ module _ (flow : RuledFlow) (narrow : flow.width ≤ 4096) (segments : List Segm
               ]
         ]
 
-    -- so the window doesn't slide
-    pub no-slide : t.slid ≡ t.between
-    no-slide = none-slid rule t.slides
-      where
-        none-slid : (by : LossRule) → Slides by flow t.y segment.head.sequence t.sliding → t.slid ≡ t.between
-        none-slid Decided slides = absurd slides
-        none-slid Passed slides = (subst (λ s. Leads flow.first flow.width t.between s t.sliding_answers t.slid) slides t.leads_sliding).1
-        none-slid PassedOrSlid (inr slides) = (subst (λ s. Leads flow.first flow.width t.between s t.sliding_answers t.slid) slides.1 t.leads_sliding).1
-        none-slid PassedOrSlid (inl (index, ahead, far, _)) =
-            let same = IsAhead-once flow.first t.y segment.head.sequence index (index_at n) ahead
-            (between-ahead flow segments comings index_at numbered order n channel segment here lasts fates known in_step rule events answers noted after r t near-x) in
-            let within = index-within in
-            absurd (omega arith)
+-- so all that comes is within
+pub fit-within : (rule : LossRule) (looks : rule ≢ Decided) (flow : RuledFlow) (narrow : flow.width ≤ 4096) (segments : List Segment) (comings : List Coming)
+    (index_at : ℕ → ℕ) → AreNumbered flow.first segments → AreInChannelOrder flow segments comings index_at → FitTheWindow flow comings index_at
+    → AreWithin rule flow comings index_at
+fit-within rule looks flow narrow segments comings index_at numbered order fit before behind channel x y segment events passing answers lasts noted fates between
+    e are in_step expected notes passes leads expected_between =
+    let here = comes-here comings before behind (on_channel channel segment) e in
+    let known = up_to_date-after rule flow looks before events lasts fates are in
+    let r = ruled-reached rule flow before events lasts fates are in (
+      index-near flow narrow segments comings index_at numbered order fit (length before) channel segment here lasts fates known in_step x expected,
+      index-within flow narrow segments comings index_at numbered order fit (length before) channel segment here lasts fates known in_step x y noted between
+          passing answers r expected notes passes leads expected_between,
+    )

@@ -1,4 +1,4 @@
--- A segment that comes in channel order, where no decision was handed in: its index was open, and it is kept or lies beyond the window.
+-- A segment that comes in channel order: its index was open, and it is kept or lies beyond the window.
 use Rattle.std.proofs.Common.{◌≡◌, ℕ, ◌+◌, ◌<◌, ◌≤◌, ◌⊎◌, inl, inr, true, Some, None, List, refl, ap, sym, subst, ◌∙◌, arith}
 use Rattle.std.proofs.lemmas.Bool.{cases_eq, cases_lt}
 use Rattle.std.proofs.lemmas.Option.{slice_get_within}
@@ -14,7 +14,7 @@ use Rattle.flow_core.proofs.Deciding.{IsAhead-once, open_or_settled}
 use Rattle.flow_core.proofs.Nearness.{AreNumbered}
 use Rattle.flow_core.proofs.Outcome.{expected-unique, open_and_settled}
 use Rattle.loss_rule.specs.declared.rule.LossRule.{LossRule}
-use Rattle.loss_rule.specs.Rule.{Coming, RuledFlow, Lasts, IsLastOn, IsPassed}
+use Rattle.loss_rule.specs.Rule.{Coming, RuledFlow, Lasts, IsLastOn, Notes}
 use Rattle.loss_rule.specs.InOrder.{Comes, AreInChannelOrder}
 use Rattle.loss_rule.specs.Inside.Reached.{IsReached}
 use Rattle.loss_rule.specs.Inside.Arrival.{AreBounded, IsUpToDate, ArrivesBy}
@@ -23,7 +23,7 @@ use Rattle.loss_rule.specs.Inside.Order.{AreOfComings, IsInStep}
 use Rattle.loss_rule.proofs.Reaching.{expected-onward}
 use Rattle.loss_rule.proofs.Noting.{noted-other, noted-own, noted-bounded}
 use Rattle.loss_rule.proofs.Passing.{passing-lost, passing-keeps, passing-leaves}
-use Rattle.loss_rule.proofs.ChannelOrder.{comes-once, number-at, noted-of}
+use Rattle.loss_rule.proofs.ChannelOrder.{comes-once, number-at, passed-gone, noted-of}
 
 -- a segment whose index is ahead and open is kept, or lies beyond the window
 pub kept-or_beyond : (first width z k : ℕ) (segment : Segment) (answer : Applied) (fates after : Fates) → IsAhead first z segment.head.sequence k → IsOpen fates k
@@ -57,13 +57,7 @@ module _ (flow : RuledFlow) (segments : List Segment) (comings : List Coming) (i
             let same = order.once found.0 n found.1 channel found.2 segment found.4 here found.5 in
             let before = found.3 in
             absurd (omega arith)
-        | inr (None, is) ↦
-            let found = in_step.passed (index_at n) is channel (order.on_flow n channel segment here) in
-            let last = in_step.of_comings channel found.0 found.1 in
-            let later = order.in_order last.0 n channel last.1 segment last.2 last.3 here in
-            let there = last.4 in
-            let passed = found.2 in
-            absurd (omega arith)
+        | inr (None, is) ↦ absurd (in_step.gone n channel segment (omega arith) here is)
       ]
 
   -- so it doesn't lie before the expected one
@@ -74,22 +68,22 @@ module _ (flow : RuledFlow) (segments : List Segment) (comings : List Coming) (i
         | inr from ↦ from
       ]
 
-  module _ (rule : LossRule) (events : List FlowEvent) (answers : List Applied) (noted : Lasts) (after : Fates) (r : IsReached flow.first flow.width fates)
-      (t : ArrivesBy rule flow lasts fates channel segment events answers noted after) (near : index_at n < t.x + 4096) where
-    index-ahead : IsAhead flow.first t.x segment.head.sequence (index_at n)
-    index-ahead = record { from = index-from t.x t.expected; to = near; numbered = sym (number-at flow segments comings index_at numbered order n channel segment here) }
+  -- once it is noted, where it lies less than 4096 ahead
+  module _ (x : ℕ) (expected : IsExpected fates x) (noted : Lasts) (notes : Notes flow.first x channel segment.head.sequence lasts noted) (near : index_at n < x + 4096) where
+    index-ahead : IsAhead flow.first x segment.head.sequence (index_at n)
+    index-ahead = record { from = index-from x expected; to = near; numbered = sym (number-at flow segments comings index_at numbered order n channel segment here) }
 
-    -- so it is noted
+    -- it is the last one of its channel
     pub own-last : IsLastOn noted channel (index_at n)
     own-last =
-        noted-own flow.first t.x channel segment.head.sequence lasts noted t.notes (index_at n)
+        noted-own flow.first x channel segment.head.sequence lasts noted notes (index_at n)
         (subst (λ l. channel < l) (sym known.size) (slice_get_within flow.channels channel true (order.on_flow n channel segment here))) index-ahead
 
     -- and each last index is still that of a coming on its channel
-    still-of : AreOfComings comings index_at (n + 1) noted
+    pub still-of : AreOfComings comings index_at (n + 1) noted
     still-of =
-        let from = index-from t.x t.expected in
-        noted-of flow segments comings index_at numbered order n t.x channel segment lasts noted here in_step.of_comings t.notes (omega arith) near
+        let from = index-from x expected in
+        noted-of flow segments comings index_at numbered order n x channel segment lasts noted here in_step.of_comings notes (omega arith) near
 
     -- an earlier last index of a channel, or one later than it
     still-last : (other index : ℕ) → IsLastOn lasts other index → (later : ℕ) × IsLastOn noted other later × (index ≤ later)
@@ -100,17 +94,10 @@ module _ (flow : RuledFlow) (segments : List Segment) (comings : List Coming) (i
               let later = order.in_order last.0 n channel last.1 segment last.2 (subst (λ k. Comes comings last.0 k last.1) same last.3) here in
               let there = last.4 in
               (index_at n, subst (λ k. IsLastOn noted k (index_at n)) (sym same) own-last, omega arith)
-          | inr differ ↦ (index, noted-other flow.first t.x channel segment.head.sequence lasts noted t.notes other index differ is, omega arith)
+          | inr differ ↦ (index, noted-other flow.first x channel segment.head.sequence lasts noted notes other index differ is, omega arith)
         ]
 
-    -- so what every channel has passed stays passed
-    still-passed : (i : ℕ) → IsPassed flow lasts i → IsPassed flow noted i
-    still-passed i passed other has =
-        let found = passed other has in
-        let later = still-last other found.0 found.1 in
-        (later.0, later.1, omega (arith, found.2, later.2))
-
-    -- and each coming has a last index on its channel that is its own or later
+    -- so each coming has a last index on its channel that is its own or later
     pub still-latest : (p other : ℕ) (another : Segment) → p < n + 1 → Comes comings p other another → (index : ℕ) × IsLastOn noted other index × (index_at p ≤ index)
     still-latest p other another before is =
         elim (cases_eq p n) [
@@ -123,15 +110,18 @@ module _ (flow : RuledFlow) (segments : List Segment) (comings : List Coming) (i
               (later.0, later.1, omega (arith, found.2, later.2))
         ]
 
+  -- and once the rule has skipped what every channel has passed
+  module _ (rule : LossRule) (events : List FlowEvent) (answers : List Applied) (noted : Lasts) (after : Fates) (r : IsReached flow.first flow.width fates)
+      (t : ArrivesBy rule flow lasts fates channel segment events answers noted after) (near : index_at n < t.x + 4096) where
     -- last indexes lie less than 4096 ahead
     bounded : AreBounded noted t.x
     bounded = noted-bounded flow.first t.x channel segment.head.sequence lasts noted t.notes (known.bounded t.x t.expected)
 
-    -- it is still open once the rule has skipped what every channel has passed, and lies ahead
+    -- it is still open
     between-open : IsOpen t.between (index_at n)
     between-open =
         passing-leaves flow noted t.x fates t.between t.passing t.passing_answers t.expected bounded t.passes t.leads_passing channel (index_at n) (index_at n)
-        (order.on_flow n channel segment here) own-last (omega arith)
+        (order.on_flow n channel segment here) (own-last t.x t.expected noted t.notes near) (omega arith)
         ∙ index-open t.x t.expected
 
     -- so it lies ahead then
@@ -189,8 +179,8 @@ module _ (flow : RuledFlow) (segments : List Segment) (comings : List Coming) (i
       -- what held of the first n comings holds with it
       pub in_step-after : IsInStep flow comings index_at (n + 1) noted after
       in_step-after = record {
-        of_comings = still-of;
-        latest = still-latest;
+        of_comings = still-of t.x t.expected noted t.notes near;
+        latest = still-latest t.x t.expected noted t.notes near;
         came = λ i kept. elim (kept-after i kept) [
           | inl before ↦
               let same = (passing-keeps flow noted t.x fates t.between t.passing t.passing_answers t.expected bounded t.passes t.leads_passing i before.0).0 before.1 in
@@ -198,9 +188,11 @@ module _ (flow : RuledFlow) (segments : List Segment) (comings : List Coming) (i
               (found.0, found.1, found.2, (let past = found.3 in omega arith), found.4, found.5)
           | inr same ↦ (n, channel, segment, omega arith, here, sym same)
         ];
-        passed = λ i lost.
-            elim (passing-lost flow noted t.x fates t.between t.passing t.passing_answers t.expected bounded t.passes t.leads_passing i (lost-after i lost)) [
-              | inl before ↦ still-passed i (in_step.passed i before)
-              | inr passed ↦ passed
+        gone = λ q other another from is lost.
+            elim (passing-lost flow noted t.x fates t.between t.passing t.passing_answers t.expected bounded t.passes t.leads_passing (index_at q) (lost-after (index_at q) lost)) [
+              | inl before ↦ in_step.gone q other another (omega arith) is before
+              | inr passed ↦
+                  passed-gone flow segments comings index_at numbered order (n + 1) (index_at q) q other another noted
+                  (still-of t.x t.expected noted t.notes near) passed (omega arith) is refl
             ];
       }

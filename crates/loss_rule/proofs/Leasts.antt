@@ -1,12 +1,12 @@
 -- The least of the last indexes of a flow's channels.
-use Rattle.std.proofs.Common.{◌≡◌, ℕ, zero, suc, ◌+◌, ◌⊎◌, inl, inr, Bool, true, false, Option, Some, None, List, [], ◌∷◌, length, slice_get, refl, sym, ap, subst, ◌∙◌, arith}
+use Rattle.std.proofs.Common.{◌≡◌, ℕ, zero, suc, ◌+◌, ◌<◌, ◌⊎◌, inl, inr, Bool, true, false, Option, Some, None, List, [], ◌∷◌, length, slice_get, refl, sym, ap, subst, ◌∙◌, arith}
 use Rattle.std.proofs.lemmas.Bool.{cases_eq, cases_lt}
 use Rattle.std.proofs.lemmas.Option.{slice_get_within}
 use Rattle.flow_core.specs.Fates.{number_of}
 use Rattle.flow_core.specs.Events.{FlowEvent, skip_to}
 use Rattle.flow_core.proofs.Deciding.{Decided}
-use Rattle.loss_rule.specs.Rule.{RuledFlow, HasChannel, Lasts, IsLastOn, IsLeastLast, IsPassing}
-use Rattle.loss_rule.specs.Inside.Leasts.{IsLeast, LacksOne, AreBelow}
+use Rattle.loss_rule.specs.Rule.{RuledFlow, HasChannel, Lasts, IsLastOn, IsPassed, HaveComeTo, IsLeastLast, IsPassing}
+use Rattle.loss_rule.specs.Inside.Leasts.{LacksOne, AreBelow}
 
 -- whether a flow has a channel, and its last index, can be decided
 said_yes : (o : Option Bool) → Decided (o ≡ Some true)
@@ -100,7 +100,7 @@ channels-below flow lasts zero = inr (inr (λ channel below is. omega arith))
 channels-below flow lasts (suc n) = subst (AreBelow flow lasts) (omega arith) (next_channel flow lasts n (channels-below flow lasts n))
 
 -- some channel has no last index, or there is a least one, or the flow has no channel
-pub least-cases : (flow : RuledFlow) (lasts : Lasts) → LacksOne flow lasts ⊎ ((least : ℕ) × IsLeast flow lasts least) ⊎ ((channel : ℕ) → HasChannel flow channel → ⊥)
+pub least-cases : (flow : RuledFlow) (lasts : Lasts) → LacksOne flow lasts ⊎ ((least : ℕ) × HaveComeTo flow lasts least) ⊎ ((channel : ℕ) → HasChannel flow channel → ⊥)
 least-cases flow lasts =
     elim (channels-below flow lasts (length flow.channels)) [
       | inl lacks ↦ inl lacks
@@ -124,8 +124,8 @@ passing-some flow lasts x =
     elim (least-cases flow lasts) [
       | inl lacks ↦ ([], inr (λ least p. (let found = p.each lacks.channel lacks.has in lacks.none found.0 found.1), refl))
       | inr (inr none) ↦ ([], inr (λ least p. none p.one.0 p.one.1, refl))
-      | inr (inl (least, is)) ↦ elim (cases_lt least x) [
-        | inl behind ↦ (
+      | inr (inl (least, is)) ↦ elim (cases_lt x least) [
+        | inr behind ↦ (
           [],
           inr (
             λ other p. (
@@ -136,7 +136,7 @@ passing-some flow lasts x =
             refl,
           ),
         )
-        | inr ahead ↦ (_, inl (least, record { ahead = ahead; one = (is.own, is.has, is.last); each = is.each }, refl))
+        | inl ahead ↦ (_, inl (least, record { ahead = ahead; one = (is.own, is.has, is.last); each = is.each }, refl))
       ]
     ]
 
@@ -147,3 +147,7 @@ passing-once flow lasts x skips others (inl p) (inl q) =
 passing-once flow lasts x skips others (inl p) (inr q) = absurd (q.0 p.0 p.1)
 passing-once flow lasts x skips others (inr p) (inl q) = absurd (p.0 q.0 q.1)
 passing-once flow lasts x skips others (inr p) (inr q) = p.1 ∙ sym q.1
+
+-- every channel has passed what lies before the index to which all have come
+pub come-passed : (flow : RuledFlow) (lasts : Lasts) (least i : ℕ) → HaveComeTo flow lasts least → i < least → IsPassed flow lasts i
+come-passed flow lasts least i is below channel has = let found = is.each channel has in (found.0, found.1, omega (arith, found.2))

@@ -15,10 +15,14 @@ pub mod ArrivalAnswers
 pub mod Sliding
 pub mod ChannelOrder
 pub mod InStep
+pub mod HandedIn
 pub mod SafeLoss
+pub mod LosingJust
 pub mod Fitting
+pub mod Falling
 pub mod NearArrivals
 pub mod AllKept
 pub mod AllCame
 pub mod Dealing
 pub mod NearComings
+pub mod NeverComing

@@ -1,5 +1,5 @@
 -- Where what comes in channel order comes near, its events are near.
-use Rattle.std.proofs.Common.{◌≡◌, ◌≢◌, ℕ, ◌+◌, ◌<◌, ◌≤◌, inl, inr, Some, List, [], ◌∷◌, ◌++◌, length, refl, ap, sym, subst, ◌∙◌, arith, append_assoc, append-nil}
+use Rattle.std.proofs.Common.{◌≡◌, ◌≢◌, ℕ, ◌+◌, ◌<◌, ◌≤◌, inl, inr, List, [], ◌∷◌, ◌++◌, length, refl, ap, sym, subst, ◌∙◌, arith, append_assoc, append-nil}
 use Rattle.std.proofs.lemmas.Bool.{cases_lt}
 use Rattle.docsis_wire.specs.declared.segment.Segment.{Segment}
 use Rattle.flow_core.specs.declared.event.Applied.{Applied}
@@ -25,6 +25,7 @@ use Rattle.loss_rule.proofs.Arrivals.{passed-looks, slid-looks, arrival-by}
 use Rattle.loss_rule.proofs.ArrivalAnswers.{none-no_arrival}
 use Rattle.loss_rule.proofs.Prompt.{between-reached, up_to_date-after}
 use Rattle.loss_rule.proofs.ChannelOrder.{near-index, comes-here, number-at}
+use Rattle.loss_rule.proofs.HandedIn.{one-no_arrival, decides}
 use Rattle.loss_rule.proofs.Sliding.{beyond-open, slid-to}
 use Rattle.loss_rule.proofs.NearArrivals.{near-one_more, near-arrival}
 
@@ -108,11 +109,6 @@ module _ (rule : LossRule) (flow : RuledFlow) (positive : 1 ≤ flow.width) (nar
       (later : List Coming) → comings ≡ past ++ (behind ++ later)
       → (answers : List Applied) × IsAfter flow.first flow.width events answers fates × AreNear flow.first flow.width segments events
 
-  -- a decision that is handed in
-  one-no_arrival : (event : FlowEvent) → ((segment : Segment) → event ≡ arrives segment → ⊥) → HaveNoArrival (event ∷ [])
-  one-no_arrival event not_so [] behind segment e = not_so segment cc
-  one-no_arrival event not_so (b ∷ before) behind segment e = none-no_arrival before behind segment cc
-
   -- a segment that comes, where nothing is skipped
   decided-near : (n channel x : ℕ) (segment : Segment) (before events : List FlowEvent) (so_far : List Applied) (fates : Fates) → Comes comings n channel segment
       → events ≡ arrives segment ∷ [] → IsExpected fates x → x ≤ index_at n + 4096 → index_at n < x + 4096 → IsAfter flow.first flow.width before so_far fates
@@ -169,8 +165,7 @@ module _ (rule : LossRule) (flow : RuledFlow) (positive : 1 ≤ flow.width) (nar
   nearness-step past behind before lasts fates (handed_in event) events answers noted after are near_before ruled leads later e =
       let e' : comings ≡ past ++ handed_in event ∷ (behind ++ later) = e ∙ append_assoc past (handed_in event ∷ []) (behind ++ later) in
       let held = near_before later e' in
-      let no_arrival : HaveNoArrival (event ∷ []) = one-no_arrival event (λ segment same.
-      decisions (length past) segment (comes-here comings past (behind ++ later) (handed_in event) e' ∙ ap (λ v. Some (handed_in v)) same)) in (
+      let no_arrival : HaveNoArrival (event ∷ []) = one-no_arrival event (decides comings past (behind ++ later) event decisions e') in (
         held.0 ++ answers,
         leads-in_turn flow.first flow.width before events (held.0 ++ answers) no_fates after (held.0, answers, fates, held.1, leads, refl),
         near-behind flow.first flow.width segments before events held.2 (subst HaveNoArrival (sym ruled.0) no_arrival),

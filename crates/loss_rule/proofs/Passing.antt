@@ -10,11 +10,11 @@ use Rattle.flow_core.specs.Events.{FlowEvent, skip_to, IsAhead, SkipsTo, Leads}
 use Rattle.flow_core.proofs.Deciding.{IsAhead-once, IsSkippedTo-decided}
 use Rattle.flow_core.proofs.Outcome.{expected-unique}
 use Rattle.flow_core.proofs.Skipping.{skip-keeps, skip-reaches}
-use Rattle.loss_rule.specs.Rule.{RuledFlow, HasChannel, Lasts, IsLastOn, IsPassed, IsLeastLast, IsPassing}
+use Rattle.loss_rule.specs.Rule.{RuledFlow, HasChannel, Lasts, IsLastOn, IsPassed, HaveComeTo, IsLeastLast, IsPassing}
 use Rattle.loss_rule.specs.Inside.Reached.{IsReached}
 use Rattle.loss_rule.specs.Inside.Arrival.{AreBounded}
 use Rattle.loss_rule.proofs.Reaching.{expected-onward}
-use Rattle.loss_rule.proofs.Leasts.{last-once, least-once, least-cases}
+use Rattle.loss_rule.proofs.Leasts.{last-once, least-once, least-cases, come-passed}
 
 -- one skip
 pub skip-one : (first width x number : ℕ) (answers : List Applied) (fates after : Fates) → IsExpected fates x → Leads first width fates (skip_to number ∷ []) answers after
@@ -49,7 +49,7 @@ skip-leaves first x number end i fates after any skips ahead from =
 -- a least last index that lies less than 4096 after the expected one is ahead
 least-ahead : (flow : RuledFlow) (noted : Lasts) (x least : ℕ) → AreBounded noted x → IsLeastLast flow noted x least → IsAhead flow.first x (number_of flow.first least) least
 least-ahead flow noted x least bounded is =
-    record { from = is.ahead; to = bounded is.one.0 least is.one.2; numbered = refl }
+    record { from = (let after = is.ahead in omega arith); to = bounded is.one.0 least is.one.2; numbered = refl }
 
 module _ (flow : RuledFlow) (noted : Lasts) (x : ℕ) (fates between : Fates) (passing : List FlowEvent) (answers : List Applied) (expected : IsExpected fates x)
     (bounded : AreBounded noted x) (passes : IsPassing flow noted x passing) (leads : Leads flow.first flow.width fates passing answers between) where
@@ -66,15 +66,23 @@ module _ (flow : RuledFlow) (noted : Lasts) (x : ℕ) (fates between : Fates) (p
         | inr p ↦ inr (p.0, (let none : Leads flow.first flow.width fates [] answers between = subst (λ e. Leads flow.first flow.width fates e answers between) p.1 leads in none.1))
       ]
 
-  -- what it loses, every channel has passed
-  pub passing-lost : (i : ℕ) → IsLost between i → IsLost fates i ⊎ IsPassed flow noted i
-  passing-lost i lost =
+  -- what it loses lies before the index to which every channel has come
+  pub lost-below_least : (i : ℕ) → IsLost between i → IsLost fates i ⊎ ((least : ℕ) × HaveComeTo flow noted least × (i < least))
+  lost-below_least i lost =
       elim passing-skips [
         | inl (least, is, ahead, any, skips) ↦ elim (skip-lost flow.first x (number_of flow.first least) least i fates between any skips ahead lost) [
           | inl before ↦ inl before
-          | inr below ↦ inr (λ channel has. (let found = is.each channel has in (found.0, found.1, omega (arith, found.2))))
+          | inr below ↦ inr (least, record { own = is.one.0; has = is.one.1; last = is.one.2; each = is.each }, below)
         ]
         | inr (none, same) ↦ inl (subst (λ (f : Fates). IsLost f i) same lost)
+      ]
+
+  -- so every channel has passed it
+  pub passing-lost : (i : ℕ) → IsLost between i → IsLost fates i ⊎ IsPassed flow noted i
+  passing-lost i lost =
+      elim (lost-below_least i lost) [
+        | inl before ↦ inl before
+        | inr (least, come, below) ↦ inr (come-passed flow noted least i come below)
       ]
 
   -- what was kept stays, and nothing more is kept
@@ -106,11 +114,11 @@ module _ (flow : RuledFlow) (noted : Lasts) (x : ℕ) (fates between : Fates) (p
             let found = passed is.own is.has in
             let same = last-once noted is.own found.0 least found.1 is.last in
             let below : i < least = omega (arith, found.2) in
-            elim (cases_lt least x) [
-              | inl behind ↦
+            elim (cases_lt x least) [
+              | inr behind ↦
                   let onward = expected-onward flow.first flow.width x y passing answers fates between r expected leads expected' in
                   omega arith
-              | inr from ↦ elim passing-skips [
+              | inl from ↦ elim passing-skips [
                 | inl (other, least_last, ahead, any, skips) ↦
                     let reaches = skip-reaches flow.first x (number_of flow.first other) fates between any skips y other expected ahead expected' in
                     let same' = least-once flow noted x x other least least_last (record { ahead = from; one = (is.own, is.has, is.last); each = is.each }) in

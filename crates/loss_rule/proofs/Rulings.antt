@@ -23,7 +23,11 @@ index-once first x number (Some i) None p q = absurd (q i p)
 index-once first x number None (Some j) p q = absurd (p j q)
 index-once first x number None None p q = refl
 
--- so one thing is noted
+-- so something is noted
+pub notes-some : (first x channel number : ℕ) (lasts : Lasts) → (noted : Lasts) × Notes first x channel number lasts noted
+notes-some first x channel number lasts = let last = index-some first x number in (slice_set lasts channel last.0, (last.0, last.1, refl))
+
+-- and one thing
 notes-once : (first x channel number : ℕ) (lasts noted other : Lasts) → Notes first x channel number lasts noted → Notes first x channel number lasts other → noted ≡ other
 notes-once first x channel number lasts noted other p q =
     p.2 ∙ ap (slice_set lasts channel) (index-once first x number p.0 q.0 p.1 q.1) ∙ sym q.2
@@ -85,10 +89,9 @@ ruled-some : (rule : LossRule) (flow : RuledFlow) (lasts : Lasts) (fates : Fates
 ruled-some rule flow lasts fates (handed_in event) r = (event ∷ [], lasts, (refl, refl))
 ruled-some rule flow lasts fates (on_channel channel segment) r =
     let x = reached-expected flow.first flow.width fates r in
-    let last = index-some flow.first x.0 segment.head.sequence in
-    let noted = slice_set lasts channel last.0 in
-    let skips = skips-some rule flow noted fates segment.head.sequence r in
-    (skips.0 ++ arrives segment ∷ [], noted, (x.0, skips.0, x.1, (last.0, last.1, refl), skips.1, refl))
+    let noted = notes-some flow.first x.0 channel segment.head.sequence lasts in
+    let skips = skips-some rule flow noted.0 fates segment.head.sequence r in
+    (skips.0 ++ arrives segment ∷ [], noted.0, (x.0, skips.0, x.1, noted.1, skips.1, refl))
 
 -- in one way
 ruled-once : (rule : LossRule) (flow : RuledFlow) (lasts : Lasts) (fates : Fates) (coming : Coming) (events others : List FlowEvent) (noted other : Lasts)

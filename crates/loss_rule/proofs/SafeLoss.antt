@@ -8,23 +8,25 @@ use Rattle.flow_core.specs.declared.event.Applied.{Applied}
 use Rattle.flow_core.specs.declared.event.Applied.TheVariants.{Arrival}
 use Rattle.flow_core.specs.Fates.{Fates, no_fates, IsExpected, IsLost}
 use Rattle.flow_core.specs.Events.{FlowEvent, Leads, IsAfter}
+use Rattle.flow_core.specs.Closing.{HaveNoArrival}
 use Rattle.flow_core.proofs.Nearness.{AreNumbered}
 use Rattle.flow_core.proofs.Outcome.{expected-unique}
 use Rattle.flow_core.proofs.OneFates.{after-once}
 use Rattle.flow_core.proofs.Turns.{leads-in_turn}
 use Rattle.loss_rule.specs.declared.rule.LossRule.TheVariants.{Passed}
 use Rattle.loss_rule.specs.Rule.{Coming, on_channel, handed_in, RuledFlow, Lasts, no_lasts, IsPassing, Notes, AreSkips, IsRuled, AreRuled}
-use Rattle.loss_rule.specs.InOrder.{Comes, AreInChannelOrder, ComeNear, HaveNoDecision}
+use Rattle.loss_rule.specs.InOrder.{Comes, AreInChannelOrder, ComeNear, DecideSafely}
 use Rattle.loss_rule.specs.Inside.Order.{IsInStep}
 use Rattle.loss_rule.specs.Inside.Verdicts.{EachVerdict, SaysKeptOrBeyond}
 use Rattle.loss_rule.proofs.Noting.{noted-bounded}
 use Rattle.loss_rule.proofs.Passing.{passing-lost}
 use Rattle.loss_rule.proofs.RuledTurns.{ruled-reached, holds-after}
 use Rattle.loss_rule.proofs.Arrivals.{passed-looks, by-passed}
-use Rattle.loss_rule.proofs.ArrivalAnswers.{answer-last, verdicts-in_turn}
+use Rattle.loss_rule.proofs.ArrivalAnswers.{answer-last, no_arrival-verdicts, verdicts-in_turn}
 use Rattle.loss_rule.proofs.Prompt.{no_lasts-none, up_to_date-after}
 use Rattle.loss_rule.proofs.ChannelOrder.{comes-here, one-longer, passed-gone, noted-of, of_comings-after}
 use Rattle.loss_rule.proofs.InStep.{own-answer, in_step-after}
+use Rattle.loss_rule.proofs.HandedIn.{decided-no_arrival, in_step-decided}
 
 -- nothing came yet
 pub in_step-none : (flow : RuledFlow) (comings : List Coming) (index_at : ℕ → ℕ) → IsInStep flow comings index_at 0 (no_lasts flow) no_fates
@@ -32,7 +34,7 @@ in_step-none flow comings index_at = record {
   of_comings = λ channel index is. absurd (no_lasts-none flow channel index is);
   latest = λ p channel segment before. absurd (omega arith);
   came = λ i kept. (let free = map.get-empty {X = Option Segment} nat_cmp i in let is = kept.1 in absurd cc);
-  passed = λ i lost. (let free = map.get-empty {X = Option Segment} nat_cmp i in absurd cc);
+  gone = λ q channel segment from is lost. (let free = map.get-empty {X = Option Segment} nat_cmp (index_at q) in absurd cc);
 }
 
 module _ (flow : RuledFlow) (segments : List Segment) (comings : List Coming) (index_at : ℕ → ℕ) (numbered : AreNumbered flow.first segments)
@@ -56,8 +58,8 @@ module _ (flow : RuledFlow) (segments : List Segment) (comings : List Coming) (i
             absurd (passed-gone flow segments comings index_at numbered order (length past + 1) (index_at q) q other another noted still passed (omega arith) is refl)
       ]
 
-  -- where no decision was handed in, each segment is kept or lies beyond the window
-  module _ (undecided : HaveNoDecision comings) where
+  -- where decisions are safe, each segment is kept or lies beyond the window
+  module _ (safely : DecideSafely Passed flow comings index_at) where
     abbrev IsSafeSoFar : List Coming → List Coming → List FlowEvent → Lasts → Fates → Type 0
     IsSafeSoFar past behind events lasts fates =
         (later : List Coming) → comings ≡ past ++ (behind ++ later)
@@ -70,7 +72,21 @@ module _ (flow : RuledFlow) (segments : List Segment) (comings : List Coming) (i
         → IsRuled Passed flow lasts fates coming events noted → Leads flow.first flow.width fates events answers after
         → IsSafeSoFar (past ++ coming ∷ []) behind (before ++ events) noted after
     safe-step past behind before lasts fates (handed_in event) events answers noted after are safe ruled leads later e =
-        absurd (undecided (length past) event (comes-here comings past (behind ++ later) (handed_in event) (e ∙ append_assoc past (handed_in event ∷ []) (behind ++ later))))
+        let e' : comings ≡ past ++ handed_in event ∷ (behind ++ later) = e ∙ append_assoc past (handed_in event ∷ []) (behind ++ later) in
+        let so_far = safe later e' in
+        let alone : Leads flow.first flow.width fates (event ∷ []) answers after = subst (λ v. Leads flow.first flow.width fates v answers after) ruled.0 leads in
+        let none : HaveNoArrival events = subst HaveNoArrival (sym ruled.0)
+        (decided-no_arrival Passed flow comings index_at safely past (behind ++ later) before lasts fates event answers after e' are alone) in (
+          subst (λ n. IsInStep flow comings index_at n noted after) (sym (one-longer past (handed_in event)))
+              (subst (λ l. IsInStep flow comings index_at (length past + 1) l after) (sym ruled.1)
+              (in_step-decided Passed flow comings index_at safely past (behind ++ later) before lasts fates event answers after e' are alone so_far.0)),
+          (
+            so_far.1.0 ++ answers,
+            leads-in_turn flow.first flow.width before events (so_far.1.0 ++ answers) no_fates after (so_far.1.0, answers, fates, so_far.1.1, leads, refl),
+            verdicts-in_turn SaysKeptOrBeyond so_far.1.0 answers so_far.1.2
+                (no_arrival-verdicts SaysKeptOrBeyond flow.first flow.width events answers fates after none leads),
+          ),
+        )
     safe-step past behind before lasts fates (on_channel channel segment) events answers noted after are safe ruled leads later e =
         let e' : comings ≡ past ++ on_channel channel segment ∷ (behind ++ later) = e ∙ append_assoc past (on_channel channel segment ∷ []) (behind ++ later) in
         let here = comes-here comings past (behind ++ later) (on_channel channel segment) e' in

@@ -73,7 +73,7 @@ module _ (flow : RuledFlow) (x : ℕ) (lasts : Lasts) (numbers : List (Option �
       let own = last-of flow.first x lasts numbers tied passed.one.0 n passed.one.2 in (
         own.index,
         record {
-          ahead = own.from;
+          ahead = (let after = passed.ahead in let at = own.at in omega arith);
           one = (passed.one.0, passed.one.1, own.last);
           each = λ channel has.
               let other = passed.each channel has in
@@ -90,9 +90,10 @@ module _ (flow : RuledFlow) (x : ℕ) (lasts : Lasts) (numbers : List (Option �
   passed-of-least least is =
       let ahead = is.ahead in
       let close = tied.near is.one.0 least is.one.2 in
-      let at = offset-index flow.first x least ahead (omega arith) in
+      let at = offset-index flow.first x least (omega arith) (omega arith) in
       record {
-        one = (is.one.0, is.one.1, number-of-last flow.first x lasts numbers tied is.one.0 least is.one.2 ahead);
+        ahead = omega arith;
+        one = (is.one.0, is.one.1, number-of-last flow.first x lasts numbers tied is.one.0 least is.one.2 (omega arith));
         each = λ channel has.
             let other = is.each channel has in
             let further = other.2 in

@@ -1,13 +1,14 @@
 -- What comes in channel order: the premise of all that is promised of the rule, said by true indexes.
-use Rattle.std.specs.Prelude.{◌≡◌, ℕ, ◌+◌, ◌<◌, ◌≤◌, ◌⊎◌, Some, List, ◌∷◌, ◌++◌, length, slice_get}
+use Rattle.std.specs.Prelude.{◌≡◌, ◌≢◌, ℕ, ◌+◌, ◌<◌, ◌≤◌, ◌⊎◌, Some, List, [], ◌∷◌, ◌++◌, length, slice_get}
 use Rattle.docsis_wire.specs.declared.segment.Segment.{Segment}
 use Rattle.docsis_wire.specs.Stream.{place_of}
 use Rattle.docsis_wire.specs.Span.{IsInSpan}
 use Rattle.reorder.specs.Limits.{numbers_ahead}
-use Rattle.flow_core.specs.Fates.{Fates, IsExpected}
-use Rattle.flow_core.specs.Events.{FlowEvent, arrives}
+use Rattle.flow_core.specs.declared.event.Applied.{Applied}
+use Rattle.flow_core.specs.Fates.{Fates, IsLost, IsExpected}
+use Rattle.flow_core.specs.Events.{FlowEvent, arrives, gap, gap_to, skip_to, IsAhead, Leads}
 use Rattle.loss_rule.specs.declared.rule.LossRule.{LossRule}
-use Rattle.loss_rule.specs.Rule.{Coming, on_channel, handed_in, RuledFlow, Lasts, HasChannel, AreRuled}
+use Rattle.loss_rule.specs.Rule.{Coming, on_channel, handed_in, RuledFlow, Lasts, HasChannel, Notes, IsPassing, AreRuled}
 
 -- at place p of all that comes, this segment comes on this channel
 abbrev pub Comes : List Coming → ℕ → ℕ → Segment → Type 0
@@ -30,8 +31,19 @@ ComeNear rule flow comings index_at =
     → comings ≡ before ++ on_channel channel segment ∷ behind → AreRuled rule flow before events lasts fates → IsExpected fates x
     → (x ≤ index_at (length before) + numbers_ahead) × (index_at (length before) < x + numbers_ahead)
 
--- Nothing comes further ahead than the window can hold. Each segment lies less than the window's width after the last one of every channel of the flow,
--- itself counted, or after the first index of all; and less than 4096 after the one before it on its own channel.
+-- Each segment falls into the window: its index lies less than the window's width after the index that is expected once it is noted and the rule has
+-- skipped what every channel has passed.
+abbrev pub FallIntoTheWindow : LossRule → RuledFlow → List Coming → (ℕ → ℕ) → Type 0
+FallIntoTheWindow rule flow comings index_at =
+    (before behind : List Coming) (channel x y : ℕ) (segment : Segment) (events passing : List FlowEvent) (answers : List Applied) (lasts noted : Lasts)
+    (fates between : Fates)
+    → comings ≡ before ++ on_channel channel segment ∷ behind → AreRuled rule flow before events lasts fates → IsExpected fates x
+    → Notes flow.first x channel segment.head.sequence lasts noted → IsPassing flow noted x passing
+    → Leads flow.first flow.width fates passing answers between → IsExpected between y
+    → index_at (length before) < y + flow.width
+
+-- Nothing comes further ahead than the window can hold, said of the comings alone. Each segment lies less than the window's width after the last one
+-- of every channel of the flow, itself counted, or after the first index of all; and less than 4096 after the one before it on its own channel.
 pub record FitTheWindow (flow : RuledFlow) (comings : List Coming) (index_at : ℕ → ℕ) : Type 0 where
   pub skew : (p own channel : ℕ) (segment : Segment) → Comes comings p own segment → HasChannel flow channel
       → (index_at p < flow.width)
@@ -47,6 +59,38 @@ HaveNoDecision comings = (p : ℕ) (event : FlowEvent) → ¬ (slice_get comings
 -- what is handed in is a decision: no segment arrives by it
 abbrev pub HandInDecisions : List Coming → Type 0
 HandInDecisions comings = (p : ℕ) (segment : Segment) → ¬ (slice_get comings p ≡ Some (handed_in (arrives segment)))
+
+-- Decisions that are handed in are safe: no segment arrives by them, and they lose no index whose segment still comes.
+pub record DecideSafely (rule : LossRule) (flow : RuledFlow) (comings : List Coming) (index_at : ℕ → ℕ) : Type 0 where
+  pub decisions : HandInDecisions comings
+  pub safe : (before behind : List Coming) (q channel : ℕ) (event : FlowEvent) (segment : Segment) (events : List FlowEvent) (answers : List Applied)
+      (lasts : Lasts) (fates after : Fates)
+      → comings ≡ before ++ handed_in event ∷ behind → AreRuled rule flow before events lasts fates
+      → Leads flow.first flow.width fates (event ∷ []) answers after
+      → length before ≤ q → Comes comings q channel segment → IsLost after (index_at q) → IsLost fates (index_at q)
+
+-- the index before which a decision loses what it loses, where x is the expected index: a gap loses at most that one
+abbrev pub DecidesBefore : ℕ → ℕ → FlowEvent → ℕ → Type 0
+DecidesBefore first x (arrives segment) end = ⊥
+DecidesBefore first x gap end = end ≡ x + 1
+DecidesBefore first x (gap_to number) end = IsAhead first x number end
+DecidesBefore first x (skip_to number) end = IsAhead first x number end
+
+-- Decisions that are handed in are about the past: no segment comes later with an index before the one up to which they decide.
+abbrev pub DecideThePast : LossRule → RuledFlow → List Coming → (ℕ → ℕ) → Type 0
+DecideThePast rule flow comings index_at =
+    (before behind : List Coming) (q channel x end : ℕ) (event : FlowEvent) (segment : Segment) (events : List FlowEvent) (lasts : Lasts) (fates : Fates)
+    → comings ≡ before ++ handed_in event ∷ behind → AreRuled rule flow before events lasts fates → IsExpected fates x
+    → DecidesBefore flow.first x event end → length before ≤ q → Comes comings q channel segment → end ≤ index_at q
+
+-- no segment of this index comes
+abbrev pub NeverComes : List Coming → (ℕ → ℕ) → ℕ → Type 0
+NeverComes comings index_at i = (p channel : ℕ) (segment : Segment) → Comes comings p channel segment → index_at p ≢ i
+
+-- on each channel of the flow comes a segment of a later index
+abbrev pub IsOvertaken : RuledFlow → List Coming → (ℕ → ℕ) → ℕ → Type 0
+IsOvertaken flow comings index_at i =
+    (channel : ℕ) → HasChannel flow channel → (q : ℕ) × (segment : Segment) × Comes comings q channel segment × (i < index_at q)
 
 -- frame j lies wholly in the cut, and each segment of its span came
 pub record IsAllCome (frames chunks : List (List ℕ)) (comings : List Coming) (index_at : ℕ → ℕ) (j : ℕ) : Type 0 where

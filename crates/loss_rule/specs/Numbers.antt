@@ -33,8 +33,10 @@ IsCarried carried channel = slice_get carried channel ≡ Some true
 abbrev pub HasNumber : List (Option ℕ) → ℕ → ℕ → Type 0
 HasNumber numbers channel number = slice_get numbers channel ≡ Some (Some number)
 
--- Every channel of the flow has come to this number: each has one, and of these it has the least offset from the expected number.
+-- Every channel of the flow has come to this number, which isn't the expected one: each has one, and of these it has the least offset from the expected
+-- number.
 pub record IsPassedNumber (carried : List Bool) (numbers : List (Option ℕ)) (expected number : ℕ) : Type 0 where
+  pub ahead : 1 ≤ offset expected number
   pub one : (channel : ℕ) × IsCarried carried channel × HasNumber numbers channel number
   pub each : (channel : ℕ) → IsCarried carried channel
       → (other : ℕ) × HasNumber numbers channel other × (offset expected number ≤ offset expected other)

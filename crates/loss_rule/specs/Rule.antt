@@ -44,6 +44,13 @@ IsLastOn lasts channel index = slice_get lasts channel ≡ Some (Some index)
 abbrev pub IsPassed : RuledFlow → Lasts → ℕ → Type 0
 IsPassed flow lasts i = (channel : ℕ) → HasChannel flow channel → (index : ℕ) × IsLastOn lasts channel index × (i < index)
 
+-- Every channel of the flow has come to this index: each has a last one, and this is the least of them.
+pub record HaveComeTo (flow : RuledFlow) (lasts : Lasts) (least : ℕ) : Type 0 where
+  pub own : ℕ
+  pub has : HasChannel flow own
+  pub last : IsLastOn lasts own least
+  pub each : (channel : ℕ) → HasChannel flow channel → (index : ℕ) × IsLastOn lasts channel index × (least ≤ index)
+
 -- the index of a number, where it lies ahead of the expected index x
 abbrev pub IsIndexAhead : ℕ → ℕ → ℕ → Option ℕ → Type 0
 IsIndexAhead first x number (Some index) = IsAhead first x number index
@@ -53,13 +60,13 @@ IsIndexAhead first x number None = (index : ℕ) → ¬ (IsAhead first x number 
 abbrev pub Notes : ℕ → ℕ → ℕ → ℕ → Lasts → Lasts → Type 0
 Notes first x channel number lasts noted = (last : Option ℕ) × IsIndexAhead first x number last × (noted ≡ slice_set lasts channel last)
 
--- The least of the last indexes of the flow's channels. Each channel has one, and none of them lies before the expected index x.
+-- The least of the last indexes of the flow's channels. Each channel has one, and all of them lie after the expected index x.
 pub record IsLeastLast (flow : RuledFlow) (lasts : Lasts) (x least : ℕ) : Type 0 where
-  pub ahead : x ≤ least
+  pub ahead : x < least
   pub one : (channel : ℕ) × HasChannel flow channel × IsLastOn lasts channel least
   pub each : (channel : ℕ) → HasChannel flow channel → (index : ℕ) × IsLastOn lasts channel index × (least ≤ index)
 
--- The skip to what every channel has passed, or none where some channel has no last index ahead.
+-- The skip to what every channel has passed, or none where some channel has no last index after the expected one.
 abbrev pub IsPassing : RuledFlow → Lasts → ℕ → List FlowEvent → Type 0
 IsPassing flow lasts x skips =
     ((least : ℕ) × IsLeastLast flow lasts x least × (skips ≡ skip_to (number_of flow.first least) ∷ []))

@@ -1,21 +1,21 @@
 //! Of each channel of a flow the number of the last segment that came there.
 //!
 //! It is what the rule knows in numbers: no number stands for longer than it lies ahead.
-ghost use Rattle.std.specs.Prelude.{◌≡◌, ◌<◌, ◌≤◌, ◌⊎◌, ℕ, IfOk, IfSome, map, slice_set};
+ghost use Rattle.std.specs.Prelude.{◌≡◌, ◌<◌, ◌≤◌, ◌⊎◌, ℕ, IfOk, IfSome, None, Some, map, slice_set};
 ghost use Rattle.std.specs.Option.{ForSome};
 ghost use Rattle.docsis_wire.specs.Limits.{sequence_modulus};
 ghost use Rattle.reorder.specs.Number.{offset};
 ghost use Rattle.loss_rule.specs.Numbers.{carried_of, numbers_of, ahead_number, still_ahead};
 ghost use Rattle.loss_rule.specs.Numbers.{no_numbers, IsPassedByAll};
 
-use crate::last_number::LastNumber;
+use crate::known_channel::KnownChannel;
 use reorder::{NUMBERS_AHEAD, offset};
 use std::alloc::{AllocError, Global};
 
 /// What is known of each channel of one flow.
 #[derive(Drop)]
 pub struct LastNumbers {
-    channels: Vec<LastNumber>,
+    channels: Vec<KnownChannel>,
 }
 
 impl LastNumbers {
@@ -26,7 +26,7 @@ impl LastNumbers {
     {
         let mut known = Vec::with_capacity(alloc, channels.len())?;
         for carried in channels {
-            known.push_reserved(LastNumber {
+            known.push_reserved(KnownChannel {
                 carried: *carried,
                 last: None,
             });
@@ -47,9 +47,9 @@ impl LastNumbers {
         if channel >= self.channels.len() {
             return;
         }
-        let LastNumber { carried, .. } = self.channels[channel];
+        let KnownChannel { carried, .. } = self.channels[channel];
         let last = ahead(expected, number);
-        self.channels[channel] = LastNumber { carried, last };
+        self.channels[channel] = KnownChannel { carried, last };
     }
 
     /// Drops each number that doesn't lie ahead of the expected one, 0 to 8191. It has to be called
@@ -61,15 +61,15 @@ impl LastNumbers {
         ensures numbers { numbers_of self.new ≡ map (still_ahead expected) (numbers_of self.old) }
     {
         for channel in 0..self.channels.len() {
-            let LastNumber { carried, last } = self.channels[channel];
+            let KnownChannel { carried, last } = self.channels[channel];
             let last = still_ahead(expected, last);
-            self.channels[channel] = LastNumber { carried, last };
+            self.channels[channel] = KnownChannel { carried, last };
         }
     }
 
-    /// The number that each channel of the flow has come to: where each of them has a number, the
-    /// one of these with the least offset from the expected number, 0 to 8191. It is none where
-    /// the flow has no channel.
+    /// The number that each channel of the flow has come to: where each of them has a number other
+    /// than the expected one, 0 to 8191, the one of these with the least offset from it. It is
+    /// none where the flow has no channel.
     pub fn passed_by_all(&self, expected: u16) -> Option<u16>
         requires { expected < sequence_modulus }
         ensures passed { IsPassedByAll (carried_of self.now) (numbers_of self.now) expected result }
@@ -78,7 +78,7 @@ impl LastNumbers {
         let mut least = None;
         for one in &self.channels {
             if one.carried {
-                least = Some(nearer(expected, least, one.last?));
+                least = Some(nearer(expected, least, beyond(expected, one.last)?));
             }
         }
         least
@@ -103,6 +103,18 @@ fn still_ahead(expected: u16, last: Option<u16>) -> Option<u16>
     ensures in_range { ForSome result (λ one. one < sequence_modulus) }
 {
     ahead(expected, last?)
+}
+
+/// A channel's number, unless it is the expected one.
+fn beyond(expected: u16, last: Option<u16>) -> Option<u16>
+    requires expected { expected < sequence_modulus }
+    requires last { ForSome last (λ number. number < sequence_modulus) }
+    ensures number { ForSome result (λ number. last ≡ Some number) }
+    ensures after { ForSome result (λ number. 1 ≤ offset expected number) }
+    ensures none { result ≡ None → (number : ℕ) → last ≡ Some number → number ≡ expected }
+    ensures in_range { ForSome result (λ number. number < sequence_modulus) }
+{
+    last.filter(|number| *number != expected)
 }
 
 /// The one of two numbers with the smaller offset from the expected one.

@@ -1,6 +1,6 @@
 //! Laws about the rule: what it makes of all that comes is one thing, it loses nothing that still
-//! comes, and where nothing comes further ahead than the window holds, a closed flow has given the
-//! modem's frames of which each segment came.
+//! comes, and where each segment falls into the window, a closed flow has given the modem's frames
+//! of which each segment came.
 //!
 //! Each function states a law in its contract; its body is empty or only calls other laws.
 ghost use Rattle.std.specs.Prelude.{◌≡◌, ◌≢◌, ◌↔◌, ◌⊎◌, ◌+◌, ◌<◌, ◌≤◌, ◌∷◌, ◌++◌, ℕ, Bool, true, Some, List, map, length, replicate, slice_get};
@@ -18,8 +18,9 @@ ghost use Rattle.flow_core.specs.Near.{AreNear};
 ghost use Rattle.flow_core.specs.Closing.{IsClosed};
 ghost use Rattle.flow_core.specs.Outcome.{IsFlowOutcome};
 ghost use Rattle.loss_rule.specs.declared.rule.LossRule.{LossRule};
-ghost use Rattle.loss_rule.specs.Rule.{Coming, on_channel, RuledFlow, HasChannel, Lasts, IsPassed, Notes, AreSkips, IsRuled, Rules, AreRuled, own_event};
-ghost use Rattle.loss_rule.specs.InOrder.{Comes, AreInChannelOrder, ComeNear, FitTheWindow, HaveNoDecision, HandInDecisions, IsAllCome};
+ghost use Rattle.loss_rule.specs.Rule.{Coming, on_channel, RuledFlow, HasChannel, Lasts, IsLastOn, IsPassed, HaveComeTo, Notes, AreSkips, IsRuled, Rules, AreRuled, own_event};
+ghost use Rattle.loss_rule.specs.InOrder.{Comes, AreInChannelOrder, ComeNear, FallIntoTheWindow, FitTheWindow, NeverComes, IsOvertaken, IsAllCome};
+ghost use Rattle.loss_rule.specs.InOrder.{HaveNoDecision, HandInDecisions, DecideSafely, DecideThePast};
 ghost use Rattle.loss_rule.specs.Dealing.{AreSpread, ComeWithin, dealt};
 
 /// Whatever comes to a flow, the rule makes one list of events of it, and leads to one last index
@@ -66,8 +67,8 @@ pub fn decided_rule_adds_nothing()
 
 /// **Safe: the rule loses nothing that still comes.** In a near list in channel order of one lawful
 /// cut, an index that the skips before a segment lose is neither that segment's nor that of a later
-/// one. So where no decision is handed in, no segment is late and none a repeat: each is kept, or
-/// lies beyond the window.
+/// one. So where the decisions that are handed in are safe too, no segment is late and none a
+/// repeat: each is kept, or lies beyond the window.
 pub fn rule_loses_nothing_that_still_comes()
     ensures lost { (check : List ℕ → Bool) (frames chunks : List (List ℕ)) (fill : ℕ)
         (segments : List Segment) (flow : RuledFlow) (before behind : List Coming)
@@ -89,7 +90,8 @@ pub fn rule_loses_nothing_that_still_comes()
         (fates : Fates) (k : ℕ) (verdict : Verdict Segment)
         → IsLawfulCut check frames flow.first fill chunks segments
         → AreInChannelOrder flow segments comings index_at
-        → ComeNear LossRule.Passed flow comings index_at → HaveNoDecision comings
+        → ComeNear LossRule.Passed flow comings index_at
+        → DecideSafely LossRule.Passed flow comings index_at
         → AreRuled LossRule.Passed flow comings events noted fates
         → IsAfter flow.first flow.width events answers fates
         → slice_get answers k ≡ Some (Applied.Arrival verdict)
@@ -110,10 +112,10 @@ pub fn near_comings_make_near_events()
         → AreNear flow.first flow.width segments events }
 {}
 
-/// **Nothing that came is dropped.** In a list in channel order of one lawful cut, with no decision
-/// handed in, where nothing comes further ahead than the window holds: each segment comes near the
-/// expected index and is kept under its own, and nothing else is kept. So no segment is late,
-/// beyond the window or a repeat.
+/// **Nothing that came is dropped.** In a list in channel order of one lawful cut, where decisions
+/// that are handed in are safe and each segment falls into the window once the rule has skipped:
+/// each segment comes near the expected index and is kept under its own, and nothing else is kept.
+/// So no segment is late, beyond the window or a repeat.
 pub fn all_that_comes_is_kept()
     ensures near { (check : List ℕ → Bool) (frames chunks : List (List ℕ)) (fill : ℕ)
         (segments : List Segment) (rule : LossRule) (flow : RuledFlow) (comings : List Coming)
@@ -121,7 +123,8 @@ pub fn all_that_comes_is_kept()
         → rule ≢ LossRule.Decided → flow.width ≤ width_max
         → IsLawfulCut check frames flow.first fill chunks segments
         → AreInChannelOrder flow segments comings index_at
-        → FitTheWindow flow comings index_at → HaveNoDecision comings
+        → FallIntoTheWindow rule flow comings index_at
+        → DecideSafely rule flow comings index_at
         → ComeNear rule flow comings index_at }
     ensures kept { (check : List ℕ → Bool) (frames chunks : List (List ℕ)) (fill : ℕ)
         (segments : List Segment) (rule : LossRule) (flow : RuledFlow) (comings : List Coming)
@@ -130,7 +133,8 @@ pub fn all_that_comes_is_kept()
         → rule ≢ LossRule.Decided → flow.width ≤ width_max
         → IsLawfulCut check frames flow.first fill chunks segments
         → AreInChannelOrder flow segments comings index_at
-        → FitTheWindow flow comings index_at → HaveNoDecision comings
+        → FallIntoTheWindow rule flow comings index_at
+        → DecideSafely rule flow comings index_at
         → AreRuled rule flow comings events noted fates
         → Comes comings p channel segment → IsKeptAs fates (index_at p) segment }
     ensures came { (check : List ℕ → Bool) (frames chunks : List (List ℕ)) (fill : ℕ)
@@ -139,7 +143,8 @@ pub fn all_that_comes_is_kept()
         → rule ≢ LossRule.Decided → flow.width ≤ width_max
         → IsLawfulCut check frames flow.first fill chunks segments
         → AreInChannelOrder flow segments comings index_at
-        → FitTheWindow flow comings index_at → HaveNoDecision comings
+        → FallIntoTheWindow rule flow comings index_at
+        → DecideSafely rule flow comings index_at
         → AreRuled rule flow comings events noted fates → IsKept fates i
         → (p channel : ℕ) × (segment : Segment)
         × Comes comings p channel segment × (index_at p ≡ i) }
@@ -150,14 +155,15 @@ pub fn all_that_comes_is_kept()
         → rule ≢ LossRule.Decided → flow.width ≤ width_max
         → IsLawfulCut check frames flow.first fill chunks segments
         → AreInChannelOrder flow segments comings index_at
-        → FitTheWindow flow comings index_at → HaveNoDecision comings
+        → FallIntoTheWindow rule flow comings index_at
+        → DecideSafely rule flow comings index_at
         → AreRuled rule flow comings events noted fates
         → IsAfter flow.first flow.width events answers fates
         → slice_get answers k ≡ Some (Applied.Arrival verdict) → verdict ≡ Verdict.Kept }
 {}
 
 /// **What a closed flow gave, of all that came.** For every modem's frames, every lawful cut of
-/// them and every list in channel order that fits the window, with no decision handed in: with gaps
+/// them and every list in channel order that falls into the window, with safe decisions: with gaps
 /// after the rule's events until the flow is closed, what it gives by the definitions is exactly
 /// the modem's frames of which each segment came, in the modem's order.
 pub fn closed_flow_gives_the_frames_that_all_came()
@@ -169,7 +175,8 @@ pub fn closed_flow_gives_the_frames_that_all_came()
         → flow_record.first ≡ flow.first → flow_record.window ≡ flow.width
         → IsLawfulCut check frames flow.first fill chunks segments
         → AreInChannelOrder flow segments comings index_at
-        → FitTheWindow flow comings index_at → HaveNoDecision comings
+        → FallIntoTheWindow rule flow comings index_at
+        → DecideSafely rule flow comings index_at
         → AreRuled rule flow comings events noted fates
         → (outcome : IsFlowOutcome check flow_record (events ++ replicate n gap) given counts)
         → IsClosed outcome.fates
@@ -179,10 +186,70 @@ pub fn closed_flow_gives_the_frames_that_all_came()
     flow_core::laws::gaps_leave_what_was_kept();
 }
 
+/// An index that never comes is lost, once every channel of the flow has come past it. So it is
+/// where, of all that comes, each channel brings a later one.
+pub fn index_that_never_comes_is_lost()
+    ensures lost { (check : List ℕ → Bool) (frames chunks : List (List ℕ)) (fill : ℕ)
+        (segments : List Segment) (rule : LossRule) (flow : RuledFlow) (comings : List Coming)
+        (index_at : ℕ → ℕ) (events : List FlowEvent) (noted : Lasts) (fates : Fates)
+        (least i : ℕ)
+        → rule ≢ LossRule.Decided → 1 ≤ flow.width → flow.width ≤ width_max
+        → IsLawfulCut check frames flow.first fill chunks segments
+        → AreInChannelOrder flow segments comings index_at
+        → ComeNear rule flow comings index_at → HandInDecisions comings
+        → AreRuled rule flow comings events noted fates
+        → HaveComeTo flow noted least → i < least
+        → NeverComes comings index_at i → IsLost fates i }
+    ensures overtaken { (check : List ℕ → Bool) (frames chunks : List (List ℕ)) (fill : ℕ)
+        (segments : List Segment) (rule : LossRule) (flow : RuledFlow) (comings : List Coming)
+        (index_at : ℕ → ℕ) (events : List FlowEvent) (noted : Lasts) (fates : Fates)
+        (own i : ℕ)
+        → rule ≢ LossRule.Decided → flow.width ≤ width_max
+        → IsLawfulCut check frames flow.first fill chunks segments
+        → AreInChannelOrder flow segments comings index_at
+        → FallIntoTheWindow rule flow comings index_at
+        → DecideSafely rule flow comings index_at
+        → AreRuled rule flow comings events noted fates
+        → HasChannel flow own → IsOvertaken flow comings index_at i
+        → NeverComes comings index_at i → IsLost fates i }
+{}
+
+/// What fits the window, said of the comings alone, falls into it by the rule, and comes near.
+pub fn segments_that_fit_the_window_fall_into_it()
+    ensures fall { (check : List ℕ → Bool) (frames chunks : List (List ℕ)) (fill : ℕ)
+        (segments : List Segment) (rule : LossRule) (flow : RuledFlow) (comings : List Coming)
+        (index_at : ℕ → ℕ)
+        → rule ≢ LossRule.Decided → flow.width ≤ width_max
+        → IsLawfulCut check frames flow.first fill chunks segments
+        → AreInChannelOrder flow segments comings index_at
+        → FitTheWindow flow comings index_at → DecideSafely rule flow comings index_at
+        → FallIntoTheWindow rule flow comings index_at }
+    ensures near { (check : List ℕ → Bool) (frames chunks : List (List ℕ)) (fill : ℕ)
+        (segments : List Segment) (rule : LossRule) (flow : RuledFlow) (comings : List Coming)
+        (index_at : ℕ → ℕ)
+        → rule ≢ LossRule.Decided → flow.width ≤ width_max
+        → IsLawfulCut check frames flow.first fill chunks segments
+        → AreInChannelOrder flow segments comings index_at
+        → FitTheWindow flow comings index_at → DecideSafely rule flow comings index_at
+        → ComeNear rule flow comings index_at }
+{}
+
+/// Which decisions are safe: none at all, and those about the past.
+pub fn decisions_about_the_past_are_safe()
+    ensures undecided { (rule : LossRule) (flow : RuledFlow) (comings : List Coming)
+        (index_at : ℕ → ℕ)
+        → HaveNoDecision comings → DecideSafely rule flow comings index_at }
+    ensures of_the_past { (rule : LossRule) (flow : RuledFlow) (comings : List Coming)
+        (index_at : ℕ → ℕ)
+        → HandInDecisions comings → DecideThePast rule flow comings index_at
+        → DecideSafely rule flow comings index_at }
+{}
+
 /// When what comes fits the window: let each channel of the flow bring one of any `m` segments that
 /// the modem sent one after another, and let none come after one that was sent `d` or more later;
-/// then a window of `d + m` is wide enough. A whole cut that is dealt in turn over fewer channels
-/// than the window is wide meets every premise.
+/// then a window of `d + m` is wide enough. Segments that are dealt in turn over the channels are
+/// in channel order and have no decision, and fit a window that is wider than there are channels.
+/// So a whole cut that is dealt so meets every premise at once.
 pub fn spread_segments_fit_the_window()
     ensures spread { (segments : List Segment) (flow : RuledFlow) (comings : List Coming)
         (index_at : ℕ → ℕ) (d m : ℕ)
@@ -190,16 +257,31 @@ pub fn spread_segments_fit_the_window()
         → AreInChannelOrder flow segments comings index_at
         → AreSpread flow comings index_at m → ComeWithin comings index_at d
         → FitTheWindow flow comings index_at }
-    ensures dealt { (segments : List Segment) (flow : RuledFlow) (count : ℕ)
+    ensures turns { (segments : List Segment) (flow : RuledFlow) (count : ℕ)
+        → 1 ≤ count → flow.channels ≡ replicate count true
+        → AreInChannelOrder flow segments (dealt count segments) (λ p. p) }
+    ensures in_turns { (segments : List Segment) (flow : RuledFlow) (count : ℕ)
         → 1 ≤ count → count < flow.width → flow.width ≤ width_max
         → flow.channels ≡ replicate count true
+        → FitTheWindow flow (dealt count segments) (λ p. p) }
+    ensures unbroken { (segments : List Segment) (count : ℕ)
+        → HaveNoDecision (dealt count segments) }
+    ensures dealt { (check : List ℕ → Bool) (frames chunks : List (List ℕ)) (fill : ℕ)
+        (segments : List Segment) (rule : LossRule) (flow : RuledFlow) (count : ℕ)
+        → rule ≢ LossRule.Decided
+        → 1 ≤ count → count < flow.width → flow.width ≤ width_max
+        → flow.channels ≡ replicate count true
+        → IsLawfulCut check frames flow.first fill chunks segments
         → AreInChannelOrder flow segments (dealt count segments) (λ p. p)
-        × FitTheWindow flow (dealt count segments) (λ p. p)
-        × HaveNoDecision (dealt count segments) }
+        × FallIntoTheWindow rule flow (dealt count segments) (λ p. p)
+        × ComeNear rule flow (dealt count segments) (λ p. p)
+        × DecideSafely rule flow (dealt count segments) (λ p. p) }
 {}
 
 /// **Prompt: the flow never waits for what can no longer come.** Where a flow has a channel, an
 /// index that all its channels have passed is kept or lost. So the expected index is none of these.
+/// After each segment every index before the least of the channels' last ones is kept or lost, and
+/// by `Passed` just such an index is lost. Of a segment whose number lies behind nothing is noted.
 pub fn flow_never_waits_for_what_can_no_longer_come()
     ensures settled { (rule : LossRule) (flow : RuledFlow) (comings : List Coming)
         (events : List FlowEvent) (noted : Lasts) (fates : Fates) (own i : ℕ)
@@ -209,11 +291,29 @@ pub fn flow_never_waits_for_what_can_no_longer_come()
         (events : List FlowEvent) (noted : Lasts) (fates : Fates) (own x : ℕ)
         → rule ≢ LossRule.Decided → AreRuled rule flow comings events noted fates
         → HasChannel flow own → IsExpected fates x → ¬ (IsPassed flow noted x) }
+    ensures passed { (rule : LossRule) (flow : RuledFlow) (comings : List Coming)
+        (events : List FlowEvent) (noted : Lasts) (fates : Fates) (least i : ℕ)
+        → rule ≢ LossRule.Decided → AreRuled rule flow comings events noted fates
+        → HaveComeTo flow noted least → i < least → IsKept fates i ⊎ IsLost fates i }
+    ensures just { (flow : RuledFlow) (before : List Coming) (events own : List FlowEvent)
+        (lasts noted : Lasts) (fates after : Fates) (channel i : ℕ) (segment : Segment)
+        (answers : List Applied)
+        → AreRuled LossRule.Passed flow before events lasts fates
+        → IsRuled LossRule.Passed flow lasts fates (on_channel channel segment) own noted
+        → Leads flow.first flow.width fates own answers after → IsLost after i
+        → IsLost fates i ⊎ ((least : ℕ) × HaveComeTo flow noted least × (i < least)) }
+    ensures behind { (rule : LossRule) (flow : RuledFlow) (lasts noted : Lasts) (fates : Fates)
+        (own : List FlowEvent) (channel x index : ℕ) (segment : Segment)
+        → IsRuled rule flow lasts fates (on_channel channel segment) own noted
+        → IsExpected fates x
+        → ((i : ℕ) → ¬ (IsAhead flow.first x segment.head.sequence i))
+        → ¬ (IsLastOn noted channel index) }
 {}
 
 /// **Never stuck, where the window slides.** A segment that comes is never beyond the window. Once
 /// it came, each index that lies the width of the window or more before its own is kept or lost: a
-/// flow never holds its head back for longer. And its own is kept, if its number lay ahead.
+/// flow never holds its head back for longer. And its own is kept, if its number lay ahead. Lost is
+/// just such an index, or one before the least of the channels' last ones.
 pub fn sliding_flow_is_never_stuck()
     ensures beyond { (flow : RuledFlow) (before : List Coming) (events own : List FlowEvent)
         (lasts noted : Lasts) (fates after : Fates) (channel k : ℕ) (segment back : Segment)
@@ -237,4 +337,14 @@ pub fn sliding_flow_is_never_stuck()
         → IsRuled LossRule.PassedOrSlid flow lasts fates (on_channel channel segment) own noted
         → Leads flow.first flow.width fates own answers after → HasChannel flow channel
         → IsExpected fates x → IsAhead flow.first x segment.head.sequence i → IsKept after i }
+    ensures just { (flow : RuledFlow) (before : List Coming) (events own : List FlowEvent)
+        (lasts noted : Lasts) (fates after : Fates) (channel x i : ℕ) (segment : Segment)
+        (answers : List Applied)
+        → 1 ≤ flow.width → flow.width ≤ width_max
+        → AreRuled LossRule.PassedOrSlid flow before events lasts fates
+        → IsRuled LossRule.PassedOrSlid flow lasts fates (on_channel channel segment) own noted
+        → Leads flow.first flow.width fates own answers after → HasChannel flow channel
+        → IsExpected fates x → IsLost after i
+        → IsLost fates i ⊎ ((least : ℕ) × HaveComeTo flow noted least × (i < least))
+        ⊎ ((k : ℕ) × IsAhead flow.first x segment.head.sequence k × (i + flow.width ≤ k)) }
 {}

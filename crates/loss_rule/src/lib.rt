@@ -3,7 +3,12 @@
 //! On a channel the segments of a flow come in the modem's order. So once each channel of the flow
 //! has brought a segment, what lies before the least of their last ones can't come any more, and
 //! the flow skips to that one. [`LossRule`] says whether this is done, and whether the window also
-//! slides. [`laws`] says what follows.
+//! slides.
+//!
+//! [`laws`] says what follows where the channels keep the modem's order, each segment falls into
+//! the window once the rule has skipped, and decisions that are handed in lose nothing that still
+//! comes: each segment that comes is kept, an index that never comes is lost as soon as every
+//! channel has come past it, and nothing else is lost.
 //!
 //! [`LastNumbers`] keeps of each channel of a flow the number of the last segment that came there:
 //! [`LastNumbers::passed_by_all`] says to which number every channel has come, and [`slid_to`] to
@@ -11,14 +16,14 @@
 //! say by true indexes.
 #![tactic(auto)]
 
-mod last_number;
+mod known_channel;
 mod last_numbers;
 pub mod laws;
 pub mod number_laws;
 mod rule;
 mod slide;
 
-pub use last_number::LastNumber;
+pub use known_channel::KnownChannel;
 pub use last_numbers::LastNumbers;
 pub use rule::LossRule;
 pub use slide::slid_to;

@@ -18,7 +18,9 @@ use Rattle.lane.specs.declared.sids.SidRow.{SidRow}
 use Rattle.receiver.specs.declared.setup.Setup.{Setup}
 use Rattle.lane.specs.Inputs.{LaneSetup, Answer, AnsweredInput, IsFlowOf, IsAnswer, AreAnswered, inputs_of}
 use Rattle.lane.specs.Report.{admitted_by, admitted_of, requests_of, IsLaneRequest}
-use Rattle.receiver.specs.Items.{IsItem, event_of_admitted, lane_setup}
+use Rattle.receiver.specs.Items.{IsItem, lane_setup}
+use Rattle.lane.specs.Report.{event_of_admitted}
+use Rattle.receiver.specs.Channels.{HasRow}
 use Rattle.lane.specs.Stands.{StandsFor, TakesInput}
 use Rattle.lane.specs.Report.{Reports}
 use Rattle.receiver.specs.Inside.Received.{HasReceived, AdmitsWithin, NotesAnswer}
@@ -74,6 +76,18 @@ asks-within setup taken (Grant number sid bytes) (Ok (Some admitted)) is = absur
 asks-within setup taken (Burst number hcs_ok bytes) (Ok (Some admitted)) is =
     asked setup is.1.sid is.0.flow admitted admitted.request is.1.flow is.2.2.request
 
+-- the flow has a row on the lane's channel
+admits-of_row : (setup : LaneSetup) (taken : List AnsweredInput) (input : Input) (answer : Answer) → IsAnswer setup taken input answer
+    → All (λ (one : Admitted). HasRow setup.rows one.flow setup.channel) (filter_map admitted_by (answer ∷ []))
+admits-of_row setup taken input (Err refusal) is = All-nil (λ (one : Admitted). HasRow setup.rows one.flow setup.channel)
+admits-of_row setup taken input (Ok None) is = All-nil (λ (one : Admitted). HasRow setup.rows one.flow setup.channel)
+admits-of_row setup taken (Grant number sid bytes) (Ok (Some admitted)) is = absurd is
+admits-of_row setup taken (Burst number hcs_ok bytes) (Ok (Some admitted)) is =
+    let flow = is.1.flow in
+    All-cons (λ (one : Admitted). HasRow setup.rows one.flow setup.channel) admitted []
+    (record { place = flow.k; row = flow.row; stands = flow.of_row.stands; of_flow = sym (is.2.2.flow_is ∙ flow.index); of_channel = flow.of_row.channel })
+    (All-nil (λ (one : Admitted). HasRow setup.rows one.flow setup.channel))
+
 -- what is admitted is an item
 admits-items : (flow_count : ℕ) (answer : Answer) → AdmitsWithin flow_count answer
     → All (IsItem flow_count) (map event_of_admitted (filter_map admitted_by (answer ∷ [])))
@@ -107,6 +121,13 @@ module _ (setup : LaneSetup) (taken : List AnsweredInput) (answered : AreAnswere
       (λ xs ys. ap (map event_of_admitted) (admitted_of-append xs ys) ∙ map-append event_of_admitted (admitted_of xs) (admitted_of ys)) taken
       (of-each-answer (λ one. All (IsItem (length setup.records)) (map event_of_admitted (admitted_of (one ∷ []))))
       (λ before one is. admits-items (length setup.records) one.answer (admits-within setup before one.input one.answer is)))
+
+  -- each of a flow that has a row on the lane's channel
+  pub rows-admitted : All (λ (one : Admitted). HasRow setup.rows one.flow setup.channel) (admitted_of taken)
+  rows-admitted =
+      given-by-each admitted_of (λ (one : Admitted). HasRow setup.rows one.flow setup.channel) refl admitted_of-append taken
+      (of-each-answer (λ one. All (λ (a : Admitted). HasRow setup.rows a.flow setup.channel) (admitted_of (one ∷ [])))
+      (λ before one is. admits-of_row setup before one.input one.answer is))
 
   -- the requests are of the lane's channel, flows and clusters
   pub requests-asked : All (IsLaneRequest setup) (requests_of taken)

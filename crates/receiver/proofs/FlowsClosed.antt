@@ -8,7 +8,7 @@ use Rattle.docsis_wire.specs.declared.buffer.Bytes.{Bytes}
 use Rattle.docsis_wire.proofs.StreamPlaces.{element_at}
 use Rattle.flow_records.specs.declared.record.FlowRecord.{FlowRecord}
 use Rattle.flow_core.specs.declared.flows.Core.{Core}
-use Rattle.flow_core.specs.declared.event.Event.{Event}
+use Rattle.flow_records.specs.declared.event.Event.{Event}
 use Rattle.flow_core.specs.Flows.{OthersStay, IsDrainedAt}
 use Rattle.flow_core.specs.Giving.{HasDrained, IsRunning}
 use Rattle.receiver.specs.declared.flows.Assembler.{Assembler}

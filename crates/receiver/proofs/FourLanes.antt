@@ -5,8 +5,8 @@ use Rattle.std.proofs.lemmas.Bool.{ltb-true, and_parts}
 use Rattle.std.proofs.lemmas.List.{length-map}
 use Rattle.std.proofs.lemmas.List.Elements.{All-map, All-weaker, All-same, filter_passes}
 use Rattle.docsis_wire.specs.Limits.{sequence_modulus}
-use Rattle.flow_core.specs.declared.event.Event.{Event}
-use Rattle.receiver.specs.declared.setup.Decision.{Decision}
+use Rattle.flow_records.specs.declared.event.Event.{Event}
+use Rattle.flow_records.specs.declared.decision.Decision.{Decision}
 use Rattle.receiver.specs.declared.setup.Setup.{Setup}
 use Rattle.receiver.specs.declared.incoming.Received.{Received}
 use Rattle.receiver.specs.declared.incoming.FourReceived.{FourReceived}
@@ -15,8 +15,10 @@ use Rattle.lane.specs.declared.report.LaneReport.{LaneReport}
 use Rattle.receiver.specs.declared.outcome.Outcome.{Outcome}
 use Rattle.lane.specs.Limits.{channel_limit}
 use Rattle.lane.specs.Inputs.{AnsweredInput}
-use Rattle.receiver.specs.Items.{Incoming, IsLaneOf, AreLanesOf, IsItem, items_of, are_items, gap_of, event_of_decision, names_a_flow, names_a_number}
-use Rattle.receiver.specs.Order.{senders, lengths_of, IsLawfulOrder, IsOrderFault, IsMergeOf}
+use Rattle.receiver.specs.Items.{Incoming, IsLaneOf, AreLanesOf, IsItem, items_of, are_items}
+use Rattle.flow_records.specs.Decisions.{gap_of, event_of_decision, names_a_flow, names_a_number}
+use Rattle.receiver.specs.Order.{lengths_of, IsLawfulOrder, IsOrderFault, IsMergeOf}
+use Rattle.lane.specs.Limits.{senders}
 use Rattle.loss_rule.specs.declared.rule.LossRule.{LossRule}
 use Rattle.receiver.specs.Outcome.{requests_on}
 use Rattle.receiver.specs.Ruled.{IsOutcomeBy, AreRuledOutcomes}

@@ -5,7 +5,8 @@ use Rattle.std.proofs.lemmas.Bool.Decides.{nat_tests}
 use Rattle.std.proofs.lemmas.List.{take_more, take_all, drop_at, length-append, length_push, get_or_default, length-take, nil_from_length}
 use Rattle.std.proofs.lemmas.List.Elements.{All-get_or, All-drop}
 use Rattle.std.proofs.lemmas.List.Sums.{sum_by-take-le}
-use Rattle.receiver.specs.Order.{senders, times_of, picked, kept_places, lengths_of, IsLawfulOrder, IsMergeOf}
+use Rattle.receiver.specs.Order.{times_of, picked, kept_places, lengths_of, IsLawfulOrder, IsMergeOf}
+use Rattle.lane.specs.Limits.{senders}
 use Rattle.receiver.proofs.OrderPlaces.{times-same}
 use Rattle.receiver.proofs.MergedLists.{times-picked, length-of}
 

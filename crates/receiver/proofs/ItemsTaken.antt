@@ -11,12 +11,13 @@ use Rattle.docsis_wire.proofs.StreamPlaces.{element_at}
 use Rattle.flow_records.specs.declared.record.FlowRecord.{FlowRecord}
 use Rattle.flow_core.specs.declared.flow.Flow.{Flow}
 use Rattle.flow_core.specs.declared.flows.Core.{Core}
-use Rattle.flow_core.specs.declared.event.Event.{Event}
+use Rattle.flow_records.specs.declared.event.Event.{Event}
 use Rattle.flow_core.specs.declared.event.Applied.{Applied}
 use Rattle.flow_records.specs.Setup.{CanBeSetUp, IsInRange}
 use Rattle.flow_core.specs.Events.{FlowEvent}
 use Rattle.flow_core.specs.Stands.{StandsFor, IsDrained}
-use Rattle.flow_core.specs.Flows.{flow_of, event_of, OthersStay, TakesEventAt, IsDrainedAt, IsNewCore}
+use Rattle.flow_core.specs.Flows.{event_of, OthersStay, TakesEventAt, IsDrainedAt, IsNewCore}
+use Rattle.flow_records.specs.Events.{flow_of}
 use Rattle.flow_core.specs.Giving.{HasGiven, HasDrained, IsRunning, Drains}
 use Rattle.receiver.specs.Items.{events_at}
 use Rattle.receiver.specs.declared.flows.Assembler.{Assembler}

@@ -10,3 +10,6 @@ pub mod Ruling
 pub mod RuleSkips
 pub mod RuledItems
 pub mod NewNumbers
+pub mod FlowComings
+pub mod FlowChannels
+pub mod RuledCounts

@@ -5,20 +5,23 @@ use Rattle.std.proofs.lemmas.Bool.{cases_eq}
 use Rattle.std.proofs.lemmas.List.{length-map}
 use Rattle.std.proofs.lemmas.List.Elements.{All-nil, All-cons, All-head, All-tail}
 use Rattle.std.proofs.lemmas.List.Sums.{sum_by-cons, length-filter}
-use Rattle.flow_core.specs.declared.event.Event.{Event}
+use Rattle.flow_records.specs.declared.event.Event.{Event}
 use Rattle.receiver.specs.declared.setup.Setup.{Setup}
 use Rattle.lane.specs.Limits.{channel_limit}
 use Rattle.lane.specs.Inputs.{AnsweredInput}
 use Rattle.lane.specs.Report.{admitted_by, admitted_of}
-use Rattle.receiver.specs.Order.{senders, times_of, lengths_of, picked, kept_places, IsLawfulOrder, IsOrderFault, IsMergeOf}
-use Rattle.receiver.specs.Items.{Incoming, AreLanesOf, lane_setup, names_a_flow, event_of_admitted, event_of_decision, items_of, are_items}
+use Rattle.receiver.specs.Order.{times_of, lengths_of, picked, kept_places, IsLawfulOrder, IsOrderFault, IsMergeOf}
+use Rattle.lane.specs.Limits.{senders}
+use Rattle.receiver.specs.Items.{Incoming, AreLanesOf, lane_setup, items_of, are_items}
+use Rattle.flow_records.specs.Decisions.{names_a_flow, event_of_decision}
+use Rattle.lane.specs.Report.{event_of_admitted}
 use Rattle.receiver.specs.AdmittedOrder.{IsAdmittedOrder}
 use Rattle.receiver.specs.Faults.{CanReceive, HasBadOrder}
 use Rattle.lane.proofs.OneLaneAnswer.{one-list-of-answers}
 use Rattle.receiver.proofs.OrderPlaces.{lawful-faultless}
 
 -- a count of a list with one more in front
-count-cons : {X : Type 0} (p : X → Bool) (x : X) (xs : List X) → count_by p (x ∷ xs) ≡ cond (p x) 1 0 + count_by p xs
+pub count-cons : {X : Type 0} (p : X → Bool) (x : X) (xs : List X) → count_by p (x ∷ xs) ≡ cond (p x) 1 0 + count_by p xs
 count-cons p x xs = sum_by-cons (λ y. cond (p y) 1 0) x xs
 
 -- how often a sender stands in an order whose first place names it, or another

@@ -1,10 +1,16 @@
 -- Lists that are replayed in one order have one outcome, or one fault.
 use Rattle.std.proofs.Common.{◌≡◌, ◌≢◌, ℕ, ◌<◌, Bool, Some, List, length, map, slice_get, refl, sym, ap, subst, ◌∙◌, arith}
-use Rattle.std.proofs.lemmas.Option.{slice_get_within, slice_get-get_or}
+use Rattle.std.proofs.lemmas.Option.{slice_get_within, slice_get-get_or, same_Some}
+use Rattle.docsis_wire.proofs.StreamPlaces.{element_at}
 use Rattle.flow_records.specs.declared.record.FlowRecord.{FlowRecord}
 use Rattle.flow_core.specs.declared.counts.FlowCounts.{FlowCounts}
-use Rattle.flow_core.specs.declared.event.Event.{Event}
+use Rattle.flow_records.specs.declared.event.Event.{Event}
+use Rattle.flow_core.specs.Fates.{no_fates}
 use Rattle.flow_core.specs.Events.{FlowEvent}
+use Rattle.loss_rule.specs.declared.rule.LossRule.{LossRule}
+use Rattle.loss_rule.specs.Rule.{no_lasts, AreRuled}
+use Rattle.loss_rule.proofs.Reaching.{reached-none}
+use Rattle.loss_rule.proofs.Rulings.{rules-once}
 use Rattle.flow_records.proofs.Setup.{one_fault as one_setup_fault, fault-refused as setup-refused}
 use Rattle.receiver.specs.declared.outcome.FlowOutcome.{FlowOutcome}
 use Rattle.lane.specs.declared.report.LaneReport.{LaneReport}
@@ -15,10 +21,13 @@ use Rattle.receiver.specs.declared.setup.Setup.{Setup}
 use Rattle.lane.specs.Limits.{channel_limit}
 use Rattle.lane.specs.Inputs.{AnsweredInput}
 use Rattle.lane.specs.Report.{admitted_of, requests_of}
-use Rattle.receiver.specs.Order.{senders, lengths_of, IsOrderFault}
-use Rattle.receiver.specs.Items.{Incoming, event_of_admitted, items_of, events_at}
+use Rattle.receiver.specs.Order.{lengths_of, IsOrderFault}
+use Rattle.lane.specs.Limits.{senders}
+use Rattle.receiver.specs.Items.{Incoming, items_of, events_at}
+use Rattle.lane.specs.Report.{event_of_admitted}
 use Rattle.receiver.specs.Intake.{IsIntake}
-use Rattle.receiver.specs.Outcome.{IsOutcome, IsOutcomeOfFlow, AreOutcomesOfFlows, GivesAtItsClose}
+use Rattle.receiver.specs.Outcome.{IsOutcome, IsOutcomeOfFlow, AreOutcomesOfFlows, GivesAtItsClose, requests_on}
+use Rattle.receiver.specs.Ruled.{ruled_flow, comings_at, AreRuledOutcomes, IsOutcomeBy}
 use Rattle.lane.specs.Report.{IsReportOf}
 use Rattle.receiver.specs.Faults.{CanReceive, HasBadOrder, IsFirstFault, IsReplayFault, IsTagsFault}
 use Rattle.receiver.specs.AdmittedOrder.{input_counts}
@@ -60,6 +69,31 @@ module _ (check : List ℕ → Bool) (close : HasOneClose check) (records : List
       subst (λ f. GaveTheSame f other) one-is (subst (λ f. GaveTheSame one.0 f) two-is
       (flow-same check close _ (events_at k items) (events_at k items') one.0 two.0 (ap (events_at k) same) one.2 two.2))
 
+-- and of all flows by a rule
+ruled-same : (rule : LossRule) (check : List ℕ → Bool) → HasOneClose check → (setup : Setup) (order : List ℕ) (items items' : List Event) (flows others : List FlowOutcome)
+    → items' ≡ items → AreRuledOutcomes rule check setup order items flows → AreRuledOutcomes rule check setup order items' others
+    → (k : ℕ) (flow other : FlowOutcome) → slice_get flows k ≡ Some flow → slice_get others k ≡ Some other → GaveTheSame flow other
+ruled-same rule check close setup order items items' flows others same is are k flow other at also =
+    let within : k < length flows = slice_get_within flows k flow at in
+    let count = is.count in
+    let stands = element_at setup.flows.items k (omega arith) in
+    let one = is.each k stands.0 stands.1 in
+    let two = are.each k stands.0 stands.1 in
+    let one-is : one.0 ≡ flow = same_Some one.0 flow (sym one.1 ∙ at) in
+    let two-is : two.0 ≡ other = same_Some two.0 other (sym two.1 ∙ also) in
+    let of_rule = ruled_flow setup.sids.items k stands.0 in
+    let again = subst (λ i. AreRuled rule of_rule (comings_at k order i) two.2.events two.2.lasts two.2.fates) same two.2.ruled in
+    let events = (rules-once rule of_rule (no_lasts of_rule) no_fates (comings_at k order items) two.2.events one.2.events two.2.lasts one.2.lasts two.2.fates one.2.fates
+    (reached-none of_rule.first of_rule.width) again one.2.ruled).0 in
+    subst (λ f. GaveTheSame f other) one-is (subst (λ f. GaveTheSame one.0 f) two-is
+    (flow-same check close stands.0 one.2.events two.2.events one.0 two.0 events one.2.gave two.2.gave))
+
+-- what an outcome says besides of what its flows gave
+record TellsOf (answered : ℕ → List AnsweredInput) (order : List ℕ) (outcome : Outcome) : Type 0 where
+  requests : (channel : ℕ) → channel < channel_limit → requests_on outcome channel ≡ requests_of (answered channel)
+  reports : (channel : ℕ) (report : LaneReport) → channel < channel_limit → slice_get outcome.lanes channel ≡ Some report → IsReportOf (answered channel) report
+  order_is : outcome.order.items ≡ order
+
 -- the same of a channel
 report-same : (taken others : List AnsweredInput) (report other : LaneReport) → taken ≡ others → IsReportOf taken report → IsReportOf others other → ReportTheSame report other
 report-same taken others report other same is are =
@@ -87,21 +121,40 @@ module _ (setup : Setup) (incoming : Incoming) (order : List ℕ) (can : CanRece
         in
         one-merge (items_of setup incoming are.answered) order is.items are.items again are.merged
 
+    -- and so are requests and reports, and with them what flows gave the same make the same outcome
+    outcomes-same : (outcome other : Outcome) → TellsOf is.answered order outcome → TellsOf are.answered order other
+        → length outcome.flows.items ≡ length other.flows.items
+        → ((k : ℕ) (flow another : FlowOutcome) → slice_get outcome.flows.items k ≡ Some flow → slice_get other.flows.items k ≡ Some another → GaveTheSame flow another)
+        → IsSameOutcome outcome other
+    outcomes-same outcome other tells also count flows = record {
+      count = count;
+      flows = flows;
+      requests = λ channel below. tells.requests channel below ∙ ap requests_of (one-answered channel below) ∙ sym (also.requests channel below);
+      reports = λ channel report another below at again.
+          report-same (is.answered channel) (are.answered channel) report another (one-answered channel below)
+          (tells.reports channel report below at) (also.reports channel another below again);
+      order = tells.order_is ∙ sym also.order_is;
+    }
+
+  -- so there is one outcome by a rule
+  pub one-ruled_outcome : (rule : LossRule) (check : List ℕ → Bool) → HasOneClose check → (outcome other : Outcome) → IsOutcomeBy rule check setup incoming order outcome
+      → IsOutcomeBy rule check setup incoming order other → IsSameOutcome outcome other
+  one-ruled_outcome rule check close outcome other is are =
+      outcomes-same is.intake are.intake outcome other
+      (record { requests = is.requests; reports = is.reports; order_is = is.order_is })
+      (record { requests = are.requests; reports = are.reports; order_is = are.order_is })
+      (is.flows.count ∙ sym are.flows.count)
+      (ruled-same rule check close setup order is.intake.items are.intake.items outcome.flows.items other.flows.items (sym (one-items is.intake are.intake)) is.flows are.flows)
+
   module _ (check : List ℕ → Bool) (outcome : Outcome) (is : IsOutcome check setup incoming order outcome) where
-    -- so there is one outcome
+    -- and one without
     pub one-outcome : HasOneClose check → (other : Outcome) → IsOutcome check setup incoming order other → IsSameOutcome outcome other
     one-outcome close other are =
-        let same = one-answered is.intake are.intake in
-        let items = sym (one-items is.intake are.intake) in
-        record {
-          count = is.flows.count ∙ sym are.flows.count;
-          flows = flows-same check close setup.flows.items is.intake.items are.intake.items outcome.flows.items other.flows.items items is.flows are.flows;
-          requests = λ channel below. is.requests channel below ∙ ap requests_of (same channel below) ∙ sym (are.requests channel below);
-          reports = λ channel report another below at also.
-              report-same (is.intake.answered channel) (are.intake.answered channel) report another (same channel below)
-              (is.reports channel report below at) (are.reports channel another below also);
-          order = is.order_is ∙ sym are.order_is;
-        }
+        outcomes-same is.intake are.intake outcome other
+        (record { requests = is.requests; reports = is.reports; order_is = is.order_is })
+        (record { requests = are.requests; reports = are.reports; order_is = are.order_is })
+        (is.flows.count ∙ sym are.flows.count)
+        (flows-same check close setup.flows.items is.intake.items are.intake.items outcome.flows.items other.flows.items (sym (one-items is.intake are.intake)) is.flows are.flows)
 
     -- and no fault
     pub outcome-faultless : (k : ℕ) → ¬ (HasBadOrder setup incoming order k)

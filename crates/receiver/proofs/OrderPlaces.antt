@@ -6,7 +6,8 @@ use Rattle.std.proofs.lemmas.List.{length-set, get_or-set_same, get_or-set_other
 use Rattle.std.proofs.lemmas.List.Elements.{All-get_or, All-from_get_or}
 use Rattle.std.proofs.lemmas.Option.{slice_get_within, get_or_from_slice_get, slice_get-get_or}
 use Rattle.flow_records.proofs.Setup.{least-one}
-use Rattle.receiver.specs.Order.{times_of, IsBadPlace, IsOrderFault, IsLawfulOrder, senders}
+use Rattle.receiver.specs.Order.{times_of, IsBadPlace, IsOrderFault, IsLawfulOrder}
+use Rattle.lane.specs.Limits.{senders}
 
 -- no place before k is bad, and of each list so many items are left
 pub record IsLeftOver (lengths order : List ℕ) (k : ℕ) (left : List ℕ) : Type 0 where

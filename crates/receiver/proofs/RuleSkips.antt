@@ -3,8 +3,8 @@ use Rattle.std.proofs.Common.{◌≡◌, ◌≢◌, ℕ, ◌<◌, ◌⊎◌, inl
 use Rattle.std.proofs.lemmas.Option.{same_Some}
 use Rattle.docsis_wire.specs.declared.segment.Segment.{Segment}
 use Rattle.flow_records.specs.declared.record.FlowRecord.{FlowRecord}
-use Rattle.flow_core.specs.declared.event.Event.{Event}
-use Rattle.flow_core.specs.declared.event.Event.TheVariants.{Arrive, SkipTo}
+use Rattle.flow_records.specs.declared.event.Event.{Event}
+use Rattle.flow_records.specs.declared.event.Event.TheVariants.{Arrive, SkipTo}
 use Rattle.flow_core.specs.Fates.{Fates, number_of}
 use Rattle.flow_core.specs.Events.{arrives, skip_to}
 use Rattle.loss_rule.specs.declared.rule.LossRule.{LossRule}

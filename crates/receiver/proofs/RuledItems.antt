@@ -4,11 +4,12 @@ use Rattle.std.proofs.lemmas.Bool.{cases_eq, eq-eqb, ne_eqb}
 use Rattle.std.proofs.lemmas.Option.{same_Some}
 use Rattle.docsis_wire.proofs.StreamPlaces.{element_at}
 use Rattle.flow_records.specs.declared.record.FlowRecord.{FlowRecord}
-use Rattle.flow_core.specs.declared.event.Event.{Event}
-use Rattle.flow_core.specs.declared.event.Event.TheVariants.{Arrive, Gap, GapTo, SkipTo}
+use Rattle.flow_records.specs.declared.event.Event.{Event}
+use Rattle.flow_records.specs.declared.event.Event.TheVariants.{Arrive, Gap, GapTo, SkipTo}
 use Rattle.flow_core.specs.Fates.{no_fates}
 use Rattle.flow_core.specs.Events.{gap, IsAfter}
-use Rattle.flow_core.specs.Flows.{flow_of, event_of}
+use Rattle.flow_core.specs.Flows.{event_of}
+use Rattle.flow_records.specs.Events.{flow_of}
 use Rattle.flow_core.proofs.Outcome.{sound-none}
 use Rattle.flow_core.proofs.Turns.{leads-split}
 use Rattle.loss_rule.specs.declared.rule.LossRule.TheVariants.{Decided}

@@ -2,12 +2,13 @@
 use Rattle.std.proofs.Common.{◌≡◌, ℕ, ◌+◌, ◌<◌, ◌≤◌, ◌⊎◌, inl, inr, Bool, Some, List, [], ◌∷◌, ◌++◌, map, length, slice_get, refl, ap, sym, subst, ◌∙◌, append_assoc, append-nil, arith}
 use Rattle.std.proofs.lemmas.Option.{slice_get_within, same_Some}
 use Rattle.flow_records.specs.declared.record.FlowRecord.{FlowRecord}
-use Rattle.flow_core.specs.declared.event.Event.{Event}
+use Rattle.flow_records.specs.declared.event.Event.{Event}
 use Rattle.flow_core.specs.declared.event.Applied.{Applied}
 use Rattle.flow_records.specs.Setup.{IsInRange}
 use Rattle.flow_core.specs.Fates.{Fates, no_fates, number_of, IsExpected}
 use Rattle.flow_core.specs.Events.{FlowEvent, Changes, Leads, IsAfter}
-use Rattle.flow_core.specs.Flows.{flow_of, event_of}
+use Rattle.flow_core.specs.Flows.{event_of}
+use Rattle.flow_records.specs.Events.{flow_of}
 use Rattle.flow_core.proofs.Outcome.{expected-unique, sound-after, onward-changes}
 use Rattle.flow_core.proofs.OneFates.{after-once}
 use Rattle.flow_core.proofs.Turns.{leads-split, leads-in_turn}
@@ -87,15 +88,20 @@ module _ {C : Type 0} (accepts : C → List ℕ → Bool) where
     pub noted-range : IsInRange r
     noted-range = has.assembled.has_taken.set_up.each k r has.of_flow
 
-  -- What becomes of a flow that takes an event and forgets the numbers that it has then come past.
-  module _ (ruled after : RuledAssembler C) (event : Event) (was is : RuledNumbers) (expected : ℕ)
+  -- the numbers are forgotten that the flow has come past
+  pub record HasForgotten (after : RuledAssembler C) (k : ℕ) (was is : RuledNumbers) : Type 0 where
+    pub expected : ℕ
+    pub expects : Expects after.assembler k expected
+    pub left : numbers_of is.lasts ≡ map (still_ahead expected) (numbers_of was.lasts)
+
+  -- What becomes of a flow that takes an event and forgets the numbers that it has then come past, where the rule looks at any.
+  module _ (ruled after : RuledAssembler C) (event : Event) (was is : RuledNumbers)
       (assembled : (accepted : List ℕ → Bool) (handed : ℕ → List (List ℕ)) (records : List FlowRecord) (items : List Event)
       → HasAssembled accepts ruled.assembler accepted handed records items → HasAssembled accepts after.assembler accepted handed records (items ++ event ∷ []))
       (rule : after.rule ≡ ruled.rule)
       (there : slice_get ruled.numbers.items (flow_of event) ≡ Some was) (then : slice_get after.numbers.items (flow_of event) ≡ Some is)
       (width : is.width ≡ was.width) (carried : carried_of is.lasts ≡ carried_of was.lasts)
-      (expects : Expects after.assembler (flow_of event) expected)
-      (forgot : numbers_of is.lasts ≡ map (still_ahead expected) (numbers_of was.lasts)) where
+      (forgot : (after.rule ≡ Decided) ⊎ HasForgotten after (flow_of event) was is) where
     pub event-led : TakesNoted accepts ruled event after
     event-led accepted handed setup r items lasts fates x has =
         let k = flow_of event in
@@ -112,14 +118,17 @@ module _ {C : Type 0} (accepts : C → List ℕ → Bool) where
         let old : was ≡ has.numbers = same_Some was has.numbers (sym there ∙ has.there) in
         let tied : (after.rule ≡ Decided) ⊎ AreNumbersOf r.first stands.x lasts (numbers_of is.lasts) = elim has.tied [
           | inl decided ↦ inl (rule ∙ decided)
-          | inr numbers ↦
-              let moved = onward-one r.first r.window x stands.x (event_of event) (events_at k items) has.answers s.1 fates stands.fates (omega arith) has.after has.expected led stands.expected in
-              let at = expects accepted handed setup.flows.items r (items ++ event ∷ []) (taken.has_taken.each k r has.of_flow).has_given.answers stands.fates stands.x
-              taken has.of_flow stands.after stands.expected in
-              inr (subst (AreNumbersOf r.first stands.x lasts)
-              (ap (λ (one : RuledNumbers). map (still_ahead (number_of r.first stands.x)) (numbers_of one.lasts)) (sym old)
-              ∙ ap (λ n. map (still_ahead n) (numbers_of was.lasts)) (sym at) ∙ sym forgot)
-              (tied-still r.first x stands.x lasts (numbers_of has.numbers.lasts) moved.0 moved.1 numbers))
+          | inr numbers ↦ elim forgot [
+            | inl decided ↦ inl decided
+            | inr left ↦
+                let moved = onward-one r.first r.window x stands.x (event_of event) (events_at k items) has.answers s.1 fates stands.fates (omega arith) has.after has.expected led stands.expected in
+                let at = left.expects accepted handed setup.flows.items r (items ++ event ∷ []) (taken.has_taken.each k r has.of_flow).has_given.answers stands.fates stands.x
+                taken has.of_flow stands.after stands.expected in
+                inr (subst (AreNumbersOf r.first stands.x lasts)
+                (ap (λ (one : RuledNumbers). map (still_ahead (number_of r.first stands.x)) (numbers_of one.lasts)) (sym old)
+                ∙ ap (λ n. map (still_ahead n) (numbers_of was.lasts)) (sym at) ∙ sym left.left)
+                (tied-still r.first x stands.x lasts (numbers_of has.numbers.lasts) moved.0 moved.1 numbers))
+          ]
         ] in
         record {
           more = items ++ event ∷ [];

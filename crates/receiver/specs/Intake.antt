@@ -1,6 +1,6 @@
 -- The intake: the answer to each input, and the items of the five senders in one order.
 use Rattle.std.specs.Prelude.{ℕ, List}
-use Rattle.flow_core.specs.declared.event.Event.{Event}
+use Rattle.flow_records.specs.declared.event.Event.{Event}
 use Rattle.lane.specs.Inputs.{AnsweredInput}
 use Rattle.receiver.specs.declared.setup.Setup.{Setup}
 use Rattle.receiver.specs.Items.{Incoming, AreLanesOf, items_of}

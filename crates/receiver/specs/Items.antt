@@ -1,18 +1,17 @@
 -- What the five senders send: the segments that each channel admits, and the decisions.
-use Rattle.std.specs.Prelude.{◌≡◌, ℕ, ◌<◌, ◌==◌, ◌&&◌, nat_lt, Bool, true, Option, Some, None, List, [], map, filter, length, is_some, slice_index_or, if◌then◌else◌}
-use Rattle.docsis_wire.specs.Limits.{sequence_modulus}
-use Rattle.flow_core.specs.declared.event.Event.{Event}
-use Rattle.flow_core.specs.declared.event.Event.TheVariants.{Arrive, Gap, GapTo}
+use Rattle.std.specs.Prelude.{◌≡◌, ℕ, ◌<◌, ◌==◌, nat_lt, Bool, List, [], map, filter, length, is_some, slice_index_or, if◌then◌else◌}
+use Rattle.flow_records.specs.declared.event.Event.{Event}
 use Rattle.flow_core.specs.Events.{FlowEvent}
-use Rattle.flow_core.specs.Flows.{flow_of, event_of, IsTakable}
-use Rattle.lane.specs.declared.admitted.Admitted.{Admitted}
+use Rattle.flow_core.specs.Flows.{event_of}
+use Rattle.flow_records.specs.Events.{flow_of, IsTakable}
+use Rattle.flow_records.specs.Decisions.{names_a_flow, event_of_decision}
 use Rattle.lane.specs.declared.input.Input.{Input}
-use Rattle.receiver.specs.declared.setup.Decision.{Decision}
+use Rattle.flow_records.specs.declared.decision.Decision.{Decision}
 use Rattle.receiver.specs.declared.setup.Setup.{Setup}
 use Rattle.receiver.specs.declared.setup.Lists.{Lists}
 use Rattle.lane.specs.Limits.{channel_limit}
 use Rattle.lane.specs.Inputs.{LaneSetup, AnsweredInput, AreAnswered, inputs_of}
-use Rattle.lane.specs.Report.{admitted_by, admitted_of}
+use Rattle.lane.specs.Report.{admitted_by, admitted_of, event_of_admitted}
 
 -- what a lane of this channel is opened with
 abbrev pub lane_setup : Setup → ℕ → LaneSetup
@@ -43,26 +42,6 @@ pub record IsLaneOf (setup : Setup) (incoming : Incoming) (channel : ℕ) (answe
 -- all inputs of the four channels, each with its answer
 abbrev pub AreLanesOf : Setup → Incoming → (ℕ → List AnsweredInput) → Type 0
 AreLanesOf setup incoming answered = (channel : ℕ) → channel < channel_limit → IsLaneOf setup incoming channel (answered channel)
-
--- the decision names one of so many flows, and a sequence number if it names a number; any other is passed over
-abbrev pub names_a_number : Option ℕ → Bool
-names_a_number None = true
-names_a_number (Some number) = nat_lt number sequence_modulus
-
-abbrev pub names_a_flow : ℕ → Decision → Bool
-names_a_flow flow_count decision = nat_lt decision.flow flow_count && names_a_number decision.upto
-
--- what a decision is to the flows
-abbrev pub gap_of : ℕ → Option ℕ → Event
-gap_of flow None = Gap flow
-gap_of flow (Some number) = GapTo flow number
-
-abbrev pub event_of_decision : Decision → Event
-event_of_decision decision = gap_of decision.flow decision.upto
-
--- what an admitted segment is to the flows
-abbrev pub event_of_admitted : Admitted → Event
-event_of_admitted admitted = Arrive admitted.flow admitted.segment
 
 -- the items of a sender, in order: what was admitted on a channel, 0 to 3, or the decisions that name a flow, 4
 abbrev pub items_of : Setup → Incoming → (ℕ → List AnsweredInput) → ℕ → List Event

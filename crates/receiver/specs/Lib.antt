@@ -7,3 +7,5 @@ pub mod Faults
 pub mod SameOutcome
 pub mod Inside
 pub mod Ruled
+pub mod Channels
+pub mod Modem

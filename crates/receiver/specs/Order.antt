@@ -1,10 +1,7 @@
 -- The order in which the items of five senders are taken.
 use Rattle.std.specs.Prelude.{◌≡◌, ℕ, ◌<◌, ◌≤◌, ◌⊎◌, ◌==◌, Bool, Some, List, [], ◌∷◌, length, take, All, count_by, slice_get, slice_index_or, if◌then◌else◌}
 use Rattle.flow_records.specs.Setup.{IsLeast}
-
--- the four channels and the decisions
-abbrev pub senders : ℕ
-senders = 5
+use Rattle.lane.specs.Limits.{senders}
 
 -- how often a sender stands in an order
 abbrev pub times_of : ℕ → List ℕ → ℕ

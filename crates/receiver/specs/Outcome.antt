@@ -1,7 +1,7 @@
 -- The one-thread answer: what a receiver gives, by the definitions alone, for the inputs of four channels, the decisions and an order.
 use Rattle.std.specs.Prelude.{◌≡◌, ℕ, ◌<◌, Bool, Some, List, [], ◌++◌, map, length, replicate, slice_get, slice_index_or}
 use Rattle.flow_records.specs.declared.record.FlowRecord.{FlowRecord}
-use Rattle.flow_core.specs.declared.event.Event.{Event}
+use Rattle.flow_records.specs.declared.event.Event.{Event}
 use Rattle.flow_core.specs.declared.counts.FlowCounts.{FlowCounts}
 use Rattle.flow_core.specs.Events.{FlowEvent, gap}
 use Rattle.flow_core.specs.Outcome.{IsFlowOutcome}

@@ -2,11 +2,11 @@
 use Rattle.std.specs.Prelude.{◌≡◌, ℕ, ◌<◌, ◌==◌, ◌&&◌, Bool, Some, List, [], ◌∷◌, length, slice_get, if◌then◌else◌}
 use Rattle.std.specs.List.{list_any}
 use Rattle.flow_records.specs.declared.record.FlowRecord.{FlowRecord}
-use Rattle.flow_core.specs.declared.event.Event.{Event}
-use Rattle.flow_core.specs.declared.event.Event.TheVariants.{Arrive, Gap, GapTo, SkipTo}
+use Rattle.flow_records.specs.declared.event.Event.{Event}
+use Rattle.flow_records.specs.declared.event.Event.TheVariants.{Arrive, Gap, GapTo, SkipTo}
 use Rattle.flow_core.specs.Fates.{Fates}
 use Rattle.flow_core.specs.Events.{FlowEvent, gap, gap_to, skip_to}
-use Rattle.flow_core.specs.Flows.{flow_of}
+use Rattle.flow_records.specs.Events.{flow_of}
 use Rattle.lane.specs.declared.sids.SidRow.{SidRow}
 use Rattle.lane.specs.declared.report.LaneReport.{LaneReport}
 use Rattle.lane.specs.Limits.{channel_limit}

@@ -2,13 +2,14 @@
 ghost use Rattle.std.specs.Prelude.{◌≡◌, ◌<◌, ◌++◌, ◌∷◌, [], ℕ, Bool, Some, List, length, slice_get, IfOk};
 ghost use Rattle.flow_records.specs.declared.record.FlowRecord.{FlowRecord};
 ghost use Rattle.docsis_wire.specs.Limits.{sequence_modulus};
-ghost use Rattle.flow_core.specs.declared.event.Event.{Event};
+ghost use Rattle.flow_records.specs.declared.event.Event.{Event};
 ghost use Rattle.flow_core.specs.declared.event.Applied.{Applied};
 ghost use Rattle.flow_core.specs.Fates.{Fates, number_of, IsExpected};
 ghost use Rattle.flow_core.specs.Events.{IsAfter};
 ghost use Rattle.flow_records.specs.Setup.{CanBeSetUp};
 ghost use Rattle.flow_core.specs.declared.flow.Flow.{Flow};
-ghost use Rattle.flow_core.specs.Flows.{flow_of, HasFlow, IsDrainedAt, OthersStay};
+ghost use Rattle.flow_core.specs.Flows.{HasFlow, IsDrainedAt, OthersStay};
+ghost use Rattle.flow_records.specs.Events.{flow_of};
 ghost use Rattle.flow_core.specs.Giving.{IsRunning, ClosesFlow};
 ghost use Rattle.receiver.specs.Items.{IsItem, events_at};
 ghost use Rattle.receiver.specs.Outcome.{AreOutcomesOfFlows};

@@ -1,21 +1,34 @@
 //! Laws about the definitions: what is admitted are items of the flows, lists have at most one
-//! merge in an order, the admitted order is lawful, and a replay has at most one outcome and one
-//! fault.
+//! merge in an order, the admitted order is lawful, a replay has at most one outcome and one fault,
+//! and what a flow gives by a loss rule are the modem's frames all of whose segments came in.
 //!
 //! Each function states a law in its contract; its body is empty or only calls other laws.
-ghost use Rattle.std.specs.Prelude.{◌≡◌, ◌≢◌, ℕ, ◌<◌, Bool};
-ghost use Rattle.std.specs.Prelude.{List, length, map, All};
+ghost use Rattle.std.specs.Prelude.{◌≡◌, ◌≢◌, ◌↔◌, ℕ, ◌<◌, Bool, Some};
+ghost use Rattle.std.specs.Prelude.{List, [], length, map, filter, slice_get, All};
+ghost use Rattle.docsis_wire.specs.declared.segment.Segment.{Segment};
+ghost use Rattle.ccf.specs.Filter.{FiltersTo};
+ghost use Rattle.flow_records.specs.declared.record.FlowRecord.{FlowRecord};
 ghost use Rattle.receiver.specs.declared.setup.Setup.{Setup};
 ghost use Rattle.receiver.specs.Order.{IsLawfulOrder, IsOrderFault, IsMergeOf, lengths_of};
 ghost use Rattle.receiver.specs.declared.outcome.Outcome.{Outcome};
 ghost use Rattle.receiver.specs.declared.one_thread.ReplayFault.{ReplayFault};
-ghost use Rattle.receiver.specs.Items.{Incoming, IsItem, event_of_admitted, items_of};
+ghost use Rattle.receiver.specs.declared.outcome.FlowOutcome.{FlowOutcome};
+ghost use Rattle.receiver.specs.Items.{Incoming, IsItem, items_of};
+ghost use Rattle.lane.specs.Report.{event_of_admitted};
+ghost use Rattle.receiver.specs.Items.{events_at};
+ghost use Rattle.flow_records.specs.Decisions.{event_of_decision, names_a_flow};
 ghost use Rattle.receiver.specs.AdmittedOrder.{IsAdmittedOrder};
 ghost use Rattle.receiver.specs.Faults.{CanReceive, HasBadOrder};
 ghost use Rattle.receiver.specs.Intake.{IsIntake};
 ghost use Rattle.receiver.specs.Outcome.{IsOutcome};
-ghost use Rattle.receiver.specs.Ruled.{IsOutcomeBy};
+ghost use Rattle.receiver.specs.Ruled.{ruled_flow, comings_at, IsOutcomeBy};
+ghost use Rattle.receiver.specs.Channels.{HasRow, segments_on, segments_of_flow};
+ghost use Rattle.receiver.specs.Channels.{events_handed_in};
+ghost use Rattle.receiver.specs.Modem.{ComeFromAModem};
 ghost use Rattle.loss_rule.specs.declared.rule.LossRule.{LossRule};
+ghost use Rattle.loss_rule.specs.Rule.{HasChannel};
+ghost use Rattle.loss_rule.specs.InOrder.{Comes, HaveNoDecision, HandInDecisions, DecideSafely};
+ghost use Rattle.loss_rule.specs.InOrder.{IsAllCome};
 ghost use Rattle.receiver.specs.Faults.{IsReplayFault, IsTagsFault};
 ghost use Rattle.receiver.specs.SameOutcome.{IsSameOutcome};
 ghost use Rattle.lane.specs.Limits.{channel_limit};
@@ -70,12 +83,49 @@ pub fn order_has_one_intake()
         → CanReceive setup → intake.items ≡ other.items }
 {}
 
-/// A replay in one order has at most one outcome. An order that has an outcome has no fault.
+/// Each segment that comes to a flow comes on a channel of the flow, one on which a row gives the
+/// flow a service identifier. Those that come on a channel are just the flow's of those that the
+/// channel admits, each once and in order. What is handed in to a flow are its decisions, in order;
+/// none of them is a segment.
+pub fn segments_come_on_channels_of_their_flow()
+    ensures channels { (setup : Setup) (incoming : Incoming) (order : List ℕ)
+        (intake : IsIntake setup incoming order) (flow_record : FlowRecord)
+        (k p channel : ℕ) (segment : Segment)
+        → Comes (comings_at k order intake.items) p channel segment
+        → HasChannel (ruled_flow setup.sids.items k flow_record) channel }
+    ensures rows { (setup : Setup) (flow_record : FlowRecord) (k channel : ℕ)
+        → channel < channel_limit
+        → HasChannel (ruled_flow setup.sids.items k flow_record) channel
+        ↔ HasRow setup.sids.items k channel }
+    ensures come { (setup : Setup) (incoming : Incoming) (order : List ℕ)
+        (intake : IsIntake setup incoming order) (k channel : ℕ)
+        → channel < channel_limit
+        → segments_on channel (comings_at k order intake.items)
+        ≡ segments_of_flow k (admitted_of (intake.answered channel)) }
+    ensures events { (setup : Setup) (incoming : Incoming) (order : List ℕ)
+        (intake : IsIntake setup incoming order) (k : ℕ)
+        → events_handed_in (comings_at k order intake.items)
+        ≡ events_at k (map event_of_decision
+        (filter (names_a_flow (length setup.flows.items)) incoming.decisions)) }
+    ensures decisions { (setup : Setup) (incoming : Incoming) (order : List ℕ)
+        (intake : IsIntake setup incoming order) (k : ℕ)
+        → HandInDecisions (comings_at k order intake.items) }
+    ensures no_decision { (setup : Setup) (incoming : Incoming) (order : List ℕ)
+        (intake : IsIntake setup incoming order) (k : ℕ)
+        → incoming.decisions ≡ [] → HaveNoDecision (comings_at k order intake.items) }
+{}
+
+/// A replay in one order has at most one outcome, also by a loss rule. An order that has an outcome
+/// has no fault.
 pub fn replay_has_one_outcome()
     ensures one { (check : List ℕ → Bool) (setup : Setup) (incoming : Incoming) (order : List ℕ)
         (outcome other : Outcome)
         → CanReceive setup → IsOutcome check setup incoming order outcome
         → IsOutcome check setup incoming order other → IsSameOutcome outcome other }
+    ensures by_rule { (rule : LossRule) (check : List ℕ → Bool) (setup : Setup)
+        (incoming : Incoming) (order : List ℕ) (outcome other : Outcome)
+        → CanReceive setup → IsOutcomeBy rule check setup incoming order outcome
+        → IsOutcomeBy rule check setup incoming order other → IsSameOutcome outcome other }
     ensures faultless { (check : List ℕ → Bool) (setup : Setup) (incoming : Incoming)
         (order : List ℕ) (outcome : Outcome) (k : ℕ)
         → CanReceive setup → IsOutcome check setup incoming order outcome
@@ -109,3 +159,41 @@ pub fn replay_by_decisions_alone_is_a_replay()
         → IsOutcome check setup incoming order outcome
         → IsOutcomeBy LossRule.Decided check setup incoming order outcome }
 {}
+
+/// **What a flow gives is exactly the modem's frames all of whose segments came in**, in the
+/// modem's order. It holds of each flow of an outcome by a loss rule, of a replay and of a run
+/// alike: where what comes to the flow, in the order that the outcome states, is of one lawful cut
+/// of the modem's frames, comes on each channel in the modem's order and falls into the window once
+/// what every channel has passed is skipped, and decisions that are handed in lose nothing that
+/// still comes. Then no segment is counted as late, as a repeat or as beyond the window. It says
+/// nothing of an outage after which the window has to slide.
+pub fn flows_give_the_frames_that_all_came()
+    ensures frames { (rule : LossRule) (check : List ℕ → Bool) (setup : Setup)
+        (incoming : Incoming) (order : List ℕ) (outcome : Outcome) (k : ℕ)
+        (flow_record : FlowRecord) (flow : FlowOutcome) (frames : List (List ℕ))
+        → rule ≢ LossRule.Decided → CanReceive setup
+        → (is : IsOutcomeBy rule check setup incoming order outcome)
+        → slice_get setup.flows.items k ≡ Some flow_record
+        → slice_get outcome.flows.items k ≡ Some flow
+        → (modem : ComeFromAModem rule check (ruled_flow setup.sids.items k flow_record) frames
+        (comings_at k order is.intake.items))
+        → DecideSafely rule (ruled_flow setup.sids.items k flow_record)
+        (comings_at k order is.intake.items) modem.index_at
+        → FiltersTo (IsAllCome frames modem.chunks (comings_at k order is.intake.items)
+        modem.index_at) frames flow.frames.items }
+    ensures counts { (rule : LossRule) (check : List ℕ → Bool) (setup : Setup)
+        (incoming : Incoming) (order : List ℕ) (outcome : Outcome) (k : ℕ)
+        (flow_record : FlowRecord) (flow : FlowOutcome) (frames : List (List ℕ))
+        → rule ≢ LossRule.Decided → CanReceive setup
+        → (is : IsOutcomeBy rule check setup incoming order outcome)
+        → slice_get setup.flows.items k ≡ Some flow_record
+        → slice_get outcome.flows.items k ≡ Some flow
+        → (modem : ComeFromAModem rule check (ruled_flow setup.sids.items k flow_record) frames
+        (comings_at k order is.intake.items))
+        → DecideSafely rule (ruled_flow setup.sids.items k flow_record)
+        (comings_at k order is.intake.items) modem.index_at
+        → (flow.counts.late ≡ 0) × (flow.counts.repeat ≡ 0) × (flow.counts.beyond ≡ 0) }
+{
+    loss_rule::laws::all_that_comes_is_kept();
+    loss_rule::laws::closed_flow_gives_the_frames_that_all_came();
+}

@@ -13,7 +13,8 @@
 //!    the definitions. [`replay_by`] decides besides by a rule which segments are lost.
 //!
 //! [`RuledAssembler`] and [`close_flow`] are what each receiver does with an item and with a flow's
-//! close. [`laws`] says what follows from the definitions, such as that a replay has one outcome.
+//! close. [`laws`] says what follows from the definitions: a replay has one outcome, and by a loss
+//! rule a flow gives exactly the modem's frames all of whose segments came in.
 #![tactic(auto)]
 
 mod flows;
@@ -25,9 +26,10 @@ mod outcome;
 mod ruled;
 mod setup;
 
+pub use flow_records::Decision;
 pub use flows::close_flow;
 pub use one_thread::{ReplayFault, admitted_order, replay, replay_by};
 pub use order::check_order;
 pub use outcome::{FlowOutcome, Outcome};
 pub use ruled::RuledAssembler;
-pub use setup::{BadSetup, Decision, Lists, Setup};
+pub use setup::{BadSetup, Lists, Setup};

@@ -1,10 +1,12 @@
 //! A receiver on one thread, for inputs that were recorded.
 ghost use Rattle.std.specs.Prelude.{◌≡◌, ◌<◌, ℕ, Bool, List, IfOk, IfErr, Err, All, length, map, filter, ◌∷◌, []};
-ghost use Rattle.flow_core.specs.declared.event.Event.{Event};
+ghost use Rattle.flow_records.specs.declared.event.Event.{Event};
 ghost use Rattle.flow_records.specs.Setup.{CanBeSetUp};
 ghost use Rattle.receiver.specs.declared.one_thread.ReplayFault.{ReplayFault};
-ghost use Rattle.receiver.specs.Items.{incoming_of, IsItem, event_of_decision, names_a_flow};
-ghost use Rattle.receiver.specs.Order.{senders, lengths_of, kept_places, IsLawfulOrder, IsMergeOf};
+ghost use Rattle.receiver.specs.Items.{incoming_of, IsItem};
+ghost use Rattle.flow_records.specs.Decisions.{event_of_decision, names_a_flow};
+ghost use Rattle.receiver.specs.Order.{lengths_of, kept_places, IsLawfulOrder, IsMergeOf};
+ghost use Rattle.lane.specs.Limits.{senders};
 ghost use Rattle.receiver.specs.Outcome.{IsOutcome};
 ghost use Rattle.receiver.specs.Ruled.{IsOutcomeBy, AreRuledOutcomes};
 ghost use Rattle.receiver.specs.AdmittedOrder.{IsAdmittedOrder, input_counts};
@@ -210,7 +212,8 @@ pub fn replay<C: HeaderCheck + Drop>(
 }
 
 /// Replays as [`replay`] does, and decides besides by this rule which segments are lost: before a
-/// segment is taken, what the rule says is lost is skipped.
+/// segment is taken, what the rule says is lost is skipped. What each flow then gives is said by
+/// the law [`flows_give_the_frames_that_all_came`](laws::flows_give_the_frames_that_all_came).
 pub fn replay_by<C: HeaderCheck + Drop>(
     rule: LossRule,
     alloc: Global,

@@ -33,9 +33,9 @@ impl<C: HeaderCheck + Drop> RuledAssembler<C> {
     ghost use Rattle.std.specs.Prelude.{◌≡◌, ◌≢◌, ◌++◌, ◌∷◌, [], ℕ, ◌<◌, Bool, List, length, IfOk};
     ghost use Rattle.docsis_wire.specs.Ready.{IsReady};
     ghost use Rattle.docsis_wire.specs.Limits.{sequence_modulus};
-    ghost use Rattle.flow_core.specs.declared.event.Event.{Event};
+    ghost use Rattle.flow_records.specs.declared.event.Event.{Event};
     ghost use Rattle.flow_records.specs.Setup.{CanBeSetUp};
-    ghost use Rattle.flow_core.specs.Flows.{flow_of, IsTakable};
+    ghost use Rattle.flow_records.specs.Events.{flow_of, IsTakable};
     ghost use Rattle.loss_rule.specs.declared.rule.LossRule.{LossRule};
     ghost use Rattle.loss_rule.specs.Rule.{on_channel};
     ghost use Rattle.receiver.specs.declared.setup.Setup.{Setup};
@@ -67,8 +67,10 @@ impl<C: HeaderCheck + Drop> RuledAssembler<C> {
         })
     }
 
-    /// Takes an item of this sender, and before a segment skips what by the rule is lost then.
-    /// Where an allocation failed nothing is promised any more.
+    /// Takes an item of this sender, and before a segment skips what by the rule is lost then. An
+    /// item may also be a skip up to a number ([`Event::SkipTo`]), by which a caller that knows
+    /// more than the rule gives up what is missing. Where an allocation failed nothing is promised
+    /// any more.
     pub fn take(&mut self, alloc: Global, sender: u8, item: Event) -> Result<(), AllocError>
         requires item { IsItem (length self.old.assembler.core.flows.items) item }
         requires ruling { IsRuling C.accepts self.old }
@@ -174,7 +176,8 @@ impl<C: HeaderCheck + Drop> RuledAssembler<C> {
         }
     }
 
-    /// Takes an event, and drops the numbers that its flow has then come past.
+    /// Takes an event, and drops the numbers that its flow has then come past, where the rule looks
+    /// at any.
     fn take_event(&mut self, alloc: Global, event: Event) -> Result<(), AllocError>
         requires noting { IsNoting C.accepts self.old (flow_of event) }
         requires takable { IsTakable event }
@@ -183,6 +186,9 @@ impl<C: HeaderCheck + Drop> RuledAssembler<C> {
     {
         let flow = event.flow();
         self.assembler.take(alloc, event)?;
+        if let LossRule::Decided = self.rule {
+            return Ok(());
+        }
         let expected = self.assembler.expected(flow);
         self.numbers[flow].lasts.forget_passed(expected);
         Ok(())

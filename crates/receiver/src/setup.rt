@@ -1,6 +1,6 @@
 //! What a receiver is set up with, and what comes in on its channels.
-use docsis_wire::SEQUENCE_MODULUS;
-use flow_core::{Event, FlowRecord, SetupFault, check_records};
+use flow_core::{FlowRecord, SetupFault, check_records};
+use flow_records::Decision;
 use lane::{CHANNELS, Input, LaneFault, SidRow, check_rows};
 use thiserror::Error;
 
@@ -38,40 +38,6 @@ impl Setup {
     {
         check_records(&self.flows).map_err(BadSetup::Flows)?;
         check_rows(&self.sids, self.flows.len()).map_err(BadSetup::Rows)
-    }
-}
-
-/// The decision that segments of a flow are lost. One that names no flow, or a number above 8191,
-/// is passed over.
-#[derive(Clone, Copy, Debug, PartialEq, Eq)]
-pub struct Decision {
-    /// The index of the flow's record.
-    pub flow: usize,
-    /// Where it is none, the expected segment is lost; otherwise the segments before the one with
-    /// this number, 0 to 8191, are.
-    pub upto: Option<u16>,
-}
-
-impl Decision {
-    ghost use Rattle.std.specs.Prelude.{◌≡◌};
-    ghost use Rattle.receiver.specs.Items.{names_a_flow, event_of_decision};
-
-    /// Whether it names one of so many flows, and no number above 8191.
-    pub fn names_a_flow(&self, flow_count: usize) -> bool
-        ensures { result ≡ names_a_flow flow_count self.now }
-    {
-        self.flow < flow_count && self.upto.is_none_or(|number| number < SEQUENCE_MODULUS)
-    }
-
-    /// What it is to the flows.
-    pub fn event(&self) -> Event
-        ensures { result ≡ event_of_decision self.now }
-    {
-        let flow = self.flow;
-        match self.upto {
-            None => Event::Gap { flow },
-            Some(number) => Event::GapTo { flow, number },
-        }
     }
 }
 

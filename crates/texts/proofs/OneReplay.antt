@@ -1,16 +1,24 @@
 -- Traces that say the same are played in one order, and to one outcome.
-use Rattle.std.proofs.Common.{◌≡◌, ℕ, zero, suc, ◌<◌, Bool, List, length, map, refl, sym, ap, subst, ◌∙◌, arith}
-use Rattle.std.specs.Prelude.{nat_lt, filter, is_some, if◌then◌else◌}
+use Rattle.std.proofs.Common.{◌≡◌, ℕ, zero, suc, ◌<◌, Bool, Some, List, length, map, refl, sym, ap, subst, ◌∙◌, arith}
+use Rattle.std.specs.Prelude.{nat_lt, filter, is_some, slice_get, if◌then◌else◌}
+use Rattle.flow_records.specs.declared.event.Event.{Event}
+use Rattle.receiver.specs.declared.outcome.FlowOutcome.{FlowOutcome}
 use Rattle.receiver.specs.declared.outcome.Outcome.{Outcome}
 use Rattle.receiver.specs.declared.setup.Setup.{Setup}
 use Rattle.lane.specs.Limits.{channel_limit}
 use Rattle.lane.specs.Rows.{CanBeOpened}
 use Rattle.lane.specs.Inputs.{LaneSetup, AnsweredInput, AreAnswered, inputs_of}
 use Rattle.lane.specs.Report.{admitted_by, admitted_of}
-use Rattle.receiver.specs.Order.{senders, kept_places, IsMergeOf}
-use Rattle.receiver.specs.Items.{Incoming, AreLanesOf, lane_setup, items_of, are_items, event_of_admitted, event_of_decision, names_a_flow}
+use Rattle.receiver.specs.Order.{kept_places, IsMergeOf}
+use Rattle.lane.specs.Limits.{senders}
+use Rattle.receiver.specs.Items.{Incoming, AreLanesOf, lane_setup, items_of, are_items}
+use Rattle.lane.specs.Report.{event_of_admitted}
+use Rattle.flow_records.specs.Decisions.{event_of_decision, names_a_flow}
+use Rattle.loss_rule.specs.declared.rule.LossRule.{LossRule}
 use Rattle.receiver.specs.Outcome.{IsOutcome, AreOutcomesOfFlows}
+use Rattle.receiver.specs.Ruled.{IsOutcomeBy, IsRuledOutcome, AreRuledOutcomes, ruled_flow, comings_at}
 use Rattle.receiver.specs.AdmittedOrder.{IsAdmittedOrder}
+use Rattle.receiver.specs.Intake.{IsIntake}
 use Rattle.receiver.specs.Faults.{CanReceive}
 
 -- lists with the same items have the same merges
@@ -47,6 +55,17 @@ module _ (setup other : Setup) (incoming more : Incoming) (flows : setup.flows.i
       (λ decided. if nat_lt sender channel_limit then lane else map event_of_decision (filter (names_a_flow (length other.flows.items)) decided))
       decisions
 
+  -- and the intake in an order
+  intake_moved : (order : List ℕ) → IsIntake setup incoming order → IsIntake other more order
+  intake_moved order is = record {
+    answered = is.answered;
+    lanes = lanes_moved is.answered is.lanes;
+    items = is.items;
+    merged =
+        merge_moved (items_of setup incoming is.answered) (items_of other more is.answered) order is.items (λ sender _. items_moved is.answered sender)
+        is.merged;
+  }
+
   -- the admitted order
   pub order_moved : (tags order : List ℕ) → IsAdmittedOrder setup incoming tags order → IsAdmittedOrder other more tags order
   order_moved tags order is = record {
@@ -62,16 +81,37 @@ module _ (setup other : Setup) (incoming more : Incoming) (flows : setup.flows.i
   -- and the outcome
   pub outcome_moved : (check : List ℕ → Bool) (order : List ℕ) (outcome : Outcome) → IsOutcome check setup incoming order outcome
       → IsOutcome check other more order outcome
+  unfolding intake_moved
   outcome_moved check order outcome is = record {
-    intake = record {
-      answered = is.intake.answered;
-      lanes = lanes_moved is.intake.answered is.intake.lanes;
-      items = is.intake.items;
-      merged =
-          merge_moved (items_of setup incoming is.intake.answered) (items_of other more is.intake.answered) order is.intake.items
-          (λ sender _. items_moved is.intake.answered sender) is.intake.merged;
-    };
+    intake = intake_moved order is.intake;
     flows = subst (λ records. AreOutcomesOfFlows check records is.intake.items outcome.flows.items) flows is.flows;
+    request_lists = is.request_lists;
+    requests = is.requests;
+    report_count = is.report_count;
+    reports = is.reports;
+    order_is = is.order_is;
+  }
+
+  -- what the flows gave by a loss rule
+  ruled_moved : (rule : LossRule) (check : List ℕ → Bool) (order : List ℕ) (items : List Event) (gave : List FlowOutcome)
+      → AreRuledOutcomes rule check setup order items gave → AreRuledOutcomes rule check other order items gave
+  ruled_moved rule check order items gave is = record {
+    count = is.count ∙ ap length flows;
+    each = λ k flow_record at.
+        let found = is.each k flow_record (subst (λ records. slice_get records k ≡ Some flow_record) (sym flows) at) in (
+          found.0,
+          found.1,
+          subst (λ rows. IsRuledOutcome rule check (ruled_flow rows k flow_record) flow_record (comings_at k order items) found.0) sids found.2,
+        );
+  }
+
+  -- and the outcome by it
+  pub outcome_by_moved : (rule : LossRule) (check : List ℕ → Bool) (order : List ℕ) (outcome : Outcome) → IsOutcomeBy rule check setup incoming order outcome
+      → IsOutcomeBy rule check other more order outcome
+  unfolding intake_moved
+  outcome_by_moved rule check order outcome is = record {
+    intake = intake_moved order is.intake;
+    flows = ruled_moved rule check order is.intake.items outcome.flows.items is.flows;
     request_lists = is.request_lists;
     requests = is.requests;
     report_count = is.report_count;

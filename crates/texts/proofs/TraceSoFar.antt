@@ -11,7 +11,7 @@ use Rattle.docsis_wire.proofs.StreamPlaces.{slice_get-at}
 use Rattle.lane.specs.declared.input.Input.{Input}
 use Rattle.lane.specs.declared.sids.SidRow.{SidRow}
 use Rattle.lane.specs.declared.sids.seen.SeenSids.{SeenSids}
-use Rattle.receiver.specs.declared.setup.Decision.{Decision}
+use Rattle.flow_records.specs.declared.decision.Decision.{Decision}
 use Rattle.receiver.specs.declared.setup.Lists.{Lists}
 use Rattle.receiver.specs.Items.{inputs_on}
 use Rattle.lane.specs.Limits.{channel_limit}

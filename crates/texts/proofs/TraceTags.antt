@@ -7,7 +7,8 @@ use Rattle.std.proofs.lemmas.List.Sums.{sum_by-cons}
 use Rattle.std.proofs.lemmas.List.Elements.{All-nil, All-head, All-tail, All-push, All-map, All-weaker}
 use Rattle.lane.specs.Limits.{channel_limit}
 use Rattle.receiver.specs.Items.{Incoming, incoming_of}
-use Rattle.receiver.specs.Order.{senders, times_of, IsLawfulOrder}
+use Rattle.receiver.specs.Order.{times_of, IsLawfulOrder}
+use Rattle.lane.specs.Limits.{senders}
 use Rattle.receiver.specs.AdmittedOrder.{input_counts}
 use Rattle.texts.specs.Format.{IsRead}
 use Rattle.texts.specs.declared.trace.Trace.{Trace}

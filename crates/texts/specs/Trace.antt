@@ -4,7 +4,7 @@ pub mod Place
 use Rattle.std.specs.Prelude.{◌≡◌, ◌<◌, ◌==◌, ℕ, Option, Some, None, List, length, map, filter_map, if◌then◌else◌}
 use Rattle.lane.specs.Limits.{channel_limit}
 use Rattle.lane.specs.declared.input.Input.{Input}
-use Rattle.receiver.specs.declared.setup.Decision.{Decision}
+use Rattle.flow_records.specs.declared.decision.Decision.{Decision}
 use Rattle.receiver.specs.declared.setup.Lists.{Lists}
 use Rattle.receiver.specs.Items.{inputs_on}
 use Rattle.texts.specs.declared.fault.ParseFault.{ParseFault}

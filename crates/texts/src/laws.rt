@@ -1,13 +1,14 @@
 //! The definitions of `join`, of `cut`, of `replay` and of traces determine their answers: an input
 //! has at most one text, or is at most one trace, has at most one first fault, and never both. So
 //! do those of `run`, but for the text, which may be one of several. A trace passes the checks of a
-//! receiver.
+//! receiver. Where decisions alone decide, the texts by the loss rule are those without one.
 //!
 //! Each function states a law in its contract; its body is empty or only calls other laws.
 ghost use Rattle.std.specs.Prelude.{◌≡◌, ◌≢◌, ◌≤◌, ℕ, List, length, flat_map};
 ghost use Rattle.docsis_wire.specs.declared.pieces.FillByte.{FillByte};
 ghost use Rattle.docsis_wire.specs.declared.pieces.Piece.{Piece};
 ghost use Rattle.docsis_wire.specs.declared.segment.Segment.{Segment};
+ghost use Rattle.loss_rule.specs.declared.rule.LossRule.{LossRule};
 ghost use Rattle.receiver.specs.Items.{incoming_of};
 ghost use Rattle.receiver.specs.Faults.{CanReceive};
 ghost use Rattle.receiver.specs.AdmittedOrder.{input_counts};
@@ -17,8 +18,8 @@ ghost use Rattle.texts.specs.declared.fault.TextFault.{TextFault};
 ghost use Rattle.texts.specs.declared.trace.Trace.{Trace};
 ghost use Rattle.texts.specs.Join.{IsJoined, IsJoinFault};
 ghost use Rattle.texts.specs.Cut.{IsCutInto, IsCutText, IsCutFault, segment_line, cut_text_length};
-ghost use Rattle.texts.specs.Replay.{IsReplayed, IsReplayFault, IsReportFault};
-ghost use Rattle.texts.specs.Run.{IsRunText};
+ghost use Rattle.texts.specs.Replay.{IsReplayed, IsReplayedBy, IsReplayFault, IsReportFault};
+ghost use Rattle.texts.specs.Run.{IsRunText, IsRunTextBy};
 ghost use Rattle.texts.specs.Trace.{IsTrace, IsTraceFault, AreSameTraces};
 
 /// At most one text stands for an input of `join`.
@@ -146,6 +147,35 @@ pub fn faulty_input_has_no_report()
     ensures run { (ring mailbox : ℕ) (input text : List ℕ) (fault : TextFault)
         → IsRunText ring mailbox input text → IsReportFault ring input fault
         → fault ≡ TextFault.OutOfMemory }
+    ensures replay_by { (rule : LossRule) (input text : List ℕ) (fault : TextFault)
+        → IsReplayedBy rule input text → IsReplayFault input fault
+        → fault ≡ TextFault.OutOfMemory }
+    ensures run_by { (rule : LossRule) (ring mailbox : ℕ) (input text : List ℕ) (fault : TextFault)
+        → IsRunTextBy rule ring mailbox input text → IsReportFault ring input fault
+        → fault ≡ TextFault.OutOfMemory }
 {
     faulty_input_is_no_trace();
+}
+
+/// Where the decisions of a trace decide alone, the text of `replay` by the rule is the text
+/// without one.
+pub fn replay_by_decisions_alone_is_a_replay()
+    ensures replay { (input text : List ℕ)
+        → IsReplayedBy LossRule.Decided input text → IsReplayed input text }
+    ensures by_rule { (input text : List ℕ)
+        → IsReplayed input text → IsReplayedBy LossRule.Decided input text }
+{
+    receiver::laws::replay_by_decisions_alone_is_a_replay();
+}
+
+/// So are the texts of `run`.
+pub fn run_by_decisions_alone_is_a_run()
+    ensures run { (ring mailbox : ℕ) (input text : List ℕ)
+        → IsRunTextBy LossRule.Decided ring mailbox input text
+        → IsRunText ring mailbox input text }
+    ensures by_rule { (ring mailbox : ℕ) (input text : List ℕ)
+        → IsRunText ring mailbox input text
+        → IsRunTextBy LossRule.Decided ring mailbox input text }
+{
+    receiver::laws::replay_by_decisions_alone_is_a_replay();
 }

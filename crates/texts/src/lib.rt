@@ -8,7 +8,8 @@
 //!   segments; it may also report the first fault of the cut. [`join_lines`] joins segments, one a
 //!   line, and answers their frames.
 //! - [`replay_lines`] plays a trace in the order of its lines on the caller's thread, and answers
-//!   the report of what each flow gave.
+//!   the report of what each flow gave. [`replay_lines_by`] decides besides by a rule which
+//!   segments are lost.
 //! - For a receiver of one's own, [`parse_trace`] reads a trace into the setup, the lists and the
 //!   tags that `receiver` and `uplink` take, and [`report`] prints its outcome; [`read_trace`]
 //!   also frees what it has read. So the crate `engines` receives a trace on threads.
@@ -41,6 +42,6 @@ pub use cut::cut_lines;
 pub use fault::{ParseFault, TextFault, TraceFault, TraceKind};
 pub use join::join_lines;
 pub use number::read_number;
-pub use replay::replay_lines;
+pub use replay::{replay_lines, replay_lines_by};
 pub use report_lines::report;
 pub use trace::{Trace, parse_trace, read_trace};

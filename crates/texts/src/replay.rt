@@ -4,7 +4,7 @@ ghost use Rattle.receiver.specs.Items.{incoming_of};
 ghost use Rattle.receiver.specs.Faults.{CanReceive};
 ghost use Rattle.receiver.specs.AdmittedOrder.{input_counts, IsAdmittedOrder};
 ghost use Rattle.receiver.specs.Order.{IsLawfulOrder};
-ghost use Rattle.texts.specs.Replay.{IsPlayed, IsReplayed, IsReplayFault};
+ghost use Rattle.texts.specs.Replay.{IsPlayedBy, IsReplayed, IsReplayedBy, IsReplayFault};
 
 use crate::capacities::{Capacities, DEFAULT_CAPACITY};
 use crate::fault::TextFault;
@@ -12,7 +12,8 @@ use crate::receiver_fault::unless_out_of_memory;
 use crate::report_lines::report;
 use crate::trace::{Trace, read_trace};
 use docsis_wire::NoCheck;
-use receiver::{Outcome, admitted_order, replay};
+use loss_rule::LossRule;
+use receiver::{Outcome, admitted_order, replay_by};
 use std::alloc::{AllocError, Global};
 
 /// The senders of what a trace's lines say that was admitted, in the order of the lines.
@@ -29,17 +30,17 @@ fn order_of(alloc: Global, trace: &Trace) -> Result<Vec<u8>, AllocError>
     unless_out_of_memory(order)
 }
 
-/// What a trace gives, which is freed.
-fn replay_trace(alloc: Global, trace: Trace) -> Result<Outcome, AllocError>
+/// What a trace gives by this rule; the trace is freed.
+fn replay_trace(rule: LossRule, alloc: Global, trace: Trace) -> Result<Outcome, AllocError>
     requires can_receive { CanReceive trace.setup }
     requires lawful { IsLawfulOrder (input_counts (incoming_of trace.lists))
         trace.tags.items }
-    ensures { IfOk result (IsPlayed trace) }
+    ensures { IfOk result (IsPlayedBy rule trace) }
 {
     lane::laws::rows_have_one_first_fault();
     receiver::laws::admitted_order_is_lawful();
     let order = order_of(alloc, &trace)?;
-    let answer = replay(alloc, &trace.setup, &trace.lists, &order, NoCheck);
+    let answer = replay_by(rule, alloc, &trace.setup, &trace.lists, &order, NoCheck);
     unless_out_of_memory(answer)
 }
 
@@ -54,6 +55,16 @@ pub fn replay_lines(alloc: Global, input: Vec<u8>) -> Result<Vec<u8>, TextFault>
     ensures text { IfOk result (λ text. IsReplayed input.items text.items) }
     ensures fault { IfErr result (IsReplayFault input.items) }
 {
+    crate::laws::replay_by_decisions_alone_is_a_replay();
+    replay_lines_by(LossRule::Decided, alloc, input)
+}
+
+/// The report of a trace as [`replay_lines`] makes it, where besides the decisions of the trace
+/// this rule decides which segments are lost.
+pub fn replay_lines_by(rule: LossRule, alloc: Global, input: Vec<u8>) -> Result<Vec<u8>, TextFault>
+    ensures text { IfOk result (λ text. IsReplayedBy rule input.items text.items) }
+    ensures fault { IfErr result (IsReplayFault input.items) }
+{
     crate::laws::trace_passes_the_checks();
     crate::laws::tags_of_a_trace_are_lawful();
     let capacities = Capacities {
@@ -61,6 +72,6 @@ pub fn replay_lines(alloc: Global, input: Vec<u8>) -> Result<Vec<u8>, TextFault>
         ring: DEFAULT_CAPACITY,
     };
     let trace = read_trace(alloc, input, capacities)?;
-    let outcome = replay_trace(alloc, trace)?;
+    let outcome = replay_trace(rule, alloc, trace)?;
     Ok(report(alloc, &outcome)?)
 }

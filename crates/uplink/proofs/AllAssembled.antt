@@ -8,12 +8,12 @@ use Rattle.delivery.specs.Feeders.{feeder_ring, offered, closed_offered}
 use Rattle.delivery.specs.declared.feeder.Feeder.{Feeder}
 use Rattle.delivery.specs.declared.feeder.ClosedFeeder.{ClosedFeeder}
 use Rattle.flow_core.specs.declared.counts.FlowCounts.{FlowCounts}
-use Rattle.flow_core.specs.declared.event.Event.{Event}
+use Rattle.flow_records.specs.declared.event.Event.{Event}
 use Rattle.uplink.specs.declared.assembler.Taking.{Taking}
 use Rattle.uplink.specs.declared.assembler.Assembled.{Assembled}
-use Rattle.uplink.specs.declared.item.Item.{Item}
+use Rattle.workers.specs.declared.item.Item.{Item}
 use Rattle.receiver.specs.Items.{events_at}
-use Rattle.receiver.specs.Order.{senders}
+use Rattle.lane.specs.Limits.{senders}
 use Rattle.loss_rule.specs.Rule.{AreRuled}
 use Rattle.receiver.specs.declared.ruled.RuledAssembler.{RuledAssembler}
 use Rattle.receiver.specs.Ruled.{ruled_flow, comings_at}

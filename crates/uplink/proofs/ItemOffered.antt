@@ -5,8 +5,8 @@ use Rattle.std.proofs.lemmas.List.Elements.{All-pop}
 use Rattle.std.proofs.lemmas.Option.{slice_get_read, same_Some}
 use Rattle.delivery.specs.Feeders.{offered}
 use Rattle.delivery.specs.declared.feeder.Feeder.{Feeder}
-use Rattle.flow_core.specs.declared.event.Event.{Event}
-use Rattle.flow_core.specs.Flows.{flow_of}
+use Rattle.flow_records.specs.declared.event.Event.{Event}
+use Rattle.flow_records.specs.Events.{flow_of}
 use Rattle.flow_core.proofs.OneFlow.{written, written_other}
 use Rattle.receiver.specs.declared.setup.Setup.{Setup}
 use Rattle.receiver.specs.declared.ruled.RuledAssembler.{RuledAssembler}

@@ -4,10 +4,11 @@ use Rattle.std.proofs.lemmas.Bool.{cases_eq}
 use Rattle.std.proofs.lemmas.Bool.Decides.{nat_tests}
 use Rattle.std.proofs.lemmas.List.{length_push, map-append}
 use Rattle.std.proofs.lemmas.List.Elements.{All-nil, All-push}
-use Rattle.flow_core.specs.declared.event.Event.{Event}
-use Rattle.receiver.specs.Order.{picked, senders}
-use Rattle.uplink.specs.declared.item.Item.{Item}
-use Rattle.uplink.specs.Inside.Carried.{carried}
+use Rattle.flow_records.specs.declared.event.Event.{Event}
+use Rattle.receiver.specs.Order.{picked}
+use Rattle.lane.specs.Limits.{senders}
+use Rattle.workers.specs.declared.item.Item.{Item}
+use Rattle.workers.specs.Inside.Carried.{carried}
 use Rattle.uplink.specs.Inside.Offering.{HasCollected}
 
 -- an item at the end is picked for its own sender

@@ -1,10 +1,6 @@
-pub mod LaneServed
-pub mod RequestsKept
-pub mod FramesConsumed
 pub mod ItemOffered
 pub mod RestOffered
 pub mod ItemsCollected
 pub mod AllAssembled
 pub mod RunOutcome
-pub mod AlikeLists
-pub mod RingsSettled
+pub mod AllSettled

@@ -11,7 +11,7 @@ use Rattle.delivery.specs.declared.feeder.Feeder.{Feeder}
 use Rattle.flow_records.specs.declared.record.FlowRecord.{FlowRecord}
 use Rattle.flow_core.specs.declared.counts.FlowCounts.{FlowCounts}
 use Rattle.flow_core.specs.declared.flows.Core.{Core}
-use Rattle.flow_core.specs.declared.event.Event.{Event}
+use Rattle.flow_records.specs.declared.event.Event.{Event}
 use Rattle.flow_core.specs.Flows.{OthersStay, IsDrainedAt}
 use Rattle.flow_core.specs.Giving.{HasDrained, IsRunning}
 use Rattle.flow_core.proofs.OneFlow.{written, written_other}

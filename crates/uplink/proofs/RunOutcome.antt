@@ -19,12 +19,12 @@ use Rattle.delivery.specs.declared.feeder.Feeder.{Feeder}
 use Rattle.delivery.specs.declared.feeder.ClosedFeeder.{ClosedFeeder}
 use Rattle.delivery.specs.declared.taker.Taker.{Taker}
 use Rattle.flow_core.specs.declared.counts.FlowCounts.{FlowCounts}
-use Rattle.flow_core.specs.declared.event.Event.{Event}
+use Rattle.flow_records.specs.declared.event.Event.{Event}
 use Rattle.flow_records.specs.declared.record.FlowRecord.{FlowRecord}
 use Rattle.lane.specs.declared.admitted.Request.{Request}
-use Rattle.uplink.specs.declared.frame_worker.Consumed.{Consumed}
-use Rattle.uplink.specs.declared.item.Item.{Item}
-use Rattle.uplink.specs.declared.lane_worker.LaneDone.{LaneDone}
+use Rattle.workers.specs.declared.frame_worker.Consumed.{Consumed}
+use Rattle.workers.specs.declared.item.Item.{Item}
+use Rattle.workers.specs.declared.lane_worker.LaneDone.{LaneDone}
 use Rattle.lane.specs.declared.lane.Lane.{Lane}
 use Rattle.receiver.specs.declared.outcome.FlowOutcome.{FlowOutcome}
 use Rattle.lane.specs.declared.report.LaneReport.{LaneReport}
@@ -34,16 +34,19 @@ use Rattle.uplink.specs.declared.finish.Ended.{Ended}
 use Rattle.receiver.specs.declared.setup.Setup.{Setup}
 use Rattle.lane.specs.Inputs.{AnsweredInput}
 use Rattle.lane.specs.Report.{admitted_of, requests_of}
-use Rattle.receiver.specs.Items.{Incoming, IsLaneOf, AreLanesOf, IsItem, lane_setup, items_of, event_of_admitted, event_of_decision, names_a_flow}
+use Rattle.receiver.specs.Items.{Incoming, IsLaneOf, AreLanesOf, IsItem, lane_setup, items_of}
+use Rattle.lane.specs.Report.{event_of_admitted}
+use Rattle.flow_records.specs.Decisions.{event_of_decision, names_a_flow}
 use Rattle.lane.specs.Limits.{channel_limit}
-use Rattle.receiver.specs.Order.{senders, picked, IsMergeOf}
+use Rattle.receiver.specs.Order.{picked, IsMergeOf}
+use Rattle.lane.specs.Limits.{senders}
 use Rattle.receiver.specs.Outcome.{GivesAtItsClose, requests_on}
 use Rattle.receiver.specs.Ruled.{ruled_flow, comings_at, IsRuledOutcome, AreRuledOutcomes, IsOutcomeBy}
 use Rattle.loss_rule.specs.declared.rule.LossRule.{LossRule}
 use Rattle.lane.specs.Report.{IsReportOf}
 use Rattle.lane.specs.Stands.{StandsFor}
-use Rattle.uplink.specs.Inside.Carried.{carried}
-use Rattle.uplink.specs.Inside.Working.{HasPosted, HasSent, HasServed, DidLane, kept_of}
+use Rattle.workers.specs.Inside.Carried.{carried}
+use Rattle.workers.specs.Inside.Working.{HasPosted, HasSent, HasServed, DidLane, kept_of}
 use Rattle.uplink.specs.Inside.Offering.{NamesOneOf, GivesByRule}
 use Rattle.uplink.specs.Inside.Running.{IsOpened, HasEnded, CanSettle, HasConcluded, closed_arrivals, closed_requests, all_posted}
 use Rattle.receiver.proofs.ChannelInputs.{items-admitted}

@@ -1,5 +1,2 @@
-pub mod Takable
-pub mod Carried
-pub mod Working
 pub mod Offering
 pub mod Running

@@ -2,15 +2,14 @@
 ghost use Rattle.std.specs.Prelude.{◌≡◌, ◌<◌, ◌≤◌, ◌++◌, ◌∷◌, [], ℕ, List, Some, true, IfSome, IfOk, OnOk, length, map};
 ghost use Rattle.mailbox.specs.Mouths.{places, taken, ended};
 ghost use Rattle.delivery.specs.Feeders.{feeder_ring, offered, closed_ring, closed_offered};
-ghost use Rattle.flow_core.specs.declared.event.Event.{Event};
+ghost use Rattle.flow_records.specs.declared.event.Event.{Event};
 ghost use Rattle.flow_core.specs.Flows.{IsDrainedAt, OthersStay};
 ghost use Rattle.flow_core.specs.Giving.{IsRunning};
-ghost use Rattle.receiver.specs.Order.{senders};
+ghost use Rattle.lane.specs.Limits.{senders};
 ghost use Rattle.receiver.specs.Inside.Assembly.{IsTaking, GivesTheRest};
 ghost use Rattle.receiver.specs.Inside.Ruling.{IsRuling};
 ghost use Rattle.uplink.specs.Inside.Offering.{HasCollected, HasAssembledSoFar, OffersItem, OffersTheRest, HasAssembledAll};
 
-use crate::item::Item;
 use delivery::{ClosedFeeder, Feeder};
 use docsis_wire::{Bytes, HeaderCheck};
 use flow_core::{Core, FlowCounts};
@@ -19,6 +18,7 @@ use receiver::{RuledAssembler, close_flow};
 use std::alloc::{AllocError, Global};
 use std::sync::Wait;
 use std::thread;
+use workers::{Item, close_feeders, flush_all, offer_all};
 
 /// All flows, and the order of the items that were taken so far.
 #[derive(Drop)]
@@ -168,29 +168,6 @@ fn offer_item<C: HeaderCheck + Drop>(
     offer_all(&mut feeders[flow], frames)
 }
 
-/// Offers frames to a feeder, in order.
-fn offer_all(feeder: &mut Feeder, frames: Vec<Bytes>) -> Result<(), AllocError>
-    ensures ring { feeder_ring feeder.new ≡ feeder_ring feeder.old }
-    ensures offered { OnOk result (offered feeder.new ≡ offered feeder.old ++ frames.items) }
-{
-    for frame in frames {
-        let Ok(()) = feeder.offer(frame.into_vec()) else {
-            return Err(AllocError);
-        };
-    }
-    Ok(())
-}
-
-/// Moves what the backlogs hold into the rings for as long as they have room.
-fn flush_all(feeders: &mut [Feeder])
-    ensures rings { map feeder_ring feeders.new ≡ map feeder_ring feeders.old }
-    ensures offered { map offered feeders.new ≡ map offered feeders.old }
-{
-    for feeder in feeders.iter_mut() {
-        feeder.flush();
-    }
-}
-
 /// Closes all flows, and offers the frames that this gives. Answers the order of the items and what
 /// was counted of each flow.
 fn close_flows<C: HeaderCheck + Drop>(
@@ -259,37 +236,4 @@ fn offer_rest<C: HeaderCheck + Drop>(
     let counts = close_flow(alloc, core, flow, &mut frames)?;
     offer_all(feeder, frames)?;
     Ok(counts)
-}
-
-/// Closes all feeders, and waits for each until it has room for its end mark.
-fn close_feeders<R: Wait>(
-    rt: &R,
-    feeders: Vec<Feeder>,
-    closed: Vec<ClosedFeeder>,
-) -> Vec<ClosedFeeder>
-    requires room { (closed.items ≡ []) × (length feeders.items ≤ closed.cap) }
-    ensures rings { map closed_ring result.items ≡ map feeder_ring feeders.items }
-    ensures offered { map closed_offered result.items ≡ map offered feeders.items }
-{
-    let mut closed = closed;
-    for feeder in feeders {
-        closed.push_reserved(wait_to_close(rt, feeder));
-    }
-    closed
-}
-
-/// Closes a feeder, and tries again until it is closed.
-fn wait_to_close<R: Wait>(rt: &R, feeder: Feeder) -> ClosedFeeder
-    ensures ring { closed_ring result ≡ feeder_ring feeder }
-    ensures offered { closed_offered result ≡ offered feeder }
-{
-    let mut feeder = feeder;
-    for _ in rt.forever() {
-        match feeder.close() {
-            Ok(closed) => return closed,
-            Err(back) => feeder = back,
-        }
-        thread::yield_now();
-    }
-    unreachable!()
 }

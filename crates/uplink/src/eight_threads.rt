@@ -10,17 +10,11 @@ ghost use Rattle.uplink.specs.Headline.{KeepsTheHeadline};
 ghost use Rattle.receiver.specs.Items.{incoming_from};
 ghost use Rattle.receiver.specs.Outcome.{IsOutcome};
 ghost use Rattle.receiver.specs.Ruled.{IsOutcomeBy};
-ghost use Rattle.uplink.specs.Inside.Running.{CanStart, HasEnded};
+ghost use Rattle.uplink.specs.Inside.Running.{CanStart, HasEnded, IsOpened};
 
 use crate::assembler::{AssembledAll, assemble};
-use crate::decision_worker::DecidingWork;
 use crate::finish::{Ended, conclude};
-use crate::lane_worker::LaneWork;
 use crate::open::{Opened, open_all};
-use crate::retry::close_port;
-use crate::source::{Decisions, Source, Sources};
-use crate::tap::{Tap, Taps};
-use crate::team::{Work, start_team};
 use docsis_wire::{Bytes, HeaderCheck};
 use flow_core::SetupFault;
 use lane::{LaneFault, Request};
@@ -30,6 +24,7 @@ use std::alloc::{AllocError, Global};
 use std::sync::Wait;
 use std::thread::Threads;
 use thiserror::Error;
+use workers::{Decisions, Share, Source, Sources, Tap, Taps, Work, both_done, start_team};
 
 /// Why a receiver doesn't run. The first of these is reported.
 #[derive(Clone, Copy, Debug, PartialEq, Eq, Error)]
@@ -148,7 +143,10 @@ where
 
 /// Runs as [`run`] does, and decides besides by this rule which segments are lost: before a segment
 /// is taken, what the rule says is lost is skipped. The outcome is the one that one thread gives by
-/// the rule for that order.
+/// the rule for that order. What each flow then gives is said by the law
+/// [`flows_give_the_frames_that_all_came`](crate::laws::flows_give_the_frames_that_all_came), whose
+/// premises are about that order: in it one channel may be further ahead of another than it was on
+/// the air, and a window has to hold that too.
 pub fn run_by<S0, S1, S2, S3, D, F, Q, C, R>(
     rule: LossRule,
     alloc: Global,
@@ -176,11 +174,25 @@ where
     ensures can_run { IfOk result (λ _. CanRun setup) }
     ensures fault { IfErr result (IsRunFault setup) }
 {
-    check_setup(&setup)?;
-    let opened = open_all(alloc, rule, &setup, check)?;
+    let opened = prepare(alloc, rule, &setup, check)?;
     let flow_count = setup.flows.len();
     let end = run_opened(alloc, &rt, flow_count, opened, sources, decisions, taps)?;
     Ok(conclude(alloc, &rt, &setup.flows, end)?)
+}
+
+/// Opens all that a receiver by this rule needs, if its setup can be run.
+fn prepare<C: HeaderCheck + Drop>(
+    alloc: Global,
+    rule: LossRule,
+    setup: &Setup,
+    check: C,
+) -> Result<Opened<C>, RunFault>
+    ensures opened { IfOk result (IsOpened C.accepts (C.accepts check) rule setup.now) }
+    ensures can_run { IfOk result (λ _. CanRun setup.now) }
+    ensures fault { IfErr result (IsRunFault setup.now) }
+{
+    check_setup(setup)?;
+    Ok(open_all(alloc, rule, setup, check)?)
 }
 
 /// Runs what was opened until all threads have returned.
@@ -209,6 +221,7 @@ where
         ∷ S3.gives sources.s3 ∷ []) (D.decides decisions)) opened) }
 {
     let Opened {
+        start,
         lanes,
         flows,
         rings,
@@ -216,29 +229,21 @@ where
         arrivals,
         requests,
     } = opened;
-    let unused_port = close_port(rt, requests.ports.p4);
-    let work = Work {
-        l0: LaneWork::new(lanes.l0, arrivals.ports.p0, requests.ports.p0, sources.s0),
-        l1: LaneWork::new(lanes.l1, arrivals.ports.p1, requests.ports.p1, sources.s1),
-        l2: LaneWork::new(lanes.l2, arrivals.ports.p2, requests.ports.p2, sources.s2),
-        l3: LaneWork::new(lanes.l3, arrivals.ports.p3, requests.ports.p3, sources.s3),
-        decisions: DecidingWork {
-            flow_count,
-            arrivals: arrivals.ports.p4,
-            decisions,
-        },
-        requests: requests.mouth,
+    let share = Share {
+        start,
+        lanes,
+        arrivals: arrivals.ports,
+        requests,
         takers: rings.takers,
-        taps,
     };
+    let (work, unused_port) = Work::new(rt, flow_count, share, sources, decisions, taps);
     let team = start_team(alloc, rt, work)?;
     let AssembledAll {
         mouth,
         feeders,
         done: assembled,
     } = assemble(alloc, rt, flows, arrivals.mouth, rings.feeders, closed);
-    let done = team.join(rt);
-    let (Some(done), Some(assembled)) = (done, assembled) else {
+    let Some((done, assembled)) = both_done(team.join(rt), assembled) else {
         return Err(AllocError);
     };
     Ok(Ended {

@@ -1,22 +1,16 @@
 //! What a run gave, once all threads have returned.
-ghost use Rattle.std.specs.Prelude.{◌≡◌, ℕ, true, Some, All, IfOk, length, map, slice_get};
-ghost use Rattle.delivery.specs.Feeders.{closed_ring, closed_offered};
-ghost use Rattle.delivery.specs.Takers.{taker_ring, taken, is_closed};
-ghost use Rattle.delivery.specs.declared.feeder.ClosedFeeder.{ClosedFeeder};
-ghost use Rattle.uplink.specs.declared.frame_worker.Consumed.{Consumed};
+ghost use Rattle.std.specs.Prelude.{◌≡◌, IfOk, length, map};
 ghost use Rattle.uplink.specs.Inside.Running.{CanSettle, HasConcluded, AreFlowsOf};
 
 use crate::assembler::Assembled;
-use crate::frame_worker::Consumed;
-use crate::item::Item;
-use crate::team::Done;
-use delivery::{ClosedFeeder, settle as settle_ring};
+use delivery::ClosedFeeder;
 use flow_core::{FlowCounts, FlowRecord};
 use lane::Request;
 use mailbox::{ClosedPort, ClosedPorts, Mouth, settle};
 use receiver::{FlowOutcome, Outcome};
 use std::alloc::{AllocError, Global};
 use std::sync::Wait;
+use workers::{Consumed, Done, Item, settle_rings};
 
 /// What all threads handed on, in none of which an allocation failed.
 #[derive(Drop)]
@@ -67,22 +61,6 @@ pub fn conclude<R: Wait>(
         lanes: [l0.report, l1.report, l2.report, l3.report],
         order: assembled.order,
     })
-}
-
-/// Settles the ring of each flow.
-fn settle_rings(feeders: &mut [ClosedFeeder], consumed: &mut [Consumed])
-    requires rings { map closed_ring feeders.old
-        ≡ map (λ one. taker_ring one.taker) consumed.old }
-    requires closed { All (λ one. is_closed one.taker ≡ true) consumed.old }
-    ensures taken { (k : ℕ) (feeder : ClosedFeeder) (one : Consumed)
-        → slice_get feeders.old k ≡ Some feeder → slice_get consumed.old k ≡ Some one
-        → taken one.taker ≡ closed_offered feeder }
-    ensures frames { map (λ one. one.frames) consumed.new
-        ≡ map (λ one. one.frames) consumed.old }
-{
-    for k in 0..feeders.len() {
-        settle_ring(&mut feeders[k], &mut consumed[k].taker);
-    }
 }
 
 /// What each flow gave: the frames that its consumer took, and its counts.

@@ -34,9 +34,10 @@ pub use lane::laws::{
     reports_are_appended, rows_have_one_first_fault,
 };
 pub use receiver::laws::{
-    admitted_order_is_lawful, admitted_segments_are_of_the_flows, lawful_order_has_no_fault,
-    lists_have_one_merge, order_has_one_intake, replay_by_decisions_alone_is_a_replay,
-    replay_has_one_fault, replay_has_one_outcome,
+    admitted_order_is_lawful, admitted_segments_are_of_the_flows,
+    flows_give_the_frames_that_all_came, lawful_order_has_no_fault, lists_have_one_merge,
+    order_has_one_intake, replay_by_decisions_alone_is_a_replay, replay_has_one_fault,
+    replay_has_one_outcome, segments_come_on_channels_of_their_flow,
 };
 
 /// **The headline.** Whatever the four channels interleave, delay or lose and whenever gaps are

@@ -18,20 +18,10 @@
 #![tactic(auto)]
 
 mod assembler;
-mod decision_worker;
 mod eight_threads;
 mod finish;
-mod frame_worker;
-mod item;
-mod lane_worker;
 pub mod laws;
 mod open;
-mod request_worker;
-mod retry;
-mod source;
-mod start_word;
-mod tap;
-mod team;
 
 pub use eight_threads::{RunFault, run, run_by};
 pub use lane::{
@@ -43,5 +33,4 @@ pub use receiver::{
     BadSetup, Decision, FlowOutcome, Lists, Outcome, ReplayFault, Setup, admitted_order,
     check_order, replay, replay_by,
 };
-pub use source::{Decisions, ListDecisions, ListSource, Source, Sources};
-pub use tap::{NoTap, Tap, Taps};
+pub use workers::{Decisions, ListDecisions, ListSource, NoTap, Source, Sources, Tap, Taps};

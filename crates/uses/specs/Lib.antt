@@ -7,3 +7,4 @@ pub mod HeaderSequence
 pub mod Window
 pub mod OneFlow
 pub mod RunCaller
+pub mod LossesByRule

@@ -9,6 +9,7 @@ pub mod delivery_run;
 pub mod five_senders;
 pub mod flow;
 pub mod header_check;
+pub mod losses_by_rule;
 pub mod one_flow;
 pub mod run_caller;
 pub mod window;

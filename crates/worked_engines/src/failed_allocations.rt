@@ -2,12 +2,13 @@
 //! at one place of each call. Each test takes out of memory as lawful there, says so by the word
 //! `refused`, and calls again; where nothing failed it says nothing. Where the name of a test ends
 //! in `without_memory` all later allocations fail, too.
-use commands::{program, run_text};
+use commands::{program, run_text, run_text_by};
 use docsis_wire::FillByte;
 use engines::{
     Command, Device, EngineFault, UsageFault, WriteFault, cut_text, join_text, read_words,
-    replay_text, status, write_fault,
+    replay_text, replay_text_by, status, write_fault,
 };
+use loss_rule::LossRule;
 use std::alloc::Global;
 use std::io::Read;
 use std::process::Abort;
@@ -17,7 +18,8 @@ use std::thread::Threads;
 use texts::{TraceFault, TraceKind};
 use uplink::{NoTap, Taps};
 use worked_texts::samples::{
-    FRAMES, FRAMES_AND_PIECES, LOST_REPORT, LOST_TRACE, REPORT, SEGMENTS, TRACE,
+    FRAMES, FRAMES_AND_PIECES, LOST_REPORT, LOST_TRACE, REPORT, RULED_TRACE, SEGMENTS, SLID_REPORT,
+    TRACE,
 };
 
 /// Joins the segments into an array that is just large enough for their frames.
@@ -92,6 +94,30 @@ fn replay_text_is_refused(rt: HostRuntime) -> Result<(), Fail> {
     Ok(())
 }
 
+/// Replays a trace by the rule with the most to do into an array that is just large enough.
+fn replay_by_rule_into(alloc: Global, text: &mut [u8]) -> Result<(), EngineFault> {
+    let mut reader = Device::new(RULED_TRACE.as_bytes());
+    let mut writer = Device::new(text);
+    let done = replay_text_by(LossRule::PassedOrSlid, alloc, &mut reader, &mut writer);
+    reader.into_inner();
+    writer.into_inner();
+    done
+}
+
+#[test]
+fn replay_text_by_is_refused(rt: HostRuntime) -> Result<(), Fail> {
+    let mut text = [0u8; 317];
+    let mut done = replay_by_rule_into(rt.alloc(), &mut text);
+    if done == Err(EngineFault::OutOfMemory) {
+        println!(rt; "refused")?;
+        assert_eq!(rt; text.as_slice(), [0u8; 317].as_slice());
+        done = replay_by_rule_into(rt.alloc(), &mut text);
+    }
+    assert_eq!(rt; done, Ok(()));
+    assert_eq!(rt; text.as_slice(), SLID_REPORT.as_bytes());
+    Ok(())
+}
+
 /// Receives the trace on threads into an array that is just large enough for its report.
 fn run_into<T>(alloc: Global, rt: T, text: &mut [u8]) -> Result<(), EngineFault>
 where
@@ -117,6 +143,38 @@ fn run_text_is_refused(rt: HostRuntime) -> Result<(), Fail> {
         println!(rt; "refused")?;
         assert_eq!(rt; text.as_slice(), [0u8; 208].as_slice());
         done = run_into(rt.alloc(), rt, &mut text);
+    }
+    assert_eq!(rt; done, Ok(()));
+    assert_eq!(rt; text.as_slice(), LOST_REPORT.as_bytes());
+    Ok(())
+}
+
+/// Receives the trace on threads by a rule, which has nothing to add to what the close loses.
+fn run_by_rule_into<T>(alloc: Global, rt: T, text: &mut [u8]) -> Result<(), EngineFault>
+where
+    T: Threads + Wait + Copy + Send + 'static,
+{
+    let mut reader = Device::new(LOST_TRACE.as_bytes());
+    let mut writer = Device::new(text);
+    let taps = Taps {
+        frames: NoTap,
+        requests: NoTap,
+    };
+    let rule = LossRule::PassedOrSlid;
+    let done = run_text_by(rule, alloc, rt, 1, 1, taps, &mut reader, &mut writer);
+    reader.into_inner();
+    writer.into_inner();
+    done
+}
+
+#[test]
+fn run_text_by_is_refused(rt: HostRuntime) -> Result<(), Fail> {
+    let mut text = [0u8; 208];
+    let mut done = run_by_rule_into(rt.alloc(), rt, &mut text);
+    if done == Err(EngineFault::OutOfMemory) {
+        println!(rt; "refused")?;
+        assert_eq!(rt; text.as_slice(), [0u8; 208].as_slice());
+        done = run_by_rule_into(rt.alloc(), rt, &mut text);
     }
     assert_eq!(rt; done, Ok(()));
     assert_eq!(rt; text.as_slice(), LOST_REPORT.as_bytes());
@@ -156,21 +214,44 @@ fn words_of_cut_are_refused(rt: HostRuntime) -> Result<(), Fail> {
     Ok(())
 }
 
+#[test]
+fn words_of_run_are_refused(rt: HostRuntime) -> Result<(), Fail> {
+    let words = ["segrx", "run", "--losses=slid", "--ring", "2"];
+    let mut read = read_words(rt.alloc(), &words);
+    if let Err(UsageFault::OutOfMemory) = read {
+        println!(rt; "refused")?;
+        read = read_words(rt.alloc(), &words);
+    }
+    match read {
+        Ok(
+            Command::Run {
+                rule,
+                mailbox,
+                ring,
+            },
+        ) => {
+            assert_eq!(rt; rule, LossRule::PassedOrSlid);
+            assert_eq!(rt; (mailbox, ring), (16, 2));
+        }
+        _ => assert!(rt; false, "no run"),
+    }
+    Ok(())
+}
+
 /// Runs the program on an input, again where an allocation fails, and looks at what it writes into
 /// an array that is just large enough for the text.
 fn run_program<T: Abort + AllocGlobal + Print + Threads + Wait + Copy + Send + 'static>(
     rt: T,
-    command: &str,
+    words: &[&str],
     input: &str,
     text: &str,
     out: &mut [u8],
 ) -> Result<(), Fail> {
-    let words = ["segrx", command];
     let mut err = [0u8; 21];
     let mut status = program(
         rt.alloc(),
         rt,
-        &words,
+        words,
         input.as_bytes(),
         &mut *out,
         &mut err[..],
@@ -183,7 +264,7 @@ fn run_program<T: Abort + AllocGlobal + Print + Threads + Wait + Copy + Send + '
         status = program(
             rt.alloc(),
             rt,
-            &words,
+            words,
             input.as_bytes(),
             &mut *out,
             &mut err[..],
@@ -197,17 +278,60 @@ fn run_program<T: Abort + AllocGlobal + Print + Threads + Wait + Copy + Send + '
 
 #[test]
 fn program_is_refused(rt: HostRuntime) -> Result<(), Fail> {
-    run_program(rt, "join", SEGMENTS, FRAMES, &mut [0u8; 36])
+    let words = ["segrx", "join"];
+    run_program(rt, &words, SEGMENTS, FRAMES, &mut [0u8; 36])
 }
 
 #[test]
 fn replaying_program_is_refused(rt: HostRuntime) -> Result<(), Fail> {
-    run_program(rt, "replay", TRACE, REPORT, &mut [0u8; 233])
+    let words = ["segrx", "replay"];
+    run_program(rt, &words, TRACE, REPORT, &mut [0u8; 233])
 }
 
 #[test]
 fn running_program_is_refused(rt: HostRuntime) -> Result<(), Fail> {
-    run_program(rt, "run", TRACE, REPORT, &mut [0u8; 233])
+    let words = ["segrx", "run"];
+    run_program(rt, &words, TRACE, REPORT, &mut [0u8; 233])
+}
+
+/// The first of three segments is lost, which both channels pass.
+#[test]
+fn replaying_program_by_what_all_have_passed_is_refused(rt: HostRuntime) -> Result<(), Fail> {
+    let words = ["segrx", "replay", "--losses", "passed"];
+    run_program(rt, &words, LOST_TRACE, LOST_REPORT, &mut [0u8; 208])
+}
+
+#[test]
+fn replaying_program_with_a_window_that_slides_is_refused(rt: HostRuntime) -> Result<(), Fail> {
+    let words = ["segrx", "replay", "--losses=slid"];
+    run_program(rt, &words, RULED_TRACE, SLID_REPORT, &mut [0u8; 317])
+}
+
+/// The second and the third segment on one of two channels, with a window of two: the third slides
+/// it, which loses the first.
+const SILENT_TRACE: &str = "\
+flow 100 0 2 2
+sid 0 1 0
+sid 1 2 0
+grant 1 1 2 15
+grant 1 2 2 13
+burst 1 1 ok 800300080000000011aabb01010003
+burst 1 2 ok 0000001000000000e02222ccdd
+";
+/// The report of that.
+const SILENT_REPORT: &str = "\
+flow 0 100 kept 2 late 0 repeat 0 beyond 0 lost 1 frames 1 skipped 3
+frame 0 01010003e02222ccdd
+lane 0 admitted 0 refused -
+lane 1 admitted 2 refused -
+lane 2 admitted 0 refused -
+lane 3 admitted 0 refused -
+";
+
+#[test]
+fn running_program_with_a_window_that_slides_is_refused(rt: HostRuntime) -> Result<(), Fail> {
+    let words = ["segrx", "run", "--losses", "slid", "--ring=1"];
+    run_program(rt, &words, SILENT_TRACE, SILENT_REPORT, &mut [0u8; 208])
 }
 
 /// Reads two of three bytes from a device.

@@ -1,6 +1,7 @@
 //! What `read_words` answers. Runs of the program show which words it understands.
 use docsis_wire::FillByte;
 use engines::{Command, UsageFault, read_words};
+use loss_rule::LossRule;
 use std::alloc::Global;
 
 /// What some words are read as.
@@ -8,8 +9,8 @@ use std::alloc::Global;
 enum Asked {
     Join,
     Cut(u16, FillByte),
-    Replay,
-    Run(u16, u16),
+    Replay(LossRule),
+    Run(LossRule, u16, u16),
     Help,
     Fault(UsageFault),
 }
@@ -18,8 +19,14 @@ fn what_is_asked(alloc: Global, words: &[&str]) -> Asked {
     match read_words(alloc, words) {
         Ok(Command::Join) => Asked::Join,
         Ok(Command::Cut { first, fill }) => Asked::Cut(first, fill),
-        Ok(Command::Replay) => Asked::Replay,
-        Ok(Command::Run { mailbox, ring }) => Asked::Run(mailbox, ring),
+        Ok(Command::Replay { rule }) => Asked::Replay(rule),
+        Ok(
+            Command::Run {
+                rule,
+                mailbox,
+                ring,
+            },
+        ) => Asked::Run(rule, mailbox, ring),
         Ok(Command::Help(_)) => Asked::Help,
         Err(fault) => Asked::Fault(fault),
     }
@@ -29,7 +36,7 @@ fn what_is_asked(alloc: Global, words: &[&str]) -> Asked {
 const USAGE: Asked = Asked::Fault(UsageFault::Usage);
 
 /// Words, each with the name of its case, and what is asked for.
-const WORDS: [(&str, &[&str], Asked); 20] = [
+const WORDS: [(&str, &[&str], Asked); 31] = [
     ("no words at all", &[], Asked::Join),
     ("no command", &["segrx"], Asked::Join),
     ("join", &["segrx", "join"], Asked::Join),
@@ -44,7 +51,31 @@ const WORDS: [(&str, &[&str], Asked); 20] = [
         &["segrx", "cut", "--first=8192"],
         USAGE,
     ),
-    ("replay", &["segrx", "replay"], Asked::Replay),
+    (
+        "replay",
+        &["segrx", "replay"],
+        Asked::Replay(LossRule::Decided),
+    ),
+    (
+        "a rule of replay",
+        &["segrx", "replay", "--losses=passed"],
+        Asked::Replay(LossRule::Passed),
+    ),
+    (
+        "a rule of replay in a word of its own",
+        &["segrx", "replay", "--losses", "slid"],
+        Asked::Replay(LossRule::PassedOrSlid),
+    ),
+    (
+        "an unknown rule of replay",
+        &["segrx", "replay", "--losses=Passed"],
+        USAGE,
+    ),
+    (
+        "two rules of replay",
+        &["segrx", "replay", "--losses=slid", "--losses=slid"],
+        USAGE,
+    ),
     ("replay twice", &["segrx", "replay", "replay"], USAGE),
     (
         "an option of replay",
@@ -53,11 +84,46 @@ const WORDS: [(&str, &[&str], Asked); 20] = [
     ),
     ("the end of options", &["segrx", "replay", "--"], USAGE),
     ("an unknown word", &["segrx", "frob"], USAGE),
-    ("run", &["segrx", "run"], Asked::Run(16, 16)),
+    (
+        "run",
+        &["segrx", "run"],
+        Asked::Run(LossRule::Decided, 16, 16),
+    ),
+    (
+        "a rule of run",
+        &["segrx", "run", "--losses=slid"],
+        Asked::Run(LossRule::PassedOrSlid, 16, 16),
+    ),
+    (
+        "a rule of run behind another option",
+        &["segrx", "run", "--ring", "1", "--losses", "passed"],
+        Asked::Run(LossRule::Passed, 16, 1),
+    ),
+    (
+        "a rule of run before another option",
+        &["segrx", "run", "--losses", "decided", "--mailbox=2"],
+        Asked::Run(LossRule::Decided, 2, 16),
+    ),
+    (
+        "a rule without a name",
+        &["segrx", "run", "--losses"],
+        USAGE,
+    ),
+    (
+        "an unknown rule of run",
+        &["segrx", "run", "--losses=lost"],
+        USAGE,
+    ),
+    (
+        "two rules of run",
+        &["segrx", "run", "--losses=slid", "--losses=slid"],
+        USAGE,
+    ),
+    ("a rule of cut", &["segrx", "cut", "--losses=slid"], USAGE),
     (
         "the options of run",
         &["segrx", "run", "--ring=1", "--mailbox", "065535"],
-        Asked::Run(65_535, 1),
+        Asked::Run(LossRule::Decided, 65_535, 1),
     ),
     ("no room", &["segrx", "run", "--ring=0"], USAGE),
     (
@@ -95,7 +161,7 @@ const HELPS: [(&[&str], &[&str]); 5] = [
         &[
             "Usage: segrx [join] < ",
             "segrx cut [",
-            "segrx replay < ",
+            "segrx replay [",
             "  cut   ",
             "segrx run [",
             "  replay  ",
@@ -103,10 +169,18 @@ const HELPS: [(&[&str], &[&str]); 5] = [
         ],
     ),
     (&["segrx", "join", "-h"], &["Usage: segrx join < "]),
-    (&["segrx", "replay", "-h"], &["Usage: segrx replay < "]),
+    (
+        &["segrx", "replay", "-h"],
+        &["Usage: segrx replay [", "--losses <RULE>"],
+    ),
     (
         &["segrx", "run", "-h"],
-        &["Usage: segrx run [", "--mailbox <N>", "--ring <N>"],
+        &[
+            "Usage: segrx run [",
+            "--losses <RULE>",
+            "--mailbox <N>",
+            "--ring <N>",
+        ],
     ),
     (
         &["segrx", "cut", "-h"],

@@ -1,15 +1,19 @@
 //! The calls of the crate `texts` where an allocation fails at one place of each call. Each test
 //! takes out of memory as lawful there, says so by the word `refused`, and calls again; where
 //! nothing failed it says nothing.
-use crate::samples::{FRAMES, FRAMES_AND_PIECES, REPORT, SEGMENTS, TRACE};
+use crate::samples::{
+    FRAMES, FRAMES_AND_PIECES, REPORT, RULED_TRACE, SEGMENTS, SLID_REPORT, TRACE,
+};
 use docsis_wire::{Bytes, FillByte};
 use flow_core::FlowCounts;
 use lane::{LaneReport, Request};
+use loss_rule::LossRule;
 use receiver::{FlowOutcome, Outcome};
 use std::alloc::{AllocError, Global};
 use std::test::Fail;
 use texts::{
-    ParseFault, TextFault, Trace, cut_lines, join_lines, parse_trace, replay_lines, report,
+    ParseFault, TextFault, Trace, cut_lines, join_lines, parse_trace, replay_lines,
+    replay_lines_by, report,
 };
 
 #[test]
@@ -83,6 +87,23 @@ fn replay_lines_is_refused(rt: HostRuntime) -> Result<(), Fail> {
         text = replay_copy(rt.alloc());
     }
     assert_eq!(rt; text?.as_slice(), REPORT.as_bytes());
+    Ok(())
+}
+
+/// The report by the rule with the most to do of a copy of a trace.
+fn replay_copy_by_rule(alloc: Global) -> Result<Vec<u8>, TextFault> {
+    let input = Vec::from_slice(alloc, RULED_TRACE.as_bytes())?;
+    replay_lines_by(LossRule::PassedOrSlid, alloc, input)
+}
+
+#[test]
+fn replay_lines_by_is_refused(rt: HostRuntime) -> Result<(), Fail> {
+    let mut text = replay_copy_by_rule(rt.alloc());
+    if let Err(TextFault::OutOfMemory) = text {
+        println!(rt; "refused")?;
+        text = replay_copy_by_rule(rt.alloc());
+    }
+    assert_eq!(rt; text?.as_slice(), SLID_REPORT.as_bytes());
     Ok(())
 }
 

@@ -28,6 +28,8 @@ mod join_texts;
 mod line_fields;
 #[cfg(test)]
 mod number_fields;
+#[cfg(test)]
+mod ruled_texts;
 pub mod samples;
 #[cfg(test)]
 mod trace_lines;

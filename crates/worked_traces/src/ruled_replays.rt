@@ -2,6 +2,8 @@
 //! are lost.
 ghost use Rattle.std.specs.Prelude.{◌<◌};
 
+mod failed_allocations;
+
 use docsis_wire::{Bytes, NoCheck};
 use flow_core::FlowRecord;
 use lane::{Input, SidRow};
@@ -88,6 +90,14 @@ fn lists_of(rt: &impl Abort, alloc: Global, segments: &[On]) -> Result<Lists, Al
     })
 }
 
+/// The order in which they are listed.
+fn order_of(alloc: Global, segments: &[On]) -> Result<Vec<u8>, AllocError> {
+    segments
+        .iter()
+        .map(|On(channel, _)| *channel)
+        .collect(alloc)
+}
+
 /// What came of these segments, in the order in which they are listed.
 fn replayed(
     rt: &impl Abort,
@@ -98,10 +108,7 @@ fn replayed(
 ) -> Result<Outcome, Fail> {
     let setup = setup_of(alloc, channels)?;
     let lists = lists_of(rt, alloc, segments)?;
-    let order: Vec<u8> = segments
-        .iter()
-        .map(|On(channel, _)| *channel)
-        .collect(alloc)?;
+    let order = order_of(alloc, segments)?;
     Ok(replay_by(rule, alloc, &setup, &lists, &order, NoCheck)?)
 }
 
@@ -141,7 +148,7 @@ fn expect_tallies(
 }
 
 #[test]
-fn number_comes_again_a_round_later(rt: HostRuntime) -> Result<(), Fail> {
+fn segment_comes_after_a_later_one_of_its_channel(rt: HostRuntime) -> Result<(), Fail> {
     let segments = [On(0, 0), On(0, 2), On(0, 1)];
     let rows = [
         (LossRule::Decided, [3, 0, 0, 0, 3]),

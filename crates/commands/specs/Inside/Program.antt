@@ -9,22 +9,23 @@ use Rattle.engines.specs.Engine.{RunsEngine}
 use Rattle.commands.specs.Program.{WritesHelp}
 use Rattle.texts.specs.Join.{IsJoined, IsJoinFault}
 use Rattle.texts.specs.Cut.{IsCutText, IsCutFault}
-use Rattle.texts.specs.Replay.{IsReplayed, IsReplayFault, IsReportFault}
-use Rattle.texts.specs.Run.{IsRunText}
+use Rattle.texts.specs.Replay.{IsReplayedBy, IsReplayFault, IsReportFault}
+use Rattle.texts.specs.Run.{IsRunTextBy}
 
 -- what a command does: its engine runs, or the text of help is written
 abbrev pub Performs : {R W : Type 0} → (R → Option (List ℕ)) → (W → Option (List ℕ)) → Command → Device R → Device R → Device W → Device W → Result (Unit {0}) EngineFault → Type 0
 Performs remaining contents Join reader reader' writer writer' result = RunsEngine remaining contents IsJoined IsJoinFault reader reader' writer writer' result
 Performs remaining contents (Cut first fill) reader reader' writer writer' result = RunsEngine remaining contents (IsCutText first fill) IsCutFault reader reader' writer writer' result
-Performs remaining contents Replay reader reader' writer writer' result = RunsEngine remaining contents IsReplayed IsReplayFault reader reader' writer writer' result
-Performs remaining contents (Run mailbox ring) reader reader' writer writer' result =
-    RunsEngine remaining contents (IsRunText ring mailbox) (IsReportFault ring) reader reader' writer writer' result
+Performs remaining contents (Replay rule) reader reader' writer writer' result =
+    RunsEngine remaining contents (IsReplayedBy rule) IsReplayFault reader reader' writer writer' result
+Performs remaining contents (Run rule mailbox ring) reader reader' writer writer' result =
+    RunsEngine remaining contents (IsRunTextBy rule ring mailbox) (IsReportFault ring) reader reader' writer writer' result
 Performs remaining contents (Help text) reader reader' writer writer' result = WritesHelp contents (string_bytes text) reader reader' writer writer' result
 
 -- a cut begins with the number of a segment, and a run has room in its mailboxes and rings
 abbrev pub IsInRange : Command → Type 0
 IsInRange Join = Unit {0}
 IsInRange (Cut first fill) = first < sequence_modulus
-IsInRange Replay = Unit {0}
-IsInRange (Run mailbox ring) = (1 ≤ mailbox) × (1 ≤ ring)
+IsInRange (Replay rule) = Unit {0}
+IsInRange (Run rule mailbox ring) = (1 ≤ mailbox) × (1 ≤ ring)
 IsInRange (Help text) = Unit {0}

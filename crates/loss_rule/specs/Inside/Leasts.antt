@@ -1,13 +1,6 @@
--- The least of the last indexes, wherever the expected index lies.
+-- Whether there is a least one of the last indexes.
 use Rattle.std.specs.Prelude.{ℕ, ◌<◌, ◌≤◌, ◌⊎◌}
 use Rattle.loss_rule.specs.Rule.{RuledFlow, HasChannel, Lasts, IsLastOn}
-
--- each channel of the flow has a last index, and this is the least of them
-pub record IsLeast (flow : RuledFlow) (lasts : Lasts) (least : ℕ) : Type 0 where
-  pub own : ℕ
-  pub has : HasChannel flow own
-  pub last : IsLastOn lasts own least
-  pub each : (channel : ℕ) → HasChannel flow channel → (index : ℕ) × IsLastOn lasts channel index × (least ≤ index)
 
 -- some channel of the flow has no last index
 pub record LacksOne (flow : RuledFlow) (lasts : Lasts) : Type 0 where

@@ -2,11 +2,11 @@
 use Rattle.std.specs.Prelude.{◌≡◌, ◌≢◌, ℕ, Bool, Some, List, [], ◌∷◌, ◌++◌, map, length, slice_get, slice_index_or}
 use Rattle.flow_records.specs.declared.record.FlowRecord.{FlowRecord}
 use Rattle.flow_core.specs.declared.flows.Core.{Core}
-use Rattle.flow_core.specs.declared.event.Event.{Event}
+use Rattle.flow_records.specs.declared.event.Event.{Event}
 use Rattle.flow_core.specs.declared.counts.FlowCounts.{FlowCounts}
 use Rattle.flow_records.specs.Setup.{IsInRange, CanBeSetUp}
 use Rattle.flow_core.specs.Events.{FlowEvent}
-use Rattle.flow_core.specs.Flows.{flow_of}
+use Rattle.flow_records.specs.Events.{flow_of}
 use Rattle.flow_core.specs.Giving.{HasDrained}
 use Rattle.receiver.specs.declared.flows.Assembler.{Assembler}
 use Rattle.receiver.specs.Items.{events_at}

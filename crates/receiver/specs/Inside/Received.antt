@@ -9,8 +9,9 @@ use Rattle.receiver.specs.declared.setup.Setup.{Setup}
 use Rattle.lane.specs.Limits.{channel_limit}
 use Rattle.lane.specs.Inputs.{Answer, AnsweredInput}
 use Rattle.lane.specs.Report.{admitted_by, admitted_of, requests_of}
-use Rattle.receiver.specs.Items.{Incoming, IsItem, AreLanesOf, event_of_admitted, are_items}
-use Rattle.receiver.specs.Order.{senders}
+use Rattle.receiver.specs.Items.{Incoming, IsItem, AreLanesOf, are_items}
+use Rattle.lane.specs.Report.{event_of_admitted}
+use Rattle.lane.specs.Limits.{senders}
 use Rattle.lane.specs.Report.{IsReportOf}
 
 -- this is what the inputs with these answers gave, where there are so many flows

@@ -1,11 +1,12 @@
 -- What the flows of a receiver have taken that decides by a rule which segments are lost, and what it knows of their channels.
 use Rattle.std.specs.Prelude.{◌≡◌, ◌≢◌, ℕ, ◌⊎◌, Bool, Some, List, [], ◌∷◌, ◌++◌, length, slice_get}
 use Rattle.flow_records.specs.declared.record.FlowRecord.{FlowRecord}
-use Rattle.flow_core.specs.declared.event.Event.{Event}
+use Rattle.flow_records.specs.declared.event.Event.{Event}
 use Rattle.flow_core.specs.declared.event.Applied.{Applied}
 use Rattle.flow_core.specs.Fates.{Fates, IsExpected}
 use Rattle.flow_core.specs.Events.{FlowEvent, Leads, IsAfter}
-use Rattle.flow_core.specs.Flows.{flow_of, event_of}
+use Rattle.flow_core.specs.Flows.{event_of}
+use Rattle.flow_records.specs.Events.{flow_of}
 use Rattle.loss_rule.specs.declared.rule.LossRule.TheVariants.{Decided}
 use Rattle.loss_rule.specs.Rule.{Coming, Lasts, Notes, IsPassing, IsSliding, AreSkips, IsRuled, AreRuled}
 use Rattle.loss_rule.specs.Numbers.{carried_of, numbers_of, no_numbers, AreNumbersOf}

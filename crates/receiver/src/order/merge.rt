@@ -1,7 +1,7 @@
 //! The lists of five senders, whose items are taken in some order.
 ghost use Rattle.std.specs.Prelude.{◌≡◌, ◌≢◌, ◌<◌, ◌≤◌, ◌⊎◌, ◌∷◌, [], ℕ, MatchOption, IfSome};
 ghost use Rattle.std.specs.Vec.Iter.{into_iter_items};
-ghost use Rattle.receiver.specs.Order.{senders};
+ghost use Rattle.lane.specs.Limits.{senders};
 ghost use Rattle.receiver.specs.Inside.Received.{left_of};
 
 use std::vec::IntoIter;

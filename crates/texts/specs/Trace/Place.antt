@@ -4,7 +4,7 @@ use Rattle.flow_records.specs.Limits.{flows_max}
 use Rattle.flow_records.specs.declared.record.FlowRecord.{FlowRecord}
 use Rattle.lane.specs.declared.sids.SidRow.{SidRow}
 use Rattle.lane.specs.declared.input.Input.{Input}
-use Rattle.receiver.specs.declared.setup.Decision.{Decision}
+use Rattle.flow_records.specs.declared.decision.Decision.{Decision}
 use Rattle.texts.specs.declared.fault.TraceKind.{TraceKind}
 use Rattle.texts.specs.declared.fault.TraceKind.TheVariants.{UnknownLine, SetupLate, FieldCount, BadNumber, BadWord, NotHex, UnknownFlow, TooManyFlows, SameFlow, SameSid, TooShort, PointerPast}
 use Rattle.texts.specs.declared.trace.line.TraceLine.{TraceLine}

@@ -5,26 +5,27 @@ use Rattle.docsis_wire.specs.declared.buffer.Bytes.{Bytes}
 use Rattle.delivery.specs.Feeders.{offered, closed_offered}
 use Rattle.delivery.specs.declared.feeder.Feeder.{Feeder}
 use Rattle.delivery.specs.declared.feeder.ClosedFeeder.{ClosedFeeder}
-use Rattle.flow_core.specs.declared.event.Event.{Event}
+use Rattle.flow_records.specs.declared.event.Event.{Event}
 use Rattle.flow_core.specs.declared.counts.FlowCounts.{FlowCounts}
 use Rattle.flow_core.specs.declared.flows.Core.{Core}
 use Rattle.flow_records.specs.declared.record.FlowRecord.{FlowRecord}
 use Rattle.flow_core.specs.Events.{FlowEvent}
 use Rattle.flow_core.specs.Fates.{Fates}
-use Rattle.flow_core.specs.Flows.{flow_of}
+use Rattle.flow_records.specs.Events.{flow_of}
 use Rattle.loss_rule.specs.declared.rule.LossRule.{LossRule}
 use Rattle.loss_rule.specs.Rule.{Lasts, AreRuled}
 use Rattle.uplink.specs.declared.assembler.Taking.{Taking}
-use Rattle.uplink.specs.declared.item.Item.{Item}
+use Rattle.workers.specs.declared.item.Item.{Item}
 use Rattle.receiver.specs.Items.{events_at}
-use Rattle.receiver.specs.Order.{picked, senders}
+use Rattle.receiver.specs.Order.{picked}
+use Rattle.lane.specs.Limits.{senders}
 use Rattle.receiver.specs.Outcome.{GivesAtItsClose}
 use Rattle.receiver.specs.declared.setup.Setup.{Setup}
 use Rattle.receiver.specs.declared.ruled.RuledAssembler.{RuledAssembler}
 use Rattle.receiver.specs.Ruled.{ruled_flow, comings_at}
 use Rattle.receiver.specs.Inside.Assembly.{none_handed, HasTaken}
 use Rattle.receiver.specs.Inside.Ruling.{HasRuled, IsRuling}
-use Rattle.uplink.specs.Inside.Carried.{carried}
+use Rattle.workers.specs.Inside.Carried.{carried}
 
 -- the events of what was taken of each sender since the beginning are what the order gives to it, of these items
 pub record HasCollected (before now : ℕ → List Item) (order : List ℕ) (items : List Event) : Type 0 where

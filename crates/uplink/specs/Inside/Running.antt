@@ -3,26 +3,23 @@ use Rattle.std.specs.Prelude.{◌≡◌, ℕ, ◌<◌, ◌≤◌, Bool, true, So
 use Rattle.std.specs.declared.alloc.Global.{Global}
 use Rattle.docsis_wire.specs.declared.buffer.Bytes.{Bytes}
 use Rattle.mailbox.specs.Ports.{closed_posted}
-use Rattle.mailbox.specs.Openings.{addresses, HaveCapacity, NonePosted, NoneTaken}
 use Rattle.mailbox.specs.Mouths.{places, taken, ended}
 use Rattle.mailbox.specs.Settling.{closed_addresses}
 use Rattle.mailbox.specs.declared.settling.ClosedPorts.{ClosedPorts}
-use Rattle.delivery.specs.Feeders.{feeder_ring, offered, room, closed_ring, closed_offered}
+use Rattle.delivery.specs.Feeders.{feeder_ring, closed_ring, closed_offered}
 use Rattle.delivery.specs.Takers.{taker_ring, is_closed}
 use Rattle.delivery.specs.Takers as takers
 use Rattle.delivery.specs.declared.feeder.ClosedFeeder.{ClosedFeeder}
 use Rattle.flow_core.specs.declared.counts.FlowCounts.{FlowCounts}
-use Rattle.flow_core.specs.declared.event.Event.{Event}
+use Rattle.flow_records.specs.declared.event.Event.{Event}
 use Rattle.flow_records.specs.declared.record.FlowRecord.{FlowRecord}
 use Rattle.lane.specs.declared.admitted.Request.{Request}
-use Rattle.uplink.specs.declared.frame_worker.Consumed.{Consumed}
-use Rattle.uplink.specs.declared.item.Item.{Item}
+use Rattle.workers.specs.declared.frame_worker.Consumed.{Consumed}
+use Rattle.workers.specs.declared.item.Item.{Item}
 use Rattle.receiver.specs.declared.outcome.FlowOutcome.{FlowOutcome}
 use Rattle.receiver.specs.declared.outcome.Outcome.{Outcome}
-use Rattle.uplink.specs.declared.open.Lanes.{Lanes}
-use Rattle.uplink.specs.declared.open.OpenMailbox.{OpenMailbox}
+use Rattle.workers.specs.declared.work.Lanes.{Lanes}
 use Rattle.uplink.specs.declared.open.Opened.{Opened}
-use Rattle.uplink.specs.declared.open.Rings.{Rings}
 use Rattle.uplink.specs.declared.finish.Ended.{Ended}
 use Rattle.receiver.specs.declared.setup.Setup.{Setup}
 use Rattle.loss_rule.specs.declared.rule.LossRule.{LossRule}
@@ -31,9 +28,10 @@ use Rattle.receiver.specs.Inside.Ruling.{HasRuled, IsRuling}
 use Rattle.receiver.specs.Items.{Incoming, lane_setup}
 use Rattle.lane.specs.Limits.{channel_limit}
 use Rattle.uplink.specs.Inside.Offering.{HasCollected, HasAssembledAll}
-use Rattle.receiver.specs.Order.{senders}
+use Rattle.lane.specs.Limits.{senders}
 use Rattle.lane.specs.Stands.{StandsFor}
-use Rattle.uplink.specs.Inside.Working.{HasPosted, DidLane, DidDecide, DidSchedule, DidConsumeAll}
+use Rattle.workers.specs.Inside.Opening.{AreOpenRings, IsOpenMailbox}
+use Rattle.workers.specs.Inside.Working.{HasPosted, DidLane, DidDecide, DidSchedule, DidConsumeAll}
 
 -- the four lanes stand for no inputs
 pub record AreOpenLanes (setup : Setup) (lanes : Lanes) : Type 0 where
@@ -41,25 +39,6 @@ pub record AreOpenLanes (setup : Setup) (lanes : Lanes) : Type 0 where
   pub l1 : StandsFor (lane_setup setup 1) lanes.l1 []
   pub l2 : StandsFor (lane_setup setup 2) lanes.l2 []
   pub l3 : StandsFor (lane_setup setup 3) lanes.l3 []
-
--- how many frames and end marks a flow's ring has room for, by its record
-abbrev pub ring_of : FlowRecord → ℕ
-ring_of flow_record = flow_record.ring
-
--- a ring for each record, with the room that the record says, with nothing offered and nothing taken
-pub record AreOpenRings (records : List FlowRecord) (rings : Rings) : Type 0 where
-  pub same : map feeder_ring rings.feeders.items ≡ map taker_ring rings.takers.items
-  pub count_is : length rings.feeders.items ≡ length records
-  pub rooms : map room rings.feeders.items ≡ map ring_of records
-  pub none_offered : All (λ feeder. offered feeder ≡ []) rings.feeders.items
-  pub none_taken : All (λ taker. takers.taken taker ≡ []) rings.takers.items
-
--- a mailbox with room for so many entries, with nothing posted and nothing taken
-pub record IsOpenMailbox {T : Type 0} (entries : ℕ) (mailbox : OpenMailbox T) : Type 0 where
-  pub room : HaveCapacity mailbox.ports mailbox.mouth entries
-  pub same : addresses mailbox.ports ≡ places mailbox.mouth
-  pub none_posted : NonePosted mailbox.ports
-  pub none_taken : NoneTaken mailbox.mouth
 
 -- what a receiver of this setup and this rule needs before its workers start
 pub record IsOpened {C : Type 0} (accepts : C → List ℕ → Bool) (accepted : List ℕ → Bool) (rule : LossRule) (setup : Setup) (opened : Opened C) : Type 0 where

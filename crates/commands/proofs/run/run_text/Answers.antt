@@ -1,17 +1,12 @@
-use Rattle.std.proofs.Common.{sym, subst}
-use Rattle.std.proofs.lemmas.Bool.{false≢true}
+-- By decisions alone a run by the rule is a run.
+use Rattle.loss_rule.specs.declared.rule.LossRule.TheVariants.{Decided}
 use Rattle.texts.specs.Replay.{IsReportFault}
-use Rattle.texts.specs.Run.{IsRunText}
-use Rattle.commands.proofs.FailedWriter.{RunsEngine-failed, is_write}
+use Rattle.texts.specs.Run.{IsRunText, IsRunTextBy}
+use Rattle.engines.proofs.WeakerTexts.{RunsEngine-weaker}
 use Rattle.commands.proofs.run.run_text.Goals as goal
 
-pub returns-in_err-write_text : goal.returns-in_err-write_text
-returns-in_err-write_text g c =
-    let shown = c.deref.result.now in
-    let has : IsRunText c.args.ring c.args.mailbox c.in_ok-input.input.items shown =
-    subst (IsRunText c.args.ring c.args.mailbox c.in_ok-input.input.items) (sym c.deref.ensures.value) c.in_ok-text.ensures.text
-    in
-    rw (is_write c.from_residual-in_err-write_text.result c.from_residual-in_err-write_text.ensures.1)
-    (RunsEngine-failed g.R.Read.remaining g.W.Write.contents (IsRunText c.args.ring c.args.mailbox) (IsReportFault c.args.ring) c.args.reader.now c.read_input.new.reader
-    c.args.writer.now c.write_text.new.writer c.in_ok-input.input.items shown c.in_ok-input.ensures.whole c.in_ok-input.ensures.read has
-    (λ empty. false≢true (c.in_err-write_text.ensures.empty empty).0) c.in_err-write_text.ensures.front c.in_err-write_text.ensures.failed)
+pub returns : goal.returns
+returns g c =
+    RunsEngine-weaker g.R.Read.remaining g.W.Write.contents (IsRunTextBy Decided c.args.ring c.args.mailbox) (IsRunText c.args.ring c.args.mailbox)
+    (IsReportFault c.args.ring) c.args.reader.now c.run_text_by.new.reader c.args.writer.now c.run_text_by.new.writer c.run_text_by.result
+    (c.run_by_decisions_alone_is_a_run.ensures.run c.args.ring c.args.mailbox) c.run_text_by.ensures

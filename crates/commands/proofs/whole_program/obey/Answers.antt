@@ -1,14 +1,29 @@
 use Rattle.std.proofs.Common.{◌≡◌}
 use Rattle.std.specs.Prelude.{map}
+use Rattle.loss_rule.specs.declared.rule.LossRule.{LossRule}
 use Rattle.engines.specs.declared.command.Command.TheVariants.{Join, Replay}
-use Rattle.engines.specs.Command.{AsksToJoin, AsksToReplay}
-use Rattle.commands.proofs.ObeyedWords.{Obeys-performed}
+use Rattle.engines.specs.Fault.{usage_fault}
+use Rattle.engines.specs.Command.{AsksToJoin, AsksToReplayBy}
+use Rattle.commands.proofs.ObeyedWords.{Obeys-performed, Obeys-refused, is_fault}
 use Rattle.commands.proofs.whole_program.obey.Goals as goal
 
 pub returns : goal.returns
 returns g c =
     let words = map g.S.AsStr.text c.args.words.now in
     let joins : AsksToJoin words → c.in_ok-command.command ≡ Join = λ asks. cc (c.in_ok-command.was, c.read_words.ensures.join asks) in
-    let replays : AsksToReplay words → c.in_ok-command.command ≡ Replay = λ asks. cc (c.in_ok-command.was, c.read_words.ensures.replay asks) in
-    Obeys-performed g.R.Read.remaining g.W.Write.contents words c.in_ok-command.command c.args.reader.now c.perform.new.reader
-    c.args.out.now c.perform.new.out c.perform.result c.requires.reader c.requires.out c.in_ok-command.ensures.asked joins replays c.perform.ensures
+    let replays : (rule : LossRule) → AsksToReplayBy rule words → c.in_ok-command.command ≡ Replay rule =
+    λ rule asks. cc (c.in_ok-command.was, c.read_words.ensures.replay rule asks)
+    in
+    Obeys-performed g.R.Read.remaining g.W.Write.contents words c.args.reader.now c.perform.new.reader c.args.out.now c.perform.new.out
+    c.in_ok-command.command c.perform.result c.replay_by_decisions_alone_is_a_replay.ensures.replay c.run_by_decisions_alone_is_a_run.ensures.run
+    c.requires.reader c.requires.out c.in_ok-command.ensures.asked joins replays c.perform.ensures
+
+pub returns-in_err-command : goal.returns-in_err-command
+returns-in_err-command g c =
+    let words = map g.S.AsStr.text c.args.words.now in
+    let no_join : ¬ AsksToJoin words = λ asks. absurd (cc (c.in_err-command.was, c.read_words.ensures.join asks)) in
+    let no_replay : (rule : LossRule) → ¬ AsksToReplayBy rule words =
+    λ rule asks. absurd (cc (c.in_err-command.was, c.read_words.ensures.replay rule asks))
+    in
+    rw (is_fault (usage_fault c.in_err-command.field-0.0) c.from_residual.result c.from_residual.ensures.1)
+    (Obeys-refused g.R.Read.remaining g.W.Write.contents words c.args.reader.now c.args.out.now c.in_err-command.field-0.0 c.requires.reader no_join no_replay)

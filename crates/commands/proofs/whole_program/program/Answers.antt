@@ -45,3 +45,12 @@ returns-clause-replay_is_known g c = (SaysOfWords-run c.new-reader.ensures.inner
 
 pub returns-clause-run : goal.returns-clause-run
 returns-clause-run g c = (SaysOfWords-run c.new-reader.ensures.inner c.run_words-status.ensures).run
+
+pub returns-clause-replay_by : goal.returns-clause-replay_by
+returns-clause-replay_by g c = (SaysOfWords-run c.new-reader.ensures.inner c.run_words-status.ensures).replay_by
+
+pub returns-clause-replay_by_is_known : goal.returns-clause-replay_by_is_known
+returns-clause-replay_by_is_known g c = (SaysOfWords-run c.new-reader.ensures.inner c.run_words-status.ensures).replay_by_is_known
+
+pub returns-clause-run_by : goal.returns-clause-run_by
+returns-clause-run_by g c = (SaysOfWords-run c.new-reader.ensures.inner c.run_words-status.ensures).run_by

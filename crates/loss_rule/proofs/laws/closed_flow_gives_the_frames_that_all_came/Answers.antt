@@ -8,16 +8,18 @@ use Rattle.flow_core.proofs.OneFates.{after-once}
 use Rattle.flow_core.proofs.Turns.{leads-split}
 use Rattle.loss_rule.specs.Rule.{no_lasts}
 use Rattle.loss_rule.proofs.RuledTurns.{rules-lead}
+use Rattle.loss_rule.proofs.Falling.{fall-within}
 use Rattle.loss_rule.proofs.AllKept.{kept-as, kept-came, events-near}
 use Rattle.loss_rule.proofs.AllCame.{frames-all_came}
 use Rattle.loss_rule.proofs.laws.closed_flow_gives_the_frames_that_all_came.Goals as goal
 
 pub returns : goal.returns
-returns c = λ check frames chunks fill n segments rule flow flow_record comings index_at events noted fates given counts looks narrow first width cut order fit undecided are outcome closed.
+returns c = λ check frames chunks fill n segments rule flow flow_record comings index_at events noted fates given counts looks narrow first width cut order fall safely are outcome closed.
     let numbered = numbered_of_cut check frames chunks flow.first fill segments cut in
+    let within = fall-within rule looks flow narrow segments comings index_at numbered order fall in
     let near : AreNear flow_record.first flow_record.window segments events =
     subst (λ (k : ℕ). AreNear k flow_record.window segments events) (sym first)
-    (subst (λ (w : ℕ). AreNear flow.first w segments events) (sym width) (events-near rule looks flow narrow segments comings index_at numbered order fit undecided events noted fates are)) in
+    (subst (λ (w : ℕ). AreNear flow.first w segments events) (sym width) (events-near rule looks flow segments comings index_at numbered order within safely events noted fates are)) in
     let led = rules-lead rule flow (no_lasts flow) no_fates comings events noted fates are in
     let after : IsAfter flow_record.first flow_record.window events led.0 fates =
     subst (λ (k : ℕ). IsAfter k flow_record.window events led.0 fates) (sym first) (subst (λ (w : ℕ). IsAfter flow.first w events led.0 fates) (sym width) led.1) in
@@ -26,8 +28,8 @@ returns c = λ check frames chunks fill n segments rule flow flow_record comings
     let gaps = λ (i : ℕ). c.gaps_leave_what_was_kept.ensures flow_record.first flow_record.window n i s.1 s.2 outcome.fates s.4 in
     frames-all_came frames chunks comings index_at outcome.fates
     (λ p channel segment is. (gaps (index_at p)).1 (subst (λ (f : Fates). IsKept f (index_at p)) (sym same)
-    (segment, kept-as rule looks flow narrow segments comings index_at numbered order fit undecided events noted fates are p channel segment is)))
-    (λ i kept. kept-came rule looks flow narrow segments comings index_at numbered order fit undecided events noted fates are i (subst (λ (f : Fates). IsKept f i) same ((gaps i).0 kept)))
+    (segment, kept-as rule looks flow segments comings index_at numbered order within safely events noted fates are p channel segment is)))
+    (λ i kept. kept-came rule looks flow segments comings index_at numbered order within safely events noted fates are i (subst (λ (f : Fates). IsKept f i) same ((gaps i).0 kept)))
     given
     (c.closed_flow_gives_the_frames_that_were_all_kept.ensures check frames chunks fill n segments flow_record events given counts
     (subst (λ (k : ℕ). IsLawfulCut check frames k fill chunks segments) (sym first) cut) near outcome closed)

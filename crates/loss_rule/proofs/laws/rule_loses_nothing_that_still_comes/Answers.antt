@@ -11,5 +11,5 @@ returns-clause-lost c = λ check frames chunks fill segments flow before behind 
     before behind channel other q x segment another events skips answers lasts noted fates after refl are expected notes skips_are leads from comes
 
 pub returns-clause-verdicts : goal.returns-clause-verdicts
-returns-clause-verdicts c = λ check frames chunks fill segments flow comings index_at events answers noted fates k verdict cut order near undecided are is.
-    verdicts-safe flow segments comings index_at (numbered_of_cut check frames chunks flow.first fill segments cut) order near undecided events answers noted fates are is k verdict
+returns-clause-verdicts c = λ check frames chunks fill segments flow comings index_at events answers noted fates k verdict cut order near safely are is.
+    verdicts-safe flow segments comings index_at (numbered_of_cut check frames chunks flow.first fill segments cut) order near safely events answers noted fates are is k verdict

@@ -1,4 +1,4 @@
-use Rattle.receiver.proofs.OneReplay.{one-outcome, outcome-faultless}
+use Rattle.receiver.proofs.OneReplay.{one-outcome, one-ruled_outcome, outcome-faultless}
 use Rattle.receiver.proofs.laws.replay_has_one_outcome.Goals as goal
 
 pub returns-clause-one : goal.returns-clause-one
@@ -7,6 +7,13 @@ returns-clause-one c = λ check setup lists order outcome other can is are.
     (λ flow_record events frames others counts more one again.
     c.closed_flow_has_one_outcome.ensures check flow_record one.n again.n events frames others counts more one.outcome again.outcome one.closed again.closed)
     other are
+
+pub returns-clause-by_rule : goal.returns-clause-by_rule
+returns-clause-by_rule c = λ rule check setup lists order outcome other can is are.
+    one-ruled_outcome setup lists order can rule check
+    (λ flow_record events frames others counts more one again.
+    c.closed_flow_has_one_outcome.ensures check flow_record one.n again.n events frames others counts more one.outcome again.outcome one.closed again.closed)
+    outcome other is are
 
 pub returns-clause-faultless : goal.returns-clause-faultless
 returns-clause-faultless c = λ check setup lists order outcome k can is. outcome-faultless setup lists order can check outcome is k

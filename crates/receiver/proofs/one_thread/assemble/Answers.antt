@@ -2,9 +2,10 @@ use Rattle.std.proofs.Common.{◌<◌, ◌∷◌, [], ◌++◌, ℕ, Bool, All, 
 use Rattle.std.proofs.lemmas.List.{take_more, take_all}
 use Rattle.std.proofs.lemmas.List.Elements.{All-head}
 use Rattle.std.proofs.lemmas.Result.{IfOk-weaker}
-use Rattle.flow_core.specs.declared.event.Event.{Event}
+use Rattle.flow_records.specs.declared.event.Event.{Event}
 use Rattle.receiver.specs.Items.{IsItem}
-use Rattle.receiver.specs.Order.{senders, IsMergeOf}
+use Rattle.receiver.specs.Order.{IsMergeOf}
+use Rattle.lane.specs.Limits.{senders}
 use Rattle.receiver.specs.Ruled.{AreRuledOutcomes}
 use Rattle.receiver.specs.Inside.Received.{left_of}
 use Rattle.receiver.specs.Inside.Assembly.{none_handed}

@@ -1,6 +1,6 @@
 -- Some items were taken in the order so far, and the flows have taken by the rule what comes of them.
 use Rattle.std.proofs.Common.{◌≡◌, List, take}
-use Rattle.flow_core.specs.declared.event.Event.{Event}
+use Rattle.flow_records.specs.declared.event.Event.{Event}
 use Rattle.receiver.specs.Inside.Received.{left_of}
 use Rattle.receiver.specs.Inside.Assembly.{none_handed}
 use Rattle.receiver.specs.Inside.Ruling.{HasRuled}

@@ -28,3 +28,11 @@ returns-clause-replay c = λ input text fault is h.
 pub returns-clause-run : goal.returns-clause-run
 returns-clause-run c = λ ring mailbox input text fault is h.
     no_report c.faulty_input_is_no_trace.ensures ring mailbox input is.trace is.is_trace fault h
+
+pub returns-clause-replay_by : goal.returns-clause-replay_by
+returns-clause-replay_by c = λ rule input text fault is h.
+    no_report c.faulty_input_is_no_trace.ensures default_capacity default_capacity input is.trace is.is_trace fault h
+
+pub returns-clause-run_by : goal.returns-clause-run_by
+returns-clause-run_by c = λ rule ring mailbox input text fault is h.
+    no_report c.faulty_input_is_no_trace.ensures ring mailbox input is.trace is.is_trace fault h

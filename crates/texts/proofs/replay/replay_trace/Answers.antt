@@ -12,5 +12,5 @@ unless_out_of_memory-requires c =
     let tags = c.args.trace.tags.items in
     let order = c.deref.result.now in
     let admitted : IsAdmittedOrder setup incoming tags order = subst (IsAdmittedOrder setup incoming tags) (sym c.deref.ensures.value) c.in_ok-order.ensures in
-    unless_out_of_memory setup (HasBadOrder setup incoming order) c.replay-answer.result c.rows_have_one_first_fault.ensures.none c.requires.can_receive
-    (λ k. c.admitted_order_is_lawful.ensures.faultless setup incoming tags order k c.requires.can_receive admitted) c.replay-answer.ensures.fault
+    unless_out_of_memory setup (HasBadOrder setup incoming order) c.replay_by-answer.result c.rows_have_one_first_fault.ensures.none c.requires.can_receive
+    (λ k. c.admitted_order_is_lawful.ensures.faultless setup incoming tags order k c.requires.can_receive admitted) c.replay_by-answer.ensures.fault

@@ -4,7 +4,7 @@ use Rattle.std.proofs.lemmas.List.{with_items_is}
 use Rattle.mailbox.specs.Mouths.{taken}
 use Rattle.delivery.specs.Feeders.{offered, closed_offered}
 use Rattle.delivery.specs.declared.feeder.Feeder.{Feeder}
-use Rattle.flow_core.specs.declared.event.Event.{Event}
+use Rattle.flow_records.specs.declared.event.Event.{Event}
 use Rattle.uplink.specs.Inside.Offering.{HasCollected, HasAssembledAll}
 use Rattle.uplink.proofs.AllAssembled.{assembled}
 use Rattle.uplink.proofs.assembler.assemble.Goals as goal

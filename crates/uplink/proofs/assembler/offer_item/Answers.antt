@@ -4,7 +4,7 @@ use Rattle.std.proofs.Math.Seq.{map-set_same}
 use Rattle.std.proofs.lemmas.Result.{on_ok_weaker}
 use Rattle.delivery.specs.Feeders.{feeder_ring, offered}
 use Rattle.delivery.specs.declared.feeder.Feeder.{Feeder}
-use Rattle.flow_core.specs.Flows.{flow_of}
+use Rattle.flow_records.specs.Events.{flow_of}
 use Rattle.uplink.specs.Inside.Offering.{OffersItem}
 use Rattle.uplink.proofs.ItemOffered.{passed_over, ruling_with, as_many_with, item_offered}
 use Rattle.uplink.proofs.assembler.offer_item.Goals as goal

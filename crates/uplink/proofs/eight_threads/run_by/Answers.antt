@@ -25,13 +25,13 @@ pub conclude-requires : goal.conclude-requires
 conclude-requires g c =
     let accepts = g.C.HeaderCheck.accepts in
     subst (λ records. CanSettle (length records) c.in_ok-end.end) (sym c.deref.ensures.value)
-    (can-settle accepts (accepts c.args.check) c.args.rule c.args.setup c.in_ok-opened.opened c.in_ok-opened.ensures (incoming g c) c.in_ok-end.end (ended g c))
+    (can-settle accepts (accepts c.args.check) c.args.rule c.args.setup c.in_ok-opened.opened c.in_ok-opened.ensures.opened (incoming g c) c.in_ok-end.end (ended g c))
 
 pub returns-clause-answer : goal.returns-clause-answer
 returns-clause-answer g c =
     let accepts = g.C.HeaderCheck.accepts in
     let before = (goal.at.returns-clause-answer g c).After-deref in
     let outcome = c.in_ok-conclude.field-0 in
-    outcome-of-run accepts (accepts c.args.check) c.args.rule c.args.setup c.in_ok-opened.opened c.in_ok-opened.ensures (incoming g before) c.in_ok-end.end
+    outcome-of-run accepts (accepts c.args.check) c.args.rule c.args.setup c.in_ok-opened.opened c.in_ok-opened.ensures.opened (incoming g before) c.in_ok-end.end
     (ended g before) outcome
     (subst (λ records. HasConcluded records c.in_ok-end.end outcome) c.deref.ensures.value c.in_ok-conclude.ensures)

@@ -5,9 +5,9 @@ use Rattle.std.specs.Global.{Global}
 use Rattle.std.specs.Vec.{with_items}
 use Rattle.docsis_wire.specs.declared.buffer.Bytes.{Bytes}
 use Rattle.flow_core.specs.declared.counts.FlowCounts.{FlowCounts}
-use Rattle.uplink.specs.declared.frame_worker.Consumed.{Consumed}
+use Rattle.workers.specs.declared.frame_worker.Consumed.{Consumed}
 use Rattle.uplink.specs.Inside.Running.{AreFlowsOf, closed_arrivals, closed_requests}
-use Rattle.uplink.proofs.RingsSettled.{all_settled}
+use Rattle.uplink.proofs.AllSettled.{all_settled}
 use Rattle.uplink.proofs.finish.conclude.Goals as goal
 
 pub returns : goal.returns

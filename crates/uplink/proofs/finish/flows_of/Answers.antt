@@ -2,8 +2,8 @@
 use Rattle.std.proofs.Common.{rules, arith, ◌<◌, List, map, length, ap, subst, ◌∙◌}
 use Rattle.std.specs.Vec.Iter.{into_iter_items}
 use Rattle.std.proofs.lemmas.List.{length-append, length-map, nil_from_length}
-use Rattle.uplink.specs.declared.frame_worker.Consumed.{Consumed}
-use Rattle.uplink.proofs.RingsSettled.{AreFlowsSoFar, next_flow, all_flows}
+use Rattle.workers.specs.declared.frame_worker.Consumed.{Consumed}
+use Rattle.uplink.proofs.AllSettled.{AreFlowsSoFar, next_flow, all_flows}
 use Rattle.uplink.proofs.finish.flows_of.Goals as goal
 
 pub loop-one-preserved : goal.loop-one-preserved

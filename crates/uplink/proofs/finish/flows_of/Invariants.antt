@@ -1,7 +1,7 @@
 -- What so many flows gave, and the frames of the others are still to come.
 use Rattle.std.proofs.Common.{◌≡◌, ◌≤◌, ◌+◌, length, map, vec_capacity}
 use Rattle.std.specs.Vec.Iter.{into_iter_items}
-use Rattle.uplink.proofs.RingsSettled.{AreFlowsSoFar}
+use Rattle.uplink.proofs.AllSettled.{AreFlowsSoFar}
 use Rattle.uplink.proofs.finish.flows_of.Given as goal
 
 abbrev pub invariant-loop-one : goal.invariant-loop-one

@@ -3,7 +3,8 @@ use Rattle.std.proofs.Common.{refl, sym, ap, subst, arith}
 use Rattle.std.proofs.lemmas.Option.{slice_get_read}
 use Rattle.flow_core.specs.declared.event.Applied.TheVariants.{Arrival, Decision, DecisionTo, DecisionSkip}
 use Rattle.flow_core.specs.Stands.{TakesEvent}
-use Rattle.flow_core.specs.Flows.{flow_of, event_of}
+use Rattle.flow_core.specs.Flows.{event_of}
+use Rattle.flow_records.specs.Events.{flow_of}
 use Rattle.flow_core.proofs.OneFlow.{others-stay, changes-at}
 use Rattle.flow_core.proofs.flows.Core.apply.Goals as goal
 

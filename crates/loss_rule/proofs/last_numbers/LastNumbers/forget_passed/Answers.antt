@@ -2,7 +2,7 @@ use Rattle.std.proofs.Common.{◌≡◌, ℕ, ◌<◌, ◌≤◌, length, vec_le
 use Rattle.std.proofs.Math.Seq.{map-set_same}
 use Rattle.std.proofs.lemmas.List.{map-set, length-map}
 use Rattle.std.proofs.lemmas.Option.{slice_get_read}
-use Rattle.loss_rule.specs.declared.last_number.LastNumber.{LastNumber}
+use Rattle.loss_rule.specs.declared.known_channel.KnownChannel.{KnownChannel}
 use Rattle.loss_rule.specs.declared.last_numbers.LastNumbers.{LastNumbers}
 use Rattle.loss_rule.specs.Numbers.{carried_of, numbers_of, still_ahead}
 use Rattle.loss_rule.proofs.LeastNumber.{at-map}
@@ -22,12 +22,12 @@ loop-channel-preserved c =
     let first = numbers_of c.args.self.now in
     let so_far = c.loop-channel.invariant.numbers in
     let at = slice_get_read items _ i c.index.result.now refl (in-range c.loop-channel.self c.args.self.now i c.len-channel-end.result c.loop-channel.invariant.carried c.len-channel-end.ensures c.loop-channel-test.true) c.index.ensures in
-    let number = at-map (λ (one : LastNumber). one.last) items i c.index.result.now c.index.result.now.last at refl in
+    let number = at-map (λ (one : KnownChannel). one.last) items i c.index.result.now c.index.result.now.last at refl in
     record {
-      carried = map-set_same (λ (one : LastNumber). one.carried) items i _ c.index.result.now (ap (λ (one : LastNumber). one.carried) c.index.ensures)
+      carried = map-set_same (λ (one : KnownChannel). one.carried) items i _ c.index.result.now (ap (λ (one : KnownChannel). one.carried) c.index.ensures)
           ∙ c.loop-channel.invariant.carried;
-      numbers = map-set (λ (one : LastNumber). one.last) items i _
-          ∙ ap (set (map (λ (one : LastNumber). one.last) items) i) c.still_ahead-last.ensures.left
+      numbers = map-set (λ (one : KnownChannel). one.last) items i _
+          ∙ ap (set (map (λ (one : KnownChannel). one.last) items) i) c.still_ahead-last.ensures.left
           ∙ ap (λ (ns : List (Option ℕ)). set ns i (still_ahead c.args.expected c.index.result.now.last)) so_far
           ∙ rewritten (still_ahead c.args.expected) first i c.index.result.now.last
           (subst (λ (ns : List (Option ℕ)). slice_get ns i ≡ Some c.index.result.now.last) so_far number);

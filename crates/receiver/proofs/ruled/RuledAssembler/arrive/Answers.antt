@@ -1,5 +1,5 @@
 use Rattle.std.proofs.lemmas.Result.{IfOk-weaker}
-use Rattle.flow_core.specs.declared.event.Event.TheVariants.{Arrive}
+use Rattle.flow_records.specs.declared.event.Event.TheVariants.{Arrive}
 use Rattle.loss_rule.specs.Rule.{on_channel}
 use Rattle.receiver.specs.Inside.Ruling.{TakesNoted, TakesComing}
 use Rattle.receiver.proofs.RuleSkips.{noting-skipped, arrives-after}

@@ -1,7 +1,7 @@
 use Rattle.std.proofs.Common.{ℕ, Bool, List, subst}
 use Rattle.std.proofs.lemmas.Result.{IfOk-weaker}
 use Rattle.flow_records.specs.declared.record.FlowRecord.{FlowRecord}
-use Rattle.flow_core.specs.declared.event.Event.{Event}
+use Rattle.flow_records.specs.declared.event.Event.{Event}
 use Rattle.receiver.specs.Outcome.{AreOutcomesOfFlows}
 use Rattle.receiver.specs.Inside.Assembly.{none_handed, HasAssembled}
 use Rattle.receiver.proofs.RuledItems.{all-ruled}

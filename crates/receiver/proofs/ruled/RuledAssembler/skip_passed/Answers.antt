@@ -3,7 +3,7 @@ use Rattle.std.specs.Vec.{with_item}
 use Rattle.std.proofs.lemmas.List.{length-set}
 use Rattle.std.proofs.lemmas.Option.{slice_get_read, same_Some}
 use Rattle.std.proofs.lemmas.Result.{IfOk-weaker}
-use Rattle.flow_core.specs.declared.event.Event.TheVariants.{SkipTo}
+use Rattle.flow_records.specs.declared.event.Event.TheVariants.{SkipTo}
 use Rattle.flow_core.proofs.OneFlow.{written, written_other}
 use Rattle.loss_rule.specs.Numbers.{carried_of, numbers_of, IsPassedByAll}
 use Rattle.receiver.specs.declared.ruled.RuledNumbers.{RuledNumbers}

@@ -1,7 +1,7 @@
 use Rattle.std.proofs.Common.{refl, subst}
 use Rattle.std.proofs.lemmas.Option.{slice_get_read}
 use Rattle.std.proofs.lemmas.Result.{IfOk-weaker}
-use Rattle.flow_core.specs.declared.event.Event.TheVariants.{SkipTo}
+use Rattle.flow_records.specs.declared.event.Event.TheVariants.{SkipTo}
 use Rattle.loss_rule.specs.Numbers.{IsSlidTo}
 use Rattle.receiver.specs.Inside.Ruling.{TakesNoted, Slides}
 use Rattle.receiver.proofs.Ruling.{noted-numbers}

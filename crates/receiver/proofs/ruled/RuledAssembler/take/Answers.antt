@@ -1,8 +1,9 @@
 use Rattle.std.proofs.Common.{◌≡◌, ℕ, ◌<◌, Ok, Err, IfOk, Result, length, refl, ap, sym, subst}
-use Rattle.flow_core.specs.declared.event.Event.{Event}
-use Rattle.flow_core.specs.declared.event.Event.TheVariants.{Arrive, Gap, GapTo, SkipTo}
+use Rattle.flow_records.specs.declared.event.Event.{Event}
+use Rattle.flow_records.specs.declared.event.Event.TheVariants.{Arrive, Gap, GapTo, SkipTo}
 use Rattle.docsis_wire.specs.declared.segment.Segment.{Segment}
-use Rattle.flow_core.specs.Flows.{flow_of, event_of}
+use Rattle.flow_core.specs.Flows.{event_of}
+use Rattle.flow_records.specs.Events.{flow_of}
 use Rattle.loss_rule.specs.Rule.{on_channel, handed_in}
 use Rattle.receiver.specs.Ruled.{coming_of}
 use Rattle.receiver.specs.Inside.Ruling.{KeepsRule, TakesNoted, TakesComing}

@@ -1,8 +1,8 @@
-use Rattle.std.proofs.Common.{◌≡◌, ◌<◌, Some, length, slice_get, slice_set, refl, sym, subst, ◌∙◌, arith}
+use Rattle.std.proofs.Common.{◌≡◌, ◌<◌, inl, inr, Some, length, slice_get, slice_set, refl, sym, subst, ◌∙◌, arith}
 use Rattle.std.specs.Vec.{with_item}
 use Rattle.std.proofs.lemmas.List.{length-set}
 use Rattle.std.proofs.lemmas.Option.{slice_get_read}
-use Rattle.flow_core.specs.Flows.{flow_of}
+use Rattle.flow_records.specs.Events.{flow_of}
 use Rattle.flow_core.proofs.OneFlow.{written, written_other}
 use Rattle.receiver.specs.declared.ruled.RuledNumbers.{RuledNumbers}
 use Rattle.receiver.proofs.Ruling.{Expects, noted-flow, noted-numbers, event-led}
@@ -26,6 +26,15 @@ index_mut-requires g c =
     let is = c.flow-flow.ensures in
     omega (arith, c.args.self.now.numbers.ok.0)
 
+pub returns-in-Decided-clause-takes : goal.returns-in-Decided-clause-takes
+returns-in-Decided-clause-takes g c =
+    let accepts = g.C.HeaderCheck.accepts in
+    λ accepted handed setup r items lasts fates x has.
+    event-led accepts c.args.self.now (record { rule = c.args.self.now.rule; assembler = c.take.new.self; numbers = c.args.self.now.numbers })
+    c.args.event has.numbers has.numbers
+    (λ accepted handed records items. c.in_ok-take.ensures accepted handed records items) refl has.there has.there refl refl
+    (inl c.in-Decided.is) accepted handed setup r items lasts fates x has
+
 pub returns-clause-takes : goal.returns-clause-takes
 returns-clause-takes g c =
     let noting = c.requires.noting in
@@ -39,10 +48,13 @@ returns-clause-takes g c =
     subst (λ i. slice_get all i ≡ Some c.index_mut.result.now) at (slice_get_read all _ c.flow-flow.result c.index_mut.result.now refl (subst (λ i. i < length all) (sym at) within) c.index_mut.ensures.value) in
     let then : slice_get (slice_set all c.flow-flow.result is) k ≡ Some is = subst (λ i. slice_get (slice_set all i is) k ≡ Some is) (sym at) (written all k is within) in
     event-led accepts c.args.self.now (record { rule = c.args.self.now.rule; assembler = c.take.new.self; numbers = with_item c.args.self.now.numbers c.flow-flow.result is })
-    c.args.event c.index_mut.result.now is c.expected-expected.result
+    c.args.event c.index_mut.result.now is
     (λ accepted handed records items. c.in_ok-take.ensures accepted handed records items) refl there then refl c.forget_passed.ensures.carried
-    (subst (λ i. Expects accepts c.take.new.self i c.expected-expected.result) at (λ accepted handed records r items. c.expected-expected.ensures.number accepted handed records r items))
-    c.forget_passed.ensures.numbers
+    (inr record {
+      expected = c.expected-expected.result;
+      expects = subst (λ i. Expects accepts c.take.new.self i c.expected-expected.result) at (λ accepted handed records r items. c.expected-expected.ensures.number accepted handed records r items);
+      left = c.forget_passed.ensures.numbers;
+    })
 
 pub returns-clause-kept : goal.returns-clause-kept
 returns-clause-kept g c =

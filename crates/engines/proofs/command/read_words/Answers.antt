@@ -1,0 +1,41 @@
+-- Words are read as what they ask for.
+use Rattle.std.proofs.Common.{inl, ap, ◌∙◌}
+use Rattle.std.specs.Prelude.{map, not}
+use Rattle.engines.proofs.AskedWords.{AsksForAnEngine-with_options, AsksForAnEngine-replay}
+use Rattle.engines.proofs.command.read_words.Goals as goal
+use Rattle.engines.proofs.command.read_words.Goals.{then-not-asks_to_join+then-is_none+in_ok-read_with_options, else-not-asks_to_join}
+use Rattle.engines.proofs.command.read_words.Goals.{else-not-asks_to_join-via-then-not-asks_to_join+else-is_none, else-not-asks_to_join-via-else-not-asks_to_join}
+
+pub returns-in-Some-clause-asked : goal.returns-in-Some-clause-asked
+returns-in-Some-clause-asked g c = (c.asked_replay.ensures c.in-Some.rule).0 c.in-Some.is
+
+pub returns-in-Some-clause-replay : goal.returns-in-Some-clause-replay
+returns-in-Some-clause-replay g c = λ rule asks. cc ((c.asked_replay.ensures rule).1 asks, c.in-Some.is)
+
+pub returns-in_default-before_help-clause-replay : goal.returns-in_default-before_help-clause-replay
+returns-in_default-before_help-clause-replay g c = λ rule asks. absurd (c.in_default.not-Some rule ((c.asked_replay.ensures rule).1 asks))
+
+pub returns-in_err-help_text-clause-replay : goal.returns-in_err-help_text-clause-replay
+returns-in_err-help_text-clause-replay g c = λ rule asks. absurd (c.in_default.not-Some rule ((c.asked_replay.ensures rule).1 asks))
+
+pub returns-clause-replay : goal.returns-clause-replay
+returns-clause-replay g c = λ rule asks. absurd (c.in_default.not-Some rule ((c.asked_replay.ensures rule).1 asks))
+
+pub returns-clause-asked : goal.returns-clause-asked
+returns-clause-asked g c =
+    let before = map g.S.AsStr.text c.in-Some-before_help.before.now in
+    elim c.if-not-asks_to_join.branch [
+      | then-not-asks_to_join+then-is_none+in_ok-read_with_options w ↦
+          (before, c.in-Some-before_help.ensures, AsksForAnEngine-with_options before w.in_ok-read_with_options.field-0 w.in_ok-read_with_options.ensures)
+      | else-not-asks_to_join w ↦
+          elim w.else-not-asks_to_join.branch [
+            | else-not-asks_to_join-via-then-not-asks_to_join+else-is_none v ↦ (
+              before,
+              c.in-Some-before_help.ensures,
+              AsksForAnEngine-replay before v.asked_replay-then-not-asks_to_join.result v.asked_replay-then-not-asks_to_join.ensures
+                  (v.is_none.ensures ∙ ap (λ none. not none) v.if-is_none.false),
+            )
+            | else-not-asks_to_join-via-else-not-asks_to_join v ↦
+                (before, c.in-Some-before_help.ensures, inl (c.asks_to_join-2.ensures.0 v.if-not-asks_to_join.false))
+          ]
+    ]

@@ -1,6 +1,0 @@
-use Rattle.std.proofs.Common.{◌≡◌}
-use Rattle.mailbox.specs.Ports.{address, posted}
-use Rattle.uplink.proofs.retry.close_port.Given as goal
-
-abbrev pub invariant-loop : goal.invariant-loop
-invariant-loop g l = (address l.port ≡ address l.fn.port) × (posted l.port ≡ posted l.fn.port)

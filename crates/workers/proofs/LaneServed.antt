@@ -1,0 +1,112 @@
+-- What a channel's worker has posted and reported.
+use Rattle.std.proofs.Common.{◌≡◌, List, [], ◌∷◌, ◌++◌, map, refl, sym, ap, ◌∙◌, append_assoc}
+use Rattle.std.proofs.lemmas.List.{map-append, append-nil}
+use Rattle.mailbox.specs.Ports.{address, posted}
+use Rattle.mailbox.specs.declared.port.ClosedPort.{ClosedPort}
+use Rattle.lane.specs.declared.admitted.Request.{Request}
+use Rattle.lane.specs.declared.input.Input.{Input}
+use Rattle.lane.specs.declared.report.LaneReport.{LaneReport}
+use Rattle.workers.specs.declared.item.Item.{Item}
+use Rattle.workers.specs.declared.lane_worker.LaneWork.{LaneWork}
+use Rattle.lane.specs.Inputs.{Answer, AnsweredInput}
+use Rattle.lane.specs.Report.{admitted_in, requests_in, admitted_of, requests_of}
+use Rattle.lane.specs.Report.{event_of_admitted}
+use Rattle.lane.specs.Report.{IsReportOf}
+use Rattle.lane.specs.Stands.{TakesInput}
+use Rattle.lane.specs.Report.{Reports}
+use Rattle.workers.specs.Inside.Carried.{carried}
+use Rattle.workers.specs.Inside.Working.{HasPosted, HasServedAll, DidLane}
+use Rattle.lane.proofs.LaneReports.{admitted_of-append, requests_of-append}
+
+module _ {S : Type 0} where
+  -- no input was served yet
+  pub none_served : (work : LaneWork S) (report : LaneReport) → IsReportOf [] report → HasServedAll [] work work report
+  none_served work report of = record {
+    arrivals_same = refl;
+    requests_same = refl;
+    serves = λ setup stands. record {
+      answered = [];
+      inputs_are = refl;
+      stands = stands;
+      arrivals_are = sym (append-nil (carried (posted work.arrivals)));
+      requests_are = sym (append-nil (posted work.requests));
+      report_is = of;
+    };
+  }
+
+  -- one input more was answered, and what it admits posted
+  pub one_served : (inputs : List Input) (input : Input) (answer : Answer) (work before after : LaneWork S) (report report' : LaneReport)
+      → HasServedAll inputs work before report → TakesInput before.lane input answer after.lane → Reports report answer report'
+      → address after.arrivals ≡ address before.arrivals → address after.requests ≡ address before.requests
+      → carried (posted after.arrivals) ≡ carried (posted before.arrivals) ++ map event_of_admitted (admitted_in answer)
+      → posted after.requests ≡ posted before.requests ++ requests_in answer
+      → HasServedAll (inputs ++ input ∷ []) work after report'
+  one_served inputs input answer work before after report report' has takes reports arrivals_same requests_same arrivals requests = record {
+    arrivals_same = arrivals_same ∙ has.arrivals_same;
+    requests_same = requests_same ∙ has.requests_same;
+    serves = λ setup stands.
+        let is = has.serves setup stands in
+        let one : AnsweredInput = record { input = input; answer = answer } in
+        let events = map event_of_admitted (admitted_of is.answered) in
+        record {
+          answered = is.answered ++ one ∷ [];
+          inputs_are = map-append (λ (t : AnsweredInput). t.input) is.answered (one ∷ []) ∙ ap (λ t. t ++ input ∷ []) is.inputs_are;
+          stands = takes setup is.answered is.stands;
+          arrivals_are =
+              arrivals ∙ ap (λ t. t ++ map event_of_admitted (admitted_in answer)) is.arrivals_are
+              ∙ append_assoc (carried (posted work.arrivals)) events (map event_of_admitted (admitted_in answer))
+              ∙ ap (λ t. carried (posted work.arrivals) ++ t)
+              (sym (ap (map event_of_admitted) (admitted_of-append is.answered (one ∷ []))
+              ∙ map-append event_of_admitted (admitted_of is.answered) (admitted_in answer)));
+          requests_are =
+              requests ∙ ap (λ t. t ++ requests_in answer) is.requests_are
+              ∙ append_assoc (posted work.requests) (requests_of is.answered) (requests_in answer)
+              ∙ ap (λ t. posted work.requests ++ t) (sym (requests_of-append is.answered (one ∷ [])));
+          report_is = reports is.answered input is.report_is;
+        };
+  }
+
+  -- the source gives no more
+  pub all_served : (taken rest all : List Input) (work now : LaneWork S) (source : S) (report : LaneReport)
+      → taken ++ rest ≡ all → rest ≡ [] → HasServedAll taken work now report
+      → HasServedAll all work (record { lane = now.lane; arrivals = now.arrivals; requests = now.requests; source = source }) report
+  all_served taken rest all work now source report whole none has =
+      let are : taken ≡ all = sym (append-nil taken) ∙ ap (λ t. taken ++ t) (sym none) ∙ whole in
+      record {
+        arrivals_same = has.arrivals_same;
+        requests_same = has.requests_same;
+        serves = λ setup stands.
+            let is = has.serves setup stands in
+            record {
+              answered = is.answered;
+              inputs_are = is.inputs_are ∙ are;
+              stands = is.stands;
+              arrivals_are = is.arrivals_are;
+              requests_are = is.requests_are;
+              report_is = is.report_is;
+            };
+      }
+
+  -- all inputs were served, and the ports closed
+  pub did_serve : (inputs : List Input) (work now : LaneWork S) (report : LaneReport) (arrivals : ClosedPort Item) (requests : ClosedPort Request)
+      → HasServedAll inputs work now report → HasPosted now.arrivals [] arrivals → HasPosted now.requests [] requests
+      → DidLane work.lane work.arrivals work.requests inputs (record { arrivals = arrivals; requests = requests; report = report })
+  did_serve inputs work now report arrivals requests has closes closes' = record {
+    did = λ setup stands.
+        let is = has.serves setup stands in (
+          is.answered,
+          is.stands.answered,
+          is.inputs_are,
+          record {
+            arrivals_are = record {
+              address_is = closes.address_is ∙ has.arrivals_same;
+              sent_is = ap carried (closes.posted_is ∙ append-nil (posted now.arrivals)) ∙ is.arrivals_are;
+            };
+            requests_are = record {
+              address_is = closes'.address_is ∙ has.requests_same;
+              posted_is = closes'.posted_is ∙ append-nil (posted now.requests) ∙ is.requests_are;
+            };
+            report_is = is.report_is;
+          },
+        );
+  }

@@ -1,0 +1,5 @@
+pub mod LaneServed
+pub mod RequestsKept
+pub mod FramesConsumed
+pub mod AlikeLists
+pub mod RingsSettled

@@ -1,0 +1,4 @@
+pub mod Takable
+pub mod Carried
+pub mod Working
+pub mod Opening

@@ -1,0 +1,77 @@
+//! The worker of the decisions.
+ghost use Rattle.std.specs.Prelude.{◌≡◌, IfOk, IfSome};
+ghost use Rattle.workers.specs.Inside.Working.{DidDecide};
+
+use crate::item::Item;
+use crate::retry::{close_port, post_item};
+use crate::source::Decisions;
+use crate::start_word::StartWord;
+use mailbox::{ClosedPort, Port};
+use std::alloc::AllocError;
+use std::snapshot::Snapshot;
+use std::sync::Wait;
+use std::thread;
+use std::thread::{Promise, PromisedHandle, Threads};
+
+/// What the decisions' worker works with.
+#[derive(Drop)]
+pub struct DecidingWork<D> {
+    pub flow_count: usize,
+    pub arrivals: Port<Item>,
+    pub decisions: D,
+}
+
+/// The work that the decisions' worker was started with.
+#[derive(Drop)]
+pub struct DecidingPromise<D>(pub Snapshot<DecidingWork<D>>);
+
+impl<D: Decisions> Promise<Option<ClosedPort<Item>>> for DecidingPromise<D> {
+    ghost kept_by = { λ promise result. IfSome result (DidDecide promise.0.value.flow_count
+        promise.0.value.arrivals (D.decides promise.0.value.decisions)) };
+}
+
+pub type DecisionWorker<D> = PromisedHandle<Option<ClosedPort<Item>>, DecidingPromise<D>>;
+
+/// Starts the worker of the decisions.
+pub fn start<D, R>(
+    rt: &R,
+    start: &StartWord,
+    work: DecidingWork<D>,
+) -> Result<DecisionWorker<D>, AllocError>
+where
+    D: Decisions + Drop + Send + 'static,
+    R: Threads + Wait + Copy + Send + 'static,
+    ensures { IfOk result (λ worker. worker.promise.0.value ≡ work) }
+{
+    let start = start.share()?;
+    let promise = DecidingPromise(Snapshot::of(&work));
+    let theirs = *rt;
+    Ok(thread::spawn_with(rt, promise, move || serve_decisions(&theirs, &start, work))?)
+}
+
+/// Posts all decisions that name a flow once it is told to go, and then closes its port. It answers
+/// nothing if it is told to stop.
+fn serve_decisions<D: Decisions + Drop, R: Wait>(
+    rt: &R,
+    start: &StartWord,
+    work: DecidingWork<D>,
+) -> Option<ClosedPort<Item>>
+    ensures { IfSome result
+        (DidDecide work.flow_count work.arrivals (D.decides work.decisions)) }
+{
+    let DecidingWork {
+        flow_count,
+        mut arrivals,
+        mut decisions,
+    } = work;
+    if !start.is_go(rt) {
+        return None;
+    }
+    while let Some(decision) = decisions.next() {
+        if decision.names_a_flow(flow_count) {
+            let event = decision.event();
+            post_item(rt, &mut arrivals, Item { event });
+        }
+    }
+    Some(close_port(rt, arrivals))
+}

@@ -1,0 +1,161 @@
+//! The worker of one channel.
+ghost use Rattle.std.specs.Prelude.{◌≡◌, ◌++◌, map, IfOk, IfSome};
+ghost use Rattle.mailbox.specs.Ports.{address, posted};
+ghost use Rattle.lane.specs.Report.{admitted_in, requests_in};
+ghost use Rattle.lane.specs.Report.{event_of_admitted};
+ghost use Rattle.workers.specs.Inside.Carried.{carried};
+ghost use Rattle.workers.specs.Inside.Working.{DidLane, HasServedAll};
+
+use crate::item::Item;
+use crate::retry::{close_port, post_item};
+use crate::source::Source;
+use crate::start_word::StartWord;
+use flow_records::Event;
+use lane::{Admitted, Answer, Lane, LaneReport, Request, admitted_segment};
+use mailbox::{ClosedPort, Port};
+use std::alloc::{AllocError, Global};
+use std::snapshot::Snapshot;
+use std::sync::Wait;
+use std::thread;
+use std::thread::{Promise, PromisedHandle, Threads};
+
+/// What a channel's worker works with.
+#[derive(Drop)]
+pub struct LaneWork<S> {
+    pub lane: Lane,
+    pub arrivals: Port<Item>,
+    pub requests: Port<Request>,
+    pub source: S,
+}
+
+impl<S> LaneWork<S> {
+    /// What the worker of a channel with this lane and source works with.
+    pub fn new(lane: Lane, arrivals: Port<Item>, requests: Port<Request>, source: S) -> LaneWork<S>
+        ensures { result
+            ≡ record { lane = lane; arrivals = arrivals; requests = requests; source = source } }
+    {
+        LaneWork {
+            lane,
+            arrivals,
+            requests,
+            source,
+        }
+    }
+}
+
+/// A channel's closed ports, and what became of its inputs.
+#[derive(Drop)]
+pub struct LaneDone {
+    pub arrivals: ClosedPort<Item>,
+    pub requests: ClosedPort<Request>,
+    pub report: LaneReport,
+}
+
+/// The work that a channel's worker was started with.
+#[derive(Drop)]
+pub struct LanePromise<S>(pub Snapshot<LaneWork<S>>);
+
+impl<S: Source> Promise<Option<LaneDone>> for LanePromise<S> {
+    ghost kept_by = { λ promise result. IfSome result (DidLane promise.0.value.lane
+        promise.0.value.arrivals promise.0.value.requests (S.gives promise.0.value.source)) };
+}
+
+pub type LaneWorker<S> = PromisedHandle<Option<LaneDone>, LanePromise<S>>;
+
+/// Starts the worker of a channel.
+pub fn start<S, R>(
+    alloc: Global,
+    rt: &R,
+    start: &StartWord,
+    work: LaneWork<S>,
+) -> Result<LaneWorker<S>, AllocError>
+where
+    S: Source + Drop + Send + 'static,
+    R: Threads + Wait + Copy + Send + 'static,
+    ensures { IfOk result (λ worker. worker.promise.0.value ≡ work) }
+{
+    let start = start.share()?;
+    let promise = LanePromise(Snapshot::of(&work));
+    let theirs = *rt;
+    Ok(thread::spawn_with(rt, promise, move || {
+        serve_channel(alloc, &theirs, &start, work)
+    })?)
+}
+
+/// Takes all inputs of the source once it is told to go, and then closes both ports. It answers
+/// nothing if it is told to stop, or if an allocation failed; then it takes no more inputs.
+fn serve_channel<S: Source + Drop, R: Wait>(
+    alloc: Global,
+    rt: &R,
+    start: &StartWord,
+    work: LaneWork<S>,
+) -> Option<LaneDone>
+    ensures { IfSome result
+        (DidLane work.lane work.arrivals work.requests (S.gives work.source)) }
+{
+    if !start.is_go(rt) {
+        return None;
+    }
+    let mut work = work;
+    let report = take_inputs(alloc, rt, &mut work);
+    let LaneWork {
+        lane: _,
+        arrivals,
+        requests,
+        source: _,
+    } = work;
+    let arrivals = close_port(rt, arrivals);
+    let requests = close_port(rt, requests);
+    let report = report.ok()?;
+    Some(LaneDone {
+        arrivals,
+        requests,
+        report,
+    })
+}
+
+/// Takes all inputs of the source, and posts what each admits before it takes the next. If an
+/// allocation failed it takes no more.
+fn take_inputs<S: Source, R: Wait>(
+    alloc: Global,
+    rt: &R,
+    work: &mut LaneWork<S>,
+) -> Result<LaneReport, AllocError>
+    ensures { IfOk result (HasServedAll (S.gives work.old.source) work.old work.new) }
+{
+    let mut report = LaneReport::none(alloc);
+    while let Some(input) = work.source.next() {
+        let answer = work.lane.answer(alloc, &input)?;
+        report.note(&answer)?;
+        post_admitted(rt, &mut work.arrivals, &mut work.requests, answer);
+    }
+    Ok(report)
+}
+
+/// Posts what an answer admits, its request first.
+fn post_admitted<R: Wait>(
+    rt: &R,
+    arrivals: &mut Port<Item>,
+    requests: &mut Port<Request>,
+    answer: Answer,
+)
+    ensures arrivals_same { address arrivals.new ≡ address arrivals.old }
+    ensures requests_same { address requests.new ≡ address requests.old }
+    ensures arrivals { carried (posted arrivals.new)
+        ≡ carried (posted arrivals.old) ++ map event_of_admitted (admitted_in answer) }
+    ensures requests { posted requests.new ≡ posted requests.old ++ requests_in answer }
+{
+    let Some(admitted) = admitted_segment(answer) else {
+        return;
+    };
+    let Admitted {
+        flow,
+        segment,
+        request,
+    } = admitted;
+    if let Some(request) = request {
+        post_item(rt, requests, request);
+    }
+    let event = Event::Arrive { flow, segment };
+    post_item(rt, arrivals, Item { event });
+}

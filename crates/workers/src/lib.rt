@@ -1,0 +1,48 @@
+//! The workers of a running receiver, and what they and its caller work with.
+//!
+//! Seven workers run beside the caller: one for each channel, one that passes the decisions on, one
+//! that takes the requests for the scheduler, and one that takes the frames for the consumers. They
+//! stand below `uplink`, whose `run` they serve; nothing here looks into a flow.
+//!
+//! The calls, in the order of use:
+//!
+//! 1. [`open_mailbox`] opens a mailbox, and [`open_rings`] the ring of each flow; [`StartWord::new`]
+//!    makes the word by which the workers are told to begin.
+//! 2. [`Work::new`] gives each worker its part of what was opened. [`Sources`], [`Decisions`] and
+//!    [`Taps`] are what the caller brings.
+//! 3. [`start_team`] starts all workers, and [`Team::join`] waits for them and hands on what they
+//!    have [`Done`].
+//! 4. Meanwhile the caller takes [`Item`]s and drives the feeders: [`offer_all`], [`flush_all`] and
+//!    [`close_feeders`].
+//! 5. [`settle_rings`] settles the rings.
+#![tactic(auto)]
+
+mod both;
+mod decision_worker;
+mod feeders;
+mod frame_worker;
+mod item;
+mod lane_worker;
+mod mailboxes;
+mod request_worker;
+mod retry;
+mod rings;
+mod source;
+mod start_word;
+mod tap;
+mod team;
+mod work;
+
+pub use both::{both_done, both_made};
+pub use feeders::{close_feeders, flush_all, offer_all};
+pub use frame_worker::Consumed;
+pub use item::Item;
+pub use lane_worker::LaneDone;
+pub use mailboxes::{OpenMailbox, open_mailbox};
+pub use request_worker::Scheduled;
+pub use rings::{Rings, open_rings, settle_rings};
+pub use source::{Decisions, ListDecisions, ListSource, Source, Sources};
+pub use start_word::StartWord;
+pub use tap::{NoTap, Tap, Taps};
+pub use team::{Done, Team, start_team};
+pub use work::{Lanes, Share, Work};

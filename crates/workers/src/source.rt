@@ -1,0 +1,93 @@
+//! Where a running receiver's inputs and decisions come from.
+ghost use Rattle.std.specs.Prelude.{◌≡◌, ◌∷◌, [], List, MatchOption};
+ghost use Rattle.std.specs.Vec.Iter.{into_iter_items};
+ghost use Rattle.lane.specs.declared.input.Input.{Input};
+ghost use Rattle.flow_records.specs.declared.decision.Decision.{Decision};
+
+use flow_records::Decision;
+use lane::Input;
+use std::vec::IntoIter;
+
+/// The inputs of one channel. A source is finite: once it has answered `None` it has nothing more
+/// to give.
+pub trait Source {
+    // All inputs that it still gives, in order.
+    ghost gives: { Self → List Input };
+
+    /// The next input.
+    fn next(&mut self) -> Option<Input>
+        ensures { MatchOption result
+            ((gives self.old ≡ []) × (gives self.new ≡ []))
+            (λ input. gives self.old ≡ input ∷ gives self.new) };
+}
+
+/// Decisions that segments are lost. It is finite as a [`Source`] is.
+pub trait Decisions {
+    // All decisions that it still gives, in order.
+    ghost decides: { Self → List Decision };
+
+    /// The next decision.
+    fn next(&mut self) -> Option<Decision>
+        ensures { MatchOption result
+            ((decides self.old ≡ []) × (decides self.new ≡ []))
+            (λ decision. decides self.old ≡ decision ∷ decides self.new) };
+}
+
+/// The sources of the channels 0 to 3.
+#[derive(Drop)]
+pub struct Sources<S0, S1, S2, S3> {
+    pub s0: S0,
+    pub s1: S1,
+    pub s2: S2,
+    pub s3: S3,
+}
+
+/// A source that gives a list of inputs.
+#[derive(Drop)]
+pub struct ListSource {
+    rest: IntoIter<Input>,
+}
+
+impl ListSource {
+    /// Gives these inputs, in order.
+    pub fn new(inputs: Vec<Input>) -> ListSource
+        ensures { ⟦<ListSource as Source>⟧.gives result ≡ inputs.items }
+    {
+        ListSource {
+            rest: inputs.into_iter(),
+        }
+    }
+}
+
+impl Source for ListSource {
+    ghost gives = { λ source. into_iter_items source.rest };
+
+    fn next(&mut self) -> Option<Input> {
+        self.rest.next()
+    }
+}
+
+/// A list of decisions.
+#[derive(Drop)]
+pub struct ListDecisions {
+    rest: IntoIter<Decision>,
+}
+
+impl ListDecisions {
+    /// Gives these decisions, in order.
+    pub fn new(decisions: Vec<Decision>) -> ListDecisions
+        ensures { ⟦<ListDecisions as Decisions>⟧.decides result ≡ decisions.items }
+    {
+        ListDecisions {
+            rest: decisions.into_iter(),
+        }
+    }
+}
+
+impl Decisions for ListDecisions {
+    ghost decides = { λ decisions. into_iter_items decisions.rest };
+
+    fn next(&mut self) -> Option<Decision> {
+        self.rest.next()
+    }
+}
