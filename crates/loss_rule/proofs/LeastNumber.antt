@@ -3,8 +3,8 @@ use Rattle.std.proofs.Common.{◌≡◌, ℕ, ◌+◌, ◌<◌, ◌≤◌, ◌�
 use Rattle.std.specs.Option.{option_map}
 use Rattle.std.proofs.lemmas.Bool.{cases_lt, false≢true}
 use Rattle.std.proofs.lemmas.Option.{none-some, same_Some, slice_get-map, slice_get_within}
-use Rattle.reorder.specs.Number.{offset}
-use Rattle.reorder.proofs.Offsets.{offset-expected}
+use Rattle.reorder.specs.Number.{offset, number_ahead}
+use Rattle.reorder.proofs.Offsets.{offset-expected, offset-number_ahead}
 use Rattle.loss_rule.specs.declared.known_channel.KnownChannel.{KnownChannel}
 use Rattle.loss_rule.specs.Numbers.{IsPassedNumber}
 
@@ -105,6 +105,46 @@ least-taken expected items i one (Some least) number chosen at carried has small
       (λ at' _. (number, ap (λ (o : KnownChannel). o.last) (same_Some other one (sym at' ∙ at)) ∙ has, near))
       (λ k before at' carried'. let at-it = is.each k other before at' carried' in (at-it.0, at-it.1, omega (arith, at-it.2))) channel less;
 }
+
+-- the same, where the least number is known by its distance
+abbrev pub IsNearestBelow : ℕ → List KnownChannel → ℕ → Option ℕ → Type 0
+IsNearestBelow expected items i None = NoneBelow items i
+IsNearestBelow expected items i (Some distance) = (distance < 8192) × LeastBelow expected items i (number_ahead expected distance)
+
+-- a channel that is not carried changes nothing
+pub nearest-passed_over : (expected : ℕ) (items : List KnownChannel) (i : ℕ) (one : KnownChannel) (least : Option ℕ)
+    → slice_get items i ≡ Some one → one.carried ≡ false → IsNearestBelow expected items i least → IsNearestBelow expected items (i + 1) least
+nearest-passed_over expected items i one None at free is = least-passed_over expected items i one None at free is
+nearest-passed_over expected items i one (Some distance) at free is =
+    (is.0, least-passed_over expected items i one (Some (number_ahead expected distance)) at free is.1)
+
+-- a channel that has a number at a distance, of which the lesser is taken
+pub nearest-taken : (expected : ℕ) (items : List KnownChannel) (i : ℕ) (one : KnownChannel) (least : Option ℕ) (distance chosen : ℕ) → expected < 8192
+    → slice_get items i ≡ Some one → one.carried ≡ true → one.last ≡ Some (number_ahead expected distance) → distance < 8192 → 1 ≤ distance
+    → (chosen ≡ distance) ⊎ (least ≡ Some chosen) → chosen ≤ distance → IfSome least (λ other. chosen ≤ other)
+    → IsNearestBelow expected items i least → IsNearestBelow expected items (i + 1) (Some chosen)
+nearest-taken expected items i one None distance chosen small at carried has far after choice near nearest is =
+    let less : chosen < 8192 = omega arith in
+    let here = offset-number_ahead expected distance small far in
+    let there = offset-number_ahead expected chosen small less in (
+      less,
+      least-taken expected items i one None (number_ahead expected distance) (number_ahead expected chosen) at carried has (omega arith) (omega (arith, here))
+          (elim choice [ inl same ↦ inl (ap (number_ahead expected) same) | inr wrong ↦ absurd (none-some chosen wrong) ])
+          (omega (arith, here, there)) nearest is,
+    )
+nearest-taken expected items i one (Some least) distance chosen small at carried has far after choice near nearest is =
+    let less : chosen < 8192 = omega arith in
+    let here = offset-number_ahead expected distance small far in
+    let there = offset-number_ahead expected chosen small less in
+    let before = offset-number_ahead expected least small is.0 in (
+      less,
+      least-taken expected items i one (Some (number_ahead expected least)) (number_ahead expected distance) (number_ahead expected chosen) at carried has (omega arith) (omega (arith, here))
+          (elim choice [
+            | inl same ↦ inl (ap (number_ahead expected) same)
+            | inr same ↦ inr (ap (λ d. Some (number_ahead expected d)) (same_Some least chosen same))
+          ])
+          (omega (arith, here, there)) (let nearer = nearest in omega (arith, there, before)) is.1,
+    )
 
 -- once all channels are looked at, it is the number to which each has come
 pub least-passed : (expected : ℕ) (items : List KnownChannel) (number : ℕ) → LeastBelow expected items (length items) number

@@ -4,12 +4,12 @@
 ghost use Rattle.std.specs.Prelude.{◌≡◌, ◌<◌, ◌≤◌, ◌⊎◌, ℕ, IfOk, IfSome, None, Some, map, slice_set};
 ghost use Rattle.std.specs.Option.{ForSome};
 ghost use Rattle.docsis_wire.specs.Limits.{sequence_modulus};
-ghost use Rattle.reorder.specs.Number.{offset};
+ghost use Rattle.reorder.specs.Number.{offset, number_ahead};
 ghost use Rattle.loss_rule.specs.Numbers.{carried_of, numbers_of, ahead_number, still_ahead};
 ghost use Rattle.loss_rule.specs.Numbers.{no_numbers, IsPassedByAll};
 
 use crate::known_channel::KnownChannel;
-use reorder::{NUMBERS_AHEAD, offset};
+use reorder::{MODULUS, NUMBERS_AHEAD, offset};
 use std::alloc::{AllocError, Global};
 
 /// What is known of each channel of one flow.
@@ -60,10 +60,8 @@ impl LastNumbers {
         ensures carried { carried_of self.new ≡ carried_of self.old }
         ensures numbers { numbers_of self.new ≡ map (still_ahead expected) (numbers_of self.old) }
     {
-        for channel in 0..self.channels.len() {
-            let KnownChannel { carried, last } = self.channels[channel];
-            let last = still_ahead(expected, last);
-            self.channels[channel] = KnownChannel { carried, last };
+        for one in self.channels.iter_mut() {
+            one.last = still_ahead(expected, one.last);
         }
     }
 
@@ -78,10 +76,10 @@ impl LastNumbers {
         let mut least = None;
         for one in &self.channels {
             if one.carried {
-                least = Some(nearer(expected, least, beyond(expected, one.last)?));
+                least = Some(nearer(least, distance(expected, one.last)?));
             }
         }
-        least
+        Some(number_ahead(expected, least?))
     }
 }
 
@@ -105,29 +103,38 @@ fn still_ahead(expected: u16, last: Option<u16>) -> Option<u16>
     ahead(expected, last?)
 }
 
-/// A channel's number, unless it is the expected one.
-fn beyond(expected: u16, last: Option<u16>) -> Option<u16>
+/// How far a channel's number lies ahead of the expected one, unless it is that one.
+fn distance(expected: u16, last: Option<u16>) -> Option<u16>
     requires expected { expected < sequence_modulus }
     requires last { ForSome last (λ number. number < sequence_modulus) }
-    ensures number { ForSome result (λ number. last ≡ Some number) }
-    ensures after { ForSome result (λ number. 1 ≤ offset expected number) }
+    ensures number { ForSome result (λ distance. last ≡ Some (number_ahead expected distance)) }
+    ensures after { ForSome result (λ distance. 1 ≤ distance) }
     ensures none { result ≡ None → (number : ℕ) → last ≡ Some number → number ≡ expected }
-    ensures in_range { ForSome result (λ number. number < sequence_modulus) }
+    ensures in_range { ForSome result (λ distance. distance < sequence_modulus) }
 {
-    last.filter(|number| *number != expected)
+    match offset(expected, last?) {
+        0 => None,
+        distance => Some(distance),
+    }
 }
 
-/// The one of two numbers with the smaller offset from the expected one.
-fn nearer(expected: u16, least: Option<u16>, number: u16) -> u16
-    requires expected { expected < sequence_modulus }
-    requires least { ForSome least (λ other. other < sequence_modulus) }
-    requires number { number < sequence_modulus }
-    ensures one { (result ≡ number) ⊎ (least ≡ Some result) }
-    ensures number { offset expected result ≤ offset expected number }
-    ensures least { IfSome least (λ other. offset expected result ≤ offset expected other) }
+/// The lesser of two distances, or the one that there is.
+fn nearer(least: Option<u16>, distance: u16) -> u16
+    ensures one { (result ≡ distance) ⊎ (least ≡ Some result) }
+    ensures distance { result ≤ distance }
+    ensures least { IfSome least (λ other. result ≤ other) }
 {
     match least {
-        Some(least) if offset(expected, least) <= offset(expected, number) => least,
-        _ => number,
+        Some(least) if least <= distance => least,
+        _ => distance,
     }
+}
+
+/// The number that lies this far ahead of the expected one.
+fn number_ahead(expected: u16, distance: u16) -> u16
+    requires expected { expected < sequence_modulus }
+    requires distance { distance < sequence_modulus }
+    ensures { result ≡ number_ahead expected distance }
+{
+    (expected + distance) % MODULUS
 }

@@ -1,42 +1,50 @@
-use Rattle.std.proofs.Common.{◌≡◌, ℕ, ◌<◌, ◌≤◌, length, vec_len, arith, Option, Some, List, map, set, slice_get, refl, ap, subst, ◌∙◌}
+use Rattle.std.proofs.Common.{◌≡◌, ℕ, ◌<◌, ◌≤◌, length, arith, Option, Some, List, map, set, slice_get, refl, ap, sym, subst, ◌∙◌}
 use Rattle.std.proofs.Math.Seq.{map-set_same}
-use Rattle.std.proofs.lemmas.List.{map-set, length-map}
+use Rattle.std.proofs.lemmas.List.{map-set, length-map, with_items_is}
 use Rattle.std.proofs.lemmas.Option.{slice_get_read}
-use Rattle.loss_rule.specs.declared.known_channel.KnownChannel.{KnownChannel}
+use Rattle.std.specs.Vec.{with_items}
 use Rattle.loss_rule.specs.declared.last_numbers.LastNumbers.{LastNumbers}
-use Rattle.loss_rule.specs.Numbers.{carried_of, numbers_of, still_ahead}
+use Rattle.loss_rule.specs.declared.known_channel.KnownChannel.{KnownChannel}
+use Rattle.loss_rule.specs.Numbers.{numbers_of, still_ahead}
 use Rattle.loss_rule.proofs.LeastNumber.{at-map}
 use Rattle.loss_rule.proofs.Forgetting.{rewritten, all-rewritten}
 use Rattle.loss_rule.proofs.last_numbers.LastNumbers.forget_passed.Goals as goal
 
--- as many channels are left as there were
-in-range : (now old : LastNumbers) (i count : ℕ) → carried_of now ≡ carried_of old → count ≡ vec_len old.channels → i < count → i < length now.channels.items
-in-range now old i count same is less =
-    let sizes = ap length same in
-    omega (arith, simp length-map at sizes, old.channels.ok.0)
-
-pub loop-channel-preserved : goal.loop-channel-preserved
-loop-channel-preserved c =
-    let items = c.loop-channel.self.channels.items in
-    let i = c.loop-channel.channel in
+pub loop-one-preserved : goal.loop-one-preserved
+loop-one-preserved c =
+    let items = c.loop-one.one-items in
+    let i = c.loop-one.one-index in
     let first = numbers_of c.args.self.now in
-    let so_far = c.loop-channel.invariant.numbers in
-    let at = slice_get_read items _ i c.index.result.now refl (in-range c.loop-channel.self c.args.self.now i c.len-channel-end.result c.loop-channel.invariant.carried c.len-channel-end.ensures c.loop-channel-test.true) c.index.ensures in
-    let number = at-map (λ (one : KnownChannel). one.last) items i c.index.result.now c.index.result.now.last at refl in
+    let f = still_ahead c.args.expected in
+    let so_far = c.loop-one.invariant.numbers in
+    let is = c.one-item.is in
+    let within : i < length items = (let sizes = c.loop-one.auto.one-items in let below = c.loop-one-test.true in omega arith) in
+    let at = slice_get_read items _ i c.one-item.result refl within is in
+    let number = at-map (λ (one : KnownChannel). one.last) items i c.one-item.result c.one-item.result.last at refl in
     record {
-      carried = map-set_same (λ (one : KnownChannel). one.carried) items i _ c.index.result.now (ap (λ (one : KnownChannel). one.carried) c.index.ensures)
-          ∙ c.loop-channel.invariant.carried;
+      carried = map-set_same (λ (one : KnownChannel). one.carried) items i _ c.one-item.result refl ∙ c.loop-one.invariant.carried;
       numbers = map-set (λ (one : KnownChannel). one.last) items i _
-          ∙ ap (set (map (λ (one : KnownChannel). one.last) items) i) c.still_ahead-last.ensures.left
-          ∙ ap (λ (ns : List (Option ℕ)). set ns i (still_ahead c.args.expected c.index.result.now.last)) so_far
-          ∙ rewritten (still_ahead c.args.expected) first i c.index.result.now.last
-          (subst (λ (ns : List (Option ℕ)). slice_get ns i ≡ Some c.index.result.now.last) so_far number);
+          ∙ ap (set (map (λ (one : KnownChannel). one.last) items) i) (c.still_ahead-one.ensures.left ∙ ap (λ (one : KnownChannel). f one.last) (sym is))
+          ∙ ap (λ (ns : List (Option ℕ)). set ns i (f c.one-item.result.last)) so_far
+          ∙ rewritten f first i c.one-item.result.last (subst (λ (ns : List (Option ℕ)). slice_get ns i ≡ Some c.one-item.result.last) so_far number);
     }
+
+-- the channels are those that were written
+written : (lasts : LastNumbers) (then items : List KnownChannel) → items ≡ lasts.channels.items → length then ≡ length items → (with_items lasts.channels then).items ≡ then
+written lasts then items same long = with_items_is lasts.channels then (let whole = lasts.channels.ok.0 in let sizes = ap length same in omega arith)
+
+pub returns-clause-carried : goal.returns-clause-carried
+returns-clause-carried c =
+    let items = c.deref_mut-one-items.result.now in
+    let are = written c.args.self.now c.loop-one.one-items items c.deref_mut-one-items.ensures.value c.loop-one.auto.one-items in
+    ap (map (λ (one : KnownChannel). one.carried)) are ∙ c.loop-one.invariant.carried
 
 pub returns-clause-numbers : goal.returns-clause-numbers
 returns-clause-numbers c =
-    let ends = c.loop-channel-test.false in
-    let count = c.len-channel-end.ensures in
-    let all : length (numbers_of c.args.self.now) ≤ c.loop-channel.channel =
-    simp length-map (omega (arith, c.args.self.now.channels.ok.0)) in
-    c.loop-channel.invariant.numbers ∙ all-rewritten (still_ahead c.args.expected) (numbers_of c.args.self.now) c.loop-channel.channel all
+    let items = c.deref_mut-one-items.result.now in
+    let are = written c.args.self.now c.loop-one.one-items items c.deref_mut-one-items.ensures.value c.loop-one.auto.one-items in
+    let ends = c.loop-one-test.false in
+    let sizes = ap length c.deref_mut-one-items.ensures.value in
+    let all : length (numbers_of c.args.self.now) ≤ c.loop-one.one-index = simp length-map (omega arith) in
+    ap (map (λ (one : KnownChannel). one.last)) are ∙ c.loop-one.invariant.numbers
+    ∙ all-rewritten (still_ahead c.args.expected) (numbers_of c.args.self.now) c.loop-one.one-index all
