@@ -1,3 +1,4 @@
+pub mod Distances
 pub mod LeastNumber
 pub mod Forgetting
 pub mod TiedNumbers

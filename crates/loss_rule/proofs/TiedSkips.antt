@@ -1,15 +1,15 @@
 -- The skips by numbers are the skips by indexes.
-use Rattle.std.proofs.Common.{◌≡◌, ℕ, ◌+◌, ◌-◌, ◌<◌, ◌≤◌, inl, inr, ◌↔◌, Option, None, Some, List, [], ◌∷◌, slice_get, refl, sym, ap, subst, ◌∙◌, arith}
+use Rattle.std.proofs.Common.{◌≡◌, ℕ, ◌+◌, ◌-◌, ◌<◌, ◌≤◌, inl, inr, ◌↔◌, Option, None, Some, List, [], ◌∷◌, slice_get, sym, ap, subst, ◌∙◌, arith}
 use Rattle.std.proofs.lemmas.Bool.{cases_lt}
 use Rattle.std.proofs.lemmas.Option.{none-some, same_Some}
-use Rattle.reorder.specs.Number.{offset}
+use Rattle.reorder.specs.Number.{offset, number_ahead}
 use Rattle.flow_core.specs.Fates.{number_of}
 use Rattle.flow_core.specs.Events.{FlowEvent, skip_to, IsAhead}
-use Rattle.flow_core.proofs.IndexNumbers.{offset-index, index-offset, ahead-at, ahead-offset}
+use Rattle.flow_core.proofs.IndexNumbers.{index-offset, ahead-at, ahead-offset}
 use Rattle.loss_rule.specs.Rule.{RuledFlow, Lasts, IsLastOn, IsLeastLast, IsPassing, IsSliding}
-use Rattle.loss_rule.specs.Numbers.{AreNumbersOf, HasNumber, number_from, skips_to, IsPassedNumber, IsPassedByAll, IsSlidTo}
+use Rattle.loss_rule.specs.Numbers.{AreDistancesOf, HasDistance, distance_from, skips_to, IsPassedDistance, IsPassedByAll, IsSlidTo}
 use Rattle.loss_rule.proofs.LeastNumber.{at-map, at-of-map}
-use Rattle.loss_rule.proofs.TiedNumbers.{from-some, from-none}
+use Rattle.loss_rule.proofs.Distances.{from-some, from-none}
 
 -- a skip to an index is one to its number
 skip-same : (a b : ℕ) → a ≡ b → skip_to a ∷ [] ≡ skip_to b ∷ []
@@ -28,96 +28,72 @@ least-once flow lasts x least other is is' =
     let same' = last-once lasts is.one.0 at'.0 least at'.1 is.one.2 in
     omega (arith, at.2, at'.2)
 
-number-last : (first x : ℕ) (last : Option ℕ) (n : ℕ) → number_from first x last ≡ Some n
-    → (index : ℕ) × (last ≡ Some index) × (x ≤ index) × (number_of first index ≡ n)
-number-last first x None n is = absurd (none-some n is)
-number-last first x (Some index) n is = elim (cases_lt index x) [
-  | inl before ↦ absurd (none-some n (sym (from-none first x index before) ∙ is))
-  | inr from ↦ (index, refl, from, same_Some (number_of first index) n (sym (from-some first x index from) ∙ is))
+-- a distance is one of a last index
+distance-last : (x : ℕ) (last : Option ℕ) (distance : ℕ) → distance_from x last ≡ Some distance → last ≡ Some (x + distance)
+distance-last x None distance is = absurd (none-some distance is)
+distance-last x (Some index) distance is = elim (cases_lt index x) [
+  | inl before ↦ absurd (none-some distance (sym (from-none x index before) ∙ is))
+  | inr from ↦
+      let same = same_Some (index - x) distance (sym (from-some x index from) ∙ is) in
+      ap Some (let at : index ≡ x + distance = omega arith in at)
 ]
 
-module _ (first x : ℕ) (lasts : Lasts) (numbers : List (Option ℕ)) (tied : AreNumbersOf first x lasts numbers) where
-  -- a channel's number is that of its last index, which lies as far ahead as its offset
-  record LastOf (channel n : ℕ) : Type 0 where
-    index : ℕ
-    last : IsLastOn lasts channel index
-    from : x ≤ index
-    numbered : number_of first index ≡ n
-    at : x + offset (number_of first x) n ≡ index
+module _ (x : ℕ) (lasts : Lasts) (distances : List (Option ℕ)) (tied : AreDistancesOf x lasts distances) where
+  -- a channel's last index lies as far ahead as its distance
+  last-of : (channel distance : ℕ) → HasDistance distances channel distance → IsLastOn lasts channel (x + distance)
+  last-of channel distance has =
+      let found = at-of-map (distance_from x) lasts channel (Some distance) (subst (λ (ds : List (Option ℕ)). slice_get ds channel ≡ Some (Some distance)) tied has) in
+      found.1 ∙ ap Some (distance-last x found.0 distance found.2)
 
-  last-of : (channel n : ℕ) → HasNumber numbers channel n → LastOf channel n
-  last-of channel n has =
-      let found = at-of-map (number_from first x) lasts channel (Some n) (subst (λ (ns : List (Option ℕ)). slice_get ns channel ≡ Some (Some n)) tied.are has) in
-      let last = number-last first x found.0 n found.2 in
-      let is = found.1 ∙ ap Some last.1 in
-      let close = tied.near channel last.0 is in
-      record {
-        index = last.0;
-        last = is;
-        from = last.2;
-        numbered = last.3;
-        at = ap (λ m. x + offset (number_of first x) m) (sym last.3) ∙ offset-index first x last.0 last.2 (omega arith);
-      }
+  -- and one that isn't passed has its distance there
+  distance-of : (channel index : ℕ) → IsLastOn lasts channel index → x ≤ index → HasDistance distances channel (index - x)
+  distance-of channel index last from =
+      subst (λ (ds : List (Option ℕ)). slice_get ds channel ≡ Some (Some (index - x))) (sym tied)
+      (at-map (distance_from x) lasts channel (Some index) (Some (index - x)) last (from-some x index from))
 
-  -- and the last index of a channel that isn't passed has its number there
-  number-of-last : (channel index : ℕ) → IsLastOn lasts channel index → x ≤ index → HasNumber numbers channel (number_of first index)
-  number-of-last channel index last from =
-      subst (λ (ns : List (Option ℕ)). slice_get ns channel ≡ Some (Some (number_of first index))) (sym tied.are)
-      (at-map (number_from first x) lasts channel (Some index) (Some (number_of first index)) last (from-some first x index from))
+-- what every channel has come to in distances is what it has come to in indexes
+module _ (flow : RuledFlow) (x : ℕ) (lasts : Lasts) (distances : List (Option ℕ)) (tied : AreDistancesOf x lasts distances) where
+  least-of-passed : (distance : ℕ) → IsPassedDistance flow.channels distances distance → IsLeastLast flow lasts x (x + distance)
+  least-of-passed distance passed = record {
+    ahead = (let after = passed.ahead in omega arith);
+    one = (passed.one.0, passed.one.1, last-of x lasts distances tied passed.one.0 distance passed.one.2);
+    each = λ channel has.
+        let other = passed.each channel has in
+        (x + other.0, last-of x lasts distances tied channel other.0 other.1, omega (arith, other.2));
+  }
 
--- what every channel has come to in numbers is what it has come to in indexes
-module _ (flow : RuledFlow) (x : ℕ) (lasts : Lasts) (numbers : List (Option ℕ)) (tied : AreNumbersOf flow.first x lasts numbers) where
-  least-of-passed : (n : ℕ) → IsPassedNumber flow.channels numbers (number_of flow.first x) n
-      → (least : ℕ) × IsLeastLast flow lasts x least × (n ≡ number_of flow.first least)
-  least-of-passed n passed =
-      let own = last-of flow.first x lasts numbers tied passed.one.0 n passed.one.2 in (
-        own.index,
-        record {
-          ahead = (let after = passed.ahead in let at = own.at in omega arith);
-          one = (passed.one.0, passed.one.1, own.last);
-          each = λ channel has.
-              let other = passed.each channel has in
-              let its = last-of flow.first x lasts numbers tied channel other.0 other.1 in
-              let near = other.2 in
-              let at = own.at in
-              let at' = its.at in
-              (its.index, its.last, omega arith);
-        },
-        sym own.numbered,
-      )
+  passed-of-least : (least : ℕ) → IsLeastLast flow lasts x least → IsPassedDistance flow.channels distances (least - x)
+  passed-of-least least is = record {
+    ahead = (let ahead = is.ahead in omega arith);
+    one = (is.one.0, is.one.1, distance-of x lasts distances tied is.one.0 least is.one.2 (let ahead = is.ahead in omega arith));
+    each = λ channel has.
+        let other = is.each channel has in
+        let ahead = is.ahead in
+        (other.0 - x, distance-of x lasts distances tied channel other.0 other.1 (omega (arith, other.2)), omega (arith, other.2));
+  }
 
-  passed-of-least : (least : ℕ) → IsLeastLast flow lasts x least → IsPassedNumber flow.channels numbers (number_of flow.first x) (number_of flow.first least)
-  passed-of-least least is =
-      let ahead = is.ahead in
-      let close = tied.near is.one.0 least is.one.2 in
-      let at = offset-index flow.first x least (omega arith) (omega arith) in
-      record {
-        ahead = omega arith;
-        one = (is.one.0, is.one.1, number-of-last flow.first x lasts numbers tied is.one.0 least is.one.2 (omega arith));
-        each = λ channel has.
-            let other = is.each channel has in
-            let further = other.2 in
-            let close' = tied.near channel other.0 other.1 in
-            let at' = offset-index flow.first x other.0 (omega arith) (omega arith) in
-            (number_of flow.first other.0, number-of-last flow.first x lasts numbers tied channel other.0 other.1 (omega arith), omega arith);
-      }
+  -- the number at a distance is that of the index there
+  number-at : (distance : ℕ) → number_ahead (number_of flow.first x) distance ≡ number_of flow.first (x + distance)
+  number-at distance = omega arith
 
-  pub tied-passing : (passed : Option ℕ) (skips : List FlowEvent) → IsPassedByAll flow.channels numbers (number_of flow.first x) passed
+  pub tied-passing : (passed : Option ℕ) (skips : List FlowEvent) → IsPassedByAll flow.channels distances (number_of flow.first x) passed
       → IsPassing flow lasts x skips ↔ (skips ≡ skips_to passed)
   tied-passing None skips never = (
     λ passing. elim passing [
-      | inl (least, is, e) ↦ absurd (never (number_of flow.first least) (passed-of-least least is))
+      | inl (least, is, e) ↦ absurd (never (least - x) (passed-of-least least is))
       | inr (none, e) ↦ e
     ],
-    λ e. inr ((λ least is. never (number_of flow.first least) (passed-of-least least is)), e),
+    λ e. inr ((λ least is. never (least - x) (passed-of-least least is)), e),
   )
-  tied-passing (Some n) skips passed =
-      let found = least-of-passed n passed in (
+  tied-passing (Some n) skips (distance, passed, is_number) =
+      let found = least-of-passed distance passed in
+      let numbered = is_number ∙ number-at distance in (
         λ passing. elim passing [
-          | inl (least, is, e) ↦ e ∙ skip-same (number_of flow.first least) n (ap (number_of flow.first) (least-once flow lasts x least found.0 is found.1) ∙ sym found.2)
-          | inr (none, e) ↦ absurd (none found.0 found.1)
+          | inl (least, is, e) ↦
+              e ∙ skip-same (number_of flow.first least) n (ap (number_of flow.first) (least-once flow lasts x least (x + distance) is found) ∙ sym numbered)
+          | inr (none, e) ↦ absurd (none (x + distance) found)
         ],
-        λ e. inl (found.0, found.1, e ∙ skip-same n (number_of flow.first found.0) found.2),
+        λ e. inl (x + distance, found, e ∙ skip-same n (number_of flow.first (x + distance)) numbered),
       )
 
 -- the number that lies the width less one before another

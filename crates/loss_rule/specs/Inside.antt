@@ -5,3 +5,4 @@ pub mod Arrival
 pub mod Order
 pub mod Verdicts
 pub mod InTurn
+pub mod Holding

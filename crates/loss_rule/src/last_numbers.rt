@@ -1,28 +1,38 @@
-//! Of each channel of a flow the number of the last segment that came there.
+//! Of each channel of a flow how far ahead the last segment lies that came there.
 //!
-//! It is what the rule knows in numbers: no number stands for longer than it lies ahead.
-ghost use Rattle.std.specs.Prelude.{◌≡◌, ◌<◌, ◌≤◌, ◌⊎◌, ℕ, IfOk, IfSome, None, Some, map, slice_set};
+//! It is what the rule knows in numbers. A segment is kept by its place, which goes on where numbers
+//! begin again; so a flow that comes past it drops it by an addition to its own place alone.
+ghost use Rattle.std.specs.Prelude.{◌≡◌, ◌<◌, ◌≤◌, ◌⊎◌, ℕ, IfOk, IfSome, MatchResult, IsTrue, None, Some, map, slice_set};
 ghost use Rattle.std.specs.Option.{ForSome};
 ghost use Rattle.docsis_wire.specs.Limits.{sequence_modulus};
-ghost use Rattle.reorder.specs.Number.{offset, number_ahead};
-ghost use Rattle.loss_rule.specs.Numbers.{carried_of, numbers_of, ahead_number, still_ahead};
-ghost use Rattle.loss_rule.specs.Numbers.{no_numbers, IsPassedByAll};
+ghost use Rattle.reorder.specs.Number.{number_ahead};
+ghost use Rattle.loss_rule.specs.Numbers.{carried_of, distances_of, ahead_distance, distance_from};
+ghost use Rattle.loss_rule.specs.Numbers.{no_distances, IsPassedByAll};
+ghost use Rattle.loss_rule.specs.Inside.Holding.{HoldsBack, IsNearest};
 
 use crate::known_channel::KnownChannel;
+use crate::place::Place;
 use reorder::{MODULUS, NUMBERS_AHEAD, offset};
 use std::alloc::{AllocError, Global};
+
+/// The greatest place of an expected number: all numbers that lie ahead have places above it.
+const REACH: u16 = u16::MAX - NUMBERS_AHEAD + 1;
 
 /// What is known of each channel of one flow.
 #[derive(Drop)]
 pub struct LastNumbers {
     channels: Vec<KnownChannel>,
+    /// The place of the expected number.
+    reached: Place,
+    /// The channel that held the flow back when all were last looked at.
+    holder: usize,
 }
 
 impl LastNumbers {
     /// Nothing came yet on any of the channels, of which each is carried or not.
     pub fn new(alloc: Global, channels: &[bool]) -> Result<LastNumbers, AllocError>
         ensures carried { IfOk result (λ lasts. carried_of lasts ≡ channels.now) }
-        ensures numbers { IfOk result (λ lasts. numbers_of lasts ≡ no_numbers channels.now) }
+        ensures distances { IfOk result (λ lasts. distances_of lasts ≡ no_distances channels.now) }
     {
         let mut known = Vec::with_capacity(alloc, channels.len())?;
         for carried in channels {
@@ -31,110 +41,161 @@ impl LastNumbers {
                 last: None,
             });
         }
-        Ok(LastNumbers { channels: known })
+        Ok(LastNumbers {
+            channels: known,
+            reached: Place { at: 0 },
+            holder: 0,
+        })
     }
 
-    /// A segment with this number, 0 to 8191, came on a channel: the channel's number becomes this
-    /// one where it lies ahead of the expected number, 0 to 8191, and otherwise none. On any
-    /// other channel than those it knows it notes nothing.
+    /// A segment with this number, 0 to 8191, came on a channel: it is the channel's last one where
+    /// it lies ahead of the expected number, 0 to 8191, and otherwise there is none. On any other
+    /// channel than those it knows it notes nothing.
     pub fn note(&mut self, channel: usize, number: u16, expected: u16)
         requires number { number < sequence_modulus }
         requires expected { expected < sequence_modulus }
         ensures carried { carried_of self.new ≡ carried_of self.old }
-        ensures numbers { numbers_of self.new
-            ≡ slice_set (numbers_of self.old) channel (ahead_number expected number) }
+        ensures distances { distances_of self.new
+            ≡ slice_set (distances_of self.old) channel (ahead_distance expected number) }
     {
         if channel >= self.channels.len() {
             return;
         }
         let KnownChannel { carried, .. } = self.channels[channel];
-        let last = ahead(expected, number);
+        let last = place_ahead(self.reached, expected, number);
         self.channels[channel] = KnownChannel { carried, last };
     }
 
-    /// Drops each number that doesn't lie ahead of the expected one, 0 to 8191. It has to be called
-    /// after every change of the expected number: a number that stands while the expected one moves
-    /// on by more than 4,096 would be taken for one ahead.
-    pub fn forget_passed(&mut self, expected: u16)
+    /// The expected number moves on by so many numbers: what it comes past no longer lies ahead.
+    pub fn come_past(&mut self, by: u16)
+        ensures carried { carried_of self.new ≡ carried_of self.old }
+        ensures distances { distances_of self.new ≡ map (distance_from by) (distances_of self.old) }
+    {
+        let Place { at } = self.reached;
+        if by <= REACH - at {
+            self.reached = Place { at: at + by };
+        } else {
+            self.count_anew(by);
+        }
+    }
+
+    /// Moves on by so many numbers, and counts places from the number that is then expected.
+    fn count_anew(&mut self, by: u16)
+        ensures carried { carried_of self.new ≡ carried_of self.old }
+        ensures distances { distances_of self.new ≡ map (distance_from by) (distances_of self.old) }
+    {
+        let Place { at } = self.reached;
+        for one in self.channels.iter_mut() {
+            let last = distance_from(at, one.last);
+            one.last = distance_from(by, last);
+        }
+        self.reached = Place { at: 0 };
+    }
+
+    /// The number that each channel of the flow has come to: where the last segment of each lies
+    /// ahead, and none has the expected number, 0 to 8191, the number of the nearest of these. It
+    /// is none where the flow has no channel.
+    pub fn passed_by_all(&mut self, expected: u16) -> Option<u16>
         requires { expected < sequence_modulus }
         ensures carried { carried_of self.new ≡ carried_of self.old }
-        ensures numbers { numbers_of self.new ≡ map (still_ahead expected) (numbers_of self.old) }
-    {
-        for one in self.channels.iter_mut() {
-            one.last = still_ahead(expected, one.last);
-        }
-    }
-
-    /// The number that each channel of the flow has come to: where each of them has a number other
-    /// than the expected one, 0 to 8191, the one of these with the least offset from it. It is
-    /// none where the flow has no channel.
-    pub fn passed_by_all(&self, expected: u16) -> Option<u16>
-        requires { expected < sequence_modulus }
-        ensures passed { IsPassedByAll (carried_of self.now) (numbers_of self.now) expected result }
+        ensures distances { distances_of self.new ≡ distances_of self.old }
+        ensures passed { IsPassedByAll (carried_of self.old) (distances_of self.old) expected result }
         ensures in_range { ForSome result (λ number. number < sequence_modulus) }
     {
-        let mut least = None;
-        for one in &self.channels {
-            if one.carried {
-                least = Some(nearer(least, distance(expected, one.last)?));
+        if self.holds_back(self.holder) {
+            return None;
+        }
+        match self.nearest() {
+            Ok(nearest) => Some(number_ahead(expected, nearest?)),
+            Err(holder) => {
+                self.holder = holder;
+                None
             }
         }
-        Some(number_ahead(expected, least?))
+    }
+
+    /// Whether this is a channel of the flow that hasn't come past the expected number.
+    fn holds_back(&self, channel: usize) -> bool
+        ensures { IsTrue result → HoldsBack (carried_of self.now) (distances_of self.now) channel }
+    {
+        match self.channels.get(channel) {
+            Some(one) => one.carried && beyond(self.reached.at, one.last).is_none(),
+            None => false,
+        }
+    }
+
+    /// The least distance of all channels of the flow, if there are any, or one that holds it back.
+    fn nearest(&self) -> Result<Option<u16>, usize>
+        ensures { MatchResult result
+            (λ nearest. IsNearest (carried_of self.now) (distances_of self.now) nearest)
+            (λ channel. HoldsBack (carried_of self.now) (distances_of self.now) channel) }
+    {
+        let mut nearest = None;
+        for (channel, one) in self.channels.iter().enumerate() {
+            if one.carried {
+                match beyond(self.reached.at, one.last) {
+                    None => return Err(channel),
+                    Some(distance) => nearest = Some(lesser(nearest, distance)),
+                }
+            }
+        }
+        Ok(nearest)
     }
 }
 
-/// The number, where it lies ahead of the expected one.
-fn ahead(expected: u16, number: u16) -> Option<u16>
+/// The place of a number, where it lies ahead of the expected one, whose place this is.
+fn place_ahead(reached: Place, expected: u16, number: u16) -> Option<u16>
     requires expected { expected < sequence_modulus }
     requires number { number < sequence_modulus }
-    ensures ahead { result ≡ ahead_number expected number }
-    ensures in_range { ForSome result (λ one. one < sequence_modulus) }
+    ensures { distance_from reached.at result ≡ ahead_distance expected number }
 {
-    (offset(expected, number) < NUMBERS_AHEAD).then_some(number)
+    let distance = offset(expected, number);
+    if distance < NUMBERS_AHEAD {
+        Some(reached.at + distance)
+    } else {
+        None
+    }
 }
 
-/// What is left of a channel's number.
-fn still_ahead(expected: u16, last: Option<u16>) -> Option<u16>
-    requires expected { expected < sequence_modulus }
-    requires last { ForSome last (λ number. number < sequence_modulus) }
-    ensures left { result ≡ still_ahead expected last }
-    ensures in_range { ForSome result (λ one. one < sequence_modulus) }
+/// How far a place lies from this one on.
+fn distance_from(place: u16, last: Option<u16>) -> Option<u16>
+    ensures { result ≡ distance_from place last }
 {
-    ahead(expected, last?)
+    match last {
+        Some(last) if last >= place => Some(last - place),
+        _ => None,
+    }
 }
 
-/// How far a channel's number lies ahead of the expected one, unless it is that one.
-fn distance(expected: u16, last: Option<u16>) -> Option<u16>
-    requires expected { expected < sequence_modulus }
-    requires last { ForSome last (λ number. number < sequence_modulus) }
-    ensures number { ForSome result (λ distance. last ≡ Some (number_ahead expected distance)) }
+/// How far the last segment of a channel lies beyond the expected number.
+fn beyond(reached: u16, last: Option<u16>) -> Option<u16>
+    ensures distance { ForSome result (λ distance. distance_from reached last ≡ Some distance) }
     ensures after { ForSome result (λ distance. 1 ≤ distance) }
-    ensures none { result ≡ None → (number : ℕ) → last ≡ Some number → number ≡ expected }
-    ensures in_range { ForSome result (λ distance. distance < sequence_modulus) }
+    ensures none { result ≡ None → (distance : ℕ) → distance_from reached last ≡ Some distance
+        → distance ≡ 0 }
 {
-    match offset(expected, last?) {
+    match distance_from(reached, last)? {
         0 => None,
         distance => Some(distance),
     }
 }
 
 /// The lesser of two distances, or the one that there is.
-fn nearer(least: Option<u16>, distance: u16) -> u16
-    ensures one { (result ≡ distance) ⊎ (least ≡ Some result) }
+fn lesser(nearest: Option<u16>, distance: u16) -> u16
+    ensures one { (result ≡ distance) ⊎ (nearest ≡ Some result) }
     ensures distance { result ≤ distance }
-    ensures least { IfSome least (λ other. result ≤ other) }
+    ensures nearest { IfSome nearest (λ other. result ≤ other) }
 {
-    match least {
-        Some(least) if least <= distance => least,
+    match nearest {
+        Some(nearest) if nearest <= distance => nearest,
         _ => distance,
     }
 }
 
 /// The number that lies this far ahead of the expected one.
 fn number_ahead(expected: u16, distance: u16) -> u16
-    requires expected { expected < sequence_modulus }
-    requires distance { distance < sequence_modulus }
+    requires { expected < sequence_modulus }
     ensures { result ≡ number_ahead expected distance }
 {
-    (expected + distance) % MODULUS
+    (expected + distance % MODULUS) % MODULUS
 }

@@ -20,10 +20,12 @@ mod known_channel;
 mod last_numbers;
 pub mod laws;
 pub mod number_laws;
+mod place;
 mod rule;
 mod slide;
 
 pub use known_channel::KnownChannel;
 pub use last_numbers::LastNumbers;
+pub use place::Place;
 pub use rule::LossRule;
 pub use slide::slid_to;

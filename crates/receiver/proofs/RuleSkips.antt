@@ -10,7 +10,7 @@ use Rattle.flow_core.specs.Events.{arrives, skip_to}
 use Rattle.loss_rule.specs.declared.rule.LossRule.{LossRule}
 use Rattle.loss_rule.specs.declared.rule.LossRule.TheVariants.{Decided, Passed, PassedOrSlid}
 use Rattle.loss_rule.specs.Rule.{Lasts, on_channel, Notes, IsPassing, IsSliding, AreSkips}
-use Rattle.loss_rule.specs.Numbers.{carried_of, numbers_of, ahead_number, skips_to, AreNumbersOf, IsPassedByAll, IsSlidTo}
+use Rattle.loss_rule.specs.Numbers.{carried_of, distances_of, ahead_distance, skips_to, AreDistancesOf, IsPassedByAll, IsSlidTo}
 use Rattle.loss_rule.proofs.Rulings.{index-some}
 use Rattle.loss_rule.proofs.TiedNumbers.{tied-noted}
 use Rattle.loss_rule.proofs.TiedSkips.{tied-passing, tied-sliding}
@@ -38,7 +38,7 @@ module _ {C : Type 0} (accepts : C → List ℕ → Bool) where
       (there : slice_get ruled.numbers.items k ≡ Some was) (then : slice_get between.numbers.items k ≡ Some is)
       (width : is.width ≡ was.width) (carried : carried_of is.lasts ≡ carried_of was.lasts)
       (expects : Expects accepts ruled.assembler k expected)
-      (wrote : numbers_of is.lasts ≡ slice_set (numbers_of was.lasts) channel (ahead_number expected number)) where
+      (wrote : distances_of is.lasts ≡ slice_set (distances_of was.lasts) channel (ahead_distance expected number)) where
     pub noted-between : (accepted : List ℕ → Bool) (handed : ℕ → List (List ℕ)) (setup : Setup) (r : FlowRecord) (items : List Event) (lasts noted : Lasts) (fates : Fates) (x : ℕ)
         → HasNoted accepts ruled accepted handed setup k r items lasts fates x → Notes r.first x channel number lasts noted
         → HasNoted accepts between accepted handed setup k r items noted fates x
@@ -59,10 +59,10 @@ module _ {C : Type 0} (accepts : C → List ℕ → Bool) where
           expected = has.expected;
           tied = elim has.tied [
             | inl decided ↦ inl (rule ∙ decided)
-            | inr tied ↦ inr (subst (AreNumbersOf r.first x noted)
-                (ap (λ (one : RuledNumbers). slice_set (numbers_of one.lasts) channel (ahead_number (number_of r.first x) number)) (sym old)
-                ∙ ap (λ n. slice_set (numbers_of was.lasts) channel (ahead_number n number)) (sym at) ∙ sym wrote)
-                (tied-noted r.first x channel number lasts noted (numbers_of has.numbers.lasts) small tied notes))
+            | inr tied ↦ inr (subst (AreDistancesOf x noted)
+                (ap (λ (one : RuledNumbers). slice_set (distances_of one.lasts) channel (ahead_distance (number_of r.first x) number)) (sym old)
+                ∙ ap (λ n. slice_set (distances_of was.lasts) channel (ahead_distance n number)) (sym at) ∙ sym wrote)
+                (tied-noted r.first x channel number lasts noted (distances_of has.numbers.lasts) small tied notes))
           ];
         }
 
@@ -82,26 +82,26 @@ module _ {C : Type 0} (accepts : C → List ℕ → Bool) where
         }
 
     -- and the number to which every channel has come is then that of the rule
-    module _ (asks : ruled.rule ≢ Decided) (passed : Option ℕ) (by_all : IsPassedByAll (carried_of is.lasts) (numbers_of is.lasts) expected passed) where
+    module _ (asks : ruled.rule ≢ Decided) (passed : Option ℕ) (by_all : IsPassedByAll (carried_of is.lasts) (distances_of is.lasts) expected passed) where
       passing-is : (accepted : List ℕ → Bool) (handed : ℕ → List (List ℕ)) (setup : Setup) (r : FlowRecord) (items : List Event) (lasts noted : Lasts) (fates : Fates) (x : ℕ)
           → HasNoted accepts ruled accepted handed setup k r items lasts fates x → HasNoted accepts between accepted handed setup k r items noted fates x
           → IsPassing (ruled_flow setup.sids.items k r) noted x (skips_to passed)
       passing-is accepted handed setup r items lasts noted fates x has now =
           let same : is ≡ now.numbers = same_Some is now.numbers (sym then ∙ now.there) in
           let at = expects accepted handed setup.flows.items r items has.answers fates x has.assembled has.of_flow has.after has.expected in
-          let tied = numbers-tied between.rule (AreNumbersOf r.first x noted (numbers_of now.numbers.lasts)) (λ decided. asks (sym rule ∙ decided)) now.tied in
-          let of_flow : IsPassedByAll (channels_of setup.sids.items k) (numbers_of now.numbers.lasts) (number_of r.first x) passed =
-          subst (λ n. IsPassedByAll (channels_of setup.sids.items k) (numbers_of now.numbers.lasts) n passed) at
-          (subst (λ c. IsPassedByAll c (numbers_of now.numbers.lasts) expected passed) now.known.carried
-          (subst (λ (one : RuledNumbers). IsPassedByAll (carried_of one.lasts) (numbers_of one.lasts) expected passed) same by_all)) in
-          (tied-passing (ruled_flow setup.sids.items k r) x noted (numbers_of now.numbers.lasts) tied passed (skips_to passed) of_flow).1 refl
+          let tied = numbers-tied between.rule (AreDistancesOf x noted (distances_of now.numbers.lasts)) (λ decided. asks (sym rule ∙ decided)) now.tied in
+          let of_flow : IsPassedByAll (channels_of setup.sids.items k) (distances_of now.numbers.lasts) (number_of r.first x) passed =
+          subst (λ n. IsPassedByAll (channels_of setup.sids.items k) (distances_of now.numbers.lasts) n passed) at
+          (subst (λ c. IsPassedByAll c (distances_of now.numbers.lasts) expected passed) now.known.carried
+          (subst (λ (one : RuledNumbers). IsPassedByAll (carried_of one.lasts) (distances_of one.lasts) expected passed) same by_all)) in
+          (tied-passing (ruled_flow setup.sids.items k r) x noted (distances_of now.numbers.lasts) tied passed (skips_to passed) of_flow).1 refl
 
-    pub passed-none : ruled.rule ≢ Decided → IsPassedByAll (carried_of is.lasts) (numbers_of is.lasts) expected None → SkipsPassed accepts ruled k channel number between
+    pub passed-none : ruled.rule ≢ Decided → IsPassedByAll (carried_of is.lasts) (distances_of is.lasts) expected None → SkipsPassed accepts ruled k channel number between
     passed-none asks none accepted handed setup r items lasts noted fates x has notes =
         let now = noted-between accepted handed setup r items lasts noted fates x has notes in
         ([], passing-is asks None none accepted handed setup r items lasts noted fates x has now, led-none accepts between accepted handed setup k r items noted fates x now)
 
-    pub passed-some : (n : ℕ) (after : RuledAssembler C) → ruled.rule ≢ Decided → IsPassedByAll (carried_of is.lasts) (numbers_of is.lasts) expected (Some n)
+    pub passed-some : (n : ℕ) (after : RuledAssembler C) → ruled.rule ≢ Decided → IsPassedByAll (carried_of is.lasts) (distances_of is.lasts) expected (Some n)
         → TakesNoted accepts between (SkipTo k n) after → SkipsPassed accepts ruled k channel number after
     passed-some n after asks some takes accepted handed setup r items lasts noted fates x has notes =
         let now = noted-between accepted handed setup r items lasts noted fates x has notes in

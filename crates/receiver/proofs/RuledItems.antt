@@ -14,7 +14,7 @@ use Rattle.flow_core.proofs.Outcome.{sound-none}
 use Rattle.flow_core.proofs.Turns.{leads-split}
 use Rattle.loss_rule.specs.declared.rule.LossRule.TheVariants.{Decided}
 use Rattle.loss_rule.specs.Rule.{Coming, handed_in, own_event, no_lasts, AreRuled}
-use Rattle.loss_rule.specs.Numbers.{AreNumbersOf}
+use Rattle.loss_rule.specs.Numbers.{AreDistancesOf}
 use Rattle.loss_rule.proofs.RuledTurns.{ruled-append}
 use Rattle.loss_rule.proofs.DecidedRule.{decided-events, decided-rules}
 use Rattle.loss_rule.proofs.TiedNumbers.{tied-none}
@@ -176,7 +176,7 @@ module _ {C : Type 0} (accepts : C → List ℕ → Bool) where
             answers = [];
             after = (refl, refl);
             expected = (sound-none r.window).expected;
-            tied = inr (subst (AreNumbersOf r.first 0 (no_lasts (ruled_flow setup.sids.items k r))) (sym one.3) (tied-none (ruled_flow setup.sids.items k r) 0));
+            tied = inr (subst (AreDistancesOf 0 (no_lasts (ruled_flow setup.sids.items k r))) (sym one.3) (tied-none (ruled_flow setup.sids.items k r) 0));
           };
           made = (refl, refl, refl);
         };

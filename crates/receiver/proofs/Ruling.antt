@@ -1,5 +1,5 @@
 -- What a flow takes by a rule, and what is known of its channels then.
-use Rattle.std.proofs.Common.{◌≡◌, ℕ, ◌+◌, ◌<◌, ◌≤◌, ◌⊎◌, inl, inr, Bool, Some, List, [], ◌∷◌, ◌++◌, map, length, slice_get, refl, ap, sym, subst, ◌∙◌, append_assoc, append-nil, arith}
+use Rattle.std.proofs.Common.{◌≡◌, ℕ, ◌+◌, ◌-◌, ◌<◌, ◌≤◌, ◌⊎◌, inl, inr, Bool, Some, List, [], ◌∷◌, ◌++◌, map, length, slice_get, refl, ap, sym, subst, ◌∙◌, append_assoc, append-nil, arith}
 use Rattle.std.proofs.lemmas.Option.{slice_get_within, same_Some}
 use Rattle.flow_records.specs.declared.record.FlowRecord.{FlowRecord}
 use Rattle.flow_records.specs.declared.event.Event.{Event}
@@ -9,13 +9,15 @@ use Rattle.flow_core.specs.Fates.{Fates, no_fates, number_of, IsExpected}
 use Rattle.flow_core.specs.Events.{FlowEvent, Changes, Leads, IsAfter}
 use Rattle.flow_core.specs.Flows.{event_of}
 use Rattle.flow_records.specs.Events.{flow_of}
+use Rattle.reorder.specs.Number.{offset}
+use Rattle.flow_core.proofs.IndexNumbers.{offset-index}
 use Rattle.flow_core.proofs.Outcome.{expected-unique, sound-after, onward-changes}
 use Rattle.flow_core.proofs.OneFates.{after-once}
 use Rattle.flow_core.proofs.Turns.{leads-split, leads-in_turn}
 use Rattle.loss_rule.specs.declared.rule.LossRule.TheVariants.{Decided}
 use Rattle.loss_rule.specs.Rule.{Lasts}
-use Rattle.loss_rule.specs.Numbers.{carried_of, numbers_of, still_ahead, AreNumbersOf}
-use Rattle.loss_rule.proofs.TiedNumbers.{tied-still}
+use Rattle.loss_rule.specs.Numbers.{carried_of, distances_of, distance_from, AreDistancesOf}
+use Rattle.loss_rule.proofs.TiedNumbers.{tied-on}
 use Rattle.receiver.specs.declared.setup.Setup.{Setup}
 use Rattle.receiver.specs.declared.flows.Assembler.{Assembler}
 use Rattle.receiver.specs.declared.ruled.RuledNumbers.{RuledNumbers}
@@ -38,6 +40,13 @@ add-both k items more most events others p q = record {
   own = q.own ∙ ap (λ t. t ++ others) p.own ∙ append_assoc (events_at k items) events others;
   others = λ j apart. q.others j apart ∙ p.others j apart;
 }
+
+-- how far the expected number moves on
+came-past : (first x y expected then : ℕ) → x ≤ y → y ≤ x + 4096 → expected ≡ number_of first x → then ≡ number_of first y → offset expected then ≡ y - x
+came-past first x y expected then from to at then_at =
+    let moved = offset-index first x y from (omega arith) in
+    let same : offset expected then ≡ offset (number_of first x) (number_of first y) = ap (λ n. offset n then) at ∙ ap (offset (number_of first x)) then_at in
+    omega arith
 
 module _ {C : Type 0} (accepts : C → List ℕ → Bool) where
   -- what an assembler says of the number that a flow expects
@@ -88,20 +97,22 @@ module _ {C : Type 0} (accepts : C → List ℕ → Bool) where
     pub noted-range : IsInRange r
     noted-range = has.assembled.has_taken.set_up.each k r has.of_flow
 
-  -- the numbers are forgotten that the flow has come past
-  pub record HasForgotten (after : RuledAssembler C) (k : ℕ) (was is : RuledNumbers) : Type 0 where
+  -- what the flow has come past no longer lies ahead
+  pub record HasComePast (ruled after : RuledAssembler C) (k : ℕ) (was is : RuledNumbers) : Type 0 where
     pub expected : ℕ
-    pub expects : Expects after.assembler k expected
-    pub left : numbers_of is.lasts ≡ map (still_ahead expected) (numbers_of was.lasts)
+    pub expects : Expects ruled.assembler k expected
+    pub then : ℕ
+    pub expects_then : Expects after.assembler k then
+    pub left : distances_of is.lasts ≡ map (distance_from (offset expected then)) (distances_of was.lasts)
 
-  -- What becomes of a flow that takes an event and forgets the numbers that it has then come past, where the rule looks at any.
+  -- What becomes of a flow that takes an event, where what it has then come past no longer lies ahead, if the rule looks at any.
   module _ (ruled after : RuledAssembler C) (event : Event) (was is : RuledNumbers)
       (assembled : (accepted : List ℕ → Bool) (handed : ℕ → List (List ℕ)) (records : List FlowRecord) (items : List Event)
       → HasAssembled accepts ruled.assembler accepted handed records items → HasAssembled accepts after.assembler accepted handed records (items ++ event ∷ []))
       (rule : after.rule ≡ ruled.rule)
       (there : slice_get ruled.numbers.items (flow_of event) ≡ Some was) (then : slice_get after.numbers.items (flow_of event) ≡ Some is)
       (width : is.width ≡ was.width) (carried : carried_of is.lasts ≡ carried_of was.lasts)
-      (forgot : (after.rule ≡ Decided) ⊎ HasForgotten after (flow_of event) was is) where
+      (past : (after.rule ≡ Decided) ⊎ HasComePast ruled after (flow_of event) was is) where
     pub event-led : TakesNoted accepts ruled event after
     event-led accepted handed setup r items lasts fates x has =
         let k = flow_of event in
@@ -116,18 +127,19 @@ module _ {C : Type 0} (accepts : C → List ℕ → Bool) where
         let led : Leads r.first r.window fates (event_of event ∷ []) s.1 stands.fates =
         subst (λ (f : Fates). Leads r.first r.window f (event_of event ∷ []) s.1 stands.fates) same s.4 in
         let old : was ≡ has.numbers = same_Some was has.numbers (sym there ∙ has.there) in
-        let tied : (after.rule ≡ Decided) ⊎ AreNumbersOf r.first stands.x lasts (numbers_of is.lasts) = elim has.tied [
+        let tied : (after.rule ≡ Decided) ⊎ AreDistancesOf stands.x lasts (distances_of is.lasts) = elim has.tied [
           | inl decided ↦ inl (rule ∙ decided)
-          | inr numbers ↦ elim forgot [
+          | inr distances ↦ elim past [
             | inl decided ↦ inl decided
             | inr left ↦
                 let moved = onward-one r.first r.window x stands.x (event_of event) (events_at k items) has.answers s.1 fates stands.fates (omega arith) has.after has.expected led stands.expected in
-                let at = left.expects accepted handed setup.flows.items r (items ++ event ∷ []) (taken.has_taken.each k r has.of_flow).has_given.answers stands.fates stands.x
+                let at = left.expects accepted handed setup.flows.items r items has.answers fates x has.assembled has.of_flow has.after has.expected in
+                let then_at = left.expects_then accepted handed setup.flows.items r (items ++ event ∷ []) (taken.has_taken.each k r has.of_flow).has_given.answers stands.fates stands.x
                 taken has.of_flow stands.after stands.expected in
-                inr (subst (AreNumbersOf r.first stands.x lasts)
-                (ap (λ (one : RuledNumbers). map (still_ahead (number_of r.first stands.x)) (numbers_of one.lasts)) (sym old)
-                ∙ ap (λ n. map (still_ahead n) (numbers_of was.lasts)) (sym at) ∙ sym left.left)
-                (tied-still r.first x stands.x lasts (numbers_of has.numbers.lasts) moved.0 moved.1 numbers))
+                inr (subst (AreDistancesOf stands.x lasts)
+                (ap (λ (one : RuledNumbers). map (distance_from (stands.x - x)) (distances_of one.lasts)) (sym old)
+                ∙ ap (λ n. map (distance_from n) (distances_of was.lasts)) (sym (came-past r.first x stands.x left.expected left.then moved.0 moved.1 at then_at)) ∙ sym left.left)
+                (tied-on x stands.x lasts (distances_of has.numbers.lasts) moved.0 distances))
           ]
         ] in
         record {

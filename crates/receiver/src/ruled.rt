@@ -10,6 +10,7 @@ use docsis_wire::{Bytes, HeaderCheck, Segment};
 use flow_core::{Core, Event};
 use lane::{CHANNELS, SidRow};
 use loss_rule::{LastNumbers, LossRule, slid_to};
+use reorder::offset;
 use std::alloc::{AllocError, Global};
 
 /// What the loss rule has to know of a flow.
@@ -17,7 +18,7 @@ use std::alloc::{AllocError, Global};
 pub struct RuledNumbers {
     /// The width of the flow's window.
     pub width: u16,
-    /// Of each channel the number of the last segment that came there.
+    /// Of each channel how far ahead the last segment lies that came there.
     pub lasts: LastNumbers,
 }
 
@@ -149,8 +150,9 @@ impl<C: HeaderCheck + Drop> RuledAssembler<C> {
         ensures kept { IfOk result (λ _. KeepsRule self.old self.new flow) }
     {
         let expected = self.assembler.expected(flow);
-        self.numbers[flow].lasts.note(channel, number, expected);
-        match self.numbers[flow].lasts.passed_by_all(expected) {
+        let lasts = &mut self.numbers[flow].lasts;
+        lasts.note(channel, number, expected);
+        match lasts.passed_by_all(expected) {
             None => Ok(()),
             Some(passed) => self.take_event(
                 alloc,
@@ -176,21 +178,23 @@ impl<C: HeaderCheck + Drop> RuledAssembler<C> {
         }
     }
 
-    /// Takes an event, and drops the numbers that its flow has then come past, where the rule looks
-    /// at any.
+    /// Takes an event. Where the rule looks at any, what its flow has then come past no longer lies
+    /// ahead.
     fn take_event(&mut self, alloc: Global, event: Event) -> Result<(), AllocError>
         requires noting { IsNoting C.accepts self.old (flow_of event) }
         requires takable { IsTakable event }
         ensures takes { IfOk result (λ _. TakesNoted C.accepts self.old event self.new) }
         ensures kept { IfOk result (λ _. KeepsRule self.old self.new (flow_of event)) }
     {
-        let flow = event.flow();
-        self.assembler.take(alloc, event)?;
         if let LossRule::Decided = self.rule {
-            return Ok(());
+            return self.assembler.take(alloc, event);
         }
-        let expected = self.assembler.expected(flow);
-        self.numbers[flow].lasts.forget_passed(expected);
+        let flow = event.flow();
+        let before = self.assembler.expected(flow);
+        self.assembler.take(alloc, event)?;
+        let after = self.assembler.expected(flow);
+        let lasts = &mut self.numbers[flow].lasts;
+        lasts.come_past(offset(before, after));
         Ok(())
     }
 

@@ -9,7 +9,7 @@ use Rattle.flow_core.specs.Flows.{event_of}
 use Rattle.flow_records.specs.Events.{flow_of}
 use Rattle.loss_rule.specs.declared.rule.LossRule.TheVariants.{Decided}
 use Rattle.loss_rule.specs.Rule.{Coming, Lasts, Notes, IsPassing, IsSliding, AreSkips, IsRuled, AreRuled}
-use Rattle.loss_rule.specs.Numbers.{carried_of, numbers_of, no_numbers, AreNumbersOf}
+use Rattle.loss_rule.specs.Numbers.{carried_of, distances_of, no_distances, AreDistancesOf}
 use Rattle.receiver.specs.declared.setup.Setup.{Setup}
 use Rattle.receiver.specs.declared.ruled.RuledNumbers.{RuledNumbers}
 use Rattle.receiver.specs.declared.ruled.RuledAssembler.{RuledAssembler}
@@ -32,11 +32,11 @@ abbrev pub AreNewNumbers : Setup → List RuledNumbers → Type 0
 AreNewNumbers setup numbers =
     (k : ℕ) (flow_record : FlowRecord) → slice_get setup.flows.items k ≡ Some flow_record
     → (one : RuledNumbers) × (slice_get numbers k ≡ Some one) × AreKnown setup k flow_record one
-    × (numbers_of one.lasts ≡ no_numbers (channels_of setup.sids.items k))
+    × (distances_of one.lasts ≡ no_distances (channels_of setup.sids.items k))
 
 module _ {C : Type 0} where
   -- Flow k has taken its events among these items, which lead to these fates, with the expected index x; and what is known of its channels are the
-  -- numbers of these last indexes, if the rule asks for them.
+  -- distances of these last indexes, if the rule asks for them.
   pub record HasNoted (accepts : C → List ℕ → Bool) (ruled : RuledAssembler C) (accepted : List ℕ → Bool) (handed : ℕ → List (List ℕ)) (setup : Setup) (k : ℕ) (flow_record : FlowRecord) (items : List Event) (lasts : Lasts) (fates : Fates) (x : ℕ) : Type 0 where
     pub assembled : HasAssembled accepts ruled.assembler accepted handed setup.flows.items items
     pub of_flow : slice_get setup.flows.items k ≡ Some flow_record
@@ -46,7 +46,7 @@ module _ {C : Type 0} where
     pub answers : List Applied
     pub after : IsAfter flow_record.first flow_record.window (events_at k items) answers fates
     pub expected : IsExpected fates x
-    pub tied : (ruled.rule ≡ Decided) ⊎ AreNumbersOf flow_record.first x lasts (numbers_of numbers.lasts)
+    pub tied : (ruled.rule ≡ Decided) ⊎ AreDistancesOf x lasts (distances_of numbers.lasts)
 
   -- it has done so with some items
   pub record IsNoting (accepts : C → List ℕ → Bool) (ruled : RuledAssembler C) (k : ℕ) : Type 0 where

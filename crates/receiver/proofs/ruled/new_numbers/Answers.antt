@@ -3,7 +3,7 @@ use Rattle.std.proofs.Common.{◌≡◌, ℕ, ◌+◌, ◌<◌, ◌∷◌, [], L
 use Rattle.std.proofs.lemmas.Option.{slice_get-get_or, slice_get_within}
 use Rattle.flow_records.specs.declared.record.FlowRecord.{FlowRecord}
 use Rattle.lane.specs.declared.sids.SidRow.{SidRow}
-use Rattle.loss_rule.specs.Numbers.{no_numbers}
+use Rattle.loss_rule.specs.Numbers.{no_distances}
 use Rattle.receiver.specs.Ruled.{channels_of}
 use Rattle.receiver.proofs.NewNumbers.{AreNewBelow, numbers-more}
 use Rattle.receiver.proofs.ruled.new_numbers.Goals as goal
@@ -20,7 +20,7 @@ loop-flow-preserved c =
     let channels = c.channels_of.ensures ∙ ap (λ (rows : List SidRow). channels_of rows n) c.deref.ensures.value in
     let more = numbers-more c.args.setup.now held n _ (record { width = _; lasts = c.in_ok-new.field-0 }) c.loop-flow.invariant.count
     (record-at c.deref-record-items.result.now c.args.setup.now.flows.items n _ c.deref-record-items.ensures.value c.loop-flow-test.true)
-    (record { width = refl; carried = c.in_ok-new.ensures.carried ∙ channels }) (c.in_ok-new.ensures.numbers ∙ ap no_numbers channels) c.loop-flow.invariant.each in
+    (record { width = refl; carried = c.in_ok-new.ensures.carried ∙ channels }) (c.in_ok-new.ensures.distances ∙ ap no_distances channels) c.loop-flow.invariant.each in
     record {
       count = ap length items ∙ length-append held (record { width = _; lasts = c.in_ok-new.field-0 } ∷ []) ∙ ap (λ m. m + 1) c.loop-flow.invariant.count;
       room = omega arith;
