@@ -20,9 +20,13 @@ pub mod SafeLoss
 pub mod LosingJust
 pub mod Fitting
 pub mod Falling
+pub mod Taking
 pub mod NearArrivals
 pub mod AllKept
+pub mod NoSlide
 pub mod AllCame
 pub mod Dealing
+pub mod DealtOut
+pub mod TwoOfThree
 pub mod NearComings
 pub mod NeverComing

@@ -3,7 +3,8 @@
 //! of which each segment came.
 //!
 //! Each function states a law in its contract; its body is empty or only calls other laws.
-ghost use Rattle.std.specs.Prelude.{◌≡◌, ◌≢◌, ◌↔◌, ◌⊎◌, ◌+◌, ◌<◌, ◌≤◌, ◌∷◌, ◌++◌, ℕ, Bool, true, Some, List, map, length, replicate, slice_get};
+ghost use Rattle.std.specs.Prelude.{◌≡◌, ◌≢◌, ◌↔◌, ◌⊎◌, ◌+◌, ◌*◌, ◌<◌, ◌≤◌, [], ◌∷◌, ◌++◌, ℕ};
+ghost use Rattle.std.specs.Prelude.{Bool, true, false, Some, List, map, length, replicate, slice_get};
 ghost use Rattle.docsis_wire.specs.declared.segment.Segment.{Segment};
 ghost use Rattle.docsis_wire.specs.Cut.{IsLawfulCut};
 ghost use Rattle.ccf.specs.Filter.{FiltersTo};
@@ -19,9 +20,11 @@ ghost use Rattle.flow_core.specs.Closing.{IsClosed};
 ghost use Rattle.flow_core.specs.Outcome.{IsFlowOutcome};
 ghost use Rattle.loss_rule.specs.declared.rule.LossRule.{LossRule};
 ghost use Rattle.loss_rule.specs.Rule.{Coming, on_channel, RuledFlow, HasChannel, Lasts, IsLastOn, IsPassed, HaveComeTo, Notes, AreSkips, IsRuled, Rules, AreRuled, own_event};
-ghost use Rattle.loss_rule.specs.InOrder.{Comes, AreInChannelOrder, ComeNear, FallIntoTheWindow, FitTheWindow, NeverComes, IsOvertaken, IsAllCome};
+ghost use Rattle.loss_rule.specs.InOrder.{Comes, AreInChannelOrder, ComeNear, ComeWithin, NeedNoSlide, FallIntoTheWindow, FitTheWindow};
+ghost use Rattle.loss_rule.specs.InOrder.{HaveShortOutages, NeverComes, IsOvertaken, IsAllCome};
 ghost use Rattle.loss_rule.specs.InOrder.{HaveNoDecision, HandInDecisions, DecideSafely, DecideThePast};
-ghost use Rattle.loss_rule.specs.Dealing.{AreSpread, ComeWithin, dealt};
+ghost use Rattle.loss_rule.specs.Dealing.{AreSpread, dealt, dealt_out, AreDealtOut};
+ghost use Rattle.loss_rule.specs.Dealing.{two_of_three, channel_of_three};
 
 /// Whatever comes to a flow, the rule makes one list of events of it, and leads to one last index
 /// of each channel and one fate of each index. The events lead to those fates.
@@ -68,7 +71,8 @@ pub fn decided_rule_adds_nothing()
 /// **Safe: the rule loses nothing that still comes.** In a near list in channel order of one lawful
 /// cut, an index that the skips before a segment lose is neither that segment's nor that of a later
 /// one. So where the decisions that are handed in are safe too, no segment is late and none a
-/// repeat: each is kept, or lies beyond the window.
+/// repeat: each is kept, or lies beyond the window. Where each segment falls into the window, no
+/// skip loses one that comes then or later, nor does the window as it slides.
 pub fn rule_loses_nothing_that_still_comes()
     ensures lost { (check : List ℕ → Bool) (frames chunks : List (List ℕ)) (fill : ℕ)
         (segments : List Segment) (flow : RuledFlow) (before behind : List Coming)
@@ -96,6 +100,22 @@ pub fn rule_loses_nothing_that_still_comes()
         → IsAfter flow.first flow.width events answers fates
         → slice_get answers k ≡ Some (Applied.Arrival verdict)
         → (verdict ≡ Verdict.Kept) ⊎ ((back : Segment) × (verdict ≡ Verdict.Beyond back)) }
+    ensures falls { (check : List ℕ → Bool) (frames chunks : List (List ℕ)) (fill : ℕ)
+        (segments : List Segment) (rule : LossRule) (flow : RuledFlow) (comings : List Coming)
+        (before behind : List Coming) (index_at : ℕ → ℕ) (channel other q x : ℕ)
+        (segment another : Segment) (events skips : List FlowEvent) (answers : List Applied)
+        (lasts noted : Lasts) (fates after : Fates)
+        → rule ≢ LossRule.Decided → flow.width ≤ width_max
+        → IsLawfulCut check frames flow.first fill chunks segments
+        → AreInChannelOrder flow segments comings index_at
+        → FallIntoTheWindow rule flow comings index_at
+        → DecideSafely rule flow comings index_at
+        → comings ≡ before ++ on_channel channel segment ∷ behind
+        → AreRuled rule flow before events lasts fates → IsExpected fates x
+        → Notes flow.first x channel segment.head.sequence lasts noted
+        → AreSkips rule flow noted fates segment.head.sequence skips
+        → Leads flow.first flow.width fates skips answers after
+        → Comes comings q other another → length before ≤ q → ¬ (IsLost after (index_at q)) }
 {}
 
 /// Where what comes in channel order comes near, all its events are near. So what is said of near
@@ -113,9 +133,9 @@ pub fn near_comings_make_near_events()
 {}
 
 /// **Nothing that came is dropped.** In a list in channel order of one lawful cut, where decisions
-/// that are handed in are safe and each segment falls into the window once the rule has skipped:
-/// each segment comes near the expected index and is kept under its own, and nothing else is kept.
-/// So no segment is late, beyond the window or a repeat.
+/// that are handed in are safe and each segment falls into the window: each segment comes near the
+/// expected index and is kept under its own, and nothing else is kept. So no segment is late,
+/// beyond the window or a repeat. By `PassedOrSlid` that holds over outages longer than the window.
 pub fn all_that_comes_is_kept()
     ensures near { (check : List ℕ → Bool) (frames chunks : List (List ℕ)) (fill : ℕ)
         (segments : List Segment) (rule : LossRule) (flow : RuledFlow) (comings : List Coming)
@@ -234,6 +254,27 @@ pub fn segments_that_fit_the_window_fall_into_it()
         → ComeNear rule flow comings index_at }
 {}
 
+/// What falls into the window by the rule that slides: all that comes in channel order, if no
+/// segment comes after one whose index is the window's width or more greater, and no outage is so
+/// long that numbers don't show it. Where no window has to slide all falls into it by either rule.
+pub fn segments_after_an_outage_fall_into_a_window_that_slides()
+    ensures outage { (check : List ℕ → Bool) (frames chunks : List (List ℕ)) (fill : ℕ)
+        (segments : List Segment) (flow : RuledFlow) (comings : List Coming) (index_at : ℕ → ℕ)
+        → IsLawfulCut check frames flow.first fill chunks segments
+        → AreInChannelOrder flow segments comings index_at
+        → ComeWithin comings index_at flow.width → HaveShortOutages flow comings index_at
+        → DecideSafely LossRule.PassedOrSlid flow comings index_at
+        → FallIntoTheWindow LossRule.PassedOrSlid flow comings index_at }
+    ensures no_slide { (check : List ℕ → Bool) (frames chunks : List (List ℕ)) (fill : ℕ)
+        (segments : List Segment) (rule : LossRule) (flow : RuledFlow) (comings : List Coming)
+        (index_at : ℕ → ℕ)
+        → rule ≢ LossRule.Decided → flow.width ≤ width_max
+        → IsLawfulCut check frames flow.first fill chunks segments
+        → AreInChannelOrder flow segments comings index_at
+        → NeedNoSlide rule flow comings index_at → DecideSafely rule flow comings index_at
+        → FallIntoTheWindow rule flow comings index_at }
+{}
+
 /// Which decisions are safe: none at all, and those about the past.
 pub fn decisions_about_the_past_are_safe()
     ensures undecided { (rule : LossRule) (flow : RuledFlow) (comings : List Coming)
@@ -249,7 +290,9 @@ pub fn decisions_about_the_past_are_safe()
 /// the modem sent one after another, and let none come after one that was sent `d` or more later;
 /// then a window of `d + m` is wide enough. Segments that are dealt in turn over the channels are
 /// in channel order and have no decision, and fit a window that is wider than there are channels.
-/// So a whole cut that is dealt so meets every premise at once.
+/// So a whole cut that is dealt so meets every premise at once. So do segments that are dealt in
+/// any way over some of the channels, with some of them lost and some late; one such way, by which
+/// a third is lost and each other pair swapped, is dealt over two of three channels.
 pub fn spread_segments_fit_the_window()
     ensures spread { (segments : List Segment) (flow : RuledFlow) (comings : List Coming)
         (index_at : ℕ → ℕ) (d m : ℕ)
@@ -276,6 +319,19 @@ pub fn spread_segments_fit_the_window()
         × FallIntoTheWindow rule flow (dealt count segments) (λ p. p)
         × ComeNear rule flow (dealt count segments) (λ p. p)
         × DecideSafely rule flow (dealt count segments) (λ p. p) }
+    ensures dealt_out { (check : List ℕ → Bool) (frames chunks : List (List ℕ)) (fill : ℕ)
+        (segments : List Segment) (rule : LossRule) (flow : RuledFlow)
+        (channel_of index_at : ℕ → ℕ) (n m d : ℕ)
+        → rule ≢ LossRule.Decided → d + m ≤ flow.width → flow.width ≤ width_max
+        → IsLawfulCut check frames flow.first fill chunks segments
+        → AreDealtOut flow channel_of index_at segments n m d
+        → AreInChannelOrder flow segments (dealt_out channel_of index_at segments n) index_at
+        × FallIntoTheWindow rule flow (dealt_out channel_of index_at segments n) index_at
+        × ComeNear rule flow (dealt_out channel_of index_at segments n) index_at
+        × DecideSafely rule flow (dealt_out channel_of index_at segments n) index_at }
+    ensures two_of_three { (segments : List Segment) (flow : RuledFlow) (n : ℕ)
+        → flow.channels ≡ true ∷ false ∷ true ∷ [] → 3 * n ≤ length segments
+        → AreDealtOut flow channel_of_three two_of_three segments (2 * n) 3 2 }
 {}
 
 /// **Prompt: the flow never waits for what can no longer come.** Where a flow has a channel, an
