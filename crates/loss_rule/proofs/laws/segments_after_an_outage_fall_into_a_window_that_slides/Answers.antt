@@ -4,12 +4,16 @@ use Rattle.loss_rule.specs.Dealing.{dealt_out}
 use Rattle.loss_rule.proofs.HandedIn.{none-safe}
 use Rattle.loss_rule.proofs.DealtOut.{out-order, out-undecided, over-within, over-short}
 use Rattle.loss_rule.proofs.Falling.{fall-within}
-use Rattle.loss_rule.proofs.NoSlide.{within-falls, outage-falls}
+use Rattle.loss_rule.proofs.NoSlide.{within-falls, outage-falls, safe-falls}
 use Rattle.loss_rule.proofs.laws.segments_after_an_outage_fall_into_a_window_that_slides.Goals as goal
 
 pub returns-clause-outage : goal.returns-clause-outage
 returns-clause-outage c = λ check frames chunks fill segments flow comings index_at cut order late short safely.
     outage-falls flow segments comings index_at (numbered_of_cut check frames chunks flow.first fill segments cut) order late short safely
+
+pub returns-clause-safe : goal.returns-clause-safe
+returns-clause-safe c = λ check frames chunks fill segments flow comings index_at some cut order near safe safely.
+    safe-falls flow segments comings index_at (numbered_of_cut check frames chunks flow.first fill segments cut) order some near safe safely
 
 pub returns-clause-no_slide : goal.returns-clause-no_slide
 returns-clause-no_slide c = λ check frames chunks fill segments rule flow comings index_at looks narrow cut order none safely.
