@@ -6,15 +6,16 @@ use std::alloc::{AllocError, Global};
 use std::process::Abort;
 use std::test::Fail;
 
-/// A call, with the expected answer. The last number of each is the one that the flow expects.
+/// A call, with the expected answer. The last number of `Note` and `Passed` is the one that the flow
+/// expects, and that of `Past` says by how many numbers it moves on.
 #[derive(Clone, Copy)]
 enum Step {
     Note(usize, u16, u16),
-    Forget(u16),
+    Past(u16),
     Passed(Option<u16>, u16),
 }
 
-use Step::{Forget, Note, Passed};
+use Step::{Note, Passed, Past};
 
 fn play(
     rt: &impl Abort,
@@ -30,10 +31,7 @@ fn play(
                 assert!(rt; number < 8192 && expected < 8192);
                 lasts.note(channel, number, expected);
             }
-            Forget(expected) => {
-                assert!(rt; expected < 8192);
-                lasts.forget_passed(expected);
-            }
+            Past(by) => lasts.come_past(by),
             Passed(answer, expected) => {
                 assert!(rt; expected < 8192);
                 assert_eq!(rt; lasts.passed_by_all(expected), answer, "{name}");
@@ -59,12 +57,12 @@ fn least_by_offset(rt: HostRuntime) -> Result<(), Fail> {
             &[Note(0, 7, 5), Note(1, 5, 5), Passed(None, 5)],
         ),
         (
-            "a stale number is dropped, and the channel holds back until it brings something",
+            "what is come past is dropped, and the channel holds back until it brings something",
             &[
                 Note(0, 5, 0),
                 Note(1, 9, 0),
                 Passed(Some(5), 0),
-                Forget(6),
+                Past(6),
                 Passed(None, 6),
                 Note(0, 11, 6),
                 Passed(Some(9), 6),
@@ -82,6 +80,53 @@ fn least_by_offset(rt: HostRuntime) -> Result<(), Fail> {
     ];
     for (name, steps) in rows {
         play(&rt, rt.alloc(), name, &[true, true], steps)?;
+    }
+    Ok(())
+}
+
+/// Places are counted anew once the expected one is above 61,440.
+#[test]
+fn counted_anew(rt: HostRuntime) -> Result<(), Fail> {
+    let rows: [(&str, &[Step]); 3] = [
+        (
+            "what lies ahead stays",
+            &[
+                Note(0, 4101, 4096),
+                Note(1, 4105, 4096),
+                Past(2),
+                Passed(Some(4101), 4098),
+                Past(4),
+                Passed(None, 4102),
+            ],
+        ),
+        (
+            "what is come past is dropped",
+            &[
+                Note(0, 4101, 4096),
+                Note(1, 4105, 4096),
+                Past(6),
+                Passed(None, 4102),
+                Note(0, 4110, 4102),
+                Passed(Some(4105), 4102),
+            ],
+        ),
+        (
+            "all is come past",
+            &[
+                Note(0, 4101, 4096),
+                Note(1, 4105, 4096),
+                Past(u16::MAX),
+                Passed(None, 4095),
+            ],
+        ),
+    ];
+    for (name, steps) in rows {
+        let mut all = Vec::new(rt.alloc());
+        for _ in 0..15 {
+            all.push(Past(4096))?;
+        }
+        all.extend_from_slice(steps)?;
+        play(&rt, rt.alloc(), name, &[true, true], &all)?;
     }
     Ok(())
 }

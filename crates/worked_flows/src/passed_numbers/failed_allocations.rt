@@ -17,7 +17,7 @@ fn expect_passed(rt: &impl Abort, lasts: &mut LastNumbers) {
     assert_eq!(rt; lasts.passed_by_all(0), None);
     lasts.note(2, 9, 0);
     assert_eq!(rt; lasts.passed_by_all(0), Some(5));
-    lasts.forget_passed(6);
+    lasts.come_past(6);
     assert_eq!(rt; lasts.passed_by_all(6), None);
     assert_eq!(rt; slid_to(6, 4, 10), Some(7));
 }
