@@ -8,6 +8,7 @@ ghost use Rattle.std.specs.Prelude.{List, [], length, map, filter, slice_get, Al
 ghost use Rattle.docsis_wire.specs.declared.segment.Segment.{Segment};
 ghost use Rattle.ccf.specs.Filter.{FiltersTo};
 ghost use Rattle.flow_records.specs.declared.record.FlowRecord.{FlowRecord};
+ghost use Rattle.flow_records.specs.Counted.{counted};
 ghost use Rattle.receiver.specs.declared.setup.Setup.{Setup};
 ghost use Rattle.receiver.specs.Order.{IsLawfulOrder, IsOrderFault, IsMergeOf, lengths_of};
 ghost use Rattle.receiver.specs.declared.outcome.Outcome.{Outcome};
@@ -23,7 +24,7 @@ ghost use Rattle.receiver.specs.Intake.{IsIntake};
 ghost use Rattle.receiver.specs.Outcome.{IsOutcome};
 ghost use Rattle.receiver.specs.Ruled.{ruled_flow, comings_at, IsOutcomeBy};
 ghost use Rattle.receiver.specs.Channels.{HasRow, segments_on, segments_of_flow};
-ghost use Rattle.receiver.specs.Channels.{events_handed_in};
+ghost use Rattle.receiver.specs.Channels.{segment_count, events_handed_in};
 ghost use Rattle.receiver.specs.Modem.{ComeFromAModem};
 ghost use Rattle.loss_rule.specs.declared.rule.LossRule.{LossRule};
 ghost use Rattle.loss_rule.specs.Rule.{HasChannel};
@@ -115,8 +116,8 @@ pub fn segments_come_on_channels_of_their_flow()
         → incoming.decisions ≡ [] → HaveNoDecision (comings_at k order intake.items) }
 {}
 
-/// A replay in one order has at most one outcome, also by a loss rule. An order that has an outcome
-/// has no fault.
+/// A replay in one order has at most one outcome, also by a loss rule. An order that has an outcome,
+/// by a rule or without one, has no fault.
 pub fn replay_has_one_outcome()
     ensures one { (check : List ℕ → Bool) (setup : Setup) (incoming : Incoming) (order : List ℕ)
         (outcome other : Outcome)
@@ -129,6 +130,10 @@ pub fn replay_has_one_outcome()
     ensures faultless { (check : List ℕ → Bool) (setup : Setup) (incoming : Incoming)
         (order : List ℕ) (outcome : Outcome) (k : ℕ)
         → CanReceive setup → IsOutcome check setup incoming order outcome
+        → ¬ (HasBadOrder setup incoming order k) }
+    ensures faultless_by_rule { (rule : LossRule) (check : List ℕ → Bool) (setup : Setup)
+        (incoming : Incoming) (order : List ℕ) (outcome : Outcome) (k : ℕ)
+        → CanReceive setup → IsOutcomeBy rule check setup incoming order outcome
         → ¬ (HasBadOrder setup incoming order k) }
 {
     flow_core::laws::closed_flow_has_one_outcome();
@@ -165,8 +170,8 @@ pub fn replay_by_decisions_alone_is_a_replay()
 /// alike: where what comes to the flow, in the order that the outcome states, is of one lawful cut
 /// of the modem's frames, comes on each channel in the modem's order and falls into the window once
 /// what every channel has passed is skipped, and decisions that are handed in lose nothing that
-/// still comes. Then no segment is counted as late, as a repeat or as beyond the window. It says
-/// nothing of an outage after which the window has to slide.
+/// still comes. Then as many segments are counted as kept as came, and none as late, as a repeat or
+/// as beyond the window. It says nothing of an outage after which the window has to slide.
 pub fn flows_give_the_frames_that_all_came()
     ensures frames { (rule : LossRule) (check : List ℕ → Bool) (setup : Setup)
         (incoming : Incoming) (order : List ℕ) (outcome : Outcome) (k : ℕ)
@@ -192,7 +197,8 @@ pub fn flows_give_the_frames_that_all_came()
         (comings_at k order is.intake.items))
         → DecideSafely rule (ruled_flow setup.sids.items k flow_record)
         (comings_at k order is.intake.items) modem.index_at
-        → (flow.counts.late ≡ 0) × (flow.counts.repeat ≡ 0) × (flow.counts.beyond ≡ 0) }
+        → (flow.counts.kept ≡ counted (segment_count (comings_at k order is.intake.items)))
+        × (flow.counts.late ≡ 0) × (flow.counts.repeat ≡ 0) × (flow.counts.beyond ≡ 0) }
 {
     loss_rule::laws::all_that_comes_is_kept();
     loss_rule::laws::closed_flow_gives_the_frames_that_all_came();
