@@ -6,11 +6,12 @@
 ghost use Rattle.std.specs.Prelude.{◌≡◌, ◌≢◌, ◌↔◌, ℕ, ◌<◌, Bool, Some};
 ghost use Rattle.std.specs.Prelude.{List, [], length, map, filter, slice_get, All};
 ghost use Rattle.docsis_wire.specs.declared.segment.Segment.{Segment};
+ghost use Rattle.docsis_wire.specs.Cut.{IsLawfulCut};
 ghost use Rattle.ccf.specs.Filter.{FiltersTo};
 ghost use Rattle.flow_records.specs.declared.record.FlowRecord.{FlowRecord};
 ghost use Rattle.flow_records.specs.Counted.{counted};
 ghost use Rattle.receiver.specs.declared.setup.Setup.{Setup};
-ghost use Rattle.receiver.specs.Order.{IsLawfulOrder, IsOrderFault, IsMergeOf, lengths_of};
+ghost use Rattle.receiver.specs.Order.{IsLawfulOrder, IsOrderFault, IsMergeOf, lengths_of, picked};
 ghost use Rattle.receiver.specs.declared.outcome.Outcome.{Outcome};
 ghost use Rattle.receiver.specs.declared.one_thread.ReplayFault.{ReplayFault};
 ghost use Rattle.receiver.specs.declared.outcome.FlowOutcome.{FlowOutcome};
@@ -25,11 +26,12 @@ ghost use Rattle.receiver.specs.Outcome.{IsOutcome};
 ghost use Rattle.receiver.specs.Ruled.{ruled_flow, comings_at, IsOutcomeBy};
 ghost use Rattle.receiver.specs.Channels.{HasRow, segments_on, segments_of_flow};
 ghost use Rattle.receiver.specs.Channels.{segment_count, events_handed_in};
-ghost use Rattle.receiver.specs.Modem.{ComeFromAModem};
+ghost use Rattle.receiver.specs.Modem.{ComeFromAModem, turns_from, all_arrive};
 ghost use Rattle.loss_rule.specs.declared.rule.LossRule.{LossRule};
 ghost use Rattle.loss_rule.specs.Rule.{HasChannel};
 ghost use Rattle.loss_rule.specs.InOrder.{Comes, HaveNoDecision, HandInDecisions, DecideSafely};
 ghost use Rattle.loss_rule.specs.InOrder.{IsAllCome};
+ghost use Rattle.loss_rule.specs.Dealing.{dealt};
 ghost use Rattle.receiver.specs.Faults.{IsReplayFault, IsTagsFault};
 ghost use Rattle.receiver.specs.SameOutcome.{IsSameOutcome};
 ghost use Rattle.lane.specs.Limits.{channel_limit};
@@ -202,4 +204,30 @@ pub fn flows_give_the_frames_that_all_came()
 {
     loss_rule::laws::all_that_comes_is_kept();
     loss_rule::laws::closed_flow_gives_the_frames_that_all_came();
+}
+
+/// The premises of [`flows_give_the_frames_that_all_came`] can be met, by every lawful cut: where a
+/// flow has a service identifier on each channel and its window is wider than there are channels,
+/// let the cut's segments come one after another, in turn over the channels. Then what comes to the
+/// flow is of a modem, and no decision loses what still comes.
+pub fn segments_in_turn_come_from_a_modem()
+    ensures modem { (rule : LossRule) (check : List ℕ → Bool) (setup : Setup) (k fill : ℕ)
+        (flow_record : FlowRecord) (frames chunks : List (List ℕ)) (segments : List Segment)
+        → rule ≢ LossRule.Decided → CanReceive setup
+        → slice_get setup.flows.items k ≡ Some flow_record
+        → channel_limit < flow_record.window
+        → ((channel : ℕ) → channel < channel_limit → HasRow setup.sids.items k channel)
+        → IsLawfulCut check frames flow_record.first fill chunks segments
+        → (modem : ComeFromAModem rule check (ruled_flow setup.sids.items k flow_record) frames
+        (comings_at k (turns_from 0 (length segments)) (all_arrive k segments)))
+        × DecideSafely rule (ruled_flow setup.sids.items k flow_record)
+        (comings_at k (turns_from 0 (length segments)) (all_arrive k segments)) modem.index_at }
+    ensures come { (k : ℕ) (segments : List Segment)
+        → comings_at k (turns_from 0 (length segments)) (all_arrive k segments)
+        ≡ dealt channel_limit segments }
+    ensures order { (k : ℕ) (segments : List Segment)
+        → IsMergeOf (λ sender. picked sender (turns_from 0 (length segments))
+        (all_arrive k segments)) (turns_from 0 (length segments)) (all_arrive k segments) }
+{
+    loss_rule::laws::spread_segments_fit_the_window();
 }

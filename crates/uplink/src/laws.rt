@@ -40,6 +40,7 @@ pub use receiver::laws::{
     flows_give_the_frames_that_all_came, lawful_order_has_no_fault, lists_have_one_merge,
     order_has_one_intake, replay_by_decisions_alone_is_a_replay, replay_has_one_fault,
     replay_has_one_outcome, segments_come_on_channels_of_their_flow,
+    segments_in_turn_come_from_a_modem,
 };
 
 /// **The headline.** Whatever the four channels interleave, delay or lose and whenever gaps are
