@@ -56,7 +56,7 @@ passing-no_arrival flow lasts x skips (inl p) = subst HaveNoArrival (sym p.2) (s
 passing-no_arrival flow lasts x skips (inr p) = subst HaveNoArrival (sym p.1) none-no_arrival
 
 -- nor what lets the window slide
-slides-no_arrival : (rule : LossRule) (flow : RuledFlow) (y number : ℕ) (skips : List FlowEvent) → Slides rule flow y number skips → HaveNoArrival skips
+pub slides-no_arrival : (rule : LossRule) (flow : RuledFlow) (y number : ℕ) (skips : List FlowEvent) → Slides rule flow y number skips → HaveNoArrival skips
 slides-no_arrival Decided flow y number skips slides = absurd slides
 slides-no_arrival Passed flow y number skips slides = subst HaveNoArrival (sym slides) none-no_arrival
 slides-no_arrival PassedOrSlid flow y number skips (inl p) = subst HaveNoArrival (sym p.3) (skip-no_arrival _)

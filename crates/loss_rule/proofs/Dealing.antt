@@ -7,8 +7,8 @@ use Rattle.std.proofs.Math.Nat.{add-mod_right, mod-eq_of_lt}
 use Rattle.docsis_wire.specs.declared.segment.Segment.{Segment}
 use Rattle.docsis_wire.proofs.StreamPlaces.{element_at}
 use Rattle.loss_rule.specs.Rule.{Coming, on_channel, handed_in, RuledFlow, HasChannel}
-use Rattle.loss_rule.specs.InOrder.{Comes, AreInChannelOrder, FitTheWindow, HaveNoDecision}
-use Rattle.loss_rule.specs.Dealing.{AreSpread, ComeWithin, dealt_from, dealt}
+use Rattle.loss_rule.specs.InOrder.{Comes, AreInChannelOrder, ComeWithin, FitTheWindow, HaveNoDecision}
+use Rattle.loss_rule.specs.Dealing.{AreSpread, dealt_from, dealt}
 
 module _ (flow : RuledFlow) (comings : List Coming) (index_at : ℕ → ℕ) (d m : ℕ) (wide : d + m ≤ flow.width) (spread : AreSpread flow comings index_at m)
     (within : ComeWithin comings index_at d) where

@@ -1,4 +1,4 @@
--- A segment that falls into the window: it comes near the expected index, and the window doesn't slide.
+-- A segment that falls into the window as it stands: it comes near the expected index, and the window doesn't slide.
 use Rattle.std.proofs.Common.{◌≡◌, ◌≢◌, ℕ, ◌+◌, ◌<◌, ◌≤◌, inl, inr, List, length, sym, subst, arith}
 use Rattle.std.proofs.lemmas.Bool.{cases_lt}
 use Rattle.docsis_wire.specs.declared.segment.Segment.{Segment}
@@ -12,7 +12,7 @@ use Rattle.flow_core.proofs.Outcome.{expected-unique, onward-changes}
 use Rattle.loss_rule.specs.declared.rule.LossRule.{LossRule}
 use Rattle.loss_rule.specs.declared.rule.LossRule.TheVariants.{Decided, Passed, PassedOrSlid}
 use Rattle.loss_rule.specs.Rule.{Coming, on_channel, RuledFlow, HasChannel, Lasts, Notes, IsPassing}
-use Rattle.loss_rule.specs.InOrder.{Comes, AreInChannelOrder, FallIntoTheWindow}
+use Rattle.loss_rule.specs.InOrder.{Comes, AreInChannelOrder, NeedNoSlide}
 use Rattle.loss_rule.specs.Inside.Reached.{IsReached}
 use Rattle.loss_rule.specs.Inside.Arrival.{AreBounded, IsUpToDate, Slides, ArrivesBy}
 use Rattle.loss_rule.specs.Inside.Order.{IsInStep, AreWithin}
@@ -51,9 +51,9 @@ module _ (flow : RuledFlow) (narrow : flow.width ≤ 4096) (lasts noted : Lasts)
         ]
       ]
 
--- so all that falls into the window comes within it
+-- so where no window has to slide, all comes within it
 pub fall-within : (rule : LossRule) (looks : rule ≢ Decided) (flow : RuledFlow) (narrow : flow.width ≤ 4096) (segments : List Segment) (comings : List Coming)
-    (index_at : ℕ → ℕ) → AreNumbered flow.first segments → AreInChannelOrder flow segments comings index_at → FallIntoTheWindow rule flow comings index_at
+    (index_at : ℕ → ℕ) → AreNumbered flow.first segments → AreInChannelOrder flow segments comings index_at → NeedNoSlide rule flow comings index_at
     → AreWithin rule flow comings index_at
 fall-within rule looks flow narrow segments comings index_at numbered order fall before behind channel x y segment events passing answers lasts noted fates between
     e are in_step expected notes passes leads expected_between =

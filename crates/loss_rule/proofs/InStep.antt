@@ -12,17 +12,19 @@ use Rattle.flow_core.specs.Fates.{Fates, IsKept, IsLost, IsOpen, IsExpected}
 use Rattle.flow_core.specs.Events.{FlowEvent, arrives, IsAhead, Changes}
 use Rattle.flow_core.proofs.Deciding.{IsAhead-once, open_or_settled}
 use Rattle.flow_core.proofs.Nearness.{AreNumbered}
-use Rattle.flow_core.proofs.Outcome.{expected-unique, open_and_settled}
+use Rattle.flow_core.proofs.Outcome.{open_and_settled}
 use Rattle.loss_rule.specs.declared.rule.LossRule.{LossRule}
 use Rattle.loss_rule.specs.Rule.{Coming, RuledFlow, Lasts, IsLastOn, Notes}
 use Rattle.loss_rule.specs.InOrder.{Comes, AreInChannelOrder}
 use Rattle.loss_rule.specs.Inside.Reached.{IsReached}
 use Rattle.loss_rule.specs.Inside.Arrival.{AreBounded, IsUpToDate, ArrivesBy}
 use Rattle.loss_rule.specs.Inside.Verdicts.{IsKeptOrBeyond}
-use Rattle.loss_rule.specs.Inside.Order.{AreOfComings, IsInStep}
-use Rattle.loss_rule.proofs.Reaching.{expected-onward}
+use Rattle.loss_rule.specs.Inside.Order.{AreOfComings, IsInStep, Spares}
+use Rattle.loss_rule.proofs.Reaching.{expected-onward, reached-leads}
 use Rattle.loss_rule.proofs.Noting.{noted-other, noted-own, noted-bounded}
 use Rattle.loss_rule.proofs.Passing.{passing-lost, passing-keeps, passing-leaves}
+use Rattle.loss_rule.proofs.ArrivalAnswers.{slides-no_arrival}
+use Rattle.loss_rule.proofs.HandedIn.{no_arrival-kept}
 use Rattle.loss_rule.proofs.ChannelOrder.{comes-once, number-at, passed-gone, noted-of}
 
 -- a segment whose index is ahead and open is kept, or lies beyond the window
@@ -124,6 +126,26 @@ module _ (flow : RuledFlow) (segments : List Segment) (comings : List Coming) (i
         (order.on_flow n channel segment here) (own-last t.x t.expected noted t.notes near) (omega arith)
         ∙ index-open t.x t.expected
 
+    -- and so is that of each that comes later
+    pub later-open : (q other : ℕ) (another : Segment) → n ≤ q → Comes comings q other another → IsOpen t.between (index_at q)
+    later-open q other another from is =
+        elim (open_or_settled t.between (index_at q)) [
+          | inl free ↦ free
+          | inr (Some kept, there) ↦
+              let same = (passing-keeps flow noted t.x fates t.between t.passing t.passing_answers t.expected bounded t.passes t.leads_passing (index_at q) kept).0 there in
+              let found = in_step.came (index_at q) (kept, same) in
+              let one = order.once found.0 q found.1 other found.2 another found.4 is found.5 in
+              let before = found.3 in
+              absurd (omega arith)
+          | inr (None, there) ↦
+              elim (passing-lost flow noted t.x fates t.between t.passing t.passing_answers t.expected bounded t.passes t.leads_passing (index_at q) there) [
+                | inl before ↦ absurd (in_step.gone q other another from is before)
+                | inr passed ↦
+                    absurd (passed-gone flow segments comings index_at numbered order (n + 1) (index_at q) q other another noted
+                    (still-of t.x t.expected noted t.notes near) passed (omega arith) is refl)
+              ]
+        ]
+
     -- so it lies ahead then
     pub between-ahead : IsAhead flow.first t.y segment.head.sequence (index_at n)
     between-ahead =
@@ -137,41 +159,66 @@ module _ (flow : RuledFlow) (segments : List Segment) (comings : List Coming) (i
           numbered = sym (number-at flow segments comings index_at numbered order n channel segment here);
         }
 
-    -- where the window doesn't slide
-    module _ (stays : t.slid ≡ t.between) where
-      same-expected : t.z ≡ t.y
-      same-expected = expected-unique t.between t.z t.y (subst (λ (f : Fates). IsExpected f t.z) stays t.expected_slid) t.expected_between
+    -- where the window slides, and so loses the index of none that comes then or later
+    module _ (spares : Spares comings index_at n t.between t.slid) where
+      -- what is kept then was kept before
+      slid-kept : (i : ℕ) → IsKept t.slid i → IsKept t.between i
+      slid-kept i =
+          no_arrival-kept flow.first flow.width i t.sliding t.sliding_answers t.between t.slid
+          (slides-no_arrival rule flow t.y segment.head.sequence t.sliding t.slides) t.leads_sliding
+
+      -- it is still open
+      slid-open : IsOpen t.slid (index_at n)
+      slid-open =
+          elim (open_or_settled t.slid (index_at n)) [
+            | inl free ↦ free
+            | inr (Some kept, is) ↦ let before = slid-kept (index_at n) (kept, is) in let there = before.1 in let free = between-open in absurd cc
+            | inr (None, is) ↦ let before = spares n channel segment (omega arith) here is in let free = between-open in absurd cc
+          ]
+
+      -- so it lies ahead then
+      pub slid-ahead : IsAhead flow.first t.z segment.head.sequence (index_at n)
+      slid-ahead =
+          let before = between-ahead in
+          let to = before.to in
+          let led = reached-leads flow.first flow.width t.passing t.passing_answers fates t.between r t.leads_passing in
+          let onward = expected-onward flow.first flow.width t.y t.z t.sliding t.sliding_answers t.between t.slid led t.expected_between t.leads_sliding t.expected_slid in
+          record {
+            from = elim (cases_lt (index_at n) t.z) [
+              | inl below ↦ absurd (open_and_settled t.slid (index_at n) slid-open (t.expected_slid.settled (index_at n) below))
+              | inr from ↦ from
+            ];
+            to = omega arith;
+            numbered = before.numbered;
+          }
 
       -- the answer to it
-      pub own-answer : IsKeptOrBeyond flow.width t.y (index_at n) segment t.answer t.between after
-      own-answer =
-          kept-or_beyond flow.first flow.width t.y (index_at n) segment t.answer t.between after between-ahead between-open
-          (subst (λ k. Changes flow.first flow.width k (arrives segment) t.answer t.between after) same-expected
-          (subst (λ (f : Fates). Changes flow.first flow.width t.z (arrives segment) t.answer f after) stays t.changes))
+      pub own-answer : IsKeptOrBeyond flow.width t.z (index_at n) segment t.answer t.slid after
+      own-answer = kept-or_beyond flow.first flow.width t.z (index_at n) segment t.answer t.slid after slid-ahead slid-open t.changes
 
       -- what is kept after it was kept before, or is this one; what is lost was lost by the skip or before
-      kept-after : (i : ℕ) → IsKept after i → IsKept t.between i ⊎ (i ≡ index_at n)
+      kept-after : (i : ℕ) → IsKept after i → IsKept t.slid i ⊎ (i ≡ index_at n)
       kept-after i kept =
           elim own-answer [
             | inl (_, _, is) ↦ elim (cases_eq i (index_at n)) [
               | inl same ↦ inr same
-              | inr differ ↦ inl (kept.0, sym (get-insert_other t.between (index_at n) (Some segment) i differ) ∙ ap (λ (f : Fates). map.get f i) (sym is) ∙ kept.1)
+              | inr differ ↦ inl (kept.0, sym (get-insert_other t.slid (index_at n) (Some segment) i differ) ∙ ap (λ (f : Fates). map.get f i) (sym is) ∙ kept.1)
             ]
             | inr (_, _, is) ↦ inl (kept.0, ap (λ (f : Fates). map.get f i) (sym is) ∙ kept.1)
           ]
 
       -- and what is lost after it was lost before
-      lost-after : (i : ℕ) → IsLost after i → IsLost t.between i
+      lost-after : (i : ℕ) → IsLost after i → IsLost t.slid i
       lost-after i lost =
           elim own-answer [
             | inl (_, _, is) ↦
-                let there : map.get (map.insert t.between (index_at n) (Some segment)) i ≡ Some None = ap (λ (f : Fates). map.get f i) (sym is) ∙ lost in
+                let there : map.get (map.insert t.slid (index_at n) (Some segment)) i ≡ Some None = ap (λ (f : Fates). map.get f i) (sym is) ∙ lost in
                 elim (cases_eq i (index_at n)) [
                   | inl same ↦
-                      let kept = get-insert_same t.between (index_at n) (Some segment) in
-                      let at = ap (map.get (map.insert t.between (index_at n) (Some segment))) same in
+                      let kept = get-insert_same t.slid (index_at n) (Some segment) in
+                      let at = ap (map.get (map.insert t.slid (index_at n) (Some segment))) same in
                       absurd cc
-                  | inr differ ↦ sym (get-insert_other t.between (index_at n) (Some segment) i differ) ∙ there
+                  | inr differ ↦ sym (get-insert_other t.slid (index_at n) (Some segment) i differ) ∙ there
                 ]
             | inr (_, _, is) ↦ ap (λ (f : Fates). map.get f i) (sym is) ∙ lost
           ]
@@ -182,17 +229,23 @@ module _ (flow : RuledFlow) (segments : List Segment) (comings : List Coming) (i
         of_comings = still-of t.x t.expected noted t.notes near;
         latest = still-latest t.x t.expected noted t.notes near;
         came = λ i kept. elim (kept-after i kept) [
-          | inl before ↦
+          | inl slid ↦
+              let before = slid-kept i slid in
               let same = (passing-keeps flow noted t.x fates t.between t.passing t.passing_answers t.expected bounded t.passes t.leads_passing i before.0).0 before.1 in
               let found = in_step.came i (before.0, same) in
               (found.0, found.1, found.2, (let past = found.3 in omega arith), found.4, found.5)
           | inr same ↦ (n, channel, segment, omega arith, here, sym same)
         ];
         gone = λ q other another from is lost.
-            elim (passing-lost flow noted t.x fates t.between t.passing t.passing_answers t.expected bounded t.passes t.leads_passing (index_at q) (lost-after (index_at q) lost)) [
+            elim (passing-lost flow noted t.x fates t.between t.passing t.passing_answers t.expected bounded t.passes t.leads_passing (index_at q)
+            (spares q other another (omega arith) is (lost-after (index_at q) lost))) [
               | inl before ↦ in_step.gone q other another (omega arith) is before
               | inr passed ↦
                   passed-gone flow segments comings index_at numbered order (n + 1) (index_at q) q other another noted
                   (still-of t.x t.expected noted t.notes near) passed (omega arith) is refl
             ];
       }
+
+-- a window that doesn't slide loses nothing
+pub stays-spares : (comings : List Coming) (index_at : ℕ → ℕ) (n : ℕ) (between slid : Fates) → slid ≡ between → Spares comings index_at n between slid
+stays-spares comings index_at n between slid same q channel segment from is lost = subst (λ (f : Fates). IsLost f (index_at q)) same lost

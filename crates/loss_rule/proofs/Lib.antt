@@ -20,8 +20,10 @@ pub mod SafeLoss
 pub mod LosingJust
 pub mod Fitting
 pub mod Falling
+pub mod Taking
 pub mod NearArrivals
 pub mod AllKept
+pub mod NoSlide
 pub mod AllCame
 pub mod Dealing
 pub mod NearComings

@@ -84,7 +84,7 @@ skips-once PassedOrSlid flow noted fates number skips others r (x, y, passing, s
     are ∙ ap (λ t. t ++ sliding) same ∙ ap (λ t. passing' ++ t) same' ∙ sym are'
 
 -- so one coming makes its events, and no others
-ruled-some : (rule : LossRule) (flow : RuledFlow) (lasts : Lasts) (fates : Fates) (coming : Coming) → IsReached flow.first flow.width fates
+pub ruled-some : (rule : LossRule) (flow : RuledFlow) (lasts : Lasts) (fates : Fates) (coming : Coming) → IsReached flow.first flow.width fates
     → (events : List FlowEvent) × (noted : Lasts) × IsRuled rule flow lasts fates coming events noted
 ruled-some rule flow lasts fates (handed_in event) r = (event ∷ [], lasts, (refl, refl))
 ruled-some rule flow lasts fates (on_channel channel segment) r =

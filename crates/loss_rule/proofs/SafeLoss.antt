@@ -25,7 +25,7 @@ use Rattle.loss_rule.proofs.Arrivals.{passed-looks, by-passed}
 use Rattle.loss_rule.proofs.ArrivalAnswers.{answer-last, no_arrival-verdicts, verdicts-in_turn}
 use Rattle.loss_rule.proofs.Prompt.{no_lasts-none, up_to_date-after}
 use Rattle.loss_rule.proofs.ChannelOrder.{comes-here, one-longer, passed-gone, noted-of, of_comings-after}
-use Rattle.loss_rule.proofs.InStep.{own-answer, in_step-after}
+use Rattle.loss_rule.proofs.InStep.{own-answer, in_step-after, stays-spares}
 use Rattle.loss_rule.proofs.HandedIn.{decided-no_arrival, in_step-decided}
 
 -- nothing came yet
@@ -97,8 +97,8 @@ module _ (flow : RuledFlow) (segments : List Segment) (comings : List Coming) (i
         let so_far = safe later e' in
         let none : Leads flow.first flow.width t.between [] t.sliding_answers t.slid =
         subst (λ s. Leads flow.first flow.width t.between s t.sliding_answers t.slid) t.slides t.leads_sliding in
-        let stays : t.slid ≡ t.between = none.1 in
-        let own = own-answer flow segments comings index_at numbered order (length past) channel segment here lasts fates known so_far.0 Passed events answers noted after r t close.1 stays in
+        let spares = stays-spares comings index_at (length past) t.between t.slid none.1 in
+        let own = own-answer flow segments comings index_at numbered order (length past) channel segment here lasts fates known so_far.0 Passed events answers noted after r t close.1 spares in
         let verdict : EachVerdict SaysKeptOrBeyond answers = λ k verdict is. (
         let last = answer-last Passed flow lasts fates channel segment events answers noted after t k verdict is in
         elim own [
@@ -106,7 +106,7 @@ module _ (flow : RuledFlow) (segments : List Segment) (comings : List Coming) (i
           | inr (beyond, _, _) ↦ (let same : Arrival verdict ≡ Arrival (Beyond segment) = sym last ∙ beyond in inr (segment, cc))
         ]) in (
           subst (λ n. IsInStep flow comings index_at n noted after) (sym (one-longer past (on_channel channel segment)))
-              (in_step-after flow segments comings index_at numbered order (length past) channel segment here lasts fates known so_far.0 Passed events answers noted after r t close.1 stays),
+              (in_step-after flow segments comings index_at numbered order (length past) channel segment here lasts fates known so_far.0 Passed events answers noted after r t close.1 spares),
           (
             so_far.1.0 ++ answers,
             leads-in_turn flow.first flow.width before events (so_far.1.0 ++ answers) no_fates after (so_far.1.0, answers, fates, so_far.1.1, leads, refl),

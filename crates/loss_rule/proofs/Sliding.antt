@@ -63,7 +63,7 @@ module _ (flow : RuledFlow) (positive : 1 ≤ flow.width) (number y z : ℕ) (be
 module _ (flow : RuledFlow) (positive : 1 ≤ flow.width) (lasts : Lasts) (fates : Fates) (channel : ℕ) (segment : Segment) (events : List FlowEvent) (answers : List Applied)
     (noted : Lasts) (after : Fates) (r : IsReached flow.first flow.width fates)
     (t : ArrivesBy PassedOrSlid flow lasts fates channel segment events answers noted after) where
-  slid-here : SlidTo flow segment.head.sequence t.y t.z t.between t.slid
+  pub slid-here : SlidTo flow segment.head.sequence t.y t.z t.between t.slid
   slid-here =
       slid-to flow positive segment.head.sequence t.y t.z t.between t.slid t.sliding t.sliding_answers
       (between-reached PassedOrSlid flow lasts fates channel segment events answers noted after r t) t.expected_between t.expected_slid t.slides t.leads_sliding

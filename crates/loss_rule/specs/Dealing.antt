@@ -10,11 +10,6 @@ AreSpread flow comings index_at m =
     (i p own channel : ℕ) (segment : Segment) → Comes comings p own segment → HasChannel flow channel → i + m ≤ index_at p + 1
     → (q : ℕ) × (other : Segment) × Comes comings q channel other × (i ≤ index_at q) × (index_at q < i + m)
 
--- No segment comes after one whose index is d or more greater.
-abbrev pub ComeWithin : List Coming → (ℕ → ℕ) → ℕ → Type 0
-ComeWithin comings index_at d =
-    (p q own channel : ℕ) (segment other : Segment) → Comes comings p own segment → Comes comings q channel other → index_at q + d ≤ index_at p → q < p
-
 -- the segments from index k on, dealt in turn over so many channels
 abbrev pub dealt_from : ℕ → ℕ → List Segment → List Coming
 dealt_from count k [] = []

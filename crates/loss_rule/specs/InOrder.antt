@@ -8,6 +8,7 @@ use Rattle.flow_core.specs.declared.event.Applied.{Applied}
 use Rattle.flow_core.specs.Fates.{Fates, IsLost, IsExpected}
 use Rattle.flow_core.specs.Events.{FlowEvent, arrives, gap, gap_to, skip_to, IsAhead, Leads}
 use Rattle.loss_rule.specs.declared.rule.LossRule.{LossRule}
+use Rattle.loss_rule.specs.declared.rule.LossRule.TheVariants.{Decided, Passed, PassedOrSlid}
 use Rattle.loss_rule.specs.Rule.{Coming, on_channel, handed_in, RuledFlow, Lasts, HasChannel, Notes, IsPassing, AreRuled}
 
 -- at place p of all that comes, this segment comes on this channel
@@ -31,16 +32,36 @@ ComeNear rule flow comings index_at =
     → comings ≡ before ++ on_channel channel segment ∷ behind → AreRuled rule flow before events lasts fates → IsExpected fates x
     → (x ≤ index_at (length before) + numbers_ahead) × (index_at (length before) < x + numbers_ahead)
 
--- Each segment falls into the window: its index lies less than the window's width after the index that is expected once it is noted and the rule has
--- skipped what every channel has passed.
-abbrev pub FallIntoTheWindow : LossRule → RuledFlow → List Coming → (ℕ → ℕ) → Type 0
-FallIntoTheWindow rule flow comings index_at =
+-- No segment comes after one whose index is d or more greater.
+abbrev pub ComeWithin : List Coming → (ℕ → ℕ) → ℕ → Type 0
+ComeWithin comings index_at d =
+    (p q own channel : ℕ) (segment other : Segment) → Comes comings p own segment → Comes comings q channel other → index_at q + d ≤ index_at p → q < p
+
+-- No window has to slide: the index of each segment lies less than the window's width after the one that is expected once the segment is noted and the
+-- rule has skipped what every channel has passed.
+abbrev pub NeedNoSlide : LossRule → RuledFlow → List Coming → (ℕ → ℕ) → Type 0
+NeedNoSlide rule flow comings index_at =
     (before behind : List Coming) (channel x y : ℕ) (segment : Segment) (events passing : List FlowEvent) (answers : List Applied) (lasts noted : Lasts)
     (fates between : Fates)
     → comings ≡ before ++ on_channel channel segment ∷ behind → AreRuled rule flow before events lasts fates → IsExpected fates x
     → Notes flow.first x channel segment.head.sequence lasts noted → IsPassing flow noted x passing
     → Leads flow.first flow.width fates passing answers between → IsExpected between y
     → index_at (length before) < y + flow.width
+
+-- Each segment falls into the window. By a rule that doesn't slide it does so as the window stands. By the one that slides the window goes along with what
+-- comes near, and loses what lies its width or more before that: so no segment may come so late.
+abbrev pub FallIntoTheWindow : LossRule → RuledFlow → List Coming → (ℕ → ℕ) → Type 0
+FallIntoTheWindow Decided flow comings index_at = NeedNoSlide Decided flow comings index_at
+FallIntoTheWindow Passed flow comings index_at = NeedNoSlide Passed flow comings index_at
+FallIntoTheWindow PassedOrSlid flow comings index_at = ComeNear PassedOrSlid flow comings index_at × ComeWithin comings index_at flow.width
+
+-- Numbers show how far a flow was out, said of the comings alone: each segment lies at most 4096 less the window's width after one that came before, or
+-- less than 4096 after the first index of all.
+abbrev pub HaveShortOutages : RuledFlow → List Coming → (ℕ → ℕ) → Type 0
+HaveShortOutages flow comings index_at =
+    (p own : ℕ) (segment : Segment) → Comes comings p own segment
+    → (index_at p < numbers_ahead)
+    ⊎ ((q channel : ℕ) × (last : Segment) × (q < p) × Comes comings q channel last × (index_at p + flow.width ≤ index_at q + numbers_ahead))
 
 -- Nothing comes further ahead than the window can hold, said of the comings alone. Each segment lies less than the window's width after the last one
 -- of every channel of the flow, itself counted, or after the first index of all; and less than 4096 after the one before it on its own channel.

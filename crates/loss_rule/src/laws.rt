@@ -19,9 +19,10 @@ ghost use Rattle.flow_core.specs.Closing.{IsClosed};
 ghost use Rattle.flow_core.specs.Outcome.{IsFlowOutcome};
 ghost use Rattle.loss_rule.specs.declared.rule.LossRule.{LossRule};
 ghost use Rattle.loss_rule.specs.Rule.{Coming, on_channel, RuledFlow, HasChannel, Lasts, IsLastOn, IsPassed, HaveComeTo, Notes, AreSkips, IsRuled, Rules, AreRuled, own_event};
-ghost use Rattle.loss_rule.specs.InOrder.{Comes, AreInChannelOrder, ComeNear, FallIntoTheWindow, FitTheWindow, NeverComes, IsOvertaken, IsAllCome};
+ghost use Rattle.loss_rule.specs.InOrder.{Comes, AreInChannelOrder, ComeNear, ComeWithin, NeedNoSlide, FallIntoTheWindow, FitTheWindow};
+ghost use Rattle.loss_rule.specs.InOrder.{HaveShortOutages, NeverComes, IsOvertaken, IsAllCome};
 ghost use Rattle.loss_rule.specs.InOrder.{HaveNoDecision, HandInDecisions, DecideSafely, DecideThePast};
-ghost use Rattle.loss_rule.specs.Dealing.{AreSpread, ComeWithin, dealt};
+ghost use Rattle.loss_rule.specs.Dealing.{AreSpread, dealt};
 
 /// Whatever comes to a flow, the rule makes one list of events of it, and leads to one last index
 /// of each channel and one fate of each index. The events lead to those fates.
@@ -68,7 +69,8 @@ pub fn decided_rule_adds_nothing()
 /// **Safe: the rule loses nothing that still comes.** In a near list in channel order of one lawful
 /// cut, an index that the skips before a segment lose is neither that segment's nor that of a later
 /// one. So where the decisions that are handed in are safe too, no segment is late and none a
-/// repeat: each is kept, or lies beyond the window.
+/// repeat: each is kept, or lies beyond the window. Where each segment falls into the window, no
+/// skip loses one that comes then or later, nor does the window as it slides.
 pub fn rule_loses_nothing_that_still_comes()
     ensures lost { (check : List ℕ → Bool) (frames chunks : List (List ℕ)) (fill : ℕ)
         (segments : List Segment) (flow : RuledFlow) (before behind : List Coming)
@@ -96,6 +98,22 @@ pub fn rule_loses_nothing_that_still_comes()
         → IsAfter flow.first flow.width events answers fates
         → slice_get answers k ≡ Some (Applied.Arrival verdict)
         → (verdict ≡ Verdict.Kept) ⊎ ((back : Segment) × (verdict ≡ Verdict.Beyond back)) }
+    ensures falls { (check : List ℕ → Bool) (frames chunks : List (List ℕ)) (fill : ℕ)
+        (segments : List Segment) (rule : LossRule) (flow : RuledFlow) (comings : List Coming)
+        (before behind : List Coming) (index_at : ℕ → ℕ) (channel other q x : ℕ)
+        (segment another : Segment) (events skips : List FlowEvent) (answers : List Applied)
+        (lasts noted : Lasts) (fates after : Fates)
+        → rule ≢ LossRule.Decided → flow.width ≤ width_max
+        → IsLawfulCut check frames flow.first fill chunks segments
+        → AreInChannelOrder flow segments comings index_at
+        → FallIntoTheWindow rule flow comings index_at
+        → DecideSafely rule flow comings index_at
+        → comings ≡ before ++ on_channel channel segment ∷ behind
+        → AreRuled rule flow before events lasts fates → IsExpected fates x
+        → Notes flow.first x channel segment.head.sequence lasts noted
+        → AreSkips rule flow noted fates segment.head.sequence skips
+        → Leads flow.first flow.width fates skips answers after
+        → Comes comings q other another → length before ≤ q → ¬ (IsLost after (index_at q)) }
 {}
 
 /// Where what comes in channel order comes near, all its events are near. So what is said of near
@@ -113,9 +131,9 @@ pub fn near_comings_make_near_events()
 {}
 
 /// **Nothing that came is dropped.** In a list in channel order of one lawful cut, where decisions
-/// that are handed in are safe and each segment falls into the window once the rule has skipped:
-/// each segment comes near the expected index and is kept under its own, and nothing else is kept.
-/// So no segment is late, beyond the window or a repeat.
+/// that are handed in are safe and each segment falls into the window: each segment comes near the
+/// expected index and is kept under its own, and nothing else is kept. So no segment is late,
+/// beyond the window or a repeat. By `PassedOrSlid` that holds over outages longer than the window.
 pub fn all_that_comes_is_kept()
     ensures near { (check : List ℕ → Bool) (frames chunks : List (List ℕ)) (fill : ℕ)
         (segments : List Segment) (rule : LossRule) (flow : RuledFlow) (comings : List Coming)
@@ -232,6 +250,27 @@ pub fn segments_that_fit_the_window_fall_into_it()
         → AreInChannelOrder flow segments comings index_at
         → FitTheWindow flow comings index_at → DecideSafely rule flow comings index_at
         → ComeNear rule flow comings index_at }
+{}
+
+/// What falls into the window by the rule that slides: all that comes in channel order, if no
+/// segment comes after one whose index is the window's width or more greater, and no outage is so
+/// long that numbers don't show it. Where no window has to slide all falls into it by either rule.
+pub fn segments_after_an_outage_fall_into_a_window_that_slides()
+    ensures outage { (check : List ℕ → Bool) (frames chunks : List (List ℕ)) (fill : ℕ)
+        (segments : List Segment) (flow : RuledFlow) (comings : List Coming) (index_at : ℕ → ℕ)
+        → IsLawfulCut check frames flow.first fill chunks segments
+        → AreInChannelOrder flow segments comings index_at
+        → ComeWithin comings index_at flow.width → HaveShortOutages flow comings index_at
+        → DecideSafely LossRule.PassedOrSlid flow comings index_at
+        → FallIntoTheWindow LossRule.PassedOrSlid flow comings index_at }
+    ensures no_slide { (check : List ℕ → Bool) (frames chunks : List (List ℕ)) (fill : ℕ)
+        (segments : List Segment) (rule : LossRule) (flow : RuledFlow) (comings : List Coming)
+        (index_at : ℕ → ℕ)
+        → rule ≢ LossRule.Decided → flow.width ≤ width_max
+        → IsLawfulCut check frames flow.first fill chunks segments
+        → AreInChannelOrder flow segments comings index_at
+        → NeedNoSlide rule flow comings index_at → DecideSafely rule flow comings index_at
+        → FallIntoTheWindow rule flow comings index_at }
 {}
 
 /// Which decisions are safe: none at all, and those about the past.

@@ -8,7 +8,7 @@ use Rattle.flow_core.proofs.OneFates.{after-once}
 use Rattle.flow_core.proofs.Turns.{leads-split}
 use Rattle.loss_rule.specs.Rule.{no_lasts}
 use Rattle.loss_rule.proofs.RuledTurns.{rules-lead}
-use Rattle.loss_rule.proofs.Falling.{fall-within}
+use Rattle.loss_rule.proofs.Taking.{falls-taken}
 use Rattle.loss_rule.proofs.AllKept.{kept-as, kept-came, events-near}
 use Rattle.loss_rule.proofs.AllCame.{frames-all_came}
 use Rattle.loss_rule.proofs.laws.closed_flow_gives_the_frames_that_all_came.Goals as goal
@@ -16,7 +16,7 @@ use Rattle.loss_rule.proofs.laws.closed_flow_gives_the_frames_that_all_came.Goal
 pub returns : goal.returns
 returns c = λ check frames chunks fill n segments rule flow flow_record comings index_at events noted fates given counts looks narrow first width cut order fall safely are outcome closed.
     let numbered = numbered_of_cut check frames chunks flow.first fill segments cut in
-    let within = fall-within rule looks flow narrow segments comings index_at numbered order fall in
+    let within = falls-taken rule looks flow narrow segments comings index_at numbered order fall in
     let near : AreNear flow_record.first flow_record.window segments events =
     subst (λ (k : ℕ). AreNear k flow_record.window segments events) (sym first)
     (subst (λ (w : ℕ). AreNear flow.first w segments events) (sym width) (events-near rule looks flow segments comings index_at numbered order within safely events noted fates are)) in

@@ -2,7 +2,7 @@ use Rattle.std.proofs.Common.{arith}
 use Rattle.flow_core.proofs.Nearness.{numbered_of_cut}
 use Rattle.loss_rule.proofs.Leasts.{come-passed}
 use Rattle.loss_rule.proofs.Prompt.{up_to_date-after}
-use Rattle.loss_rule.proofs.Falling.{fall-within}
+use Rattle.loss_rule.proofs.Taking.{falls-taken}
 use Rattle.loss_rule.proofs.AllKept.{kept-came, kept-latest}
 use Rattle.loss_rule.proofs.NeverComing.{near-came, never-lost}
 use Rattle.loss_rule.proofs.laws.index_that_never_comes_is_lost.Goals as goal
@@ -19,7 +19,7 @@ pub returns-clause-overtaken : goal.returns-clause-overtaken
 returns-clause-overtaken c = λ check frames chunks fill segments rule flow comings index_at events noted fates own i looks narrow cut order fall safely are has
     overtaken never.
     let numbered = numbered_of_cut check frames chunks flow.first fill segments cut in
-    let within = fall-within rule looks flow narrow segments comings index_at numbered order fall in
+    let within = falls-taken rule looks flow narrow segments comings index_at numbered order fall in
     never-lost comings index_at fates i
     (kept-came rule looks flow segments comings index_at numbered order within safely events noted fates are i) never
     ((up_to_date-after rule flow looks comings events noted fates are).settled own i has (λ channel is.

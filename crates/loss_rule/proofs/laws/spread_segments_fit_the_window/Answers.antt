@@ -2,7 +2,9 @@ use Rattle.flow_core.proofs.Nearness.{numbered_of_cut}
 use Rattle.loss_rule.specs.Dealing.{dealt}
 use Rattle.loss_rule.proofs.HandedIn.{none-safe}
 use Rattle.loss_rule.proofs.Fitting.{fit-within}
-use Rattle.loss_rule.proofs.AllKept.{falls, come-near}
+use Rattle.loss_rule.proofs.Taking.{within-taken}
+use Rattle.loss_rule.proofs.AllKept.{come-near}
+use Rattle.loss_rule.proofs.NoSlide.{within-falls}
 use Rattle.loss_rule.proofs.Dealing.{spread-fits, dealt-order, dealt-fits, dealt-undecided}
 use Rattle.loss_rule.proofs.laws.spread_segments_fit_the_window.Goals as goal
 
@@ -26,7 +28,8 @@ returns-clause-dealt c = λ check frames chunks fill segments rule flow count lo
     let safely = none-safe rule flow (dealt count segments) (λ p. p) (dealt-undecided count 0 segments) in
     let within = fit-within rule looks flow narrow segments (dealt count segments) (λ p. p) numbered order (dealt-fits segments flow count some channels wide narrow) in (
       order,
-      falls rule looks flow segments (dealt count segments) (λ p. p) numbered order within safely,
-      come-near rule looks flow segments (dealt count segments) (λ p. p) numbered order within safely,
+      within-falls rule looks flow segments (dealt count segments) (λ p. p) numbered order within safely,
+      come-near rule looks flow segments (dealt count segments) (λ p. p) numbered order
+          (within-taken rule looks flow segments (dealt count segments) (λ p. p) numbered order within) safely,
       safely,
     )
