@@ -1,49 +1,50 @@
 //! A receiver that begins in the midst of a flow: what was sent before is given up.
-ghost use Rattle.std.specs.Prelude.{◌<◌, ◌∷◌, All, IfOk, length, map};
+ghost use Rattle.std.specs.Prelude.{◌<◌, ◌∷◌, IfOk, length, map};
 ghost use Rattle.docsis_wire.specs.Limits.{sequence_modulus};
 ghost use Rattle.flow_records.specs.declared.event.Event.{Event};
 ghost use Rattle.flow_records.specs.Setup.{CanBeSetUp};
-ghost use Rattle.receiver.specs.Items.{IsItem};
+ghost use Rattle.lane.specs.Limits.{channel_limit};
 ghost use Rattle.receiver.specs.Ruled.{AreRuledOutcomes};
 
-use docsis_wire::HeaderCheck;
+use docsis_wire::{HeaderCheck, ReadySegment};
 use flow_core::Event;
 use loss_rule::LossRule;
 use receiver::{FlowOutcome, RuledAssembler, Setup};
 use std::alloc::{AllocError, Global};
 
-/// An item and its sender: 0 to 3 for the channels, 4 for decisions.
+/// A segment, and the channel on which it comes, 0 to 3.
 #[derive(Drop)]
-pub struct Sent {
-    pub sender: u8,
-    pub item: Event,
+pub struct OnChannel {
+    pub channel: u8,
+    pub segment: ReadySegment,
 }
 
-/// Gives up all of a flow that lies before this number, its first that was heard, then takes these
-/// items in turn, and answers what each flow gave; or that an allocation failed.
+/// Gives up all of a flow that lies before this number, the first that was heard of it, then takes
+/// the flow's segments that come, and answers what each flow gave; or that an allocation failed.
+/// The skip comes as a decision does, from the sender behind the channels.
 pub fn receive_from<C: HeaderCheck + Drop>(
     alloc: Global,
     rule: LossRule,
     setup: &Setup,
     flow: usize,
     number: u16,
-    sent: Vec<Sent>,
+    came: Vec<OnChannel>,
     check: C,
 ) -> Result<Vec<FlowOutcome>, AllocError>
     requires set_up { CanBeSetUp setup.now.flows.items }
     requires exists { flow < length setup.now.flows.items }
     requires number { number < sequence_modulus }
-    requires items { All (IsItem (length setup.now.flows.items))
-        (map (λ one. one.item) sent.items) }
     ensures { IfOk result (λ flows. AreRuledOutcomes rule (C.accepts check) setup.now
-        (4 ∷ map (λ one. one.sender) sent.items)
-        (Event.SkipTo flow number ∷ map (λ one. one.item) sent.items) flows.items) }
+        (channel_limit ∷ map (λ one. one.channel) came.items)
+        (Event.SkipTo flow number
+        ∷ map (λ one. Event.Arrive flow one.segment.segment) came.items) flows.items) }
 {
     let mut assembler = RuledAssembler::new(alloc, rule, setup, check)?;
     assembler.take(alloc, 4, Event::SkipTo { flow, number })?;
-    for one in sent {
-        let Sent { sender, item } = one;
-        assembler.take(alloc, sender, item)?;
+    for one in came {
+        let OnChannel { channel, segment } = one;
+        let ReadySegment { segment } = segment;
+        assembler.take(alloc, channel, Event::Arrive { flow, segment })?;
     }
     assembler.finish(alloc, setup)
 }
@@ -94,13 +95,15 @@ mod tests {
             sids: Vec::from_slice(alloc, &[row])?,
             mailbox: 1,
         };
-        let mut sent = Vec::new(alloc);
+        let mut came = Vec::new(alloc);
         for bytes in SEGMENTS {
             let segment = Segment::read(alloc, bytes)?;
-            let item = Event::Arrive { flow: 0, segment };
-            sent.push(Sent { sender: 0, item })?;
+            came.push(OnChannel {
+                channel: 0,
+                segment: ReadySegment { segment },
+            })?;
         }
-        let flows = receive_from(alloc, LossRule::Decided, &setup, 0, 100, sent, NoCheck)?;
+        let flows = receive_from(alloc, LossRule::Decided, &setup, 0, 100, came, NoCheck)?;
         assert_eq!(rt; flows.len(), 1);
         assert_eq!(rt; flows[0].counts.kept, 2);
         assert_eq!(rt; flows[0].counts.late, 1);
