@@ -26,5 +26,7 @@ pub mod AllKept
 pub mod NoSlide
 pub mod AllCame
 pub mod Dealing
+pub mod DealtOut
+pub mod TwoOfThree
 pub mod NearComings
 pub mod NeverComing

@@ -3,7 +3,8 @@
 //! of which each segment came.
 //!
 //! Each function states a law in its contract; its body is empty or only calls other laws.
-ghost use Rattle.std.specs.Prelude.{◌≡◌, ◌≢◌, ◌↔◌, ◌⊎◌, ◌+◌, ◌<◌, ◌≤◌, ◌∷◌, ◌++◌, ℕ, Bool, true, Some, List, map, length, replicate, slice_get};
+ghost use Rattle.std.specs.Prelude.{◌≡◌, ◌≢◌, ◌↔◌, ◌⊎◌, ◌+◌, ◌*◌, ◌<◌, ◌≤◌, [], ◌∷◌, ◌++◌, ℕ};
+ghost use Rattle.std.specs.Prelude.{Bool, true, false, Some, List, map, length, replicate, slice_get};
 ghost use Rattle.docsis_wire.specs.declared.segment.Segment.{Segment};
 ghost use Rattle.docsis_wire.specs.Cut.{IsLawfulCut};
 ghost use Rattle.ccf.specs.Filter.{FiltersTo};
@@ -22,7 +23,8 @@ ghost use Rattle.loss_rule.specs.Rule.{Coming, on_channel, RuledFlow, HasChannel
 ghost use Rattle.loss_rule.specs.InOrder.{Comes, AreInChannelOrder, ComeNear, ComeWithin, NeedNoSlide, FallIntoTheWindow, FitTheWindow};
 ghost use Rattle.loss_rule.specs.InOrder.{HaveShortOutages, NeverComes, IsOvertaken, IsAllCome};
 ghost use Rattle.loss_rule.specs.InOrder.{HaveNoDecision, HandInDecisions, DecideSafely, DecideThePast};
-ghost use Rattle.loss_rule.specs.Dealing.{AreSpread, dealt};
+ghost use Rattle.loss_rule.specs.Dealing.{AreSpread, dealt, dealt_out, AreDealtOut};
+ghost use Rattle.loss_rule.specs.Dealing.{two_of_three, channel_of_three};
 
 /// Whatever comes to a flow, the rule makes one list of events of it, and leads to one last index
 /// of each channel and one fate of each index. The events lead to those fates.
@@ -288,7 +290,9 @@ pub fn decisions_about_the_past_are_safe()
 /// the modem sent one after another, and let none come after one that was sent `d` or more later;
 /// then a window of `d + m` is wide enough. Segments that are dealt in turn over the channels are
 /// in channel order and have no decision, and fit a window that is wider than there are channels.
-/// So a whole cut that is dealt so meets every premise at once.
+/// So a whole cut that is dealt so meets every premise at once. So do segments that are dealt in
+/// any way over some of the channels, with some of them lost and some late; one such way, by which
+/// a third is lost and each other pair swapped, is dealt over two of three channels.
 pub fn spread_segments_fit_the_window()
     ensures spread { (segments : List Segment) (flow : RuledFlow) (comings : List Coming)
         (index_at : ℕ → ℕ) (d m : ℕ)
@@ -315,6 +319,19 @@ pub fn spread_segments_fit_the_window()
         × FallIntoTheWindow rule flow (dealt count segments) (λ p. p)
         × ComeNear rule flow (dealt count segments) (λ p. p)
         × DecideSafely rule flow (dealt count segments) (λ p. p) }
+    ensures dealt_out { (check : List ℕ → Bool) (frames chunks : List (List ℕ)) (fill : ℕ)
+        (segments : List Segment) (rule : LossRule) (flow : RuledFlow)
+        (channel_of index_at : ℕ → ℕ) (n m d : ℕ)
+        → rule ≢ LossRule.Decided → d + m ≤ flow.width → flow.width ≤ width_max
+        → IsLawfulCut check frames flow.first fill chunks segments
+        → AreDealtOut flow channel_of index_at segments n m d
+        → AreInChannelOrder flow segments (dealt_out channel_of index_at segments n) index_at
+        × FallIntoTheWindow rule flow (dealt_out channel_of index_at segments n) index_at
+        × ComeNear rule flow (dealt_out channel_of index_at segments n) index_at
+        × DecideSafely rule flow (dealt_out channel_of index_at segments n) index_at }
+    ensures two_of_three { (segments : List Segment) (flow : RuledFlow) (n : ℕ)
+        → flow.channels ≡ true ∷ false ∷ true ∷ [] → 3 * n ≤ length segments
+        → AreDealtOut flow channel_of_three two_of_three segments (2 * n) 3 2 }
 {}
 
 /// **Prompt: the flow never waits for what can no longer come.** Where a flow has a channel, an
