@@ -3,13 +3,14 @@
 //! and what a flow gives by a loss rule are the modem's frames all of whose segments came in.
 //!
 //! Each function states a law in its contract; its body is empty or only calls other laws.
-ghost use Rattle.std.specs.Prelude.{◌≡◌, ◌≢◌, ◌↔◌, ℕ, ◌<◌, Bool, Some};
+ghost use Rattle.std.specs.Prelude.{◌≡◌, ◌≢◌, ◌↔◌, ℕ, ◌+◌, ◌<◌, ◌≤◌, Bool, Some};
 ghost use Rattle.std.specs.Prelude.{List, [], length, map, filter, slice_get, All};
 ghost use Rattle.docsis_wire.specs.declared.segment.Segment.{Segment};
 ghost use Rattle.docsis_wire.specs.Cut.{IsLawfulCut};
 ghost use Rattle.ccf.specs.Filter.{FiltersTo};
 ghost use Rattle.flow_records.specs.declared.record.FlowRecord.{FlowRecord};
 ghost use Rattle.flow_records.specs.Counted.{counted};
+ghost use Rattle.flow_records.specs.declared.event.Event.{Event};
 ghost use Rattle.receiver.specs.declared.setup.Setup.{Setup};
 ghost use Rattle.receiver.specs.Order.{IsLawfulOrder, IsOrderFault, IsMergeOf, lengths_of, picked};
 ghost use Rattle.receiver.specs.declared.outcome.Outcome.{Outcome};
@@ -31,7 +32,7 @@ ghost use Rattle.loss_rule.specs.declared.rule.LossRule.{LossRule};
 ghost use Rattle.loss_rule.specs.Rule.{HasChannel};
 ghost use Rattle.loss_rule.specs.InOrder.{Comes, HaveNoDecision, HandInDecisions, DecideSafely};
 ghost use Rattle.loss_rule.specs.InOrder.{IsAllCome};
-ghost use Rattle.loss_rule.specs.Dealing.{dealt};
+ghost use Rattle.loss_rule.specs.Dealing.{dealt, dealt_out, AreDealtOut};
 ghost use Rattle.receiver.specs.Faults.{IsReplayFault, IsTagsFault};
 ghost use Rattle.receiver.specs.SameOutcome.{IsSameOutcome};
 ghost use Rattle.lane.specs.Limits.{channel_limit};
@@ -209,7 +210,8 @@ pub fn flows_give_the_frames_that_all_came()
 /// The premises of [`flows_give_the_frames_that_all_came`] can be met, by every lawful cut: where a
 /// flow has a service identifier on each channel and its window is wider than there are channels,
 /// let the cut's segments come one after another, in turn over the channels. Then what comes to the
-/// flow is of a modem, and no decision loses what still comes.
+/// flow is of a modem, and no decision loses what still comes. So it is where segments are dealt in
+/// any way over the flow's channels, be these only some, and some are lost and some come late.
 pub fn segments_in_turn_come_from_a_modem()
     ensures modem { (rule : LossRule) (check : List ℕ → Bool) (setup : Setup) (k fill : ℕ)
         (flow_record : FlowRecord) (frames chunks : List (List ℕ)) (segments : List Segment)
@@ -222,6 +224,18 @@ pub fn segments_in_turn_come_from_a_modem()
         (comings_at k (turns_from 0 (length segments)) (all_arrive k segments)))
         × DecideSafely rule (ruled_flow setup.sids.items k flow_record)
         (comings_at k (turns_from 0 (length segments)) (all_arrive k segments)) modem.index_at }
+    ensures dealt_out { (rule : LossRule) (check : List ℕ → Bool) (setup : Setup)
+        (order : List ℕ) (items : List Event) (k fill n m d : ℕ) (flow_record : FlowRecord)
+        (frames chunks : List (List ℕ)) (segments : List Segment) (channel_of index_at : ℕ → ℕ)
+        → rule ≢ LossRule.Decided → CanReceive setup
+        → slice_get setup.flows.items k ≡ Some flow_record → d + m ≤ flow_record.window
+        → AreDealtOut (ruled_flow setup.sids.items k flow_record) channel_of index_at segments n m d
+        → IsLawfulCut check frames flow_record.first fill chunks segments
+        → comings_at k order items ≡ dealt_out channel_of index_at segments n
+        → (modem : ComeFromAModem rule check (ruled_flow setup.sids.items k flow_record) frames
+        (comings_at k order items))
+        × DecideSafely rule (ruled_flow setup.sids.items k flow_record) (comings_at k order items)
+        modem.index_at }
     ensures come { (k : ℕ) (segments : List Segment)
         → comings_at k (turns_from 0 (length segments)) (all_arrive k segments)
         ≡ dealt channel_limit segments }
