@@ -5,8 +5,8 @@ use Rattle.std.proofs.lemmas.Option.{slice_get_within}
 use Rattle.docsis_wire.specs.declared.segment.Segment.{Segment}
 use Rattle.docsis_wire.proofs.StreamPlaces.{element_at}
 use Rattle.loss_rule.specs.Rule.{Coming, on_channel, handed_in, RuledFlow, HasChannel}
-use Rattle.loss_rule.specs.InOrder.{Comes, AreInChannelOrder, ComeWithin, FitTheWindow, HaveNoDecision}
-use Rattle.loss_rule.specs.Dealing.{AreSpread, coming_of, dealt_out_from, dealt_out, AreDealtOut}
+use Rattle.loss_rule.specs.InOrder.{Comes, AreInChannelOrder, ComeWithin, FitTheWindow, HaveShortOutages, HaveNoDecision}
+use Rattle.loss_rule.specs.Dealing.{AreSpread, coming_of, dealt_out_from, dealt_out, AreDealtOut, AreSpreadOut, RiseOverOutages}
 use Rattle.loss_rule.proofs.ChannelOrder.{comes-once}
 use Rattle.loss_rule.proofs.Dealing.{spread-fits}
 
@@ -54,7 +54,7 @@ module _ (channel_of index_at : ℕ → ℕ) (segments : List Segment) where
       × Comes (dealt_out_from channel_of index_at segments k (suc n)) (suc p) (channel_of (index_at j)) segment)
       e'' (rest.0, rest.1, ap (λ c. slice_get c (suc p)) one.2 ∙ rest.2)
 
-module _ (flow : RuledFlow) (channel_of index_at : ℕ → ℕ) (segments : List Segment) (n m d : ℕ) (out : AreDealtOut flow channel_of index_at segments n m d) where
+module _ (flow : RuledFlow) (channel_of index_at : ℕ → ℕ) (segments : List Segment) (n : ℕ) (out : AreDealtOut flow channel_of index_at segments n) where
   abbrev all : List Coming
   all = dealt_out channel_of index_at segments n
 
@@ -109,17 +109,40 @@ module _ (flow : RuledFlow) (channel_of index_at : ℕ → ℕ) (segments : List
             ]
           ]
 
-  -- each channel gets one of so many
-  out-spread : AreSpread flow all index_at m
-  out-spread i p own channel segment is has upto =
-      let found = out.spread i p channel (is-own p own segment is).0 has upto in
-      let there = has-own found.0 found.1 in
-      (found.0, there.0, subst (λ c. Comes all found.0 c there.0) found.2 there.2, found.3, found.4)
+  -- where they are spread, each channel gets one of so many
+  module _ (m d : ℕ) (even : AreSpreadOut flow channel_of index_at n m d) where
+    out-spread : AreSpread flow all index_at m
+    out-spread i p own channel segment is has upto =
+        let found = even.spread i p channel (is-own p own segment is).0 has upto in
+        let there = has-own found.0 found.1 in
+        (found.0, there.0, subst (λ c. Comes all found.0 c there.0) found.2 there.2, found.3, found.4)
 
-  -- and none comes so late
-  out-within : ComeWithin all index_at d
-  out-within p q own channel segment other is is' far = out.within p q (is-own p own segment is).0 (is-own q channel other is').0 far
+    -- and none comes so late
+    out-within : ComeWithin all index_at d
+    out-within p q own channel segment other is is' far = even.within p q (is-own p own segment is).0 (is-own q channel other is').0 far
 
-  -- so they fit the window
-  pub out-fits : d + m ≤ flow.width → flow.width ≤ 4096 → FitTheWindow flow all index_at
-  out-fits wide narrow = spread-fits flow all index_at d m wide out-spread out-within narrow out-order.on_flow
+    -- so they fit the window
+    pub out-fits : d + m ≤ flow.width → flow.width ≤ 4096 → FitTheWindow flow all index_at
+    out-fits wide narrow = spread-fits flow all index_at d m wide out-spread out-within narrow out-order.on_flow
+
+  -- where they come in order over outages, none comes late
+  module _ (over : RiseOverOutages flow.width index_at n) where
+    pub over-within : 1 ≤ flow.width → ComeWithin all index_at flow.width
+    over-within some p q own channel segment other is is' far =
+        elim (cases_lt q p) [
+          | inl before ↦ before
+          | inr from ↦ elim (cases_eq p q) [
+            | inl same ↦ let at = ap index_at same in absurd (omega arith)
+            | inr differ ↦ let rises = over.rise p q (omega arith) (is-own q channel other is').0 in absurd (omega arith)
+          ]
+        ]
+
+    -- and numbers show how long they were
+    pub over-short : HaveShortOutages flow all index_at
+    over-short zero own segment is = inl over.start
+    over-short (suc p) own segment is =
+        let below : p + 1 < n = let low = (is-own (suc p) own segment is).0 in omega arith in
+        let before = has-own p (omega arith) in
+        let e : p + 1 ≡ suc p = omega arith in
+        let step = subst (λ k. index_at k + flow.width ≤ index_at p + 4096) e (over.step p below) in
+        inr (p, channel_of (index_at p), before.0, omega arith, before.2, step)

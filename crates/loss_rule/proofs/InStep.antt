@@ -22,7 +22,7 @@ use Rattle.loss_rule.specs.Inside.Verdicts.{IsKeptOrBeyond}
 use Rattle.loss_rule.specs.Inside.Order.{AreOfComings, IsInStep, Spares}
 use Rattle.loss_rule.proofs.Reaching.{expected-onward, reached-leads}
 use Rattle.loss_rule.proofs.Noting.{noted-other, noted-own, noted-bounded}
-use Rattle.loss_rule.proofs.Passing.{passing-lost, passing-keeps, passing-leaves}
+use Rattle.loss_rule.proofs.Passing.{passing-lost, passing-keeps}
 use Rattle.loss_rule.proofs.ArrivalAnswers.{slides-no_arrival}
 use Rattle.loss_rule.proofs.HandedIn.{no_arrival-kept}
 use Rattle.loss_rule.proofs.ChannelOrder.{comes-once, number-at, passed-gone, noted-of}
@@ -119,15 +119,8 @@ module _ (flow : RuledFlow) (segments : List Segment) (comings : List Coming) (i
     bounded : AreBounded noted t.x
     bounded = noted-bounded flow.first t.x channel segment.head.sequence lasts noted t.notes (known.bounded t.x t.expected)
 
-    -- it is still open
-    between-open : IsOpen t.between (index_at n)
-    between-open =
-        passing-leaves flow noted t.x fates t.between t.passing t.passing_answers t.expected bounded t.passes t.leads_passing channel (index_at n) (index_at n)
-        (order.on_flow n channel segment here) (own-last t.x t.expected noted t.notes near) (omega arith)
-        ∙ index-open t.x t.expected
-
-    -- and so is that of each that comes later
-    pub later-open : (q other : ℕ) (another : Segment) → n ≤ q → Comes comings q other another → IsOpen t.between (index_at q)
+    -- the index of each that comes then or later is still open
+    later-open : (q other : ℕ) (another : Segment) → n ≤ q → Comes comings q other another → IsOpen t.between (index_at q)
     later-open q other another from is =
         elim (open_or_settled t.between (index_at q)) [
           | inl free ↦ free
@@ -145,6 +138,9 @@ module _ (flow : RuledFlow) (segments : List Segment) (comings : List Coming) (i
                     (still-of t.x t.expected noted t.notes near) passed (omega arith) is refl)
               ]
         ]
+
+    between-open : IsOpen t.between (index_at n)
+    between-open = later-open n channel segment (omega arith) here
 
     -- so it lies ahead then
     pub between-ahead : IsAhead flow.first t.y segment.head.sequence (index_at n)
@@ -167,14 +163,18 @@ module _ (flow : RuledFlow) (segments : List Segment) (comings : List Coming) (i
           no_arrival-kept flow.first flow.width i t.sliding t.sliding_answers t.between t.slid
           (slides-no_arrival rule flow t.y segment.head.sequence t.sliding t.slides) t.leads_sliding
 
-      -- it is still open
-      slid-open : IsOpen t.slid (index_at n)
-      slid-open =
-          elim (open_or_settled t.slid (index_at n)) [
-            | inl free ↦ free
-            | inr (Some kept, is) ↦ let before = slid-kept (index_at n) (kept, is) in let there = before.1 in let free = between-open in absurd cc
-            | inr (None, is) ↦ let before = spares n channel segment (omega arith) here is in let free = between-open in absurd cc
+      -- each that comes then or later is still open
+      pub slid-later_open : (q other : ℕ) (another : Segment) → n ≤ q → Comes comings q other another → IsOpen t.slid (index_at q)
+      slid-later_open q other another from comes =
+          let free = later-open q other another from comes in
+          elim (open_or_settled t.slid (index_at q)) [
+            | inl still ↦ still
+            | inr (Some kept, is) ↦ let before = slid-kept (index_at q) (kept, is) in let there = before.1 in absurd cc
+            | inr (None, is) ↦ let before = spares q other another from comes is in absurd cc
           ]
+
+      slid-open : IsOpen t.slid (index_at n)
+      slid-open = slid-later_open n channel segment (omega arith) here
 
       -- so it lies ahead then
       pub slid-ahead : IsAhead flow.first t.z segment.head.sequence (index_at n)

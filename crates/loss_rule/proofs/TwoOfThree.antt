@@ -3,7 +3,7 @@ use Rattle.std.proofs.Common.{◌≡◌, ℕ, zero, suc, ◌+◌, ◌*◌, ◌/�
 use Rattle.std.proofs.lemmas.Bool.{cases_eq}
 use Rattle.docsis_wire.specs.declared.segment.Segment.{Segment}
 use Rattle.loss_rule.specs.Rule.{RuledFlow}
-use Rattle.loss_rule.specs.Dealing.{AreDealtOut, two_of_three, channel_of_three}
+use Rattle.loss_rule.specs.Dealing.{AreDealtOut, AreSpreadOut, two_of_three, channel_of_three}
 
 -- the channels are the first and the third
 outer-has : (channel : ℕ) → (channel ≡ 0) ⊎ (channel ≡ 2) → slice_get (true ∷ false ∷ true ∷ []) channel ≡ Some true
@@ -38,23 +38,29 @@ outer-channel p =
     ]
 
 -- so they are dealt out over these two channels
-pub two_of_three-dealt : (flow : RuledFlow) (segments : List Segment) (n : ℕ) → flow.channels ≡ true ∷ false ∷ true ∷ [] → 3 * n ≤ length segments
-    → AreDealtOut flow channel_of_three two_of_three segments (2 * n) 3 2
-two_of_three-dealt flow segments n channels enough = record {
-  of_cut = λ p below. omega arith;
-  on_flow = λ p below. ap (λ c. slice_get c (channel_of_three (two_of_three p))) channels ∙ outer-has (channel_of_three (two_of_three p)) (outer-channel p);
-  in_order = λ p q before below same. omega arith;
-  spread = λ i p channel below has upto. one-of_three i p channel below (outer-cases channel (ap (λ c. slice_get c channel) (sym channels) ∙ has)) upto;
-  within = λ p q low high far. omega arith;
-}
-  where
-    one-of_three : (i p channel : ℕ) → p < 2 * n → (channel ≡ 0) ⊎ (channel ≡ 2) → i + 3 ≤ two_of_three p + 1
-        → (q : ℕ) × (q < 2 * n) × (channel_of_three (two_of_three q) ≡ channel) × (i ≤ two_of_three q) × (two_of_three q < i + 3)
-    one-of_three i p channel below (inl same) upto =
-        let b = (i + 2) / 3 in
-        let at = first-at b in
-        (2 * b + 1, omega arith, ap channel_of_three at ∙ first-channel b ∙ sym same, omega arith, omega arith)
-    one-of_three i p channel below (inr same) upto =
-        let b = (i + 1) / 3 in
-        let at = second-at b in
-        (2 * b, omega arith, ap channel_of_three at ∙ second-channel b ∙ sym same, omega arith, omega arith)
+module _ (flow : RuledFlow) (segments : List Segment) (n : ℕ) (channels : flow.channels ≡ true ∷ false ∷ true ∷ []) where
+  pub two_of_three-dealt : 3 * n ≤ length segments → AreDealtOut flow channel_of_three two_of_three segments (2 * n)
+  two_of_three-dealt enough = record {
+    of_cut = λ p below. omega arith;
+    on_flow = λ p below. ap (λ c. slice_get c (channel_of_three (two_of_three p))) channels ∙ outer-has (channel_of_three (two_of_three p)) (outer-channel p);
+    in_order = λ p q before below same. omega arith;
+  }
+
+  -- of three indexes each channel brings one
+  one-of_three : (i p channel : ℕ) → p < 2 * n → (channel ≡ 0) ⊎ (channel ≡ 2) → i + 3 ≤ two_of_three p + 1
+      → (q : ℕ) × (q < 2 * n) × (channel_of_three (two_of_three q) ≡ channel) × (i ≤ two_of_three q) × (two_of_three q < i + 3)
+  one-of_three i p channel below (inl same) upto =
+      let b = (i + 2) / 3 in
+      let at = first-at b in
+      (2 * b + 1, omega arith, ap channel_of_three at ∙ first-channel b ∙ sym same, omega arith, omega arith)
+  one-of_three i p channel below (inr same) upto =
+      let b = (i + 1) / 3 in
+      let at = second-at b in
+      (2 * b, omega arith, ap channel_of_three at ∙ second-channel b ∙ sym same, omega arith, omega arith)
+
+  -- and none comes after one that is two or more greater
+  pub two_of_three-spread : AreSpreadOut flow channel_of_three two_of_three (2 * n) 3 2
+  two_of_three-spread = record {
+    spread = λ i p channel below has upto. one-of_three i p channel below (outer-cases channel (ap (λ c. slice_get c channel) (sym channels) ∙ has)) upto;
+    within = λ p q low high far. omega arith;
+  }

@@ -1,6 +1,7 @@
 -- How a modem deals its segments over channels, and how late they come: what fits a window.
 use Rattle.std.specs.Prelude.{◌≡◌, ℕ, zero, suc, ◌+◌, ◌-◌, ◌*◌, ◌/◌, ◌%◌, ◌<◌, ◌≤◌, Option, Some, None, List, [], ◌∷◌, ◌++◌, length, slice_get}
 use Rattle.docsis_wire.specs.declared.segment.Segment.{Segment}
+use Rattle.reorder.specs.Limits.{numbers_ahead}
 use Rattle.loss_rule.specs.Rule.{Coming, on_channel, RuledFlow, HasChannel}
 use Rattle.loss_rule.specs.InOrder.{Comes}
 
@@ -33,15 +34,23 @@ dealt_out_from channel_of index_at segments k (suc n) =
 abbrev pub dealt_out : (ℕ → ℕ) → (ℕ → ℕ) → List Segment → ℕ → List Coming
 dealt_out channel_of index_at segments n = dealt_out_from channel_of index_at segments 0 n
 
--- So many segments are dealt out over channels of the flow, whatever others there are, and on each come in the modem's order. Of any m indexes one after
--- another, up to one that comes, each channel brings one, and none comes after one that is d or more greater.
-pub record AreDealtOut (flow : RuledFlow) (channel_of index_at : ℕ → ℕ) (segments : List Segment) (n m d : ℕ) : Type 0 where
+-- So many segments are dealt out over channels of the flow, whatever others there are, and on each come in the modem's order.
+pub record AreDealtOut (flow : RuledFlow) (channel_of index_at : ℕ → ℕ) (segments : List Segment) (n : ℕ) : Type 0 where
   pub of_cut : (p : ℕ) → p < n → index_at p < length segments
   pub on_flow : (p : ℕ) → p < n → HasChannel flow (channel_of (index_at p))
   pub in_order : (p q : ℕ) → p < q → q < n → channel_of (index_at p) ≡ channel_of (index_at q) → index_at p < index_at q
+
+-- Of any m indexes one after another, up to one that comes, each channel brings one, and none comes after one that is d or more greater.
+pub record AreSpreadOut (flow : RuledFlow) (channel_of index_at : ℕ → ℕ) (n m d : ℕ) : Type 0 where
   pub spread : (i p channel : ℕ) → p < n → HasChannel flow channel → i + m ≤ index_at p + 1
       → (q : ℕ) × (q < n) × (channel_of (index_at q) ≡ channel) × (i ≤ index_at q) × (index_at q < i + m)
   pub within : (p q : ℕ) → p < n → q < n → index_at q + d ≤ index_at p → q < p
+
+-- They come in the modem's order, and after an outage at most 4096 less the window's width after the one before.
+pub record RiseOverOutages (width : ℕ) (index_at : ℕ → ℕ) (n : ℕ) : Type 0 where
+  pub rise : (p q : ℕ) → p < q → q < n → index_at p < index_at q
+  pub start : index_at 0 < numbers_ahead
+  pub step : (p : ℕ) → p + 1 < n → index_at (p + 1) + width ≤ index_at p + numbers_ahead
 
 -- One way to deal: of three segments one after another the second comes first, on channel 2, then the first on channel 0, and the third is lost.
 abbrev pub two_of_three : ℕ → ℕ

@@ -9,7 +9,7 @@ use Rattle.flow_core.specs.Fates.{Fates, IsLost, IsExpected}
 use Rattle.flow_core.specs.Events.{FlowEvent, arrives, gap, gap_to, skip_to, IsAhead, Leads}
 use Rattle.loss_rule.specs.declared.rule.LossRule.{LossRule}
 use Rattle.loss_rule.specs.declared.rule.LossRule.TheVariants.{Decided, Passed, PassedOrSlid}
-use Rattle.loss_rule.specs.Rule.{Coming, on_channel, handed_in, RuledFlow, Lasts, HasChannel, Notes, IsPassing, AreRuled}
+use Rattle.loss_rule.specs.Rule.{Coming, on_channel, handed_in, RuledFlow, Lasts, HasChannel, Notes, IsPassing, AreSkips, AreRuled}
 
 -- at place p of all that comes, this segment comes on this channel
 abbrev pub Comes : List Coming → ℕ → ℕ → Segment → Type 0
@@ -72,6 +72,16 @@ pub record FitTheWindow (flow : RuledFlow) (comings : List Coming) (index_at : �
   pub outage : (p own : ℕ) (segment : Segment) → Comes comings p own segment
       → (index_at p < numbers_ahead)
       ⊎ ((q : ℕ) × (last : Segment) × (q < p) × Comes comings q own last × (index_at p < index_at q + numbers_ahead))
+
+-- Slides are safe: what the rule skips before a segment is taken, and the window loses as it slides, is the index of none that comes then or later.
+abbrev pub SlideSafely : RuledFlow → List Coming → (ℕ → ℕ) → Type 0
+SlideSafely flow comings index_at =
+    (before behind : List Coming) (channel other q x : ℕ) (segment another : Segment) (events skips : List FlowEvent) (answers : List Applied)
+    (lasts noted : Lasts) (fates after : Fates)
+    → comings ≡ before ++ on_channel channel segment ∷ behind → AreRuled PassedOrSlid flow before events lasts fates → IsExpected fates x
+    → Notes flow.first x channel segment.head.sequence lasts noted → AreSkips PassedOrSlid flow noted fates segment.head.sequence skips
+    → Leads flow.first flow.width fates skips answers after
+    → length before ≤ q → Comes comings q other another → IsLost after (index_at q) → IsLost fates (index_at q)
 
 -- no decision is handed in
 abbrev pub HaveNoDecision : List Coming → Type 0

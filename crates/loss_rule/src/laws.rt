@@ -21,10 +21,10 @@ ghost use Rattle.flow_core.specs.Outcome.{IsFlowOutcome};
 ghost use Rattle.loss_rule.specs.declared.rule.LossRule.{LossRule};
 ghost use Rattle.loss_rule.specs.Rule.{Coming, on_channel, RuledFlow, HasChannel, Lasts, IsLastOn, IsPassed, HaveComeTo, Notes, AreSkips, IsRuled, Rules, AreRuled, own_event};
 ghost use Rattle.loss_rule.specs.InOrder.{Comes, AreInChannelOrder, ComeNear, ComeWithin, NeedNoSlide, FallIntoTheWindow, FitTheWindow};
-ghost use Rattle.loss_rule.specs.InOrder.{HaveShortOutages, NeverComes, IsOvertaken, IsAllCome};
+ghost use Rattle.loss_rule.specs.InOrder.{HaveShortOutages, SlideSafely, NeverComes, IsOvertaken, IsAllCome};
 ghost use Rattle.loss_rule.specs.InOrder.{HaveNoDecision, HandInDecisions, DecideSafely, DecideThePast};
-ghost use Rattle.loss_rule.specs.Dealing.{AreSpread, dealt, dealt_out, AreDealtOut};
-ghost use Rattle.loss_rule.specs.Dealing.{two_of_three, channel_of_three};
+ghost use Rattle.loss_rule.specs.Dealing.{AreSpread, dealt, dealt_out, AreDealtOut, AreSpreadOut};
+ghost use Rattle.loss_rule.specs.Dealing.{RiseOverOutages, two_of_three, channel_of_three};
 
 /// Whatever comes to a flow, the rule makes one list of events of it, and leads to one last index
 /// of each channel and one fate of each index. The events lead to those fates.
@@ -256,13 +256,24 @@ pub fn segments_that_fit_the_window_fall_into_it()
 
 /// What falls into the window by the rule that slides: all that comes in channel order, if no
 /// segment comes after one whose index is the window's width or more greater, and no outage is so
-/// long that numbers don't show it. Where no window has to slide all falls into it by either rule.
+/// long that numbers don't show it. So does all that comes near, if no slide loses one that still
+/// comes. Where no window has to slide all falls into it by either rule. Segments that are dealt in
+/// any way over channels of the flow, and come in the modem's order over such outages, meet every
+/// premise at once.
 pub fn segments_after_an_outage_fall_into_a_window_that_slides()
     ensures outage { (check : List ℕ → Bool) (frames chunks : List (List ℕ)) (fill : ℕ)
         (segments : List Segment) (flow : RuledFlow) (comings : List Coming) (index_at : ℕ → ℕ)
         → IsLawfulCut check frames flow.first fill chunks segments
         → AreInChannelOrder flow segments comings index_at
         → ComeWithin comings index_at flow.width → HaveShortOutages flow comings index_at
+        → DecideSafely LossRule.PassedOrSlid flow comings index_at
+        → FallIntoTheWindow LossRule.PassedOrSlid flow comings index_at }
+    ensures safe { (check : List ℕ → Bool) (frames chunks : List (List ℕ)) (fill : ℕ)
+        (segments : List Segment) (flow : RuledFlow) (comings : List Coming) (index_at : ℕ → ℕ)
+        → 1 ≤ flow.width → IsLawfulCut check frames flow.first fill chunks segments
+        → AreInChannelOrder flow segments comings index_at
+        → ComeNear LossRule.PassedOrSlid flow comings index_at
+        → SlideSafely flow comings index_at
         → DecideSafely LossRule.PassedOrSlid flow comings index_at
         → FallIntoTheWindow LossRule.PassedOrSlid flow comings index_at }
     ensures no_slide { (check : List ℕ → Bool) (frames chunks : List (List ℕ)) (fill : ℕ)
@@ -273,6 +284,16 @@ pub fn segments_after_an_outage_fall_into_a_window_that_slides()
         → AreInChannelOrder flow segments comings index_at
         → NeedNoSlide rule flow comings index_at → DecideSafely rule flow comings index_at
         → FallIntoTheWindow rule flow comings index_at }
+    ensures dealt_out { (check : List ℕ → Bool) (frames chunks : List (List ℕ)) (fill : ℕ)
+        (segments : List Segment) (flow : RuledFlow) (channel_of index_at : ℕ → ℕ) (n : ℕ)
+        → 1 ≤ flow.width → IsLawfulCut check frames flow.first fill chunks segments
+        → AreDealtOut flow channel_of index_at segments n
+        → RiseOverOutages flow.width index_at n
+        → AreInChannelOrder flow segments (dealt_out channel_of index_at segments n) index_at
+        × FallIntoTheWindow LossRule.PassedOrSlid flow
+        (dealt_out channel_of index_at segments n) index_at
+        × DecideSafely LossRule.PassedOrSlid flow
+        (dealt_out channel_of index_at segments n) index_at }
 {}
 
 /// Which decisions are safe: none at all, and those about the past.
@@ -324,14 +345,16 @@ pub fn spread_segments_fit_the_window()
         (channel_of index_at : ℕ → ℕ) (n m d : ℕ)
         → rule ≢ LossRule.Decided → d + m ≤ flow.width → flow.width ≤ width_max
         → IsLawfulCut check frames flow.first fill chunks segments
-        → AreDealtOut flow channel_of index_at segments n m d
+        → AreDealtOut flow channel_of index_at segments n
+        → AreSpreadOut flow channel_of index_at n m d
         → AreInChannelOrder flow segments (dealt_out channel_of index_at segments n) index_at
         × FallIntoTheWindow rule flow (dealt_out channel_of index_at segments n) index_at
         × ComeNear rule flow (dealt_out channel_of index_at segments n) index_at
         × DecideSafely rule flow (dealt_out channel_of index_at segments n) index_at }
     ensures two_of_three { (segments : List Segment) (flow : RuledFlow) (n : ℕ)
         → flow.channels ≡ true ∷ false ∷ true ∷ [] → 3 * n ≤ length segments
-        → AreDealtOut flow channel_of_three two_of_three segments (2 * n) 3 2 }
+        → AreDealtOut flow channel_of_three two_of_three segments (2 * n)
+        × AreSpreadOut flow channel_of_three two_of_three (2 * n) 3 2 }
 {}
 
 /// **Prompt: the flow never waits for what can no longer come.** Where a flow has a channel, an

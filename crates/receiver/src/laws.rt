@@ -32,7 +32,7 @@ ghost use Rattle.loss_rule.specs.declared.rule.LossRule.{LossRule};
 ghost use Rattle.loss_rule.specs.Rule.{HasChannel};
 ghost use Rattle.loss_rule.specs.InOrder.{Comes, HaveNoDecision, HandInDecisions, DecideSafely};
 ghost use Rattle.loss_rule.specs.InOrder.{IsAllCome};
-ghost use Rattle.loss_rule.specs.Dealing.{dealt, dealt_out, AreDealtOut};
+ghost use Rattle.loss_rule.specs.Dealing.{dealt, dealt_out, AreDealtOut, AreSpreadOut};
 ghost use Rattle.receiver.specs.Faults.{IsReplayFault, IsTagsFault};
 ghost use Rattle.receiver.specs.SameOutcome.{IsSameOutcome};
 ghost use Rattle.lane.specs.Limits.{channel_limit};
@@ -229,7 +229,8 @@ pub fn segments_in_turn_come_from_a_modem()
         (frames chunks : List (List ℕ)) (segments : List Segment) (channel_of index_at : ℕ → ℕ)
         → rule ≢ LossRule.Decided → CanReceive setup
         → slice_get setup.flows.items k ≡ Some flow_record → d + m ≤ flow_record.window
-        → AreDealtOut (ruled_flow setup.sids.items k flow_record) channel_of index_at segments n m d
+        → AreDealtOut (ruled_flow setup.sids.items k flow_record) channel_of index_at segments n
+        → AreSpreadOut (ruled_flow setup.sids.items k flow_record) channel_of index_at n m d
         → IsLawfulCut check frames flow_record.first fill chunks segments
         → comings_at k order items ≡ dealt_out channel_of index_at segments n
         → (modem : ComeFromAModem rule check (ruled_flow setup.sids.items k flow_record) frames

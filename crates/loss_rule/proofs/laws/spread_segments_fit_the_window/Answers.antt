@@ -7,7 +7,7 @@ use Rattle.loss_rule.proofs.AllKept.{come-near}
 use Rattle.loss_rule.proofs.NoSlide.{within-falls}
 use Rattle.loss_rule.proofs.Dealing.{spread-fits, dealt-order, dealt-fits, dealt-undecided}
 use Rattle.loss_rule.proofs.DealtOut.{out-order, out-undecided, out-fits}
-use Rattle.loss_rule.proofs.TwoOfThree.{two_of_three-dealt}
+use Rattle.loss_rule.proofs.TwoOfThree.{two_of_three-dealt, two_of_three-spread}
 use Rattle.loss_rule.proofs.laws.spread_segments_fit_the_window.Goals as goal
 
 pub returns-clause-spread : goal.returns-clause-spread
@@ -37,12 +37,12 @@ returns-clause-dealt c = λ check frames chunks fill segments rule flow count lo
     )
 
 pub returns-clause-dealt_out : goal.returns-clause-dealt_out
-returns-clause-dealt_out c = λ check frames chunks fill segments rule flow channel_of index_at n m d looks wide narrow cut out.
+returns-clause-dealt_out c = λ check frames chunks fill segments rule flow channel_of index_at n m d looks wide narrow cut out even.
     let numbered = numbered_of_cut check frames chunks flow.first fill segments cut in
     let all = dealt_out channel_of index_at segments n in
-    let order = out-order flow channel_of index_at segments n m d out in
-    let safely = none-safe rule flow all index_at (out-undecided flow channel_of index_at segments n m d out) in
-    let within = fit-within rule looks flow narrow segments all index_at numbered order (out-fits flow channel_of index_at segments n m d out wide narrow) in (
+    let order = out-order flow channel_of index_at segments n out in
+    let safely = none-safe rule flow all index_at (out-undecided flow channel_of index_at segments n out) in
+    let within = fit-within rule looks flow narrow segments all index_at numbered order (out-fits flow channel_of index_at segments n out m d even wide narrow) in (
       order,
       within-falls rule looks flow segments all index_at numbered order within safely,
       come-near rule looks flow segments all index_at numbered order (within-taken rule looks flow segments all index_at numbered order within) safely,
@@ -50,4 +50,4 @@ returns-clause-dealt_out c = λ check frames chunks fill segments rule flow chan
     )
 
 pub returns-clause-two_of_three : goal.returns-clause-two_of_three
-returns-clause-two_of_three c = λ segments flow n. two_of_three-dealt flow segments n
+returns-clause-two_of_three c = λ segments flow n channels enough. (two_of_three-dealt flow segments n channels enough, two_of_three-spread flow segments n channels)

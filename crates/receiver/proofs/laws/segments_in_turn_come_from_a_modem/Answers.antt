@@ -28,9 +28,9 @@ returns-clause-modem c = λ rule check setup k fill r frames chunks segments ask
     (record { chunks = chunks; fill = fill; segments = segments; cut = cut; index_at = λ p. p; in_order = deals.0; falls = deals.1 }, deals.3)
 
 pub returns-clause-dealt_out : goal.returns-clause-dealt_out
-returns-clause-dealt_out c = λ rule check setup order items k fill n m d r frames chunks segments channel_of index_at asks can of_flow wide are cut come.
+returns-clause-dealt_out c = λ rule check setup order items k fill n m d r frames chunks segments channel_of index_at asks can of_flow wide are spread cut come.
     let flow = ruled_flow setup.sids.items k r in
     let deals = c.spread_segments_fit_the_window.ensures.dealt_out check frames chunks fill segments rule flow channel_of index_at n m d asks wide
-    (can.flows.each k r of_flow).window_in_range cut are in
+    (can.flows.each k r of_flow).window_in_range cut are spread in
     subst (λ comings. (modem : ComeFromAModem rule check flow frames comings) × DecideSafely rule flow comings modem.index_at) (sym come)
     (record { chunks = chunks; fill = fill; segments = segments; cut = cut; index_at = index_at; in_order = deals.0; falls = deals.1 }, deals.3)
