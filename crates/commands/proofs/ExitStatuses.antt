@@ -8,12 +8,12 @@ use Rattle.texts.specs.declared.fault.TextFault.{TextFault}
 use Rattle.texts.specs.declared.fault.TextFault.TheVariants as text_fault
 use Rattle.texts.specs.Join.{IsJoined, IsJoinFault}
 use Rattle.texts.specs.Cut.{IsCutText, IsCutFault}
-use Rattle.texts.specs.Replay.{IsReplayed, IsReplayedBy, IsReplayFault, IsReportFault}
+use Rattle.texts.specs.Replay.{default_capacity, IsReplayed, IsReplayedBy, IsReplayFault, IsReportFault}
 use Rattle.texts.specs.Run.{IsRunText, IsRunTextBy}
 use Rattle.engines.specs.Device.{inner_of}
 use Rattle.engines.specs.Fault.{status_of, exit_status_of}
 use Rattle.loss_rule.specs.declared.rule.LossRule.{LossRule}
-use Rattle.engines.specs.Command.{AsksToJoin, AsksToReplay, AsksToReplayBy}
+use Rattle.engines.specs.Command.{AsksToJoin, AsksToReplay, AsksToReplayBy, AsksToRunByAlone}
 use Rattle.engines.specs.Engine.{engine_fault, WritesText, IsFaultOfKnown, HasCause, RunsEngine}
 use Rattle.commands.specs.Program.{AsksToCutOnly, AsksToRunOnly, AsksToRunByOnly, AsksForNothing, IsRefused, Obeys, RunsWords, IsStatus, HasJoinedText, HasCutText, HasReport, HasReportBy, HasRunReport, HasRunReportBy, HasRunFault, SaysOf}
 
@@ -83,7 +83,7 @@ SaysOf-above HasText IsFault None status above = tt
 SaysOf-above HasText IsFault (Some input) status above =
     elim above [ inl two ↦ says_nothing HasText IsFault status input (omega (arith, two)) | inr three ↦ says_nothing HasText IsFault status input (omega (arith, three)) ]
 
--- words that ask to join or to replay are known: whatever comes of them, it is not usage
+-- words that ask to join, to replay or to run by a rule alone are known: whatever comes of them, it is not usage
 known_status : {R W : Type 0} (remaining : R → Option (List ℕ)) (contents : W → Option (List ℕ)) (IsText : List ℕ → List ℕ → Type 0) (IsFault : List ℕ → TextFault → Type 0)
     (reader reader' : Device R) (writer writer' : Device W) (result : Result (Unit {0}) EngineFault) → RunsEngine remaining contents IsText IsFault reader reader' writer writer' result
     → exit_status_of result ≢ 2
@@ -115,6 +115,7 @@ pub record SaysOfWords {R : Type 0} (remaining : R → Option (List ℕ)) (words
   pub replay_by : (rule : LossRule) → AsksToReplayBy rule words → IfSome (remaining reader) (SaysOf (HasReportBy rule) IsReplayFault n)
   pub replay_by_is_known : (rule : LossRule) → AsksToReplayBy rule words → n ≢ 2
   pub run_by : (rule : LossRule) → AsksToRunByOnly rule words → IfSome (remaining reader) (SaysOf (HasRunReportBy rule) HasRunFault n)
+  pub run_by_is_known : (rule : LossRule) → AsksToRunByAlone rule words → n ≢ 2
   pub usage : AsksForNothing words → (n ≡ 2) ⊎ (n ≡ 3)
 
 -- so does that of what came of them
@@ -156,6 +157,9 @@ SaysOfWords-outcome remaining contents words reader reader' writer writer' resul
             (λ input text is. (ran.0, ran.1, text, ran.2, ran.3, is)) ran.4)
         | inr refused ↦ SaysOf-above (HasRunReportBy rule) HasRunFault (remaining (inner_of reader)) (exit_status_of result) (refused_status reader reader' writer writer' result refused)
       ];
+  run_by_is_known = λ rule asks.
+      known_status remaining contents (IsRunTextBy rule default_capacity default_capacity) (IsReportFault default_capacity) reader reader' writer writer' result
+      (obeyed.run_alone rule asks);
   usage = λ asks. refused_status reader reader' writer writer' result (obeyed.nothing asks);
 }
 

@@ -13,10 +13,10 @@ use Rattle.engines.specs.Device.{inner_of, has_failed, is_flushed, IsFresh}
 use Rattle.engines.specs.Transfer.{AppendsFront, IsLeftFlushed, IsReadFault, IsRead}
 use Rattle.engines.specs.Fault.{status_of, exit_status_of, fault_line}
 use Rattle.engines.specs.Engine.{engine_fault, RunsEngine}
-use Rattle.engines.specs.Command.{AsksToJoin, AsksToCut, AsksToReplay, AsksToReplayBy, AsksToRun, AsksToRunBy, AsksForAnEngine, AsksForHelp, HasNoHelpWord}
+use Rattle.engines.specs.Command.{AsksToJoin, AsksToCut, AsksToReplay, AsksToReplayBy, AsksToRun, AsksToRunBy, AsksToRunByAlone, AsksForAnEngine, AsksForHelp, HasNoHelpWord}
 use Rattle.texts.specs.Join.{IsJoined, IsJoinFault}
 use Rattle.texts.specs.Cut.{IsCutText, IsCutFault}
-use Rattle.texts.specs.Replay.{IsReplayed, IsReplayedBy, IsReplayFault, IsReportFault}
+use Rattle.texts.specs.Replay.{default_capacity, IsReplayed, IsReplayedBy, IsReplayFault, IsReportFault}
 use Rattle.texts.specs.Run.{IsRunText, IsRunTextBy}
 
 -- the words ask to cut and not for help
@@ -77,6 +77,11 @@ RunsRunBy rule remaining contents reader reader' writer writer' result =
     (mailbox ring : ℕ) × (1 ≤ mailbox) × (1 ≤ ring)
     × RunsEngine remaining contents (IsRunTextBy rule ring mailbox) (IsReportFault ring) reader reader' writer writer' result
 
+-- so where no room is asked for: that is the default one
+abbrev pub RunsRunAlone : {R W : Type 0} → LossRule → (R → Option (List ℕ)) → (W → Option (List ℕ)) → Device R → Device R → Device W → Device W → Result (Unit {0}) EngineFault → Type 0
+RunsRunAlone rule remaining contents reader reader' writer writer' result =
+    RunsEngine remaining contents (IsRunTextBy rule default_capacity default_capacity) (IsReportFault default_capacity) reader reader' writer writer' result
+
 -- what comes of words, the program's name first, over a fresh reader and a fresh writer: `remaining` are the bytes that a reader is known
 -- to have left, `contents` those that a writer is known to hold
 pub record Obeys {R W : Type 0} (remaining : R → Option (List ℕ)) (contents : W → Option (List ℕ)) (words : List (List ℕ))
@@ -91,6 +96,8 @@ pub record Obeys {R W : Type 0} (remaining : R → Option (List ℕ)) (contents 
       → RunsEngine remaining contents (IsReplayedBy rule) IsReplayFault reader reader' writer writer' result
   pub run_by : (rule : LossRule) → AsksToRunByOnly rule words
       → RunsRunBy rule remaining contents reader reader' writer writer' result ⊎ IsRefused reader reader' writer writer' result
+  -- a run by a rule alone is never refused
+  pub run_alone : (rule : LossRule) → AsksToRunByAlone rule words → RunsRunAlone rule remaining contents reader reader' writer writer' result
   pub nothing : AsksForNothing words → IsRefused reader reader' writer writer' result
   pub help : ¬ AsksToJoin words → ¬ HasNoHelpWord words → Helps contents reader reader' writer writer' result ⊎ IsRefused reader reader' writer writer' result
   -- where the work was done all that was written is flushed

@@ -4,7 +4,7 @@ ghost use Rattle.loss_rule.specs.declared.rule.LossRule.{LossRule};
 ghost use Rattle.engines.specs.declared.fault.EngineFault.{EngineFault};
 ghost use Rattle.engines.specs.Device.{IsFresh};
 ghost use Rattle.engines.specs.Fault.{exit_status_of};
-ghost use Rattle.engines.specs.Command.{AsksToJoin, AsksToReplay, AsksToReplayBy};
+ghost use Rattle.engines.specs.Command.{AsksToJoin, AsksToReplay, AsksToReplayBy, AsksToRunByAlone};
 ghost use Rattle.texts.specs.Join.{IsJoinFault};
 ghost use Rattle.texts.specs.Cut.{IsCutFault};
 ghost use Rattle.texts.specs.Replay.{IsReplayFault};
@@ -147,6 +147,8 @@ where
         → result ≢ 2 }
     ensures run_by { (rule : LossRule) → AsksToRunByOnly rule (map S.text words.now)
         → IfSome (R.remaining reader) (SaysOf (HasRunReportBy rule) HasRunFault result) }
+    ensures run_by_is_known { (rule : LossRule) → AsksToRunByAlone rule (map S.text words.now)
+        → result ≢ 2 }
     ensures usage { AsksForNothing (map S.text words.now) → (result ≡ 2) ⊎ (result ≡ 3) }
 {
     let mut reader = Device::new(reader);

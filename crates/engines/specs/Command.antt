@@ -41,6 +41,10 @@ AsksToRun words = IsCommand (codes "run") words × HasNoLossesWord (options_in w
 abbrev pub AsksToRunBy : LossRule → List (List ℕ) → Type 0
 AsksToRunBy rule words = IsCommand (codes "run") words × AskForRule rule (options_in words)
 
+-- so by a rule and with no option besides
+abbrev pub AsksToRunByAlone : LossRule → List (List ℕ) → Type 0
+AsksToRunByAlone rule words = IsCommand (codes "run") words × AskForRuleAlone rule (options_in words)
+
 -- to replay, the command's word alone follows the name; by a loss rule, the option for it behind that and nothing else
 abbrev pub AsksToReplay : List (List ℕ) → Type 0
 AsksToReplay words = IsCommandAlone (codes "replay") words

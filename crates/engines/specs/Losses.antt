@@ -29,13 +29,18 @@ abbrev pub value_behind : List (List ℕ) → List ℕ
 value_behind [] = []
 value_behind (word ∷ more) = word
 
--- the first of these words that is that option has this value
-abbrev pub HasLossesValue : List (List ℕ) → List ℕ → Type 0
-HasLossesValue [] value = ⊥
-HasLossesValue (word ∷ more) value =
-    ((word ≡ losses_option) × (value ≡ value_behind more)) ⊎ (word ≡ losses_front ++ value) ⊎ (¬ IsLossesWord word × HasLossesValue more value)
+-- the first of these words that is that option has this value, and these words stand behind the option
+abbrev pub IsFirstLosses : List (List ℕ) → List ℕ → List (List ℕ) → Type 0
+IsFirstLosses [] value behind = ⊥
+IsFirstLosses (word ∷ more) value behind =
+    ((word ≡ losses_option) × (value ≡ value_behind more) × (behind ≡ more)) ⊎ ((word ≡ losses_front ++ value) × (behind ≡ more))
+    ⊎ (¬ IsLossesWord word × IsFirstLosses more value behind)
 
--- options ask for this rule: by the first `--losses` among them, and for `Decided` where there is none
+-- just one of these words is that option, and it has this value
+abbrev pub HasLossesValue : List (List ℕ) → List ℕ → Type 0
+HasLossesValue words value = (behind : List (List ℕ)) × IsFirstLosses words value behind × HasNoLossesWord behind
+
+-- options ask for this rule: by the one `--losses` among them, and for `Decided` where there is none; where there are two they ask for no rule
 abbrev pub AskForRule : LossRule → List (List ℕ) → Type 0
 AskForRule rule options = (HasNoLossesWord options × (rule ≡ Decided)) ⊎ HasLossesValue options (rule_name rule)
 

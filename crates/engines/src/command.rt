@@ -1,9 +1,10 @@
 //! What the program's arguments ask for.
 ghost use Rattle.std.specs.Prelude.{◌≡◌, ◌<◌, ◌↔◌, map, codes, IsTrue, IfOk, MatchOption};
 ghost use Rattle.loss_rule.specs.declared.rule.LossRule.{LossRule};
+ghost use Rattle.texts.specs.Replay.{default_capacity};
 ghost use Rattle.engines.specs.declared.command.UsageFault.TheVariants.{OutOfMemory};
 ghost use Rattle.engines.specs.Command.{IsCommandAlone, IsCommand, options_in, AsksToJoin};
-ghost use Rattle.engines.specs.Command.{AsksToReplayBy, AsksToRunBy, Asks};
+ghost use Rattle.engines.specs.Command.{AsksToReplayBy, AsksToRunBy, AsksToRunByAlone, Asks};
 ghost use Rattle.engines.specs.Command.{IsHelpWord, HasNoHelpWord, StandsBeforeHelp};
 ghost use Rattle.engines.specs.Inside.Command.{AsksWithOptions};
 ghost use Rattle.engines.specs.Inside.Options.{ReadsOptions, ReadsCapacity, ReadsCapacities};
@@ -145,6 +146,14 @@ fn asked_replay<S: AsStr>(words: &[S]) -> Option<LossRule>
     asked_rule_alone(options_of(words, "replay")?)
 }
 
+/// The rule by which the words, the program's name first, ask to run and for nothing else.
+fn asked_run_alone<S: AsStr>(words: &[S]) -> Option<LossRule>
+    ensures { (rule : LossRule)
+        → (result ≡ Some rule) ↔ AsksToRunByAlone rule (map S.text words.now) }
+{
+    asked_rule_alone(options_of(words, "run")?)
+}
+
 /// The rule by which the words, the program's name first, ask to run.
 fn asked_run<S: AsStr>(words: &[S]) -> Option<LossRule>
     ensures { (rule : LossRule)
@@ -274,12 +283,21 @@ pub fn read_words<'a, S: AsStr>(alloc: Global, words: &'a [S]) -> Result<Command
     ensures join { AsksToJoin (map S.text words.now) → result ≡ Ok Command.Join }
     ensures replay { (rule : LossRule)
         → AsksToReplayBy rule (map S.text words.now) → result ≡ Ok (Command.Replay rule) }
+    ensures run { (rule : LossRule) → AsksToRunByAlone rule (map S.text words.now)
+        → result ≡ Ok (Command.Run rule default_capacity default_capacity) }
 {
     if asks_to_join(words) {
         return Ok(Command::Join);
     }
     if let Some(rule) = asked_replay(words) {
         return Ok(Command::Replay { rule });
+    }
+    if let Some(rule) = asked_run_alone(words) {
+        return Ok(Command::Run {
+            rule,
+            mailbox: DEFAULT_CAPACITY,
+            ring: DEFAULT_CAPACITY,
+        });
     }
     let Some(before) = before_help(words) else {
         return read_with_options(alloc, words);

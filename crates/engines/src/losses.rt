@@ -4,7 +4,7 @@
 //! that the words are lawful otherwise is for `clap` to say.
 ghost use Rattle.std.specs.Prelude.{◌≡◌, ◌↔◌, map, MatchOption};
 ghost use Rattle.loss_rule.specs.declared.rule.LossRule.{LossRule};
-ghost use Rattle.engines.specs.Losses.{rule_name, HasNoLossesWord, value_behind, HasLossesValue};
+ghost use Rattle.engines.specs.Losses.{rule_name, HasNoLossesWord, value_behind, IsFirstLosses};
 ghost use Rattle.engines.specs.Losses.{AskForRule, AskForRuleAlone};
 
 use loss_rule::LossRule;
@@ -32,33 +32,36 @@ fn value_behind<S: AsStr>(words: &[S]) -> &str
     }
 }
 
-/// The value of the first `--losses` among these words.
-fn losses_value<S: AsStr>(words: &[S]) -> Option<&str>
+/// The value of the first `--losses` among these words, and the words behind the option.
+fn first_losses<'a, S: AsStr>(words: &'a [S]) -> Option<(&'a str, &'a [S])>
     ensures { MatchOption result (HasNoLossesWord (map S.text words.now))
-        (λ value. HasLossesValue (map S.text words.now) value.now) }
+        (λ found. IsFirstLosses (map S.text words.now) found.0.now (map S.text found.1.now)) }
 {
     let mut rest = words;
     while let [word, more @ ..] = rest {
         let word = word.as_str();
         if word == "--losses" {
-            return Some(value_behind(more));
+            return Some((value_behind(more), more));
         }
         if let Some(value) = word.strip_prefix("--losses=") {
-            return Some(value);
+            return Some((value, more));
         }
         rest = more;
     }
     None
 }
 
-/// The rule that options ask for, `Decided` where they ask for none.
+/// The rule that options ask for, `Decided` where they ask for none. Two `--losses` ask for no rule.
 pub fn asked_rule<S: AsStr>(options: &[S]) -> Option<LossRule>
     ensures { (rule : LossRule)
         → (result ≡ Some rule) ↔ AskForRule rule (map S.text options.now) }
 {
-    match losses_value(options) {
-        None => Some(LossRule::Decided),
-        Some(name) => rule_named(name),
+    let Some((name, behind)) = first_losses(options) else {
+        return Some(LossRule::Decided);
+    };
+    match first_losses(behind) {
+        None => rule_named(name),
+        Some(_) => None,
     }
 }
 

@@ -11,7 +11,7 @@ use Rattle.lane.specs.Inputs.{LaneSetup, AnsweredInput, AreAnswered, inputs_of}
 use Rattle.lane.specs.Report.{admitted_by, admitted_of}
 use Rattle.receiver.specs.Order.{kept_places, IsMergeOf}
 use Rattle.lane.specs.Limits.{senders}
-use Rattle.receiver.specs.Items.{Incoming, AreLanesOf, lane_setup, items_of, are_items}
+use Rattle.receiver.specs.Items.{Incoming, AreLanesOf, lane_setup, incoming_of, items_of, are_items}
 use Rattle.lane.specs.Report.{event_of_admitted}
 use Rattle.flow_records.specs.Decisions.{event_of_decision, names_a_flow}
 use Rattle.loss_rule.specs.declared.rule.LossRule.{LossRule}
@@ -20,6 +20,8 @@ use Rattle.receiver.specs.Ruled.{IsOutcomeBy, IsRuledOutcome, AreRuledOutcomes, 
 use Rattle.receiver.specs.AdmittedOrder.{IsAdmittedOrder}
 use Rattle.receiver.specs.Intake.{IsIntake}
 use Rattle.receiver.specs.Faults.{CanReceive}
+use Rattle.texts.specs.declared.trace.Trace.{Trace}
+use Rattle.texts.specs.Trace.{AreSameTraces}
 
 -- lists with the same items have the same merges
 merge_moved : {T : Type 0} (lists others : ℕ → List T) (order : List ℕ) (items : List T)
@@ -154,3 +156,15 @@ module _ (setup : Setup) (incoming : Incoming) (can : CanReceive setup) where
       let merged = merge_moved (are_items setup incoming also.answered) (are_items setup incoming is.answered) tags also.flags back also.merged in
       let flags = merges (are_items setup incoming is.answered) tags is.flags also.flags is.merged merged in
       is.order_is ∙ ap (kept_places tags) flags ∙ sym also.order_is
+
+-- so have traces that say the same
+pub one_played_order : AnswersAreOne → MergesAreOne → (trace other : Trace) → AreSameTraces other trace → CanReceive trace.setup → (order another : List ℕ)
+    → IsAdmittedOrder trace.setup (incoming_of trace.lists) trace.tags.items order
+    → IsAdmittedOrder other.setup (incoming_of other.lists) other.tags.items another → order ≡ another
+one_played_order answers merges trace other same can order another is also =
+    let incoming = incoming_of trace.lists in
+    let moved : IsAdmittedOrder trace.setup incoming other.tags.items another =
+    order_moved other.setup trace.setup (incoming_of other.lists) incoming same.flows same.sids same.inputs same.decisions other.tags.items another also
+    in
+    one_order trace.setup incoming can answers merges trace.tags.items order another is
+    (subst (λ (tags : List ℕ). IsAdmittedOrder trace.setup incoming tags another) same.tags moved)

@@ -119,10 +119,12 @@ pub fn tags_of_a_trace_are_lawful()
         → IsLawfulOrder (input_counts (incoming_of trace.lists)) trace.tags.items }
 {}
 
-/// At most one text stands for an input of `replay`.
+/// At most one text stands for an input of `replay`, also by a loss rule.
 pub fn replay_has_one_text()
-    ensures { (input text other : List ℕ)
+    ensures one { (input text other : List ℕ)
         → IsReplayed input text → IsReplayed input other → text ≡ other }
+    ensures by_rule { (rule : LossRule) (input text other : List ℕ)
+        → IsReplayedBy rule input text → IsReplayedBy rule input other → text ≡ other }
 {
     lane::laws::lane_has_at_most_one_answer_to_each_input();
     receiver::laws::lists_have_one_merge::<bool>();

@@ -36,7 +36,7 @@ fn what_is_asked(alloc: Global, words: &[&str]) -> Asked {
 const USAGE: Asked = Asked::Fault(UsageFault::Usage);
 
 /// Words, each with the name of its case, and what is asked for.
-const WORDS: [(&str, &[&str], Asked); 31] = [
+const WORDS: [(&str, &[&str], Asked); 36] = [
     ("no words at all", &[], Asked::Join),
     ("no command", &["segrx"], Asked::Join),
     ("join", &["segrx", "join"], Asked::Join),
@@ -76,6 +76,11 @@ const WORDS: [(&str, &[&str], Asked); 31] = [
         &["segrx", "replay", "--losses=slid", "--losses=slid"],
         USAGE,
     ),
+    (
+        "two rules of replay in words of their own",
+        &["segrx", "replay", "--losses", "passed", "--losses", "slid"],
+        USAGE,
+    ),
     ("replay twice", &["segrx", "replay", "replay"], USAGE),
     (
         "an option of replay",
@@ -92,6 +97,11 @@ const WORDS: [(&str, &[&str], Asked); 31] = [
     (
         "a rule of run",
         &["segrx", "run", "--losses=slid"],
+        Asked::Run(LossRule::PassedOrSlid, 16, 16),
+    ),
+    (
+        "a rule of run in a word of its own",
+        &["segrx", "run", "--losses", "slid"],
         Asked::Run(LossRule::PassedOrSlid, 16, 16),
     ),
     (
@@ -117,6 +127,21 @@ const WORDS: [(&str, &[&str], Asked); 31] = [
     (
         "two rules of run",
         &["segrx", "run", "--losses=slid", "--losses=slid"],
+        USAGE,
+    ),
+    (
+        "two rules of run in words of their own",
+        &["segrx", "run", "--losses", "passed", "--losses", "slid"],
+        USAGE,
+    ),
+    (
+        "two rules of run round another option",
+        &["segrx", "run", "--losses=slid", "--ring=1", "--losses=slid"],
+        USAGE,
+    ),
+    (
+        "a rule of run that is a rule",
+        &["segrx", "run", "--losses", "--losses=slid"],
         USAGE,
     ),
     ("a rule of cut", &["segrx", "cut", "--losses=slid"], USAGE),

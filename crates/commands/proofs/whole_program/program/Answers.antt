@@ -54,3 +54,6 @@ returns-clause-replay_by_is_known g c = (SaysOfWords-run c.new-reader.ensures.in
 
 pub returns-clause-run_by : goal.returns-clause-run_by
 returns-clause-run_by g c = (SaysOfWords-run c.new-reader.ensures.inner c.run_words-status.ensures).run_by
+
+pub returns-clause-run_by_is_known : goal.returns-clause-run_by_is_known
+returns-clause-run_by_is_known g c = (SaysOfWords-run c.new-reader.ensures.inner c.run_words-status.ensures).run_by_is_known

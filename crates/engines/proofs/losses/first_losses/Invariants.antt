@@ -1,12 +1,13 @@
 use Rattle.std.proofs.Common.{ℕ, List, length}
 use Rattle.std.specs.Prelude.{map}
-use Rattle.engines.specs.Losses.{HasNoLossesWord, HasLossesValue}
-use Rattle.engines.proofs.losses.losses_value.Given as goal
+use Rattle.engines.specs.Losses.{HasNoLossesWord, IsFirstLosses}
+use Rattle.engines.proofs.losses.first_losses.Given as goal
 
 -- what the rest says, all words say
 abbrev pub invariant-loop-rest : goal.invariant-loop-rest
 invariant-loop-rest g l = record {
-  value : (value : List ℕ) → HasLossesValue (map g.S.AsStr.text l.rest) value → HasLossesValue (map g.S.AsStr.text l.words) value;
+  value : (value : List ℕ) (behind : List (List ℕ)) → IsFirstLosses (map g.S.AsStr.text l.rest) value behind
+      → IsFirstLosses (map g.S.AsStr.text l.words) value behind;
   none : HasNoLossesWord (map g.S.AsStr.text l.rest) → HasNoLossesWord (map g.S.AsStr.text l.words);
 }
 
