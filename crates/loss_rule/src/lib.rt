@@ -6,9 +6,9 @@
 //! slides.
 //!
 //! [`laws`] says what follows where the channels keep the modem's order, each segment falls into
-//! the window once the rule has skipped, and decisions that are handed in lose nothing that still
-//! comes: each segment that comes is kept, an index that never comes is lost as soon as every
-//! channel has come past it, and nothing else is lost.
+//! the window, which may slide over an outage, and decisions that are handed in lose nothing that
+//! still comes: each segment that comes is kept, an index that never comes is lost as soon as every
+//! channel has come past it, and nothing that comes is lost.
 //!
 //! [`LastNumbers`] keeps of each channel of a flow the number of the last segment that came there:
 //! [`LastNumbers::passed_by_all`] says to which number every channel has come, and [`slid_to`] to

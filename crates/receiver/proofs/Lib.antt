@@ -13,3 +13,4 @@ pub mod NewNumbers
 pub mod FlowComings
 pub mod FlowChannels
 pub mod RuledCounts
+pub mod DealtItems

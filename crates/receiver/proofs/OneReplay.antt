@@ -136,6 +136,13 @@ module _ (setup : Setup) (incoming : Incoming) (order : List ℕ) (can : CanRece
       order = tells.order_is ∙ sym also.order_is;
     }
 
+  -- what is taken in has no fault
+  pub intake-faultless : IsIntake setup incoming order → (k : ℕ) → ¬ (HasBadOrder setup incoming order k)
+  intake-faultless intake k bad =
+      lawful-faultless (lengths_of (items_of setup incoming intake.answered)) order
+      (merge-lawful (items_of setup incoming intake.answered) order intake.items intake.merged) k
+      (subst (λ lengths. IsOrderFault lengths order k) (same-lengths setup incoming can bad.answered intake.answered bad.lanes intake.lanes) bad.fault)
+
   -- so there is one outcome by a rule
   pub one-ruled_outcome : (rule : LossRule) (check : List ℕ → Bool) → HasOneClose check → (outcome other : Outcome) → IsOutcomeBy rule check setup incoming order outcome
       → IsOutcomeBy rule check setup incoming order other → IsSameOutcome outcome other
@@ -155,14 +162,6 @@ module _ (setup : Setup) (incoming : Incoming) (order : List ℕ) (can : CanRece
         (record { requests = are.requests; reports = are.reports; order_is = are.order_is })
         (is.flows.count ∙ sym are.flows.count)
         (flows-same check close setup.flows.items is.intake.items are.intake.items outcome.flows.items other.flows.items (sym (one-items is.intake are.intake)) is.flows are.flows)
-
-    -- and no fault
-    pub outcome-faultless : (k : ℕ) → ¬ (HasBadOrder setup incoming order k)
-    outcome-faultless k bad =
-        let intake = is.intake in
-        lawful-faultless (lengths_of (items_of setup incoming intake.answered)) order
-        (merge-lawful (items_of setup incoming intake.answered) order intake.items intake.merged) k
-        (subst (λ lengths. IsOrderFault lengths order k) (same-lengths setup incoming can bad.answered intake.answered bad.lanes intake.lanes) bad.fault)
 
   -- an order of the items has one fault
   one-bad_order : (j k : ℕ) → HasBadOrder setup incoming order j → HasBadOrder setup incoming order k → j ≡ k

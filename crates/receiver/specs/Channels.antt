@@ -1,5 +1,5 @@
 -- What comes to a flow on each channel, and what is handed in to it.
-use Rattle.std.specs.Prelude.{◌≡◌, ℕ, ◌==◌, Option, Some, None, List, map, filter, filter_map, slice_get, if◌then◌else◌}
+use Rattle.std.specs.Prelude.{◌≡◌, ℕ, ◌==◌, Bool, true, false, Option, Some, None, List, map, filter, filter_map, count_by, slice_get, if◌then◌else◌}
 use Rattle.docsis_wire.specs.declared.segment.Segment.{Segment}
 use Rattle.flow_core.specs.Events.{FlowEvent}
 use Rattle.lane.specs.declared.admitted.Admitted.{Admitted}
@@ -21,6 +21,14 @@ segment_on channel (handed_in event) = None
 
 abbrev pub segments_on : ℕ → List Coming → List Segment
 segments_on channel comings = filter_map (segment_on channel) comings
+
+-- how many segments come, on whatever channels
+abbrev pub is_segment : Coming → Bool
+is_segment (on_channel channel segment) = true
+is_segment (handed_in event) = false
+
+abbrev pub segment_count : List Coming → ℕ
+segment_count comings = count_by is_segment comings
 
 -- what is handed in, in order
 abbrev pub event_handed_in : Coming → Option FlowEvent

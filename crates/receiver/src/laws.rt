@@ -3,13 +3,16 @@
 //! and what a flow gives by a loss rule are the modem's frames all of whose segments came in.
 //!
 //! Each function states a law in its contract; its body is empty or only calls other laws.
-ghost use Rattle.std.specs.Prelude.{◌≡◌, ◌≢◌, ◌↔◌, ℕ, ◌<◌, Bool, Some};
+ghost use Rattle.std.specs.Prelude.{◌≡◌, ◌≢◌, ◌↔◌, ℕ, ◌+◌, ◌<◌, ◌≤◌, Bool, Some};
 ghost use Rattle.std.specs.Prelude.{List, [], length, map, filter, slice_get, All};
 ghost use Rattle.docsis_wire.specs.declared.segment.Segment.{Segment};
+ghost use Rattle.docsis_wire.specs.Cut.{IsLawfulCut};
 ghost use Rattle.ccf.specs.Filter.{FiltersTo};
 ghost use Rattle.flow_records.specs.declared.record.FlowRecord.{FlowRecord};
+ghost use Rattle.flow_records.specs.Counted.{counted};
+ghost use Rattle.flow_records.specs.declared.event.Event.{Event};
 ghost use Rattle.receiver.specs.declared.setup.Setup.{Setup};
-ghost use Rattle.receiver.specs.Order.{IsLawfulOrder, IsOrderFault, IsMergeOf, lengths_of};
+ghost use Rattle.receiver.specs.Order.{IsLawfulOrder, IsOrderFault, IsMergeOf, lengths_of, picked};
 ghost use Rattle.receiver.specs.declared.outcome.Outcome.{Outcome};
 ghost use Rattle.receiver.specs.declared.one_thread.ReplayFault.{ReplayFault};
 ghost use Rattle.receiver.specs.declared.outcome.FlowOutcome.{FlowOutcome};
@@ -23,12 +26,13 @@ ghost use Rattle.receiver.specs.Intake.{IsIntake};
 ghost use Rattle.receiver.specs.Outcome.{IsOutcome};
 ghost use Rattle.receiver.specs.Ruled.{ruled_flow, comings_at, IsOutcomeBy};
 ghost use Rattle.receiver.specs.Channels.{HasRow, segments_on, segments_of_flow};
-ghost use Rattle.receiver.specs.Channels.{events_handed_in};
-ghost use Rattle.receiver.specs.Modem.{ComeFromAModem};
+ghost use Rattle.receiver.specs.Channels.{segment_count, events_handed_in};
+ghost use Rattle.receiver.specs.Modem.{ComeFromAModem, turns_from, all_arrive};
 ghost use Rattle.loss_rule.specs.declared.rule.LossRule.{LossRule};
 ghost use Rattle.loss_rule.specs.Rule.{HasChannel};
 ghost use Rattle.loss_rule.specs.InOrder.{Comes, HaveNoDecision, HandInDecisions, DecideSafely};
 ghost use Rattle.loss_rule.specs.InOrder.{IsAllCome};
+ghost use Rattle.loss_rule.specs.Dealing.{dealt, dealt_out, AreDealtOut, AreSpreadOut};
 ghost use Rattle.receiver.specs.Faults.{IsReplayFault, IsTagsFault};
 ghost use Rattle.receiver.specs.SameOutcome.{IsSameOutcome};
 ghost use Rattle.lane.specs.Limits.{channel_limit};
@@ -115,8 +119,8 @@ pub fn segments_come_on_channels_of_their_flow()
         → incoming.decisions ≡ [] → HaveNoDecision (comings_at k order intake.items) }
 {}
 
-/// A replay in one order has at most one outcome, also by a loss rule. An order that has an outcome
-/// has no fault.
+/// A replay in one order has at most one outcome, also by a loss rule. An order that has an outcome,
+/// by a rule or without one, has no fault.
 pub fn replay_has_one_outcome()
     ensures one { (check : List ℕ → Bool) (setup : Setup) (incoming : Incoming) (order : List ℕ)
         (outcome other : Outcome)
@@ -129,6 +133,10 @@ pub fn replay_has_one_outcome()
     ensures faultless { (check : List ℕ → Bool) (setup : Setup) (incoming : Incoming)
         (order : List ℕ) (outcome : Outcome) (k : ℕ)
         → CanReceive setup → IsOutcome check setup incoming order outcome
+        → ¬ (HasBadOrder setup incoming order k) }
+    ensures faultless_by_rule { (rule : LossRule) (check : List ℕ → Bool) (setup : Setup)
+        (incoming : Incoming) (order : List ℕ) (outcome : Outcome) (k : ℕ)
+        → CanReceive setup → IsOutcomeBy rule check setup incoming order outcome
         → ¬ (HasBadOrder setup incoming order k) }
 {
     flow_core::laws::closed_flow_has_one_outcome();
@@ -163,10 +171,10 @@ pub fn replay_by_decisions_alone_is_a_replay()
 /// **What a flow gives is exactly the modem's frames all of whose segments came in**, in the
 /// modem's order. It holds of each flow of an outcome by a loss rule, of a replay and of a run
 /// alike: where what comes to the flow, in the order that the outcome states, is of one lawful cut
-/// of the modem's frames, comes on each channel in the modem's order and falls into the window once
-/// what every channel has passed is skipped, and decisions that are handed in lose nothing that
-/// still comes. Then no segment is counted as late, as a repeat or as beyond the window. It says
-/// nothing of an outage after which the window has to slide.
+/// of the modem's frames, comes on each channel in the modem's order and falls into the window, and
+/// decisions that are handed in lose nothing that still comes. Then as many segments are counted as
+/// kept as came, and none as late, as a repeat or as beyond the window. By `PassedOrSlid` that
+/// holds over outages longer than the window.
 pub fn flows_give_the_frames_that_all_came()
     ensures frames { (rule : LossRule) (check : List ℕ → Bool) (setup : Setup)
         (incoming : Incoming) (order : List ℕ) (outcome : Outcome) (k : ℕ)
@@ -192,8 +200,49 @@ pub fn flows_give_the_frames_that_all_came()
         (comings_at k order is.intake.items))
         → DecideSafely rule (ruled_flow setup.sids.items k flow_record)
         (comings_at k order is.intake.items) modem.index_at
-        → (flow.counts.late ≡ 0) × (flow.counts.repeat ≡ 0) × (flow.counts.beyond ≡ 0) }
+        → (flow.counts.kept ≡ counted (segment_count (comings_at k order is.intake.items)))
+        × (flow.counts.late ≡ 0) × (flow.counts.repeat ≡ 0) × (flow.counts.beyond ≡ 0) }
 {
     loss_rule::laws::all_that_comes_is_kept();
     loss_rule::laws::closed_flow_gives_the_frames_that_all_came();
+}
+
+/// The premises of [`flows_give_the_frames_that_all_came`] can be met, by every lawful cut: where a
+/// flow has a service identifier on each channel and its window is wider than there are channels,
+/// let the cut's segments come one after another, in turn over the channels. Then what comes to the
+/// flow is of a modem, and no decision loses what still comes. So it is where segments are dealt in
+/// any way over the flow's channels, be these only some, and some are lost and some come late.
+pub fn segments_in_turn_come_from_a_modem()
+    ensures modem { (rule : LossRule) (check : List ℕ → Bool) (setup : Setup) (k fill : ℕ)
+        (flow_record : FlowRecord) (frames chunks : List (List ℕ)) (segments : List Segment)
+        → rule ≢ LossRule.Decided → CanReceive setup
+        → slice_get setup.flows.items k ≡ Some flow_record
+        → channel_limit < flow_record.window
+        → ((channel : ℕ) → channel < channel_limit → HasRow setup.sids.items k channel)
+        → IsLawfulCut check frames flow_record.first fill chunks segments
+        → (modem : ComeFromAModem rule check (ruled_flow setup.sids.items k flow_record) frames
+        (comings_at k (turns_from 0 (length segments)) (all_arrive k segments)))
+        × DecideSafely rule (ruled_flow setup.sids.items k flow_record)
+        (comings_at k (turns_from 0 (length segments)) (all_arrive k segments)) modem.index_at }
+    ensures dealt_out { (rule : LossRule) (check : List ℕ → Bool) (setup : Setup)
+        (order : List ℕ) (items : List Event) (k fill n m d : ℕ) (flow_record : FlowRecord)
+        (frames chunks : List (List ℕ)) (segments : List Segment) (channel_of index_at : ℕ → ℕ)
+        → rule ≢ LossRule.Decided → CanReceive setup
+        → slice_get setup.flows.items k ≡ Some flow_record → d + m ≤ flow_record.window
+        → AreDealtOut (ruled_flow setup.sids.items k flow_record) channel_of index_at segments n
+        → AreSpreadOut (ruled_flow setup.sids.items k flow_record) channel_of index_at n m d
+        → IsLawfulCut check frames flow_record.first fill chunks segments
+        → comings_at k order items ≡ dealt_out channel_of index_at segments n
+        → (modem : ComeFromAModem rule check (ruled_flow setup.sids.items k flow_record) frames
+        (comings_at k order items))
+        × DecideSafely rule (ruled_flow setup.sids.items k flow_record) (comings_at k order items)
+        modem.index_at }
+    ensures come { (k : ℕ) (segments : List Segment)
+        → comings_at k (turns_from 0 (length segments)) (all_arrive k segments)
+        ≡ dealt channel_limit segments }
+    ensures order { (k : ℕ) (segments : List Segment)
+        → IsMergeOf (λ sender. picked sender (turns_from 0 (length segments))
+        (all_arrive k segments)) (turns_from 0 (length segments)) (all_arrive k segments) }
+{
+    loss_rule::laws::spread_segments_fit_the_window();
 }

@@ -10,12 +10,15 @@ use Rattle.flow_core.specs.Delivery.{IsDeliverySequence}
 use Rattle.flow_core.specs.Events.{FlowEvent, gap, IsAfter}
 use Rattle.flow_core.specs.Fates.{Fates}
 use Rattle.flow_core.specs.Near.{AreNear}
+use Rattle.loss_rule.specs.declared.rule.LossRule.{LossRule}
+use Rattle.loss_rule.specs.Rule.{Lasts, AreRuled}
 use Rattle.receiver.specs.declared.outcome.FlowOutcome.{FlowOutcome}
 use Rattle.receiver.specs.declared.outcome.Outcome.{Outcome}
 use Rattle.receiver.specs.declared.setup.Setup.{Setup}
 use Rattle.receiver.specs.Intake.{IsIntake}
 use Rattle.receiver.specs.Outcome.{requests_on}
 use Rattle.receiver.specs.Items.{Incoming, items_of, events_at}
+use Rattle.receiver.specs.Ruled.{ruled_flow, comings_at}
 use Rattle.lane.specs.Limits.{channel_limit}
 use Rattle.receiver.specs.Order.{IsLawfulOrder, lengths_of}
 use Rattle.lane.specs.Report.{requests_of}
@@ -43,4 +46,19 @@ pub record KeepsTheHeadline (check : List ℕ → Bool) (setup : Setup) (incomin
       → IsLawfulCut check frames flow_record.first fill chunks segments
       → AreNear flow_record.first flow_record.window segments (events_at k intake.items)
       → TookTheDeliverySequence frames chunks flow_record (events_at k intake.items) flow.frames.items
+  pub requested : (channel : ℕ) → channel < channel_limit → requests_on outcome channel ≡ requests_of (intake.answered channel)
+
+-- The headline of a receiver that decides by a rule besides. All is the same but for the events of a flow, which are now those that by the rule come of
+-- all that comes to it in that order.
+pub record KeepsTheHeadlineBy (rule : LossRule) (check : List ℕ → Bool) (setup : Setup) (incoming : Incoming) (order : List ℕ) (outcome : Outcome) : Type 0 where
+  pub intake : IsIntake setup incoming order
+  pub lawful : IsLawfulOrder (lengths_of (items_of setup incoming intake.answered)) order
+  pub flow_count : length outcome.flows.items ≡ length setup.flows.items
+  pub delivered : (k fill : ℕ) (flow_record : FlowRecord) (flow : FlowOutcome) (frames chunks : List (List ℕ)) (segments : List Segment)
+      (events : List FlowEvent) (lasts : Lasts) (fates : Fates)
+      → slice_get setup.flows.items k ≡ Some flow_record → slice_get outcome.flows.items k ≡ Some flow
+      → AreRuled rule (ruled_flow setup.sids.items k flow_record) (comings_at k order intake.items) events lasts fates
+      → IsLawfulCut check frames flow_record.first fill chunks segments
+      → AreNear flow_record.first flow_record.window segments events
+      → TookTheDeliverySequence frames chunks flow_record events flow.frames.items
   pub requested : (channel : ℕ) → channel < channel_limit → requests_on outcome channel ≡ requests_of (intake.answered channel)

@@ -6,7 +6,7 @@
 //! flow, from which the consumers' worker takes.
 ghost use Rattle.std.specs.Prelude.{◌≡◌, ◌↔◌, ◌∷◌, [], IfOk, IfErr, Ok};
 ghost use Rattle.uplink.specs.Faults.{CanRun, IsRunFault};
-ghost use Rattle.uplink.specs.Headline.{KeepsTheHeadline};
+ghost use Rattle.uplink.specs.Headline.{KeepsTheHeadline, KeepsTheHeadlineBy};
 ghost use Rattle.receiver.specs.Items.{incoming_from};
 ghost use Rattle.receiver.specs.Outcome.{IsOutcome};
 ghost use Rattle.receiver.specs.Ruled.{IsOutcomeBy};
@@ -143,7 +143,8 @@ where
 
 /// Runs as [`run`] does, and decides besides by this rule which segments are lost: before a segment
 /// is taken, what the rule says is lost is skipped. The outcome is the one that one thread gives by
-/// the rule for that order. What each flow then gives is said by the law
+/// the rule for that order (`answer`), and keeps the headline over the events that the rule makes
+/// (`headline`). Which of a modem's frames each flow then gives is said by the law
 /// [`flows_give_the_frames_that_all_came`](crate::laws::flows_give_the_frames_that_all_came), whose
 /// premises are about that order: in it one channel may be further ahead of another than it was on
 /// the air, and a window has to hold that too.
@@ -167,6 +168,10 @@ where
     Q: Tap<Request> + Drop + Send + 'static,
     C: HeaderCheck + Drop,
     R: Threads + Wait + Copy + Send + 'static,
+    ensures headline { IfOk result (λ outcome. KeepsTheHeadlineBy rule (C.accepts check) setup
+        (incoming_from (S0.gives sources.s0 ∷ S1.gives sources.s1 ∷ S2.gives sources.s2
+        ∷ S3.gives sources.s3 ∷ []) (D.decides decisions))
+        outcome.order.items outcome) }
     ensures answer { IfOk result (λ outcome. IsOutcomeBy rule (C.accepts check) setup
         (incoming_from (S0.gives sources.s0 ∷ S1.gives sources.s1 ∷ S2.gives sources.s2
         ∷ S3.gives sources.s3 ∷ []) (D.decides decisions))
@@ -174,6 +179,7 @@ where
     ensures can_run { IfOk result (λ _. CanRun setup) }
     ensures fault { IfErr result (IsRunFault setup) }
 {
+    crate::laws::consumers_take_the_delivery_sequence();
     let opened = prepare(alloc, rule, &setup, check)?;
     let flow_count = setup.flows.len();
     let end = run_opened(alloc, &rt, flow_count, opened, sources, decisions, taps)?;

@@ -21,11 +21,13 @@ ghost use Rattle.flow_core.specs.Near.{AreNear};
 ghost use Rattle.flow_core.specs.declared.flow.Flow.{Flow};
 ghost use Rattle.flow_core.specs.Outcome.{IsFlowOutcome};
 ghost use Rattle.flow_core.specs.Stands.{StandsFor};
-ghost use Rattle.uplink.specs.Headline.{KeepsTheHeadline};
+ghost use Rattle.loss_rule.specs.declared.rule.LossRule.{LossRule};
+ghost use Rattle.uplink.specs.Headline.{KeepsTheHeadline, KeepsTheHeadlineBy};
 ghost use Rattle.receiver.specs.declared.setup.Setup.{Setup};
 ghost use Rattle.receiver.specs.declared.outcome.Outcome.{Outcome};
 ghost use Rattle.receiver.specs.Items.{Incoming};
 ghost use Rattle.receiver.specs.Outcome.{IsOutcome};
+ghost use Rattle.receiver.specs.Ruled.{IsOutcomeBy};
 
 pub use lane::laws::{
     each_input_has_an_answer, lane_has_at_most_one_answer_to_each_input,
@@ -38,6 +40,7 @@ pub use receiver::laws::{
     flows_give_the_frames_that_all_came, lawful_order_has_no_fault, lists_have_one_merge,
     order_has_one_intake, replay_by_decisions_alone_is_a_replay, replay_has_one_fault,
     replay_has_one_outcome, segments_come_on_channels_of_their_flow,
+    segments_in_turn_come_from_a_modem,
 };
 
 /// **The headline.** Whatever the four channels interleave, delay or lose and whenever gaps are
@@ -49,7 +52,8 @@ pub use receiver::laws::{
 /// and is then closed, what its taker has taken is a prefix of the delivery sequence after those
 /// events and any more; the flow may be drained (`prefix`) or not yet (`prefix_before_drained`).
 /// The order is a lawful one of all that is admitted and all decisions that name a flow, and the
-/// scheduler gets the request of each admitted segment once, in its channel's order. That events
+/// scheduler gets the request of each admitted segment once, in its channel's order. The same holds
+/// by a loss rule (`by_rule`) of the events that the rule makes of what comes to a flow. That events
 /// stay near with the gaps of a close is
 /// [`gaps_after_keep_events_near`](flow_core::laws::gaps_after_keep_events_near).
 pub fn consumers_take_the_delivery_sequence()
@@ -57,6 +61,10 @@ pub fn consumers_take_the_delivery_sequence()
         (order : List ℕ) (outcome : Outcome)
         → IsOutcome check setup incoming order outcome
         → KeepsTheHeadline check setup incoming order outcome }
+    ensures by_rule { (rule : LossRule) (check : List ℕ → Bool) (setup : Setup)
+        (incoming : Incoming) (order : List ℕ) (outcome : Outcome)
+        → IsOutcomeBy rule check setup incoming order outcome
+        → KeepsTheHeadlineBy rule check setup incoming order outcome }
     ensures prefix { (check : List ℕ → Bool) (fill : ℕ) (flow_record : FlowRecord)
         (frames chunks given unoffered later : List (List ℕ)) (segments : List Segment)
         (events more : List FlowEvent) (counts : FlowCounts) (answers : List Applied)
@@ -87,4 +95,5 @@ pub fn consumers_take_the_delivery_sequence()
     flow_core::laws::outcome_of_near_events_is_the_delivery_sequence();
     flow_core::laws::flow_gives_the_delivery_sequence();
     flow_core::laws::delivery_sequence_only_grows();
+    loss_rule::laws::ruled_events_are_one();
 }

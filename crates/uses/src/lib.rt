@@ -10,6 +10,7 @@ pub mod five_senders;
 pub mod flow;
 pub mod header_check;
 pub mod losses_by_rule;
+pub mod midstream;
 pub mod one_flow;
 pub mod run_caller;
 pub mod window;

@@ -3,7 +3,8 @@
 ghost use Rattle.std.specs.Prelude.{[], IfOk, IfErr, map};
 ghost use Rattle.receiver.specs.Faults.{IsTagsFault};
 ghost use Rattle.receiver.specs.Items.{incoming_from};
-ghost use Rattle.uses.specs.LossesByRule.{GaveTheFramesThatAllCame};
+ghost use Rattle.loss_rule.specs.declared.rule.LossRule.{LossRule};
+ghost use Rattle.uses.specs.LossesByRule.{AreFlowsBy, GaveTheFramesThatAllCame};
 
 use docsis_wire::HeaderCheck;
 use std::alloc::Global;
@@ -24,6 +25,9 @@ pub fn receive_without_waiting<C: HeaderCheck + Drop>(
     tags: &[u8],
     check: C,
 ) -> Result<Vec<FlowOutcome>, ReplayFault>
+    ensures by_rule { IfOk result (λ flows. AreFlowsBy LossRule.PassedOrSlid (C.accepts check)
+        setup.now (incoming_from (map (λ recorded. recorded.items) inputs) []) tags.now
+        flows.items) }
     ensures gave { IfOk result (λ flows. GaveTheFramesThatAllCame (C.accepts check) setup.now
         (incoming_from (map (λ recorded. recorded.items) inputs) []) tags.now flows.items) }
     ensures fault { IfErr result (IsTagsFault setup.now

@@ -1,4 +1,4 @@
-use Rattle.receiver.proofs.OneReplay.{one-outcome, one-ruled_outcome, outcome-faultless}
+use Rattle.receiver.proofs.OneReplay.{one-outcome, one-ruled_outcome, intake-faultless}
 use Rattle.receiver.proofs.laws.replay_has_one_outcome.Goals as goal
 
 pub returns-clause-one : goal.returns-clause-one
@@ -16,4 +16,7 @@ returns-clause-by_rule c = λ rule check setup lists order outcome other can is 
     outcome other is are
 
 pub returns-clause-faultless : goal.returns-clause-faultless
-returns-clause-faultless c = λ check setup lists order outcome k can is. outcome-faultless setup lists order can check outcome is k
+returns-clause-faultless c = λ check setup lists order outcome k can is. intake-faultless setup lists order can is.intake k
+
+pub returns-clause-faultless_by_rule : goal.returns-clause-faultless_by_rule
+returns-clause-faultless_by_rule c = λ rule check setup lists order outcome k can is. intake-faultless setup lists order can is.intake k

@@ -35,3 +35,10 @@ returns-clause-answer g c =
     outcome-of-run accepts (accepts c.args.check) c.args.rule c.args.setup c.in_ok-opened.opened c.in_ok-opened.ensures.opened (incoming g before) c.in_ok-end.end
     (ended g before) outcome
     (subst (λ records. HasConcluded records c.in_ok-end.end outcome) c.deref.ensures.value c.in_ok-conclude.ensures)
+
+pub returns-clause-headline : goal.returns-clause-headline
+returns-clause-headline g c =
+    let check = g.C.HeaderCheck.accepts c.args.check in
+    let before = (goal.at.returns-clause-headline g c).After-deref in
+    let outcome = c.in_ok-conclude.field-0 in
+    c.consumers_take_the_delivery_sequence.ensures.by_rule c.args.rule check c.args.setup (incoming g before) outcome.order.items outcome (returns-clause-answer g c)

@@ -1,14 +1,43 @@
-use Rattle.std.proofs.Common.{◌≡◌, ◌++◌, List, [], append_assoc, sym, subst, ap, ◌∙◌}
+use Rattle.std.proofs.Common.{◌≡◌, ◌++◌, ℕ, Bool, List, [], append_assoc, sym, subst, ap, ◌∙◌}
 use Rattle.std.proofs.lemmas.List.{append-nil}
 use Rattle.std.proofs.lemmas.Option.{same_Some}
 use Rattle.delivery.specs.Feeders.{closed_offered}
 use Rattle.delivery.specs.Takers.{taken}
+use Rattle.docsis_wire.specs.declared.segment.Segment.{Segment}
+use Rattle.docsis_wire.specs.Cut.{IsLawfulCut}
+use Rattle.flow_records.specs.declared.record.FlowRecord.{FlowRecord}
 use Rattle.flow_core.specs.Closing.{IsAllKept}
+use Rattle.flow_core.specs.Events.{FlowEvent}
+use Rattle.flow_core.specs.Near.{AreNear}
 use Rattle.ccf.specs.Filter.{FiltersTo}
 use Rattle.receiver.specs.Outcome.{IsOutcomeOfFlow}
+use Rattle.receiver.specs.declared.outcome.FlowOutcome.{FlowOutcome}
 use Rattle.receiver.specs.Items.{events_at, items_of}
+use Rattle.receiver.specs.Ruled.{ruled_flow, comings_at}
 use Rattle.receiver.proofs.MergedLists.{merge-lawful}
+use Rattle.uplink.specs.Headline.{TookTheDeliverySequence}
 use Rattle.uplink.proofs.laws.consumers_take_the_delivery_sequence.Goals as goal
+use Rattle.uplink.proofs.laws.consumers_take_the_delivery_sequence.Goals.{After-ruled_events_are_one}
+
+-- what a closed flow gave is the delivery sequence of its events, with the gaps of its close
+module _ (c : After-ruled_events_are_one) (check : List ℕ → Bool) (fill : ℕ) (r : FlowRecord) (frames chunks : List (List ℕ)) (segments : List Segment)
+    (cut : IsLawfulCut check frames r.first fill chunks segments) (events : List FlowEvent) (near : AreNear r.first r.window segments events)
+    (flow : FlowOutcome) (gave : IsOutcomeOfFlow check r events flow) where
+  all-kept : FiltersTo (IsAllKept frames chunks gave.gives.outcome.fates) frames flow.frames.items
+  all-kept =
+      c.closed_flow_gives_the_frames_that_were_all_kept.ensures check frames chunks fill gave.gives.n segments r events flow.frames.items flow.counts cut near
+      gave.gives.outcome gave.gives.closed
+
+  took-all : TookTheDeliverySequence frames chunks r events flow.frames.items
+  took-all = record {
+    gaps = gave.gives.n;
+    answers = gave.gives.outcome.answers;
+    fates = gave.gives.outcome.fates;
+    after = gave.gives.outcome.after;
+    closed = gave.gives.closed;
+    sequence = (c.closed_flow_has_come_past_all_kept.ensures.sequence frames chunks flow.frames.items gave.gives.outcome.fates gave.gives.closed).1 all-kept;
+    all_kept = all-kept;
+  }
 
 pub returns-clause-headline : goal.returns-clause-headline
 returns-clause-headline c = λ check setup incoming order outcome is.
@@ -16,25 +45,29 @@ returns-clause-headline c = λ check setup incoming order outcome is.
       intake = is.intake;
       lawful = merge-lawful (items_of setup incoming is.intake.answered) order is.intake.items is.intake.merged;
       flow_count = is.flows.count;
-      delivered = λ k fill flow_record flow frames chunks segments at given cut near.
+      delivered = λ k fill r flow frames chunks segments at given cut near.
           let events = events_at k is.intake.items in
-          let found = is.flows.each k flow_record at in
+          let found = is.flows.each k r at in
           let same : found.0 ≡ flow = same_Some found.0 flow (sym found.1 ∙ given) in
-          let gave : IsOutcomeOfFlow check flow_record events flow = subst (IsOutcomeOfFlow check flow_record events) same found.2 in
-          let gives = gave.gives in
-          let kept : FiltersTo (IsAllKept frames chunks gives.outcome.fates) frames flow.frames.items =
-          c.closed_flow_gives_the_frames_that_were_all_kept.ensures check frames chunks fill gives.n segments flow_record events flow.frames.items flow.counts cut
-          near gives.outcome gives.closed
-          in
-          record {
-            gaps = gives.n;
-            answers = gives.outcome.answers;
-            fates = gives.outcome.fates;
-            after = gives.outcome.after;
-            closed = gives.closed;
-            sequence = (c.closed_flow_has_come_past_all_kept.ensures.sequence frames chunks flow.frames.items gives.outcome.fates gives.closed).1 kept;
-            all_kept = kept;
-          };
+          took-all c check fill r frames chunks segments cut events near flow (subst (IsOutcomeOfFlow check r events) same found.2);
+      requested = λ channel below. is.requests channel below;
+    }
+
+pub returns-clause-by_rule : goal.returns-clause-by_rule
+returns-clause-by_rule c = λ rule check setup incoming order outcome is.
+    record {
+      intake = is.intake;
+      lawful = merge-lawful (items_of setup incoming is.intake.answered) order is.intake.items is.intake.merged;
+      flow_count = is.flows.count;
+      delivered = λ k fill r flow frames chunks segments events lasts fates at given ruled cut near.
+          let found = is.flows.each k r at in
+          let own = found.2 in
+          let same : found.0 ≡ flow = same_Some found.0 flow (sym found.1 ∙ given) in
+          let one : own.events ≡ events =
+          (c.ruled_events_are_one.ensures.only rule (ruled_flow setup.sids.items k r) (comings_at k order is.intake.items) own.events events own.lasts lasts own.fates fates
+          own.ruled ruled).0 in
+          took-all c check fill r frames chunks segments cut events near flow
+          (subst (λ (e : List FlowEvent). IsOutcomeOfFlow check r e flow) one (subst (IsOutcomeOfFlow check r own.events) same own.gave));
       requested = λ channel below. is.requests channel below;
     }
 

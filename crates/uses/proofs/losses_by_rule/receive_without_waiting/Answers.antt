@@ -11,7 +11,7 @@ use Rattle.receiver.specs.declared.setup.Setup.{Setup}
 use Rattle.receiver.specs.Faults.{HasBadOrder, IsReplayFault, IsTagsFault}
 use Rattle.receiver.specs.Items.{Incoming, incoming_from}
 use Rattle.receiver.specs.Ruled.{ruled_flow, comings_at, IsOutcomeBy}
-use Rattle.uses.specs.LossesByRule.{GaveTheFramesThatAllCame}
+use Rattle.uses.specs.LossesByRule.{AreFlowsBy, GaveTheFramesThatAllCame}
 use Rattle.uses.proofs.losses_by_rule.receive_without_waiting.Goals as goal
 
 -- what slides isn't what decisions alone decide
@@ -74,3 +74,16 @@ returns-clause-gave g c =
           modem (c.decisions_about_the_past_are_safe.ensures.undecided PassedOrSlid (ruled_flow setup.sids.items k r) (comings_at k order answer.intake.items) modem.index_at
           (c.segments_come_on_channels_of_their_flow.ensures.no_decision setup incoming order answer.intake k c.new.ensures.items));
     })
+
+pub returns-clause-by_rule : goal.returns-clause-by_rule
+returns-clause-by_rule g c =
+    let check = g.C.HeaderCheck.accepts c.args.check in
+    let setup = c.args.setup.now in
+    let recorded = map (λ (inputs : Vec Input Global). inputs.items) c.args.inputs in
+    let incoming = incoming_from recorded c.new.result.items in
+    let order = c.in_ok-order.order.items in
+    let outcome = c.in_ok-outcome.outcome in
+    let answer : IsOutcomeBy PassedOrSlid check setup incoming order outcome =
+    subst (λ o. IsOutcomeBy PassedOrSlid check setup incoming o outcome) c.deref.ensures.value c.in_ok-outcome.ensures.outcome in
+    subst (λ (decisions : List Decision). AreFlowsBy PassedOrSlid check setup (incoming_from recorded decisions) c.args.tags.now outcome.flows.items) c.new.ensures.items
+    (record { order = order; admitted = c.in_ok-order.ensures.order; intake = answer.intake; flows_are = answer.flows })
