@@ -154,13 +154,7 @@ impl<C: HeaderCheck + Drop> RuledAssembler<C> {
         lasts.note(channel, number, expected);
         match lasts.passed_by_all(expected) {
             None => Ok(()),
-            Some(passed) => self.take_event(
-                alloc,
-                Event::SkipTo {
-                    flow,
-                    number: passed,
-                },
-            ),
+            Some(passed) => self.skip_to(alloc, flow, passed),
         }
     }
 
@@ -174,8 +168,19 @@ impl<C: HeaderCheck + Drop> RuledAssembler<C> {
         let expected = self.assembler.expected(flow);
         match slid_to(expected, self.numbers[flow].width, number) {
             None => Ok(()),
-            Some(slid) => self.take_event(alloc, Event::SkipTo { flow, number: slid }),
+            Some(slid) => self.skip_to(alloc, flow, slid),
         }
+    }
+
+    /// Takes a skip of the flow up to this number.
+    fn skip_to(&mut self, alloc: Global, flow: usize, number: u16) -> Result<(), AllocError>
+        requires noting { IsNoting C.accepts self.old flow }
+        requires number { number < sequence_modulus }
+        ensures takes { IfOk result (λ _.
+            TakesNoted C.accepts self.old (Event.SkipTo flow number) self.new) }
+        ensures kept { IfOk result (λ _. KeepsRule self.old self.new flow) }
+    {
+        self.take_event(alloc, Event::SkipTo { flow, number })
     }
 
     /// Takes an event. Where the rule looks at any, what its flow has then come past no longer lies

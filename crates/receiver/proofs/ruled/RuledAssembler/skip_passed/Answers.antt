@@ -35,8 +35,8 @@ looked before after expected passed carried distances is =
     subst (λ c. IsPassedByAll c (distances_of after) expected passed) (sym carried)
     (subst (λ d. IsPassedByAll (carried_of before) d expected passed) (sym distances) is)
 
-pub take_event-requires-clause-noting : goal.take_event-requires-clause-noting
-take_event-requires-clause-noting g c =
+pub skip_to-requires-clause-noting : goal.skip_to-requires-clause-noting
+skip_to-requires-clause-noting g c =
     let accepts = g.C.HeaderCheck.accepts in
     let ruled = c.args.self.now in
     let k = c.args.flow in
@@ -70,25 +70,25 @@ returns-in-Some-clause-skips g c =
     let ruled = c.args.self.now in
     let k = c.args.flow in
     let is : RuledNumbers = record { width = c.index_mut.result.now.width; lasts = c.passed_by_all.new.self } in
-    IfOk-weaker c.take_event.result
-    (λ _. TakesNoted accepts (record ruled { numbers = with_item ruled.numbers k is }) (SkipTo k c.in-Some.passed) c.take_event.new.self)
-    (λ _. SkipsPassed accepts ruled k c.args.channel c.args.number c.take_event.new.self)
+    IfOk-weaker c.skip_to.result
+    (λ _. TakesNoted accepts (record ruled { numbers = with_item ruled.numbers k is }) (SkipTo k c.in-Some.passed) c.skip_to.new.self)
+    (λ _. SkipsPassed accepts ruled k c.args.channel c.args.number c.skip_to.new.self)
     (λ _ takes.
     passed-some accepts ruled (record ruled { numbers = with_item ruled.numbers k is }) k c.args.channel c.args.number c.expected-expected.result c.index_mut.result.now is c.requires.number
     refl refl (read accepts ruled k c.requires.noting c.index_mut.result.now is c.index_mut.ensures.value) (wrote accepts ruled k c.requires.noting is is) refl
     (c.passed_by_all.ensures.carried ∙ c.note.ensures.carried)
     (λ accepted handed records r items. c.expected-expected.ensures.number accepted handed records r items)
-    (c.passed_by_all.ensures.distances ∙ c.note.ensures.distances) c.in-Some.passed c.take_event.new.self c.requires.rule
+    (c.passed_by_all.ensures.distances ∙ c.note.ensures.distances) c.in-Some.passed c.skip_to.new.self c.requires.rule
     (looked c.note.new.self c.passed_by_all.new.self c.expected-expected.result (Some c.in-Some.passed) c.passed_by_all.ensures.carried c.passed_by_all.ensures.distances
     (subst (IsPassedByAll (carried_of c.note.new.self) (distances_of c.note.new.self) c.expected-expected.result) c.in-Some.is c.passed_by_all.ensures.passed))
     takes)
-    c.take_event.ensures.takes
+    c.skip_to.ensures.takes
 
 pub returns-in-Some-clause-kept : goal.returns-in-Some-clause-kept
 returns-in-Some-clause-kept g c =
     let ruled = c.args.self.now in
     let k = c.args.flow in
     let is : RuledNumbers = record { width = c.index_mut.result.now.width; lasts = c.passed_by_all.new.self } in
-    IfOk-weaker c.take_event.result (λ _. KeepsRule (record ruled { numbers = with_item ruled.numbers k is }) c.take_event.new.self k) (λ _. KeepsRule ruled c.take_event.new.self k)
-    (λ _ kept. kept-both g.C.HeaderCheck.accepts ruled (record ruled { numbers = with_item ruled.numbers k is }) c.take_event.new.self k (noted-kept ruled k is) kept)
-    c.take_event.ensures.kept
+    IfOk-weaker c.skip_to.result (λ _. KeepsRule (record ruled { numbers = with_item ruled.numbers k is }) c.skip_to.new.self k) (λ _. KeepsRule ruled c.skip_to.new.self k)
+    (λ _ kept. kept-both g.C.HeaderCheck.accepts ruled (record ruled { numbers = with_item ruled.numbers k is }) c.skip_to.new.self k (noted-kept ruled k is) kept)
+    c.skip_to.ensures.kept

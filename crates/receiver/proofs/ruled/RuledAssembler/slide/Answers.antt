@@ -27,12 +27,12 @@ returns-in-Some-clause-slides g c =
     let k = c.args.flow in
     let noting = c.requires.noting in
     let within = noted-numbers accepts ruled noting.accepted noting.handed noting.setup k noting.flow_record noting.items noting.lasts noting.fates noting.x noting.has in
-    IfOk-weaker c.take_event.result (λ _. TakesNoted accepts ruled (SkipTo k c.in-Some.slid) c.take_event.new.self) (λ _. Slides accepts ruled k c.args.number c.take_event.new.self)
+    IfOk-weaker c.skip_to.result (λ _. TakesNoted accepts ruled (SkipTo k c.in-Some.slid) c.skip_to.new.self) (λ _. Slides accepts ruled k c.args.number c.skip_to.new.self)
     (λ _ takes.
     slid-some accepts ruled k c.args.number c.expected-expected.result c.index.result.now c.requires.number
     (slice_get_read ruled.numbers.items _ k c.index.result.now refl within c.index.ensures)
     (λ accepted handed records r items. c.expected-expected.ensures.number accepted handed records r items)
-    c.in-Some.slid c.take_event.new.self
+    c.in-Some.slid c.skip_to.new.self
     (subst (IsSlidTo c.expected-expected.result c.index.result.now.width c.args.number) c.in-Some.is c.slid_to.ensures)
     takes)
-    c.take_event.ensures.takes
+    c.skip_to.ensures.takes
