@@ -15,7 +15,7 @@ use crate::place::Place;
 use reorder::{MODULUS, NUMBERS_AHEAD, offset};
 use std::alloc::{AllocError, Global};
 
-/// The greatest place of an expected number: all numbers that lie ahead have places above it.
+/// The greatest place of an expected number: each number that lies ahead has a place, too.
 const REACH: u16 = u16::MAX - NUMBERS_AHEAD + 1;
 
 /// What is known of each channel of one flow.

@@ -10,10 +10,10 @@
 //! still comes: each segment that comes is kept, an index that never comes is lost as soon as every
 //! channel has come past it, and nothing that comes is lost.
 //!
-//! [`LastNumbers`] keeps of each channel of a flow the number of the last segment that came there:
-//! [`LastNumbers::passed_by_all`] says to which number every channel has come, and [`slid_to`] to
-//! which one a window slides. [`number_laws`] ties these numbers to the rule, which the definitions
-//! say by true indexes.
+//! [`LastNumbers`] keeps of each channel of a flow how far ahead the last segment lies that came
+//! there: [`LastNumbers::passed_by_all`] says to which number every channel has come, and
+//! [`slid_to`] to which one a window slides. [`number_laws`] ties this to the rule, which the
+//! definitions say by true indexes.
 #![tactic(auto)]
 
 mod known_channel;

@@ -171,10 +171,10 @@ pub fn replay_by_decisions_alone_is_a_replay()
 /// **What a flow gives is exactly the modem's frames all of whose segments came in**, in the
 /// modem's order. It holds of each flow of an outcome by a loss rule, of a replay and of a run
 /// alike: where what comes to the flow, in the order that the outcome states, is of one lawful cut
-/// of the modem's frames, comes on each channel in the modem's order and falls into the window, and
-/// decisions that are handed in lose nothing that still comes. Then as many segments are counted as
-/// kept as came, and none as late, as a repeat or as beyond the window. By `PassedOrSlid` that
-/// holds over outages longer than the window.
+/// of the modem's frames, none twice, comes on each channel in the modem's order and falls into the
+/// window, and decisions that are handed in lose nothing that still comes. Then as many segments
+/// are counted as kept as came, and none as late, as a repeat or as beyond the window. By
+/// `PassedOrSlid` that holds over outages longer than the window.
 pub fn flows_give_the_frames_that_all_came()
     ensures frames { (rule : LossRule) (check : List ℕ → Bool) (setup : Setup)
         (incoming : Incoming) (order : List ℕ) (outcome : Outcome) (k : ℕ)
