@@ -4,3 +4,4 @@ pub mod LinesReadOneWay
 pub mod KeptByEachLine
 pub mod NumberFields
 pub mod FirstBytes
+pub mod DigitValues

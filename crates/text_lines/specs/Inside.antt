@@ -1,2 +1,3 @@
 -- What only the contracts of calls between these crates cite.
 pub mod LineFault
+pub mod Digits

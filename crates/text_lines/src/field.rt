@@ -5,8 +5,8 @@ ghost use Rattle.text_lines.specs.Inside.LineFault.{IsLineFault};
 ghost use Rattle.text_lines.specs.Field.{SpellsBytes};
 ghost use Rattle.text_lines.specs.Inside.LineFault.{HasHexFault};
 
+use crate::digits::append_spelled;
 use crate::fault::{LineFault, TraceKind};
-use hex::FromHexError;
 use std::alloc::{AllocError, Global};
 
 /// The bytes that a hexadecimal field spells: two digits for each, in either case, or `-` for none.
@@ -19,10 +19,14 @@ pub fn read_hex(alloc: Global, field: &[u8]) -> Result<Vec<u8>, LineFault>
     if field == b"-".as_slice() {
         return Ok(Vec::new(alloc));
     }
-    match hex::decode(alloc, field) {
-        Ok(bytes) => Ok(bytes),
-        Err(FromHexError::OutOfMemory) => Err(LineFault::OutOfMemory),
-        Err(_) => Err(LineFault::Kind(TraceKind::NotHex)),
+    if field.len() % 2 == 1 {
+        return Err(LineFault::Kind(TraceKind::NotHex));
+    }
+    let mut bytes = Vec::with_capacity(alloc, field.len() / 2)?;
+    if append_spelled(&mut bytes, field) {
+        Ok(bytes)
+    } else {
+        Err(LineFault::Kind(TraceKind::NotHex))
     }
 }
 

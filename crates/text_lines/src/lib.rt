@@ -21,6 +21,7 @@
 #![tactic(auto)]
 
 mod capacities;
+mod digits;
 mod fault;
 mod field;
 mod lines;

@@ -1,0 +1,56 @@
+//! Hexadecimal digits, read by a table: a branch for each digit would be guessed wrongly as often as
+//! digits and letters change.
+ghost use Rattle.std.specs.Prelude.{◌≡◌, ◌≤◌, ◌/◌, ◌%◌, ◌⊎◌, IsTrue, IsFalse, length, vec_capacity};
+ghost use Rattle.text_lines.specs.Inside.Digits.{IsDigitEntry, SpellsPairs, SpellsNothing};
+
+/// What the table has for a byte that is no digit.
+const NO_DIGIT: u8 = 16;
+
+/// Of each byte the value of the digit that it is, in either case, or 16.
+static DIGIT_VALUES: [u8; 256] = [
+    16, 16, 16, 16, 16, 16, 16, 16, 16, 16, 16, 16, 16, 16, 16, 16, 16, 16, 16, 16, 16, 16, 16, 16, 16, 16, 16, 16, 16, 16, 16, 16,
+    16, 16, 16, 16, 16, 16, 16, 16, 16, 16, 16, 16, 16, 16, 16, 16, 0, 1, 2, 3, 4, 5, 6, 7, 8, 9, 16, 16, 16, 16, 16, 16,
+    16, 10, 11, 12, 13, 14, 15, 16, 16, 16, 16, 16, 16, 16, 16, 16, 16, 16, 16, 16, 16, 16, 16, 16, 16, 16, 16, 16, 16, 16, 16, 16,
+    16, 10, 11, 12, 13, 14, 15, 16, 16, 16, 16, 16, 16, 16, 16, 16, 16, 16, 16, 16, 16, 16, 16, 16, 16, 16, 16, 16, 16, 16, 16, 16,
+    16, 16, 16, 16, 16, 16, 16, 16, 16, 16, 16, 16, 16, 16, 16, 16, 16, 16, 16, 16, 16, 16, 16, 16, 16, 16, 16, 16, 16, 16, 16, 16,
+    16, 16, 16, 16, 16, 16, 16, 16, 16, 16, 16, 16, 16, 16, 16, 16, 16, 16, 16, 16, 16, 16, 16, 16, 16, 16, 16, 16, 16, 16, 16, 16,
+    16, 16, 16, 16, 16, 16, 16, 16, 16, 16, 16, 16, 16, 16, 16, 16, 16, 16, 16, 16, 16, 16, 16, 16, 16, 16, 16, 16, 16, 16, 16, 16,
+    16, 16, 16, 16, 16, 16, 16, 16, 16, 16, 16, 16, 16, 16, 16, 16, 16, 16, 16, 16, 16, 16, 16, 16, 16, 16, 16, 16, 16, 16, 16, 16,
+];
+
+/// The value of the digit that a byte is, or [`NO_DIGIT`].
+#[inline(always)]
+fn digit_value(byte: u8) -> u8
+    ensures { IsDigitEntry byte result }
+{
+    DIGIT_VALUES[usize::from(byte)]
+}
+
+/// The greater of two.
+#[inline(always)]
+fn greater(one: u8, other: u8) -> u8
+    ensures one { one ≤ result }
+    ensures other { other ≤ result }
+    ensures is { (result ≡ one) ⊎ (result ≡ other) }
+{
+    if one < other { other } else { one }
+}
+
+/// Appends the bytes that these digits spell, two for each, the first of them its high four bits,
+/// and says whether all are digits. There is room for the bytes.
+pub fn append_spelled(bytes: &mut Vec<u8>, digits: &[u8]) -> bool
+    requires even { length digits.now % 2 ≡ 0 }
+    requires none { length bytes.old.items ≡ 0 }
+    requires room { length digits.now / 2 ≤ vec_capacity bytes.old }
+    ensures spelled { IsTrue result → SpellsPairs digits.now bytes.new.items }
+    ensures refused { IsFalse result → SpellsNothing digits.now }
+{
+    let mut greatest = 0;
+    for place in 0..digits.len() / 2 {
+        let high = digit_value(digits[2 * place]);
+        let low = digit_value(digits[2 * place + 1]);
+        greatest = greater(greatest, greater(high, low));
+        bytes.push_reserved(high % NO_DIGIT * NO_DIGIT + low % NO_DIGIT);
+    }
+    greatest < NO_DIGIT
+}
