@@ -1,5 +1,8 @@
 pub mod FrameHeads
 pub mod HeaderWords
+pub mod Dividing
+pub mod Remainders
+pub mod Quotients
 pub mod StreamPlaces
 pub mod Cursors
 pub mod Starts

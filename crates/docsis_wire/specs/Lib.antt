@@ -5,6 +5,8 @@ pub mod Ready
 pub mod SegmentBytes
 pub mod Frame
 pub mod Head
+pub mod Division
+pub mod Checks
 pub mod Stream
 pub mod Cut
 pub mod Span

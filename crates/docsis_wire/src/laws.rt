@@ -1,8 +1,8 @@
-//! A header and its eight bytes determine each other, and the pieces determine the cut, or its
-//! first fault.
+//! A header and its eight bytes determine each other, the pieces determine the cut, or its first
+//! fault, and a long division leaves the one remainder.
 //!
 //! Each function states a law in its contract; its body is empty or only calls other laws.
-ghost use Rattle.std.specs.Prelude.{◌≡◌, ◌≢◌, ◌<◌, ◌≤◌, ◌↔◌, ℕ, Bool, Option, Some, IsSome, IfSome, All, List, [], ◌∷◌, ◌++◌, length, take};
+ghost use Rattle.std.specs.Prelude.{◌≡◌, ◌≢◌, ◌<◌, ◌≤◌, ◌↔◌, ℕ, ◌%◌, Bool, Option, Some, IsSome, IfSome, All, List, [], ◌∷◌, ◌++◌, length, take};
 ghost use Rattle.docsis_wire.specs.declared.header.SegmentHeader.{SegmentHeader};
 ghost use Rattle.docsis_wire.specs.declared.header_check.NoCheck.{NoCheck};
 ghost use Rattle.docsis_wire.specs.declared.pieces.Piece.{Piece};
@@ -13,6 +13,7 @@ ghost use Rattle.docsis_wire.specs.Header.{header_bytes};
 ghost use Rattle.docsis_wire.specs.Frame.{IsGenericFrame, IsFrame};
 ghost use Rattle.docsis_wire.specs.Cut.{IsLawfulCut};
 ghost use Rattle.docsis_wire.specs.CutUnderWay.{CutUnderWay, IsSameCut, HasMade, GivesNext};
+ghost use Rattle.docsis_wire.specs.Division.{remainder_after, IsRemainder};
 ghost use Rattle.docsis_wire.specs.Pieces.{fill_byte, chunks_of, ArePieceSegments, IsCuttable, Reports};
 
 use crate::header_check::{HeaderCheck, NoCheck};
@@ -98,4 +99,12 @@ pub fn segments_made_one_by_one_are_the_cut()
         → IsLawfulCut check begun.frames begun.first (fill_byte begun.fill)
         (chunks_of begun.frames begun.pieces) segments
         × ArePieceSegments (fill_byte begun.fill) begun.frames begun.pieces segments }
+{}
+
+/// What a long division leaves is the remainder, and no other number is, where the divisor's
+/// leading coefficient is 1.
+pub fn long_division_leaves_the_remainder()
+    ensures { (divisor steps dividend remainder : ℕ) → divisor % 2 ≡ 1
+        → IsRemainder divisor steps dividend remainder
+        ↔ (remainder ≡ remainder_after divisor steps dividend) }
 {}

@@ -13,17 +13,22 @@
 //!    the header alone.
 //! 2. [`read_head`] tells from the front of some bytes how long a frame is, whatever follows it,
 //!    and [`well_formed`] whether bytes are one whole frame. A [`HeaderCheck`] may be handed in
-//!    that looks at a frame's header; [`NoCheck`] lets each pass.
-//! 3. [`cut`] is the sending side: of frames and [`Piece`]s it makes the segments, or reports the
+//!    that looks at a frame's header: [`HeaderSequence`] asks for its check sequence, [`NoCheck`]
+//!    lets each pass.
+//! 3. [`check_sequence`] is the header check sequence of headers of either kind, [`segment_check`]
+//!    asks a segment header for it, and [`frame_check_sequence`] is that of an Ethernet frame.
+//! 4. [`cut`] is the sending side: of frames and [`Piece`]s it makes the segments, or reports the
 //!    first fault. [`Cutter`] makes the same segments one at a time, so that they need not all be
 //!    held.
 //!
 //! What matters most: `read_segment` reads exactly the header that eight bytes spell; `well_formed`
-//! says yes to exactly the frames of the grammar `IsFrame`; and what `cut` makes is one lawful cut
-//! by the definition `IsLawfulCut`, on which everything above rests. [`laws`] says what follows
-//! from the definitions alone, as that what is written is read back.
+//! says yes to exactly the frames of the grammar `IsFrame`; a check sequence is what the division
+//! of polynomials leaves that the standard says; and what `cut` makes is one lawful cut by the
+//! definition `IsLawfulCut`, on which everything above rests. [`laws`] says what follows from the
+//! definitions alone, as that what is written is read back.
 //!
-//! Callers that are proved: `crates/uses/src/burst.rt` feeds a burst's segment to a joiner, and
+//! Callers that are proved: `crates/uses/src/burst.rt` feeds a burst's segment to a joiner,
+//! `crates/uses/src/header_check.rt` asks for check sequences first, and
 //! `crates/uses/src/cut_joined_again.rt` cuts frames and joins them again.
 #![tactic(auto)]
 
@@ -31,8 +36,10 @@ mod buffer;
 mod cursor;
 mod cutter;
 mod frame;
+mod frame_sequence;
 mod header;
 mod header_check;
+mod header_sequence;
 pub mod laws;
 mod pieces;
 mod segment;
@@ -40,8 +47,10 @@ mod segment;
 pub use buffer::Bytes;
 pub use cutter::{Cutter, cut};
 pub use frame::{HeadFault, HeadRead, read_head, well_formed};
+pub use frame_sequence::frame_check_sequence;
 pub use header::{SEQUENCE_MODULUS, SegmentHeader};
 pub use header_check::{HeaderCheck, NoCheck};
+pub use header_sequence::{HeaderSequence, check_sequence, segment_check};
 pub use pieces::{CutFault, FillByte, Piece};
 pub use segment::{
     HEADER_BYTES, ReadySegment, Segment, SegmentFault, read_segment, ready, write_segment,

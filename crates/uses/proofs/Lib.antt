@@ -1,4 +1,3 @@
 pub mod DeliveryRounds
 pub mod FiveSenders
-pub mod Shifts
 pub mod WindowLemmas

@@ -3,7 +3,7 @@ pub mod DeliveryFlows
 pub mod DeliveryRun
 pub mod FiveSenders
 pub mod Flow
-pub mod HeaderSequence
+pub mod HeaderCheck
 pub mod Window
 pub mod OneFlow
 pub mod RunCaller
