@@ -5,8 +5,7 @@ use Rattle.docsis_wire.specs.Limits.{sequence_modulus}
 use Rattle.flow_records.specs.declared.record.FlowRecord.{FlowRecord}
 use Rattle.flow_records.specs.declared.record.SetupFault.{SetupFault}
 use Rattle.flow_records.specs.declared.record.SetupFault.TheVariants.{TooManyFlows, BadFlow, SameSfid, OutOfMemory}
-use Rattle.flow_records.specs.Limits.{flows_max}
-use Rattle.flow_records.specs.Setup.{IsInRange, IsLeast, IsBad, IsRepeated, IsSetupFault, CanBeSetUp}
+use Rattle.flow_records.specs.Setup.{IsInRange, IsLeast, IsBad, IsRepeated, IsSetupFaultWithin, CanBeSetUpWithin}
 
 -- the least number with a property is one number
 pub least-one : (P : ℕ → Type 0) (k j : ℕ) → IsLeast P k → IsLeast P j → k ≡ j
@@ -20,25 +19,26 @@ least-one P k j k_least j_least =
     (cases_lt k j)
 
 -- some records have one fault
-pub one_fault : (records : List FlowRecord) (fault other : SetupFault) → IsSetupFault records fault → IsSetupFault records other → fault ≡ other
-one_fault records TooManyFlows TooManyFlows is are = refl
-one_fault records TooManyFlows (BadFlow j) is are = absurd (omega arith)
-one_fault records TooManyFlows (SameSfid j) is are = absurd (omega arith)
-one_fault records (BadFlow k) TooManyFlows is are = absurd (omega arith)
-one_fault records (BadFlow k) (BadFlow j) is are = ap BadFlow (least-one (IsBad records) k j is.1 are.1)
-one_fault records (BadFlow k) (SameSfid j) is are = absurd (are.1 k is.1.0)
-one_fault records (SameSfid k) TooManyFlows is are = absurd (omega arith)
-one_fault records (SameSfid k) (BadFlow j) is are = absurd (is.1 j are.1.0)
-one_fault records (SameSfid k) (SameSfid j) is are = ap SameSfid (least-one (IsRepeated records) k j is.2 are.2)
-one_fault records OutOfMemory other is are = absurd is
-one_fault records fault OutOfMemory is are = absurd are
+pub one_fault : (limit : ℕ) (records : List FlowRecord) (fault other : SetupFault) → IsSetupFaultWithin limit records fault → IsSetupFaultWithin limit records other
+    → fault ≡ other
+one_fault limit records TooManyFlows TooManyFlows is are = refl
+one_fault limit records TooManyFlows (BadFlow j) is are = absurd (omega arith)
+one_fault limit records TooManyFlows (SameSfid j) is are = absurd (omega arith)
+one_fault limit records (BadFlow k) TooManyFlows is are = absurd (omega arith)
+one_fault limit records (BadFlow k) (BadFlow j) is are = ap BadFlow (least-one (IsBad records) k j is.1 are.1)
+one_fault limit records (BadFlow k) (SameSfid j) is are = absurd (are.1 k is.1.0)
+one_fault limit records (SameSfid k) TooManyFlows is are = absurd (omega arith)
+one_fault limit records (SameSfid k) (BadFlow j) is are = absurd (is.1 j are.1.0)
+one_fault limit records (SameSfid k) (SameSfid j) is are = ap SameSfid (least-one (IsRepeated records) k j is.2 are.2)
+one_fault limit records OutOfMemory other is are = absurd is
+one_fault limit records fault OutOfMemory is are = absurd are
 
 -- records with a fault can't be set up
-pub fault-refused : (records : List FlowRecord) (fault : SetupFault) → IsSetupFault records fault → ¬ (CanBeSetUp records)
-fault-refused records TooManyFlows is can = let few = can.few in omega arith
-fault-refused records (BadFlow k) is can = can.in_range k is.1.0
-fault-refused records (SameSfid k) is can = can.apart k is.2.0
-fault-refused records OutOfMemory is can = is
+pub fault-refused : (limit : ℕ) (records : List FlowRecord) (fault : SetupFault) → IsSetupFaultWithin limit records fault → ¬ (CanBeSetUpWithin limit records)
+fault-refused limit records TooManyFlows is can = let few = can.few in omega arith
+fault-refused limit records (BadFlow k) is can = can.in_range k is.1.0
+fault-refused limit records (SameSfid k) is can = can.apart k is.2.0
+fault-refused limit records OutOfMemory is can = is
 
 -- a record that is not out of range is in range
 in-range : (r : FlowRecord) → ¬ (¬ (IsInRange r)) → IsInRange r
@@ -53,18 +53,18 @@ in-range r stays =
     }
 
 -- records without any fault can be set up
-pub no_fault : (records : List FlowRecord) → length records ≤ flows_max → ((k : ℕ) → ¬ (IsBad records k))
-    → ((k : ℕ) → ¬ (IsRepeated records k)) → CanBeSetUp records
-no_fault records few in_range apart =
+pub no_fault : (limit : ℕ) (records : List FlowRecord) → length records ≤ limit → ((k : ℕ) → ¬ (IsBad records k))
+    → ((k : ℕ) → ¬ (IsRepeated records k)) → CanBeSetUpWithin limit records
+no_fault limit records few in_range apart =
     record { few = few; in_range = in_range; each = λ k flow_record has. in-range flow_record (λ bad. in_range k (flow_record, has, bad)); apart = apart }
 
 -- an answer with the fault of some records
-pub fault-is : {T : Type 0} (records : List FlowRecord) (answer : Result T SetupFault) (found : SetupFault) → answer ≡ Err found → IsSetupFault records found
-    → (fault : SetupFault) → (answer ≡ Err fault) ↔ IsSetupFault records fault
-fault-is records answer found err is fault =
-    (λ e. let same : found ≡ fault = cc in subst (IsSetupFault records) same is, λ are. err ∙ ap Err (one_fault records found fault is are))
+pub fault-is : {T : Type 0} (limit : ℕ) (records : List FlowRecord) (answer : Result T SetupFault) (found : SetupFault) → answer ≡ Err found
+    → IsSetupFaultWithin limit records found → (fault : SetupFault) → (answer ≡ Err fault) ↔ IsSetupFaultWithin limit records fault
+fault-is limit records answer found err is fault =
+    (λ e. let same : found ≡ fault = cc in subst (IsSetupFaultWithin limit records) same is, λ are. err ∙ ap Err (one_fault limit records found fault is are))
 
 -- records that can be set up, and an answer with no fault of theirs
-pub fault-not : {T : Type 0} (records : List FlowRecord) (answer : Result T SetupFault) (fault : SetupFault) → CanBeSetUp records → ¬ (answer ≡ Err fault)
-    → (answer ≡ Err fault) ↔ IsSetupFault records fault
-fault-not records answer fault can other = (λ e. absurd (other e), λ is. absurd (fault-refused records fault is can))
+pub fault-not : {T : Type 0} (limit : ℕ) (records : List FlowRecord) (answer : Result T SetupFault) (fault : SetupFault) → CanBeSetUpWithin limit records
+    → ¬ (answer ≡ Err fault) → (answer ≡ Err fault) ↔ IsSetupFaultWithin limit records fault
+fault-not limit records answer fault can other = (λ e. absurd (other e), λ is. absurd (fault-refused limit records fault is can))

@@ -30,17 +30,25 @@ IsRepeated records k =
 abbrev pub IsLeast : (ℕ → Type 0) → ℕ → Type 0
 IsLeast P k = P k × ((j : ℕ) → j < k → ¬ (P j))
 
--- The first fault of some records, in the order in which they are looked for.
-abbrev pub IsSetupFault : List FlowRecord → SetupFault → Type 0
-IsSetupFault records TooManyFlows = flows_max < length records
-IsSetupFault records (BadFlow k) = (length records ≤ flows_max) × IsLeast (IsBad records) k
-IsSetupFault records (SameSfid k) =
-    (length records ≤ flows_max) × ((j : ℕ) → ¬ (IsBad records j)) × IsLeast (IsRepeated records) k
-IsSetupFault records OutOfMemory = ⊥
+-- The first fault of some records, of which there may be so many, in the order in which they are looked for.
+abbrev pub IsSetupFaultWithin : ℕ → List FlowRecord → SetupFault → Type 0
+IsSetupFaultWithin limit records TooManyFlows = limit < length records
+IsSetupFaultWithin limit records (BadFlow k) = (length records ≤ limit) × IsLeast (IsBad records) k
+IsSetupFaultWithin limit records (SameSfid k) =
+    (length records ≤ limit) × ((j : ℕ) → ¬ (IsBad records j)) × IsLeast (IsRepeated records) k
+IsSetupFaultWithin limit records OutOfMemory = ⊥
 
--- the records have no fault: none is out of range, so each is in range
-pub record CanBeSetUp (records : List FlowRecord) : Type 0 where
-  pub few : length records ≤ flows_max
+-- the first fault of the records of a receiver with at most 64 flows
+abbrev pub IsSetupFault : List FlowRecord → SetupFault → Type 0
+IsSetupFault = IsSetupFaultWithin flows_max
+
+-- The records, of which there may be so many, have no fault: none is out of range, so each is in range.
+pub record CanBeSetUpWithin (limit : ℕ) (records : List FlowRecord) : Type 0 where
+  pub few : length records ≤ limit
   pub in_range : (k : ℕ) → ¬ (IsBad records k)
   pub each : (k : ℕ) (flow_record : FlowRecord) → slice_get records k ≡ Some flow_record → IsInRange flow_record
   pub apart : (k : ℕ) → ¬ (IsRepeated records k)
+
+-- the records of a receiver with at most 64 flows have no fault
+abbrev pub CanBeSetUp : List FlowRecord → Type 0
+CanBeSetUp = CanBeSetUpWithin flows_max

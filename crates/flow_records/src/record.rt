@@ -1,7 +1,8 @@
 //! What is known of each service flow before it runs.
 ghost use Rattle.std.specs.Prelude.{◌≡◌, ◌<◌, ◌↔◌, ℕ, IsTrue, MatchOption, Ok, Err, length};
-ghost use Rattle.flow_records.specs.Setup.{IsInRange, IsBad, IsRepeated, IsLeast, IsSetupFault};
-ghost use Rattle.flow_records.specs.Setup.{CanBeSetUp};
+ghost use Rattle.flow_records.specs.Setup.{IsInRange, IsBad, IsRepeated, IsLeast};
+ghost use Rattle.flow_records.specs.Setup.{IsSetupFault, IsSetupFaultWithin};
+ghost use Rattle.flow_records.specs.Setup.{CanBeSetUp, CanBeSetUpWithin};
 ghost use Rattle.flow_records.specs.declared.record.SetupFault.{SetupFault};
 
 use docsis_wire::SEQUENCE_MODULUS;
@@ -36,7 +37,7 @@ pub struct FlowRecord {
 /// Why flows can't be set up. Records are counted from 0. The first of these is reported.
 #[derive(Clone, Copy, Debug, PartialEq, Eq, Error)]
 pub enum SetupFault {
-    /// There are more than 64 records.
+    /// There are more records than there may be: 64, where no other limit is named.
     #[error("too many flows")]
     TooManyFlows,
     /// A field of this record is out of its range. It is the first such record.
@@ -73,12 +74,23 @@ impl FlowRecord {
     }
 }
 
-/// Looks for the first fault of the records. It never answers `OutOfMemory`.
+/// Looks for the first fault of the records, of which there may be 64. It never answers
+/// `OutOfMemory`.
 pub fn check_records(records: &[FlowRecord]) -> Result<(), SetupFault>
     ensures ok { (result ≡ Ok tt) ↔ CanBeSetUp records.now }
     ensures fault { (fault : SetupFault) → (result ≡ Err fault) ↔ IsSetupFault records.now fault }
 {
-    if records.len() > FLOWS_MAX {
+    check_records_within(FLOWS_MAX, records)
+}
+
+/// Looks for the first fault of records of which there may be so many. It never answers
+/// `OutOfMemory`, and takes a step for each two records.
+pub fn check_records_within(limit: usize, records: &[FlowRecord]) -> Result<(), SetupFault>
+    ensures ok { (result ≡ Ok tt) ↔ CanBeSetUpWithin limit records.now }
+    ensures fault { (fault : SetupFault)
+        → (result ≡ Err fault) ↔ IsSetupFaultWithin limit records.now fault }
+{
+    if records.len() > limit {
         return Err(SetupFault::TooManyFlows);
     }
     if let Some(k) = first_bad(records) {

@@ -11,6 +11,7 @@ use Rattle.loss_rule.specs.declared.rule.LossRule.{LossRule}
 use Rattle.loss_rule.specs.Rule.{no_lasts, AreRuled}
 use Rattle.loss_rule.proofs.Reaching.{reached-none}
 use Rattle.loss_rule.proofs.Rulings.{rules-once}
+use Rattle.flow_records.specs.Limits.{flows_max}
 use Rattle.flow_records.proofs.Setup.{one_fault as one_setup_fault, fault-refused as setup-refused}
 use Rattle.receiver.specs.declared.outcome.FlowOutcome.{FlowOutcome}
 use Rattle.lane.specs.declared.report.LaneReport.{LaneReport}
@@ -172,13 +173,13 @@ module _ (setup : Setup) (incoming : Incoming) (order : List ℕ) (can : CanRece
 -- a setup has one first fault
 first-one : (setup : Setup) (IsBadOrder : ℕ → Type 0) → ((j k : ℕ) → CanReceive setup → IsBadOrder j → IsBadOrder k → j ≡ k) → (fault other : ReplayFault)
     → fault ≢ OutOfMemory → other ≢ OutOfMemory → IsFirstFault setup IsBadOrder fault → IsFirstFault setup IsBadOrder other → fault ≡ other
-first-one setup P one (AtSetup f) (AtSetup g) no_f no_g is are = ap AtSetup (one_setup_fault setup.flows.items f g is are)
-first-one setup P one (AtSetup f) (AtLane g) no_f no_g is are = absurd (setup-refused setup.flows.items f is are.0)
-first-one setup P one (AtSetup f) (BadOrder j) no_f no_g is are = absurd (setup-refused setup.flows.items f is are.0.flows)
-first-one setup P one (AtLane f) (AtSetup g) no_f no_g is are = absurd (setup-refused setup.flows.items g are is.0)
+first-one setup P one (AtSetup f) (AtSetup g) no_f no_g is are = ap AtSetup (one_setup_fault flows_max setup.flows.items f g is are)
+first-one setup P one (AtSetup f) (AtLane g) no_f no_g is are = absurd (setup-refused flows_max setup.flows.items f is are.0)
+first-one setup P one (AtSetup f) (BadOrder j) no_f no_g is are = absurd (setup-refused flows_max setup.flows.items f is are.0.flows)
+first-one setup P one (AtLane f) (AtSetup g) no_f no_g is are = absurd (setup-refused flows_max setup.flows.items g are is.0)
 first-one setup P one (AtLane f) (AtLane g) no_f no_g is are = ap AtLane (one_lane_fault setup.sids.items (length setup.flows.items) f g is.1 are.1)
 first-one setup P one (AtLane f) (BadOrder j) no_f no_g is are = absurd (lane-refused setup.sids.items (length setup.flows.items) f is.1 are.0.lanes)
-first-one setup P one (BadOrder j) (AtSetup g) no_f no_g is are = absurd (setup-refused setup.flows.items g are is.0.flows)
+first-one setup P one (BadOrder j) (AtSetup g) no_f no_g is are = absurd (setup-refused flows_max setup.flows.items g are is.0.flows)
 first-one setup P one (BadOrder j) (AtLane g) no_f no_g is are = absurd (lane-refused setup.sids.items (length setup.flows.items) g are.1 is.0.lanes)
 first-one setup P one (BadOrder j) (BadOrder k) no_f no_g is are = ap BadOrder (one j k is.0 is.1 are.1)
 first-one setup P one OutOfMemory other no_f no_g is are = absurd (no_f refl)
