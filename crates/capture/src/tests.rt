@@ -1,0 +1,2 @@
+//! Worked examples: packets and files byte by byte.
+mod bursts;
