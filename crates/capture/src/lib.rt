@@ -16,13 +16,25 @@
 #![tactic(auto)]
 
 mod burst;
+mod endian;
 pub mod laws;
 mod numbers;
 mod packet;
+mod pcap;
+mod pcap_fault;
+mod pcap_parts;
+mod pcap_reader;
+mod pcap_step;
 mod tlv;
 
 pub use burst::{Burst, BurstKind, Passed, read_burst};
+pub use endian::Endian;
 pub use packet::{Packet, read_packet};
+pub use pcap::{PCAP_HEADER_BYTES, PcapHeader, RECORD_HEADER_BYTES, RecordHead, Resolution};
+pub use pcap_fault::PcapFault;
+pub use pcap_parts::LONGEST_RECORD;
+pub use pcap_reader::PcapReader;
+pub use pcap_step::{Record, Taken};
 pub use tlv::{Tlv, last_value, split_tlv};
 
 #[cfg(test)]
