@@ -1,5 +1,5 @@
 -- The 24 bytes that are there are no header.
-use Rattle.std.proofs.Common.{◌≡◌, length, sym, ◌∙◌, arith}
+use Rattle.std.proofs.Common.{◌≡◌, length, ◌∙◌, arith}
 use Rattle.capture.proofs.PcapSteps.{no_pcap}
 use Rattle.capture.proofs.pcap_parts.take_header.Goals as goal
 

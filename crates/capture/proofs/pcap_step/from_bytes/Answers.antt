@@ -1,5 +1,5 @@
 -- With a record's last byte the record is whole.
-use Rattle.std.proofs.Common.{◌≡◌, ◌++◌, inr, length, ap, sym, ◌∙◌, arith, refl, append_assoc}
+use Rattle.std.proofs.Common.{◌++◌, inr, length, ap, sym, ◌∙◌, arith, refl, append_assoc}
 use Rattle.capture.specs.Pcap.{head_bytes}
 use Rattle.capture.proofs.PcapSteps.{more_pending, record_whole}
 use Rattle.capture.proofs.pcap_step.from_bytes.Goals as goal

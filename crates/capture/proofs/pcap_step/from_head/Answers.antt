@@ -1,5 +1,5 @@
 -- With the last byte of a record's header it was taken; a record without bytes is whole then.
-use Rattle.std.proofs.Common.{◌≡◌, ◌++◌, List, ℕ, [], inl, inr, length, ap, sym, ◌∙◌, arith, refl}
+use Rattle.std.proofs.Common.{◌≡◌, ◌++◌, inl, inr, length, ap, sym, ◌∙◌, arith, refl}
 use Rattle.std.proofs.lemmas.List.{append-nil}
 use Rattle.std.proofs.lemmas.Result.{err_from_is_err_and}
 use Rattle.std.proofs.lemmas.Option.{same_Some}
