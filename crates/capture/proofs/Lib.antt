@@ -1,0 +1,5 @@
+pub mod FieldLists
+pub mod LastValues
+pub mod PacketParts
+pub mod PcapBytes
+pub mod PcapSteps

@@ -1,0 +1,2 @@
+pub mod PcapParts
+pub mod Stages

@@ -1,0 +1,11 @@
+pub mod Fields
+pub mod Seen
+pub mod Packet
+pub mod Numbers
+pub mod Burst
+pub mod SeenBurst
+pub mod Endian
+pub mod Pcap
+pub mod PcapReading
+pub mod SeenRecord
+pub mod Inside

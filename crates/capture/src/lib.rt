@@ -1,0 +1,41 @@
+//! Recordings of DOCSIS upstreams: files of captured packets, and the bursts in them.
+//!
+//! An analyser such as the Excentis XRA-31 writes each upstream burst as a packet of link type 273
+//! (LINKTYPE_DOCSIS31_XRA31): a header of four bytes, TLVs that describe the burst, and the burst's
+//! bytes. This crate reads such packets. It knows no flows and no channels of a receiver.
+//!
+//! The calls, in the order of use:
+//!
+//! 1. [`read_burst`] makes a [`Burst`] of a packet's bytes, with its channel, its SID, its grant and
+//!    the bytes of its segment, or says by [`Passed`] why the packet is passed over.
+//! 2. [`read_packet`] is its first half: the version, the type, the TLVs and the payload of a packet
+//!    of any type. [`split_tlv`] takes the TLVs one after another, and [`last_value`] looks one up.
+//!
+//! What matters most: a packet is read exactly if its bytes spell one, and the burst is the one that
+//! the definition `burst_of` looks up in the list of its TLVs.
+#![tactic(auto)]
+
+mod burst;
+mod endian;
+pub mod laws;
+mod numbers;
+mod packet;
+mod pcap;
+mod pcap_fault;
+mod pcap_parts;
+mod pcap_reader;
+mod pcap_step;
+mod tlv;
+
+pub use burst::{Burst, BurstKind, Passed, read_burst};
+pub use endian::Endian;
+pub use packet::{Packet, read_packet};
+pub use pcap::{PCAP_HEADER_BYTES, PcapHeader, RECORD_HEADER_BYTES, RecordHead, Resolution};
+pub use pcap_fault::PcapFault;
+pub use pcap_parts::LONGEST_RECORD;
+pub use pcap_reader::PcapReader;
+pub use pcap_step::{Record, Taken};
+pub use tlv::{Tlv, last_value, split_tlv};
+
+#[cfg(test)]
+mod tests;

@@ -1,0 +1,3 @@
+//! Worked examples: packets and files byte by byte.
+mod bursts;
+mod pcap;
