@@ -1,5 +1,6 @@
 """The work tree: where its files are, and its crates with what each of them uses."""
 
+import functools
 import glob
 import os
 import re
@@ -21,6 +22,7 @@ def read(file):
         return text.read()
 
 
+@functools.cache
 def crate_lines():
     """The line of crates.txt of each crate, by its name."""
     lines = [line for line in read(path("crates.txt")).splitlines() if ":" in line and not line.startswith("#")]

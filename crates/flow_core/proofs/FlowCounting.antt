@@ -5,8 +5,7 @@ use Rattle.docsis_wire.specs.declared.segment.Segment.{Segment}
 use Rattle.flow_core.specs.declared.counts.FlowCounts.{FlowCounts}
 use Rattle.flow_core.specs.declared.event.Applied.{Applied}
 use Rattle.flow_records.specs.Counted.{counted}
-use Rattle.flow_core.specs.Counts.{says_kept, says_late, says_repeat, says_beyond, AreCounts}
-use Rattle.flow_core.specs.Inside.NoCounts.{no_counts}
+use Rattle.flow_core.specs.Counts.{says_kept, says_late, says_repeat, says_beyond, no_counts, AreCounts}
 
 -- a count goes on from what was counted
 pub counted-more : (n m k : ℕ) → k ≡ counted n → min (k + m) 18446744073709551615 ≡ counted (n + m)

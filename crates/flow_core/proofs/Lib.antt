@@ -26,3 +26,4 @@ pub mod Turns
 pub mod Draining
 pub mod Skipping
 pub mod FlowOutcomes
+pub mod EmptyFlows

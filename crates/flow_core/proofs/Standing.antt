@@ -7,7 +7,6 @@ use Rattle.std.proofs.lemmas.Option.{slice_get-get_or, slice_get_within}
 use Rattle.std.specs.Ordering.{nat_cmp}
 use Rattle.reorder.specs.View.{IsLawful, empty_window}
 use Rattle.flow_records.specs.Setup.{IsInRange}
-use Rattle.flow_core.specs.Inside.NoCounts.{no_counts}
 use Rattle.flow_core.specs.Fates.{no_fates}
 use Rattle.flow_core.proofs.FlowCounting.{counts-new}
 use Rattle.flow_core.proofs.Windows.{window-new}
@@ -20,7 +19,7 @@ use Rattle.flow_core.specs.declared.up_to.UpTo.{UpTo}
 use Rattle.flow_core.specs.declared.event.Applied.{Applied}
 use Rattle.flow_core.specs.Fates.{Fates, number_of, IsKept, IsLost, IsOpen, IsExpected, IsSettledBelow}
 use Rattle.flow_core.specs.Events.{FlowEvent, Changes, IsAfter}
-use Rattle.flow_core.specs.Counts.{AreCounts}
+use Rattle.flow_core.specs.Counts.{no_counts, AreCounts}
 use Rattle.flow_core.specs.Stands.{IsWindowFrom, IsRemembered, StandsFor, IsDrained}
 use Rattle.flow_core.proofs.Outcome.{IsSound, sound-after, sound-changes, after-append, settled-stays}
 use Rattle.flow_core.proofs.Windows.{some-none, free-kept}

@@ -34,7 +34,7 @@ pub leads-in_turn : (first width : ℕ) (events more : List FlowEvent) (answers 
 leads-in_turn first width events more answers fates after (front, back, between, p, q, are) = leads-join first width events more answers front back fates between after p q are
 
 -- an event in two lists, one after the other, is in the first one or in the other
-in_either : {X : Type 0} (events more before behind : List X) (event : X) → events ++ more ≡ before ++ event ∷ behind
+pub in_either : {X : Type 0} (events more before behind : List X) (event : X) → events ++ more ≡ before ++ event ∷ behind
     → ((rest : List X) × (events ≡ before ++ event ∷ rest)) ⊎ ((earlier : List X) × (more ≡ earlier ++ event ∷ behind))
 in_either [] more before behind event e = inr (before, e)
 in_either (first ∷ events) more [] behind event e = inl (events, let same : first ≡ event = cc in ap (λ t. t ∷ events) same)

@@ -30,6 +30,10 @@ abbrev pub payload_bytes : Option Segment → ℕ
 payload_bytes (Some segment) = length segment.payload
 payload_bytes None = 0
 
+-- nothing was counted yet
+abbrev pub no_counts : FlowCounts
+no_counts = record { kept = 0; late = 0; repeat = 0; beyond = 0; lost = 0; frames = 0; skipped = 0 }
+
 -- The counts of a flow whose events had these answers and whose settled segments are these, which gave these frames and left these bytes
 -- unfinished. The bytes of the settled segments were given in frames, are unfinished, or were skipped.
 pub record AreCounts (answers : List Applied) (settled : List (Option Segment)) (given : List (List ℕ)) (unfinished : List ℕ) (counts : FlowCounts) : Type 0 where

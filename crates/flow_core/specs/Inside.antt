@@ -1,3 +1,2 @@
 -- What only contracts of private functions, and proofs, speak of.
-pub mod NoCounts
 pub mod Losses

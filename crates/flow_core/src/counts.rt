@@ -2,7 +2,7 @@
 //!
 //! Contracts say what each count is by the answers, the settled segments and the frames.
 ghost use Rattle.std.specs.Prelude.{◌≡◌};
-ghost use Rattle.flow_core.specs.Inside.NoCounts.{no_counts};
+ghost use Rattle.flow_core.specs.Counts.{no_counts};
 
 /// What became of a flow's segments, frames and bytes. Each count stays at its greatest value,
 /// 2^64 - 1.

@@ -1,4 +1,5 @@
 //! One service flow: its window, its joiner, its counts.
+ghost use Rattle.std.specs.FinMap as map;
 ghost use Rattle.std.specs.Prelude.{◌≡◌, ◌<◌, ◌↔◌, ℕ, Bool, List, [], length, IsTrue, Ok, IfOk, OnErr};
 ghost use Rattle.docsis_wire.specs.Limits.{sequence_modulus};
 ghost use Rattle.docsis_wire.specs.Ready.{IsReady};
@@ -22,7 +23,13 @@ use flow_records::FlowRecord;
 use reorder::{Declared, Verdict, Window, laws};
 use std::alloc::{AllocError, Global};
 
-/// One service flow.
+/// One service flow by itself, for a caller that keeps its flows in a table of its own.
+///
+/// It stands for the events that it has taken, and for the frames that it has given. It takes an
+/// event only while it is drained: after each, [`Flow::advance`] is called until it answers
+/// [`Step::Nothing`]. Memory is asked for by [`Flow::new`], which makes the window, and by
+/// [`Flow::advance`], which makes the frames; where it fails nothing changed and the call can be
+/// made again. [`crate::Core`] is many of them with one check.
 #[derive(Drop)]
 pub struct Flow {
     window: Window<ReadySegment>,
@@ -34,7 +41,8 @@ pub struct Flow {
 }
 
 impl Flow {
-    /// A flow to which nothing happened yet.
+    /// A flow to which nothing happened yet, of a record that is in range. It asks for the memory of
+    /// a window of the record's width, all at once.
     pub fn new(alloc: Global, flow_record: &FlowRecord) -> Result<Flow, AllocError>
         requires { IsInRange flow_record.now }
         ensures stands { IfOk result
@@ -48,7 +56,8 @@ impl Flow {
         })
     }
 
-    /// Offers an arriving segment to the window.
+    /// Takes a segment that arrives, and answers its verdict; all but a kept one come back with it.
+    /// The segment is ready. It takes no memory.
     pub fn arrive(&mut self, segment: Segment) -> Verdict<Segment>
         requires ready { IsReady segment }
         requires drained { IsDrained self.old }
@@ -75,7 +84,8 @@ impl Flow {
         }
     }
 
-    /// Declares the expected segment lost, if a later one was kept.
+    /// Declares the expected segment lost, if a later one was kept, and answers its number; otherwise
+    /// nothing changes, so that a close that goes on until then ends. It takes no memory.
     pub fn gap(&mut self) -> Declared
         requires { IsDrained self.old }
         ensures taken { TakesEvent self.old gap (Applied.Decision result) self.new }
@@ -126,7 +136,8 @@ impl Flow {
         count > 0
     }
 
-    /// Joins the next segment. Where an allocation failed nothing changed.
+    /// Joins the next segment, and answers the frames that it completes; `Nothing`: none is next.
+    /// Where an allocation failed nothing changed.
     pub fn advance<C: HeaderCheck>(&mut self, alloc: Global, check: &C) -> Result<Step, AllocError>
         ensures step { IfOk result
             (λ step. Advances (C.accepts check.now) self.old step self.new) }
@@ -193,12 +204,20 @@ impl Flow {
         self.window.next().is_none()
     }
 
-    /// The number that the window expects, 0 to 8191.
+    /// The number that the window expects, 0 to 8191. Of a drained flow it is that of its expected
+    /// index, by a law of [`crate::laws`].
     pub fn expected(&self) -> u16
         ensures number { result ≡ self.now.window.expected }
         ensures in_range { result < sequence_modulus }
     {
         self.window.expected()
+    }
+
+    /// How many segments are held, 0 to the window's width: they were kept and are not joined yet.
+    pub fn held(&self) -> usize
+        ensures { result ≡ map.len self.now.window.held }
+    {
+        self.window.held()
     }
 
     /// What was counted so far.

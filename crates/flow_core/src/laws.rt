@@ -15,12 +15,13 @@ ghost use Rattle.flow_records.specs.declared.record.FlowRecord.{FlowRecord};
 ghost use Rattle.flow_core.specs.declared.flow.Flow.{Flow};
 ghost use Rattle.flow_core.specs.declared.counts.FlowCounts.{FlowCounts};
 ghost use Rattle.flow_core.specs.declared.event.Applied.{Applied};
-ghost use Rattle.flow_core.specs.Fates.{Fates, number_of, IsKept, IsKeptAs, IsLost, IsOpen, IsExpected, HasLaterKept, IsSettledBelow};
+ghost use Rattle.flow_core.specs.Fates.{Fates, no_fates, number_of, IsKept, IsKeptAs, IsLost, IsOpen, IsExpected, HasLaterKept, IsSettledBelow};
 ghost use Rattle.flow_core.specs.Events.{FlowEvent, gap, IsAhead, Declares, DeclaresTo, SkipsTo, Leads, IsAfter};
 ghost use Rattle.flow_core.specs.Near.{AreNear, AreOfCut, AreSkipsWithin};
 ghost use Rattle.flow_core.specs.Delivery.{IsDelivered, IsDeliverySequence};
 ghost use Rattle.flow_core.specs.Stands.{StandsFor, IsDrained};
 ghost use Rattle.flow_core.specs.Outcome.{IsFlowOutcome};
+ghost use Rattle.flow_core.specs.Counts.{no_counts};
 ghost use Rattle.flow_core.specs.Closing.{IsClosed, Closes, says_lost, IsAllKept, HaveNoArrival, HaveNoSkip, IsSkippedBy};
 ghost use Rattle.flow_core.specs.Flows.{IsLoss};
 ghost use Rattle.reorder.specs.declared.verdict.Declared.{Declared};
@@ -367,4 +368,25 @@ pub fn gaps_leave_what_was_kept()
     ensures { (first width n i : ℕ) (answers : List Applied) (fates after : Fates)
         → Leads first width fates (replicate n gap) answers after
         → IsKept after i ↔ IsKept fates i }
+{}
+
+/// What is decided about a flow to which no segment came changes nothing, as long as nothing is
+/// skipped: no index is kept or lost, a new flow stands for such events as it is, and what they give,
+/// with any gaps after them, is no frame and no count, and the flow is closed.
+pub fn decisions_about_an_empty_flow_change_nothing()
+    ensures fates { (first width : ℕ) (events : List FlowEvent) (answers : List Applied)
+        (fates : Fates)
+        → IsAfter first width events answers fates → HaveNoArrival events → HaveNoSkip events
+        → fates ≡ no_fates }
+    ensures stands { (check : List ℕ → Bool) (flow_record : FlowRecord) (flow : Flow)
+        (events : List FlowEvent) (answers : List Applied) (fates : Fates)
+        → StandsFor check flow_record flow [] [] 0 []
+        → IsAfter flow_record.first flow_record.window events answers fates
+        → HaveNoArrival events → HaveNoSkip events
+        → StandsFor check flow_record flow events answers 0 [] }
+    ensures outcome { (check : List ℕ → Bool) (flow_record : FlowRecord)
+        (events : List FlowEvent) (n : ℕ)
+        → HaveNoArrival events → HaveNoSkip events
+        → (outcome : IsFlowOutcome check flow_record (events ++ replicate n gap) [] no_counts)
+        × IsClosed outcome.fates }
 {}

@@ -19,6 +19,11 @@
 //!    lost, how many frames were given and how many bytes skipped; [`Core::flow_count`] how many
 //!    flows there are; [`Core::expected`] which number a flow expects.
 //!
+//! [`Flow`] is one flow by itself, with the same calls, for a caller that keeps its flows in a table
+//! of its own and makes each when it is needed; [`Flow::held`] also says how many segments wait.
+//! What is decided about a flow to which no segment came changes nothing, so it needn't be made for
+//! that ([`laws::decisions_about_an_empty_flow_change_nothing`]).
+//!
 //! Contracts say which list of events a flow stands for, whatever it stood for before, and [`laws`]
 //! says what follows: over a modem's lawful cut and near events, what a drained flow gave is
 //! exactly the modem's frames whose segments were all kept and lie before the expected one, in the
@@ -38,6 +43,7 @@ mod up_to;
 
 pub use counts::FlowCounts;
 pub use event::{Applied, Step};
+pub use flow::Flow;
 pub use flow_records::{
     CLUSTERS_MAX, Event, FLOWS_MAX, FlowRecord, SetupFault, WINDOW_MAX, check_records,
 };

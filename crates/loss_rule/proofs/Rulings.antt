@@ -1,6 +1,8 @@
 -- What the rule makes of comings is one thing.
 use Rattle.std.proofs.Common.{◌≡◌, ℕ, ◌+◌, ◌-◌, ◌<◌, inl, inr, Option, Some, None, List, [], ◌∷◌, ◌++◌, slice_set, refl, ap, sym, subst, ◌∙◌, arith}
 use Rattle.std.proofs.lemmas.Bool.{cases_lt}
+use Rattle.docsis_wire.specs.declared.segment.Segment.{Segment}
+use Rattle.flow_core.specs.declared.event.Applied.{Applied}
 use Rattle.flow_core.specs.Fates.{Fates, number_of, IsExpected}
 use Rattle.flow_core.specs.Events.{FlowEvent, arrives, skip_to, Leads}
 use Rattle.flow_core.proofs.Deciding.{IsAhead-once, ahead_or_behind}
@@ -33,7 +35,7 @@ notes-once first x channel number lasts noted other p q =
     p.2 ∙ ap (slice_set lasts channel) (index-once first x number p.0 q.0 p.1 q.1) ∙ sym q.2
 
 -- the window slides up to an index, or stays
-sliding-some : (flow : RuledFlow) (x number : ℕ) → (skips : List FlowEvent) × IsSliding flow x number skips
+pub sliding-some : (flow : RuledFlow) (x number : ℕ) → (skips : List FlowEvent) × IsSliding flow x number skips
 sliding-some flow x number =
     elim (ahead_or_behind flow.first x number) [
       | inr behind ↦ ([], inr (λ index ahead. absurd (behind index ahead), refl))
@@ -44,7 +46,7 @@ sliding-some flow x number =
     ]
 
 -- in one way
-sliding-once : (flow : RuledFlow) (x number : ℕ) (skips others : List FlowEvent) → IsSliding flow x number skips → IsSliding flow x number others → skips ≡ others
+pub sliding-once : (flow : RuledFlow) (x number : ℕ) (skips others : List FlowEvent) → IsSliding flow x number skips → IsSliding flow x number others → skips ≡ others
 sliding-once flow x number skips others (inl p) (inl q) =
     p.3 ∙ ap (λ i. skip_to (number_of flow.first (i + 1 - flow.width)) ∷ []) (IsAhead-once flow.first x number p.0 q.0 p.1 q.1) ∙ sym q.3
 sliding-once flow x number skips others (inl p) (inr q) = let far = p.2 in let near = q.0 p.0 p.1 in absurd (omega arith)
@@ -105,6 +107,39 @@ ruled-once rule flow lasts fates (on_channel channel segment) events others note
     let same' : skips ≡ skips' = skips-once rule flow other fates segment.head.sequence skips skips' r
     (subst (λ l. AreSkips rule flow l fates segment.head.sequence skips) same are) are' in
     (is ∙ ap (λ t. t ++ arrives segment ∷ []) same' ∙ sym is', same)
+
+-- A segment that comes where this index is expected is taken step by step.
+module _ (flow : RuledFlow) (lasts noted : Lasts) (fates : Fates) (x channel : ℕ) (segment : Segment) (events : List FlowEvent) (at : IsExpected fates x) where
+  -- by the rule that looks at what passed: noted, then what every channel has passed
+  pub steps-passed : IsRuled Passed flow lasts fates (on_channel channel segment) events noted
+      → (passing : List FlowEvent) × Notes flow.first x channel segment.head.sequence lasts noted × IsPassing flow noted x passing
+      × (events ≡ passing ++ arrives segment ∷ [])
+  steps-passed (x', skips, expected, notes, (x'', expected', passes), are) = (
+    skips,
+    subst (λ k. Notes flow.first k channel segment.head.sequence lasts noted) (expected-unique fates x' x expected at) notes,
+    subst (λ k. IsPassing flow noted k skips) (expected-unique fates x'' x expected' at) passes,
+    are,
+  )
+
+  -- by the one that also slides: from the index that is then expected
+  pub steps-slid : IsRuled PassedOrSlid flow lasts fates (on_channel channel segment) events noted
+      → (passing sliding : List FlowEvent) × (answers : List Applied) × (between : Fates) × (y : ℕ)
+      × Notes flow.first x channel segment.head.sequence lasts noted × IsPassing flow noted x passing
+      × Leads flow.first flow.width fates passing answers between × IsExpected between y × IsSliding flow y segment.head.sequence sliding
+      × (events ≡ (passing ++ sliding) ++ arrives segment ∷ [])
+  steps-slid (x', skips, expected, notes, (x'', y, passing, sliding, answers, between, expected', passes, leads, expects, slides, skips_are), are) = (
+    passing,
+    sliding,
+    answers,
+    between,
+    y,
+    subst (λ k. Notes flow.first k channel segment.head.sequence lasts noted) (expected-unique fates x' x expected at) notes,
+    subst (λ k. IsPassing flow noted k passing) (expected-unique fates x'' x expected' at) passes,
+    leads,
+    expects,
+    slides,
+    are ∙ ap (λ t. t ++ arrives segment ∷ []) skips_are,
+  )
 
 -- and so do comings one after another
 pub rules-some : (rule : LossRule) (flow : RuledFlow) (lasts : Lasts) (fates : Fates) (comings : List Coming) → IsReached flow.first flow.width fates

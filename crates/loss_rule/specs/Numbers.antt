@@ -18,6 +18,10 @@ carried_of lasts = map (λ one. one.carried) lasts.channels.items
 abbrev pub distances_of : LastNumbers → List (Option ℕ)
 distances_of lasts = map (λ one. distance_from lasts.reached.at one.last) lasts.channels.items
 
+-- the number that the flow expects
+abbrev pub expected_of : LastNumbers → ℕ
+expected_of lasts = lasts.reached.number
+
 -- no channel's last segment lies ahead
 abbrev pub no_distances : List Bool → List (Option ℕ)
 no_distances carried = replicate (length carried) None

@@ -5,8 +5,9 @@
 ghost use Rattle.std.specs.Prelude.{◌≡◌, ◌<◌, ◌≤◌, ◌⊎◌, ℕ, IfOk, IfSome, MatchResult, IsTrue, None, Some, map, slice_set};
 ghost use Rattle.std.specs.Option.{ForSome};
 ghost use Rattle.docsis_wire.specs.Limits.{sequence_modulus};
-ghost use Rattle.reorder.specs.Number.{number_ahead};
-ghost use Rattle.loss_rule.specs.Numbers.{carried_of, distances_of, ahead_distance, distance_from};
+ghost use Rattle.reorder.specs.Number.{offset, number_ahead};
+ghost use Rattle.loss_rule.specs.Numbers.{carried_of, distances_of, expected_of};
+ghost use Rattle.loss_rule.specs.Numbers.{ahead_distance, distance_from};
 ghost use Rattle.loss_rule.specs.Numbers.{no_distances, IsPassedByAll};
 ghost use Rattle.loss_rule.specs.Inside.Holding.{HoldsBack, IsNearest};
 
@@ -18,21 +19,24 @@ use std::alloc::{AllocError, Global};
 /// The greatest place of an expected number: each number that lies ahead has a place, too.
 const REACH: u16 = u16::MAX - NUMBERS_AHEAD + 1;
 
-/// What is known of each channel of one flow.
+/// What is known of each channel of one flow, and the number that the flow expects.
 #[derive(Drop)]
 pub struct LastNumbers {
     channels: Vec<KnownChannel>,
-    /// The place of the expected number.
+    /// The expected number and its place.
     reached: Place,
     /// The channel that held the flow back when all were last looked at.
     holder: usize,
 }
 
 impl LastNumbers {
-    /// Nothing came yet on any of the channels, of which each is carried or not.
-    pub fn new(alloc: Global, channels: &[bool]) -> Result<LastNumbers, AllocError>
+    /// Nothing came yet on any of the channels, of which each is carried or not, and the flow
+    /// expects this number, 0 to 8191.
+    pub fn new(alloc: Global, channels: &[bool], expected: u16) -> Result<LastNumbers, AllocError>
+        requires { expected < sequence_modulus }
         ensures carried { IfOk result (λ lasts. carried_of lasts ≡ channels.now) }
         ensures distances { IfOk result (λ lasts. distances_of lasts ≡ no_distances channels.now) }
+        ensures expected { IfOk result (λ lasts. expected_of lasts ≡ expected) }
     {
         let mut known = Vec::with_capacity(alloc, channels.len())?;
         for carried in channels {
@@ -43,70 +47,88 @@ impl LastNumbers {
         }
         Ok(LastNumbers {
             channels: known,
-            reached: Place { at: 0 },
+            reached: Place {
+                at: 0,
+                number: expected,
+            },
             holder: 0,
         })
     }
 
     /// A segment with this number, 0 to 8191, came on a channel: it is the channel's last one where
-    /// it lies ahead of the expected number, 0 to 8191, and otherwise there is none. On any other
-    /// channel than those it knows it notes nothing.
-    pub fn note(&mut self, channel: usize, number: u16, expected: u16)
-        requires number { number < sequence_modulus }
-        requires expected { expected < sequence_modulus }
+    /// it lies ahead of the expected number, and otherwise there is none. On any other channel than
+    /// those it knows it notes nothing.
+    pub fn note(&mut self, channel: usize, number: u16)
+        requires { number < sequence_modulus }
         ensures carried { carried_of self.new ≡ carried_of self.old }
-        ensures distances { distances_of self.new
-            ≡ slice_set (distances_of self.old) channel (ahead_distance expected number) }
+        ensures expected { expected_of self.new ≡ expected_of self.old }
+        ensures distances { distances_of self.new ≡ slice_set (distances_of self.old) channel
+            (ahead_distance (expected_of self.old) number) }
     {
         if channel >= self.channels.len() {
             return;
         }
         let KnownChannel { carried, .. } = self.channels[channel];
-        let last = place_ahead(self.reached, expected, number);
+        let last = place_ahead(self.reached, number);
         self.channels[channel] = KnownChannel { carried, last };
     }
 
-    /// The expected number moves on by so many numbers: what it comes past no longer lies ahead.
-    pub fn come_past(&mut self, by: u16)
+    /// The flow expects this number now, 0 to 8191: what it has come past no longer lies ahead.
+    pub fn come_to(&mut self, expected: u16)
+        requires { expected < sequence_modulus }
         ensures carried { carried_of self.new ≡ carried_of self.old }
-        ensures distances { distances_of self.new ≡ map (distance_from by) (distances_of self.old) }
+        ensures expected { expected_of self.new ≡ expected }
+        ensures distances { distances_of self.new
+            ≡ map (distance_from (offset (expected_of self.old) expected)) (distances_of self.old) }
     {
-        let Place { at } = self.reached;
+        let Place { at, number } = self.reached;
+        let by = offset(number, expected);
         if by <= REACH - at {
-            self.reached = Place { at: at + by };
+            self.reached = Place {
+                at: at + by,
+                number: expected,
+            };
         } else {
-            self.count_anew(by);
+            self.count_anew(by, expected);
         }
     }
 
-    /// Moves on by so many numbers, and counts places from the number that is then expected.
-    fn count_anew(&mut self, by: u16)
+    /// Moves on by so many numbers, to this one, and counts places from there. It is compiled
+    /// apart, since it is seldom done.
+    #[inline(never)]
+    fn count_anew(&mut self, by: u16, expected: u16)
+        requires { expected < sequence_modulus }
         ensures carried { carried_of self.new ≡ carried_of self.old }
+        ensures expected { expected_of self.new ≡ expected }
         ensures distances { distances_of self.new ≡ map (distance_from by) (distances_of self.old) }
     {
-        let Place { at } = self.reached;
+        let Place { at, .. } = self.reached;
         for one in self.channels.iter_mut() {
             let last = distance_from(at, one.last);
             one.last = distance_from(by, last);
         }
-        self.reached = Place { at: 0 };
+        self.reached = Place {
+            at: 0,
+            number: expected,
+        };
     }
 
     /// The number that each channel of the flow has come to: where the last segment of each lies
-    /// ahead, and none has the expected number, 0 to 8191, the number of the nearest of these. It
-    /// is none where the flow has no channel.
-    pub fn passed_by_all(&mut self, expected: u16) -> Option<u16>
-        requires { expected < sequence_modulus }
+    /// ahead, and none has the expected number, the number of the nearest of these. It is none
+    /// where the flow has no channel.
+    pub fn passed_by_all(&mut self) -> Option<u16>
         ensures carried { carried_of self.new ≡ carried_of self.old }
+        ensures expected { expected_of self.new ≡ expected_of self.old }
         ensures distances { distances_of self.new ≡ distances_of self.old }
-        ensures passed { IsPassedByAll (carried_of self.old) (distances_of self.old) expected result }
+        ensures passed { IsPassedByAll (carried_of self.old) (distances_of self.old)
+            (expected_of self.old) result }
         ensures in_range { ForSome result (λ number. number < sequence_modulus) }
     {
         if self.holds_back(self.holder) {
             return None;
         }
         match self.nearest() {
-            Ok(nearest) => Some(number_ahead(expected, nearest?)),
+            Ok(nearest) => Some(number_ahead(self.reached.number, nearest?)),
             Err(holder) => {
                 self.holder = holder;
                 None
@@ -125,6 +147,8 @@ impl LastNumbers {
     }
 
     /// The least distance of all channels of the flow, if there are any, or one that holds it back.
+    /// It is compiled apart, since mostly the channel that held the flow back still does.
+    #[inline(never)]
     fn nearest(&self) -> Result<Option<u16>, usize>
         ensures { MatchResult result
             (λ nearest. IsNearest (carried_of self.now) (distances_of self.now) nearest)
@@ -143,13 +167,12 @@ impl LastNumbers {
     }
 }
 
-/// The place of a number, where it lies ahead of the expected one, whose place this is.
-fn place_ahead(reached: Place, expected: u16, number: u16) -> Option<u16>
-    requires expected { expected < sequence_modulus }
-    requires number { number < sequence_modulus }
-    ensures { distance_from reached.at result ≡ ahead_distance expected number }
+/// The place of a number, where it lies ahead of the expected one.
+fn place_ahead(reached: Place, number: u16) -> Option<u16>
+    requires { number < sequence_modulus }
+    ensures { distance_from reached.at result ≡ ahead_distance reached.number number }
 {
-    let distance = offset(expected, number);
+    let distance = offset(reached.number, number);
     if distance < NUMBERS_AHEAD {
         Some(reached.at + distance)
     } else {

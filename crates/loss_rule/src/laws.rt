@@ -14,12 +14,12 @@ ghost use Rattle.flow_core.specs.declared.event.Applied.{Applied};
 ghost use Rattle.flow_core.specs.declared.counts.FlowCounts.{FlowCounts};
 ghost use Rattle.flow_records.specs.declared.record.FlowRecord.{FlowRecord};
 ghost use Rattle.flow_core.specs.Fates.{Fates, IsKept, IsKeptAs, IsLost, IsExpected};
-ghost use Rattle.flow_core.specs.Events.{FlowEvent, gap, IsAhead, Leads, IsAfter};
+ghost use Rattle.flow_core.specs.Events.{FlowEvent, arrives, gap, IsAhead, Leads, IsAfter};
 ghost use Rattle.flow_core.specs.Near.{AreNear};
 ghost use Rattle.flow_core.specs.Closing.{IsClosed};
 ghost use Rattle.flow_core.specs.Outcome.{IsFlowOutcome};
 ghost use Rattle.loss_rule.specs.declared.rule.LossRule.{LossRule};
-ghost use Rattle.loss_rule.specs.Rule.{Coming, on_channel, RuledFlow, HasChannel, Lasts, IsLastOn, IsPassed, HaveComeTo, Notes, AreSkips, IsRuled, Rules, AreRuled, own_event};
+ghost use Rattle.loss_rule.specs.Rule.{Coming, on_channel, RuledFlow, HasChannel, Lasts, IsLastOn, IsPassed, HaveComeTo, Notes, IsPassing, IsSliding, AreSkips, IsRuled, Rules, AreRuled, own_event};
 ghost use Rattle.loss_rule.specs.InOrder.{Comes, AreInChannelOrder, ComeNear, ComeWithin, NeedNoSlide, FallIntoTheWindow, FitTheWindow};
 ghost use Rattle.loss_rule.specs.InOrder.{HaveShortOutages, SlideSafely, NeverComes, IsOvertaken, IsAllCome};
 ghost use Rattle.loss_rule.specs.InOrder.{HaveNoDecision, HandInDecisions, DecideSafely, DecideThePast};
@@ -53,6 +53,44 @@ pub fn comings_are_ruled_in_turn()
         × Rules rule flow lasts fates comings front between_lasts between
         × Rules rule flow between_lasts between more back noted after
         × (events ≡ front ++ back)) }
+{}
+
+/// What is skipped before a segment arrives is one thing, step by step. What every channel has
+/// passed there is to skip, or nothing, and only that; likewise what the window loses as it slides.
+/// So a segment that comes where x is the expected index makes just these events: by `Passed` it is
+/// noted, then comes the first skip, then the segment arrives; by `PassedOrSlid` the window slides
+/// between the two, from the index that is expected then; by `Decided` it arrives and no more.
+pub fn skips_are_one()
+    ensures passing { (flow : RuledFlow) (noted : Lasts) (x : ℕ)
+        → (skips : List FlowEvent) × IsPassing flow noted x skips }
+    ensures passing_only { (flow : RuledFlow) (noted : Lasts) (x : ℕ)
+        (skips others : List FlowEvent)
+        → IsPassing flow noted x skips → IsPassing flow noted x others → skips ≡ others }
+    ensures sliding { (flow : RuledFlow) (x number : ℕ)
+        → (skips : List FlowEvent) × IsSliding flow x number skips }
+    ensures sliding_only { (flow : RuledFlow) (x number : ℕ) (skips others : List FlowEvent)
+        → IsSliding flow x number skips → IsSliding flow x number others → skips ≡ others }
+    ensures decided { (flow : RuledFlow) (lasts noted : Lasts) (fates : Fates) (channel : ℕ)
+        (segment : Segment) (events : List FlowEvent)
+        → IsRuled LossRule.Decided flow lasts fates (on_channel channel segment) events noted
+        → events ≡ arrives segment ∷ [] }
+    ensures passed { (flow : RuledFlow) (lasts noted : Lasts) (fates : Fates) (x channel : ℕ)
+        (segment : Segment) (events : List FlowEvent)
+        → IsExpected fates x
+        → IsRuled LossRule.Passed flow lasts fates (on_channel channel segment) events noted
+        → (passing : List FlowEvent)
+        × Notes flow.first x channel segment.head.sequence lasts noted
+        × IsPassing flow noted x passing × (events ≡ passing ++ arrives segment ∷ []) }
+    ensures slid { (flow : RuledFlow) (lasts noted : Lasts) (fates : Fates) (x channel : ℕ)
+        (segment : Segment) (events : List FlowEvent)
+        → IsExpected fates x
+        → IsRuled LossRule.PassedOrSlid flow lasts fates (on_channel channel segment) events noted
+        → (passing sliding : List FlowEvent) × (answers : List Applied) × (between : Fates)
+        × (y : ℕ) × Notes flow.first x channel segment.head.sequence lasts noted
+        × IsPassing flow noted x passing
+        × Leads flow.first flow.width fates passing answers between × IsExpected between y
+        × IsSliding flow y segment.head.sequence sliding
+        × (events ≡ (passing ++ sliding) ++ arrives segment ∷ []) }
 {}
 
 /// Where decisions that are handed in decide alone, the events are just what came, one for one.

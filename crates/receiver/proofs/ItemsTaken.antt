@@ -233,6 +233,8 @@ module _ {C : Type 0} (accepts : C → List ℕ → Bool) (assembler : Assembler
   pub handed_over : HandsOver accepts assembler i frames.items (record assembler { frames = with_item assembler.frames i none })
   handed_over = record {
     core = refl;
+    all = sym was_collected;
+    left = now_none;
     hands = λ accepted handed handed' records items has own others. record {
       has_taken = given_alike accepts assembler.core accepted records items (λ k. handed k ++ collected assembler k) (λ k. handed' k ++ left k)
           has.has_taken (the_same handed handed' own others);

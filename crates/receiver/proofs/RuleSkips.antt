@@ -10,7 +10,7 @@ use Rattle.flow_core.specs.Events.{arrives, skip_to}
 use Rattle.loss_rule.specs.declared.rule.LossRule.{LossRule}
 use Rattle.loss_rule.specs.declared.rule.LossRule.TheVariants.{Decided, Passed, PassedOrSlid}
 use Rattle.loss_rule.specs.Rule.{Lasts, on_channel, Notes, IsPassing, IsSliding, AreSkips}
-use Rattle.loss_rule.specs.Numbers.{carried_of, distances_of, ahead_distance, skips_to, AreDistancesOf, IsPassedByAll, IsSlidTo}
+use Rattle.loss_rule.specs.Numbers.{carried_of, distances_of, expected_of, ahead_distance, skips_to, AreDistancesOf, IsPassedByAll, IsSlidTo}
 use Rattle.loss_rule.proofs.Rulings.{index-some}
 use Rattle.loss_rule.proofs.TiedNumbers.{tied-noted}
 use Rattle.loss_rule.proofs.TiedSkips.{tied-passing, tied-sliding}
@@ -19,7 +19,7 @@ use Rattle.receiver.specs.declared.ruled.RuledNumbers.{RuledNumbers}
 use Rattle.receiver.specs.declared.ruled.RuledAssembler.{RuledAssembler}
 use Rattle.receiver.specs.Ruled.{ruled_flow, channels_of}
 use Rattle.receiver.specs.Inside.Assembly.{HasAssembled}
-use Rattle.receiver.specs.Inside.Ruling.{HasNoted, IsNoting, TakesNoted, SkipsPassed, Slides, SkipsBefore, TakesComing}
+use Rattle.receiver.specs.Inside.Ruling.{AreTied, HasNoted, IsNoting, TakesNoted, SkipsPassed, Slides, SkipsBefore, TakesComing}
 use Rattle.receiver.proofs.Ruling.{Expects, led-none, led-both, noted-range}
 
 -- a segment with any number can be noted
@@ -33,18 +33,17 @@ numbers-tied rule T asks (inr tied) = tied
 
 module _ {C : Type 0} (accepts : C → List ℕ → Bool) where
   -- A segment with this number came on a channel, and that is noted.
-  module _ (ruled between : RuledAssembler C) (k channel number expected : ℕ) (was is : RuledNumbers) (small : number < 8192)
+  module _ (ruled between : RuledAssembler C) (k channel number : ℕ) (was is : RuledNumbers) (small : number < 8192)
       (rule : between.rule ≡ ruled.rule) (assembler : between.assembler ≡ ruled.assembler)
       (there : slice_get ruled.numbers.items k ≡ Some was) (then : slice_get between.numbers.items k ≡ Some is)
       (width : is.width ≡ was.width) (carried : carried_of is.lasts ≡ carried_of was.lasts)
-      (expects : Expects accepts ruled.assembler k expected)
-      (wrote : distances_of is.lasts ≡ slice_set (distances_of was.lasts) channel (ahead_distance expected number)) where
+      (stays : expected_of is.lasts ≡ expected_of was.lasts)
+      (wrote : distances_of is.lasts ≡ slice_set (distances_of was.lasts) channel (ahead_distance (expected_of was.lasts) number)) where
     pub noted-between : (accepted : List ℕ → Bool) (handed : ℕ → List (List ℕ)) (setup : Setup) (r : FlowRecord) (items : List Event) (lasts noted : Lasts) (fates : Fates) (x : ℕ)
         → HasNoted accepts ruled accepted handed setup k r items lasts fates x → Notes r.first x channel number lasts noted
         → HasNoted accepts between accepted handed setup k r items noted fates x
     noted-between accepted handed setup r items lasts noted fates x has notes =
         let old : was ≡ has.numbers = same_Some was has.numbers (sym there ∙ has.there) in
-        let at = expects accepted handed setup.flows.items r items has.answers fates x has.assembled has.of_flow has.after has.expected in
         record {
           assembled = subst (λ a. HasAssembled accepts a accepted handed setup.flows.items items) (sym assembler) has.assembled;
           of_flow = has.of_flow;
@@ -59,10 +58,15 @@ module _ {C : Type 0} (accepts : C → List ℕ → Bool) where
           expected = has.expected;
           tied = elim has.tied [
             | inl decided ↦ inl (rule ∙ decided)
-            | inr tied ↦ inr (subst (AreDistancesOf x noted)
-                (ap (λ (one : RuledNumbers). slice_set (distances_of one.lasts) channel (ahead_distance (number_of r.first x) number)) (sym old)
-                ∙ ap (λ n. slice_set (distances_of was.lasts) channel (ahead_distance n number)) (sym at) ∙ sym wrote)
-                (tied-noted r.first x channel number lasts noted (distances_of has.numbers.lasts) small tied notes))
+            | inr tied ↦
+                let at : expected_of was.lasts ≡ number_of r.first x = ap (λ (one : RuledNumbers). expected_of one.lasts) old ∙ tied.expected in
+                inr record {
+                  distances = subst (AreDistancesOf x noted)
+                      (ap (λ (one : RuledNumbers). slice_set (distances_of one.lasts) channel (ahead_distance (number_of r.first x) number)) (sym old)
+                      ∙ ap (λ n. slice_set (distances_of was.lasts) channel (ahead_distance n number)) (sym at) ∙ sym wrote)
+                      (tied-noted r.first x channel number lasts noted (distances_of has.numbers.lasts) small tied.distances notes);
+                  expected = stays ∙ at;
+                }
           ];
         }
 
@@ -82,30 +86,28 @@ module _ {C : Type 0} (accepts : C → List ℕ → Bool) where
         }
 
     -- and the number to which every channel has come is then that of the rule
-    module _ (asks : ruled.rule ≢ Decided) (passed : Option ℕ) (by_all : IsPassedByAll (carried_of is.lasts) (distances_of is.lasts) expected passed) where
-      passing-is : (accepted : List ℕ → Bool) (handed : ℕ → List (List ℕ)) (setup : Setup) (r : FlowRecord) (items : List Event) (lasts noted : Lasts) (fates : Fates) (x : ℕ)
-          → HasNoted accepts ruled accepted handed setup k r items lasts fates x → HasNoted accepts between accepted handed setup k r items noted fates x
-          → IsPassing (ruled_flow setup.sids.items k r) noted x (skips_to passed)
-      passing-is accepted handed setup r items lasts noted fates x has now =
+    module _ (asks : ruled.rule ≢ Decided) (passed : Option ℕ) (by_all : IsPassedByAll (carried_of is.lasts) (distances_of is.lasts) (expected_of is.lasts) passed) where
+      passing-is : (accepted : List ℕ → Bool) (handed : ℕ → List (List ℕ)) (setup : Setup) (r : FlowRecord) (items : List Event) (noted : Lasts) (fates : Fates) (x : ℕ)
+          → HasNoted accepts between accepted handed setup k r items noted fates x → IsPassing (ruled_flow setup.sids.items k r) noted x (skips_to passed)
+      passing-is accepted handed setup r items noted fates x now =
           let same : is ≡ now.numbers = same_Some is now.numbers (sym then ∙ now.there) in
-          let at = expects accepted handed setup.flows.items r items has.answers fates x has.assembled has.of_flow has.after has.expected in
-          let tied = numbers-tied between.rule (AreDistancesOf x noted (distances_of now.numbers.lasts)) (λ decided. asks (sym rule ∙ decided)) now.tied in
+          let tied = numbers-tied between.rule (AreTied r.first x noted now.numbers.lasts) (λ decided. asks (sym rule ∙ decided)) now.tied in
           let of_flow : IsPassedByAll (channels_of setup.sids.items k) (distances_of now.numbers.lasts) (number_of r.first x) passed =
-          subst (λ n. IsPassedByAll (channels_of setup.sids.items k) (distances_of now.numbers.lasts) n passed) at
-          (subst (λ c. IsPassedByAll c (distances_of now.numbers.lasts) expected passed) now.known.carried
-          (subst (λ (one : RuledNumbers). IsPassedByAll (carried_of one.lasts) (distances_of one.lasts) expected passed) same by_all)) in
-          (tied-passing (ruled_flow setup.sids.items k r) x noted (distances_of now.numbers.lasts) tied passed (skips_to passed) of_flow).1 refl
+          subst (λ n. IsPassedByAll (channels_of setup.sids.items k) (distances_of now.numbers.lasts) n passed) tied.expected
+          (subst (λ c. IsPassedByAll c (distances_of now.numbers.lasts) (expected_of now.numbers.lasts) passed) now.known.carried
+          (subst (λ (one : RuledNumbers). IsPassedByAll (carried_of one.lasts) (distances_of one.lasts) (expected_of one.lasts) passed) same by_all)) in
+          (tied-passing (ruled_flow setup.sids.items k r) x noted (distances_of now.numbers.lasts) tied.distances passed (skips_to passed) of_flow).1 refl
 
-    pub passed-none : ruled.rule ≢ Decided → IsPassedByAll (carried_of is.lasts) (distances_of is.lasts) expected None → SkipsPassed accepts ruled k channel number between
+    pub passed-none : ruled.rule ≢ Decided → IsPassedByAll (carried_of is.lasts) (distances_of is.lasts) (expected_of is.lasts) None → SkipsPassed accepts ruled k channel number between
     passed-none asks none accepted handed setup r items lasts noted fates x has notes =
         let now = noted-between accepted handed setup r items lasts noted fates x has notes in
-        ([], passing-is asks None none accepted handed setup r items lasts noted fates x has now, led-none accepts between accepted handed setup k r items noted fates x now)
+        ([], passing-is asks None none accepted handed setup r items noted fates x now, led-none accepts between accepted handed setup k r items noted fates x now)
 
-    pub passed-some : (n : ℕ) (after : RuledAssembler C) → ruled.rule ≢ Decided → IsPassedByAll (carried_of is.lasts) (distances_of is.lasts) expected (Some n)
+    pub passed-some : (n : ℕ) (after : RuledAssembler C) → ruled.rule ≢ Decided → IsPassedByAll (carried_of is.lasts) (distances_of is.lasts) (expected_of is.lasts) (Some n)
         → TakesNoted accepts between (SkipTo k n) after → SkipsPassed accepts ruled k channel number after
     passed-some n after asks some takes accepted handed setup r items lasts noted fates x has notes =
         let now = noted-between accepted handed setup r items lasts noted fates x has notes in
-        (skip_to n ∷ [], passing-is asks (Some n) some accepted handed setup r items lasts noted fates x has now, takes accepted handed setup r items noted fates x now)
+        (skip_to n ∷ [], passing-is asks (Some n) some accepted handed setup r items noted fates x now, takes accepted handed setup r items noted fates x now)
 
   -- The window slides.
   module _ (ruled : RuledAssembler C) (k number expected : ℕ) (was : RuledNumbers) (small : number < 8192)

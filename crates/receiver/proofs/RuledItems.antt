@@ -1,5 +1,5 @@
 -- What all flows take by a rule, item by item.
-use Rattle.std.proofs.Common.{◌≡◌, ◌≢◌, ℕ, ◌+◌, ◌<◌, ◌==◌, inl, inr, Bool, true, false, cond, Some, List, [], ◌∷◌, ◌++◌, map, filter, replicate, length, slice_get, Vec, refl, ap, sym, subst, ◌∙◌, append-nil, length-append, arith}
+use Rattle.std.proofs.Common.{◌≡◌, ◌≢◌, ℕ, ◌+◌, ◌%◌, ◌<◌, ◌==◌, inl, inr, Bool, true, false, cond, Some, List, [], ◌∷◌, ◌++◌, map, filter, replicate, length, slice_get, Vec, refl, ap, sym, subst, ◌∙◌, append-nil, length-append, arith}
 use Rattle.std.proofs.lemmas.Bool.{cases_eq, eq-eqb, ne_eqb}
 use Rattle.std.proofs.lemmas.Option.{same_Some}
 use Rattle.docsis_wire.proofs.StreamPlaces.{element_at}
@@ -176,7 +176,10 @@ module _ {C : Type 0} (accepts : C → List ℕ → Bool) where
             answers = [];
             after = (refl, refl);
             expected = (sound-none r.window).expected;
-            tied = inr (subst (AreDistancesOf 0 (no_lasts (ruled_flow setup.sids.items k r))) (sym one.3) (tied-none (ruled_flow setup.sids.items k r) 0));
+            tied = inr record {
+              distances = subst (AreDistancesOf 0 (no_lasts (ruled_flow setup.sids.items k r))) (sym one.3) (tied-none (ruled_flow setup.sids.items k r) 0);
+              expected = one.4 ∙ (let small = (assembled.has_taken.set_up.each k r of_flow).first in let same : r.first ≡ (r.first + 0) % 8192 = omega arith in same);
+            };
           };
           made = (refl, refl, refl);
         };

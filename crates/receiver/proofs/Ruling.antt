@@ -16,7 +16,7 @@ use Rattle.flow_core.proofs.OneFates.{after-once}
 use Rattle.flow_core.proofs.Turns.{leads-split, leads-in_turn}
 use Rattle.loss_rule.specs.declared.rule.LossRule.TheVariants.{Decided}
 use Rattle.loss_rule.specs.Rule.{Lasts}
-use Rattle.loss_rule.specs.Numbers.{carried_of, distances_of, distance_from, AreDistancesOf}
+use Rattle.loss_rule.specs.Numbers.{carried_of, distances_of, expected_of, distance_from, AreDistancesOf}
 use Rattle.loss_rule.proofs.TiedNumbers.{tied-on}
 use Rattle.receiver.specs.declared.setup.Setup.{Setup}
 use Rattle.receiver.specs.declared.flows.Assembler.{Assembler}
@@ -24,7 +24,7 @@ use Rattle.receiver.specs.declared.ruled.RuledNumbers.{RuledNumbers}
 use Rattle.receiver.specs.declared.ruled.RuledAssembler.{RuledAssembler}
 use Rattle.receiver.specs.Items.{events_at}
 use Rattle.receiver.specs.Inside.Assembly.{HasAssembled}
-use Rattle.receiver.specs.Inside.Ruling.{AddEvents, HasNoted, HasLed, KeepsRule, TakesNoted}
+use Rattle.receiver.specs.Inside.Ruling.{AddEvents, AreTied, HasNoted, HasLed, KeepsRule, TakesNoted}
 use Rattle.receiver.proofs.ItemsTaken.{event_taken, event_of_another}
 
 -- no event more, one, and those of two
@@ -98,12 +98,9 @@ module _ {C : Type 0} (accepts : C → List ℕ → Bool) where
     noted-range = has.assembled.has_taken.set_up.each k r has.of_flow
 
   -- what the flow has come past no longer lies ahead
-  pub record HasComePast (ruled after : RuledAssembler C) (k : ℕ) (was is : RuledNumbers) : Type 0 where
-    pub expected : ℕ
-    pub expects : Expects ruled.assembler k expected
-    pub then : ℕ
-    pub expects_then : Expects after.assembler k then
-    pub left : distances_of is.lasts ≡ map (distance_from (offset expected then)) (distances_of was.lasts)
+  pub record HasComePast (after : RuledAssembler C) (k : ℕ) (was is : RuledNumbers) : Type 0 where
+    pub expects : Expects after.assembler k (expected_of is.lasts)
+    pub left : distances_of is.lasts ≡ map (distance_from (offset (expected_of was.lasts) (expected_of is.lasts))) (distances_of was.lasts)
 
   -- What becomes of a flow that takes an event, where what it has then come past no longer lies ahead, if the rule looks at any.
   module _ (ruled after : RuledAssembler C) (event : Event) (was is : RuledNumbers)
@@ -112,7 +109,7 @@ module _ {C : Type 0} (accepts : C → List ℕ → Bool) where
       (rule : after.rule ≡ ruled.rule)
       (there : slice_get ruled.numbers.items (flow_of event) ≡ Some was) (then : slice_get after.numbers.items (flow_of event) ≡ Some is)
       (width : is.width ≡ was.width) (carried : carried_of is.lasts ≡ carried_of was.lasts)
-      (past : (after.rule ≡ Decided) ⊎ HasComePast ruled after (flow_of event) was is) where
+      (past : (after.rule ≡ Decided) ⊎ HasComePast after (flow_of event) was is) where
     pub event-led : TakesNoted accepts ruled event after
     event-led accepted handed setup r items lasts fates x has =
         let k = flow_of event in
@@ -127,19 +124,22 @@ module _ {C : Type 0} (accepts : C → List ℕ → Bool) where
         let led : Leads r.first r.window fates (event_of event ∷ []) s.1 stands.fates =
         subst (λ (f : Fates). Leads r.first r.window f (event_of event ∷ []) s.1 stands.fates) same s.4 in
         let old : was ≡ has.numbers = same_Some was has.numbers (sym there ∙ has.there) in
-        let tied : (after.rule ≡ Decided) ⊎ AreDistancesOf stands.x lasts (distances_of is.lasts) = elim has.tied [
+        let tied : (after.rule ≡ Decided) ⊎ AreTied r.first stands.x lasts is.lasts = elim has.tied [
           | inl decided ↦ inl (rule ∙ decided)
-          | inr distances ↦ elim past [
+          | inr known ↦ elim past [
             | inl decided ↦ inl decided
-            | inr left ↦
+            | inr come ↦
                 let moved = onward-one r.first r.window x stands.x (event_of event) (events_at k items) has.answers s.1 fates stands.fates (omega arith) has.after has.expected led stands.expected in
-                let at = left.expects accepted handed setup.flows.items r items has.answers fates x has.assembled has.of_flow has.after has.expected in
-                let then_at = left.expects_then accepted handed setup.flows.items r (items ++ event ∷ []) (taken.has_taken.each k r has.of_flow).has_given.answers stands.fates stands.x
+                let at : expected_of was.lasts ≡ number_of r.first x = ap (λ (one : RuledNumbers). expected_of one.lasts) old ∙ known.expected in
+                let then_at = come.expects accepted handed setup.flows.items r (items ++ event ∷ []) (taken.has_taken.each k r has.of_flow).has_given.answers stands.fates stands.x
                 taken has.of_flow stands.after stands.expected in
-                inr (subst (AreDistancesOf stands.x lasts)
-                (ap (λ (one : RuledNumbers). map (distance_from (stands.x - x)) (distances_of one.lasts)) (sym old)
-                ∙ ap (λ n. map (distance_from n) (distances_of was.lasts)) (sym (came-past r.first x stands.x left.expected left.then moved.0 moved.1 at then_at)) ∙ sym left.left)
-                (tied-on x stands.x lasts (distances_of has.numbers.lasts) moved.0 distances))
+                inr record {
+                  distances = subst (AreDistancesOf stands.x lasts)
+                      (ap (λ (one : RuledNumbers). map (distance_from (stands.x - x)) (distances_of one.lasts)) (sym old)
+                      ∙ ap (λ n. map (distance_from n) (distances_of was.lasts)) (sym (came-past r.first x stands.x (expected_of was.lasts) (expected_of is.lasts) moved.0 moved.1 at then_at)) ∙ sym come.left)
+                      (tied-on x stands.x lasts (distances_of has.numbers.lasts) moved.0 known.distances);
+                  expected = then_at;
+                }
           ]
         ] in
         record {

@@ -1,5 +1,6 @@
 //! All flows, and what the loss rule has to know of each.
 ghost use Rattle.std.specs.Prelude.{◌≡◌, IfOk};
+ghost use Rattle.flow_records.specs.Setup.{CanBeSetUp};
 ghost use Rattle.receiver.specs.Ruled.{carries, channels_of};
 ghost use Rattle.receiver.specs.Inside.Ruling.{AreNewNumbers};
 
@@ -10,7 +11,6 @@ use docsis_wire::{Bytes, HeaderCheck, Segment};
 use flow_core::{Core, Event};
 use lane::{CHANNELS, SidRow};
 use loss_rule::{LastNumbers, LossRule, slid_to};
-use reorder::offset;
 use std::alloc::{AllocError, Global};
 
 /// What the loss rule has to know of a flow.
@@ -18,7 +18,8 @@ use std::alloc::{AllocError, Global};
 pub struct RuledNumbers {
     /// The width of the flow's window.
     pub width: u16,
-    /// Of each channel how far ahead the last segment lies that came there.
+    /// Of each channel how far ahead the last segment lies that came there, and what number the
+    /// flow expects.
     pub lasts: LastNumbers,
 }
 
@@ -42,7 +43,7 @@ impl<C: HeaderCheck + Drop> RuledAssembler<C> {
     ghost use Rattle.receiver.specs.declared.setup.Setup.{Setup};
     ghost use Rattle.receiver.specs.Items.{IsItem};
     ghost use Rattle.receiver.specs.Ruled.{AreRuledOutcomes};
-    ghost use Rattle.receiver.specs.Inside.Assembly.{none_handed};
+    ghost use Rattle.receiver.specs.Inside.Assembly.{none_handed, collected};
     ghost use Rattle.receiver.specs.Inside.Ruling.{HasRuled, IsRuling, IsNoting, KeepsRule};
     ghost use Rattle.receiver.specs.Inside.Ruling.{TakesNoted, SkipsPassed, Slides, SkipsBefore};
     ghost use Rattle.receiver.specs.Inside.Ruling.{TakesComing};
@@ -135,6 +136,7 @@ impl<C: HeaderCheck + Drop> RuledAssembler<C> {
     }
 
     /// Notes the segment, and skips to the number to which every channel of the flow has come.
+    #[inline(always)]
     fn skip_passed(
         &mut self,
         alloc: Global,
@@ -149,10 +151,9 @@ impl<C: HeaderCheck + Drop> RuledAssembler<C> {
             SkipsPassed C.accepts self.old flow channel number self.new) }
         ensures kept { IfOk result (λ _. KeepsRule self.old self.new flow) }
     {
-        let expected = self.assembler.expected(flow);
         let lasts = &mut self.numbers[flow].lasts;
-        lasts.note(channel, number, expected);
-        match lasts.passed_by_all(expected) {
+        lasts.note(channel, number);
+        match lasts.passed_by_all() {
             None => Ok(()),
             Some(passed) => self.skip_to(alloc, flow, passed),
         }
@@ -172,7 +173,8 @@ impl<C: HeaderCheck + Drop> RuledAssembler<C> {
         }
     }
 
-    /// Takes a skip of the flow up to this number.
+    /// Takes a skip of the flow up to this number. It is compiled apart, since few segments skip.
+    #[inline(never)]
     fn skip_to(&mut self, alloc: Global, flow: usize, number: u16) -> Result<(), AllocError>
         requires noting { IsNoting C.accepts self.old flow }
         requires number { number < sequence_modulus }
@@ -195,11 +197,9 @@ impl<C: HeaderCheck + Drop> RuledAssembler<C> {
             return self.assembler.take(alloc, event);
         }
         let flow = event.flow();
-        let before = self.assembler.expected(flow);
         self.assembler.take(alloc, event)?;
-        let after = self.assembler.expected(flow);
-        let lasts = &mut self.numbers[flow].lasts;
-        lasts.come_past(offset(before, after));
+        let expected = self.assembler.expected(flow);
+        self.numbers[flow].lasts.come_to(expected);
         Ok(())
     }
 
@@ -210,7 +210,8 @@ impl<C: HeaderCheck + Drop> RuledAssembler<C> {
         self.assembler.flow_count()
     }
 
-    /// Hands over the frames that a flow has given since its frames were last handed over.
+    /// Hands over the frames that a flow has given since its frames were last handed over, all of
+    /// them.
     pub fn hand_over(&mut self, alloc: Global, flow: usize) -> Vec<Bytes>
         requires ruling { IsRuling C.accepts self.old }
         requires exists { flow < length self.old.assembler.core.flows.items }
@@ -220,6 +221,8 @@ impl<C: HeaderCheck + Drop> RuledAssembler<C> {
             → handed' flow ≡ handed flow ++ result.items
             → ((k : ℕ) → k ≢ flow → handed' k ≡ handed k)
             → HasRuled C.accepts self.new accepted handed' setup order items }
+        ensures all { result.items ≡ collected self.old.assembler flow }
+        ensures left { collected self.new.assembler flow ≡ [] }
         ensures rule { self.new.rule ≡ self.old.rule }
     {
         self.assembler.hand_over(alloc, flow)
@@ -249,13 +252,15 @@ impl<C: HeaderCheck + Drop> RuledAssembler<C> {
 
 /// What is known of each flow at first.
 fn new_numbers(alloc: Global, setup: &Setup) -> Result<Vec<RuledNumbers>, AllocError>
+    requires { CanBeSetUp setup.now.flows.items }
     ensures { IfOk result (λ numbers. AreNewNumbers setup.now numbers.items) }
 {
     let mut numbers = Vec::with_capacity(alloc, setup.flows.len())?;
     for (flow, record) in setup.flows.iter().enumerate() {
+        let lasts = LastNumbers::new(alloc, &channels_of(&setup.sids, flow), record.first)?;
         numbers.push_reserved(RuledNumbers {
             width: record.window,
-            lasts: LastNumbers::new(alloc, &channels_of(&setup.sids, flow))?,
+            lasts,
         });
     }
     Ok(numbers)

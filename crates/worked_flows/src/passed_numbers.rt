@@ -6,36 +6,40 @@ use std::alloc::{AllocError, Global};
 use std::process::Abort;
 use std::test::Fail;
 
-/// A call, with the expected answer. The last number of `Note` and `Passed` is the one that the flow
-/// expects, and that of `Past` says by how many numbers it moves on.
+/// A call, with the expected answer.
 #[derive(Clone, Copy)]
 enum Step {
-    Note(usize, u16, u16),
-    Past(u16),
-    Passed(Option<u16>, u16),
+    /// A number comes on a channel.
+    Note(usize, u16),
+    /// The flow expects this number now.
+    Expects(u16),
+    /// The number to which every channel has come.
+    Passed(Option<u16>),
 }
 
-use Step::{Note, Passed, Past};
+use Step::{Expects, Note, Passed};
 
+/// Plays the steps of a flow that expects this number at first.
 fn play(
     rt: &impl Abort,
     alloc: Global,
     name: &str,
-    channels: &[bool],
+    (channels, first): (&[bool], u16),
     steps: &[Step],
 ) -> Result<(), AllocError> {
-    let mut lasts = LastNumbers::new(alloc, channels)?;
+    assert!(rt; first < 8192);
+    let mut lasts = LastNumbers::new(alloc, channels, first)?;
     for step in steps {
         match *step {
-            Note(channel, number, expected) => {
-                assert!(rt; number < 8192 && expected < 8192);
-                lasts.note(channel, number, expected);
+            Note(channel, number) => {
+                assert!(rt; number < 8192);
+                lasts.note(channel, number);
             }
-            Past(by) => lasts.come_past(by),
-            Passed(answer, expected) => {
-                assert!(rt; expected < 8192);
-                assert_eq!(rt; lasts.passed_by_all(expected), answer, "{name}");
+            Expects(number) => {
+                assert!(rt; number < 8192);
+                lasts.come_to(number);
             }
+            Passed(answer) => assert_eq!(rt; lasts.passed_by_all(), answer, "{name}"),
         }
     }
     Ok(())
@@ -43,43 +47,38 @@ fn play(
 
 #[test]
 fn least_by_offset(rt: HostRuntime) -> Result<(), Fail> {
-    let rows: [(&str, &[Step]); 4] = [
+    let rows: [(&str, u16, &[Step]); 4] = [
         (
             "over the wrap",
-            &[
-                Note(0, 8190, 8189),
-                Note(1, 3, 8189),
-                Passed(Some(8190), 8189),
-            ],
+            8189,
+            &[Note(0, 8190), Note(1, 3), Passed(Some(8190))],
         ),
         (
             "the expected number itself is not passed over",
-            &[Note(0, 7, 5), Note(1, 5, 5), Passed(None, 5)],
+            5,
+            &[Note(0, 7), Note(1, 5), Passed(None)],
         ),
         (
             "what is come past is dropped, and the channel holds back until it brings something",
+            0,
             &[
-                Note(0, 5, 0),
-                Note(1, 9, 0),
-                Passed(Some(5), 0),
-                Past(6),
-                Passed(None, 6),
-                Note(0, 11, 6),
-                Passed(Some(9), 6),
+                Note(0, 5),
+                Note(1, 9),
+                Passed(Some(5)),
+                Expects(6),
+                Passed(None),
+                Note(0, 11),
+                Passed(Some(9)),
             ],
         ),
         (
             "a number behind is none",
-            &[
-                Note(0, 5, 0),
-                Note(1, 9, 0),
-                Note(1, 8191, 0),
-                Passed(None, 0),
-            ],
+            0,
+            &[Note(0, 5), Note(1, 9), Note(1, 8191), Passed(None)],
         ),
     ];
-    for (name, steps) in rows {
-        play(&rt, rt.alloc(), name, &[true, true], steps)?;
+    for (name, first, steps) in rows {
+        play(&rt, rt.alloc(), name, (&[true, true], first), steps)?;
     }
     Ok(())
 }
@@ -91,49 +90,46 @@ fn counted_anew(rt: HostRuntime) -> Result<(), Fail> {
         (
             "what lies ahead stays",
             &[
-                Note(0, 4101, 4096),
-                Note(1, 4105, 4096),
-                Past(2),
-                Passed(Some(4101), 4098),
-                Past(4),
-                Passed(None, 4102),
+                Note(0, 4101),
+                Note(1, 4105),
+                Expects(4098),
+                Passed(Some(4101)),
+                Expects(4102),
+                Passed(None),
             ],
         ),
         (
             "what is come past is dropped",
             &[
-                Note(0, 4101, 4096),
-                Note(1, 4105, 4096),
-                Past(6),
-                Passed(None, 4102),
-                Note(0, 4110, 4102),
-                Passed(Some(4105), 4102),
+                Note(0, 4101),
+                Note(1, 4105),
+                Expects(4102),
+                Passed(None),
+                Note(0, 4110),
+                Passed(Some(4105)),
             ],
         ),
         (
             "all is come past",
-            &[
-                Note(0, 4101, 4096),
-                Note(1, 4105, 4096),
-                Past(u16::MAX),
-                Passed(None, 4095),
-            ],
+            &[Note(0, 4101), Note(1, 4105), Expects(4095), Passed(None)],
         ),
     ];
     for (name, steps) in rows {
         let mut all = Vec::new(rt.alloc());
-        for _ in 0..15 {
-            all.push(Past(4096))?;
+        all.push(Expects(4096))?;
+        for _ in 0..7 {
+            all.push(Expects(0))?;
+            all.push(Expects(4096))?;
         }
         all.extend_from_slice(steps)?;
-        play(&rt, rt.alloc(), name, &[true, true], &all)?;
+        play(&rt, rt.alloc(), name, (&[true, true], 0), &all)?;
     }
     Ok(())
 }
 
 #[test]
 fn who_holds_back(rt: HostRuntime) -> Result<(), Fail> {
-    let came = [Note(0, 5, 0), Note(2, 9, 0)];
+    let came = [Note(0, 5), Note(2, 9)];
     let rows: [(&str, [bool; 3], Option<u16>); 4] = [
         ("not one without identifier", [true, false, true], Some(5)),
         ("one that never brought anything", [true, true, true], None),
@@ -142,8 +138,8 @@ fn who_holds_back(rt: HostRuntime) -> Result<(), Fail> {
     ];
     for (name, channels, answer) in rows {
         let [first, second] = came;
-        let steps = [first, second, Passed(answer, 0)];
-        play(&rt, rt.alloc(), name, &channels, &steps)?;
+        let steps = [first, second, Passed(answer)];
+        play(&rt, rt.alloc(), name, (&channels, 0), &steps)?;
     }
     Ok(())
 }

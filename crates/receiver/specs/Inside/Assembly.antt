@@ -68,9 +68,11 @@ module _ {C : Type 0} where
     pub items : List Event
     pub has_assembled : HasAssembled accepts assembler accepted handed records items
 
-  -- the frames that were collected of flow k are handed over: what was handed over is more by them, and less is collected
+  -- the frames that were collected of flow k are handed over, all of them: what was handed over is more by them, and nothing is collected any more
   pub record HandsOver (accepts : C → List ℕ → Bool) (assembler : Assembler C) (k : ℕ) (frames : List (List ℕ)) (after : Assembler C) : Type 0 where
     pub core : after.core ≡ assembler.core
+    pub all : frames ≡ collected assembler k
+    pub left : collected after k ≡ []
     pub hands : (accepted : List ℕ → Bool) (handed handed' : ℕ → List (List ℕ)) (records : List FlowRecord) (items : List Event)
         → HasAssembled accepts assembler accepted handed records items
         → handed' k ≡ handed k ++ frames → ((j : ℕ) → j ≢ k → handed' j ≡ handed j)

@@ -3,13 +3,14 @@ use Rattle.std.specs.Prelude.{◌≡◌, ◌≢◌, ℕ, ◌⊎◌, Bool, Some, 
 use Rattle.flow_records.specs.declared.record.FlowRecord.{FlowRecord}
 use Rattle.flow_records.specs.declared.event.Event.{Event}
 use Rattle.flow_core.specs.declared.event.Applied.{Applied}
-use Rattle.flow_core.specs.Fates.{Fates, IsExpected}
+use Rattle.flow_core.specs.Fates.{Fates, number_of, IsExpected}
 use Rattle.flow_core.specs.Events.{FlowEvent, Leads, IsAfter}
 use Rattle.flow_core.specs.Flows.{event_of}
 use Rattle.flow_records.specs.Events.{flow_of}
 use Rattle.loss_rule.specs.declared.rule.LossRule.TheVariants.{Decided}
+use Rattle.loss_rule.specs.declared.last_numbers.LastNumbers.{LastNumbers}
 use Rattle.loss_rule.specs.Rule.{Coming, Lasts, Notes, IsPassing, IsSliding, AreSkips, IsRuled, AreRuled}
-use Rattle.loss_rule.specs.Numbers.{carried_of, distances_of, no_distances, AreDistancesOf}
+use Rattle.loss_rule.specs.Numbers.{carried_of, distances_of, expected_of, no_distances, AreDistancesOf}
 use Rattle.receiver.specs.declared.setup.Setup.{Setup}
 use Rattle.receiver.specs.declared.ruled.RuledNumbers.{RuledNumbers}
 use Rattle.receiver.specs.declared.ruled.RuledAssembler.{RuledAssembler}
@@ -27,16 +28,21 @@ pub record AreKnown (setup : Setup) (k : ℕ) (flow_record : FlowRecord) (number
   pub width : numbers.width ≡ flow_record.window
   pub carried : carried_of numbers.lasts ≡ channels_of setup.sids.items k
 
--- what is known at first: of each flow that, and that nothing came yet
+-- this is known of the number that the flow expects, x being its index, and of these last indexes
+pub record AreTied (first x : ℕ) (lasts : Lasts) (known : LastNumbers) : Type 0 where
+  pub distances : AreDistancesOf x lasts (distances_of known)
+  pub expected : expected_of known ≡ number_of first x
+
+-- what is known at first: of each flow that, that nothing came yet, and that the flow expects its first number
 abbrev pub AreNewNumbers : Setup → List RuledNumbers → Type 0
 AreNewNumbers setup numbers =
     (k : ℕ) (flow_record : FlowRecord) → slice_get setup.flows.items k ≡ Some flow_record
     → (one : RuledNumbers) × (slice_get numbers k ≡ Some one) × AreKnown setup k flow_record one
-    × (distances_of one.lasts ≡ no_distances (channels_of setup.sids.items k))
+    × (distances_of one.lasts ≡ no_distances (channels_of setup.sids.items k)) × (expected_of one.lasts ≡ flow_record.first)
 
 module _ {C : Type 0} where
-  -- Flow k has taken its events among these items, which lead to these fates, with the expected index x; and what is known of its channels are the
-  -- distances of these last indexes, if the rule asks for them.
+  -- Flow k has taken its events among these items, which lead to these fates, with the expected index x; and what is known of its channels is tied to
+  -- these last indexes, if the rule asks for them.
   pub record HasNoted (accepts : C → List ℕ → Bool) (ruled : RuledAssembler C) (accepted : List ℕ → Bool) (handed : ℕ → List (List ℕ)) (setup : Setup) (k : ℕ) (flow_record : FlowRecord) (items : List Event) (lasts : Lasts) (fates : Fates) (x : ℕ) : Type 0 where
     pub assembled : HasAssembled accepts ruled.assembler accepted handed setup.flows.items items
     pub of_flow : slice_get setup.flows.items k ≡ Some flow_record
@@ -46,7 +52,7 @@ module _ {C : Type 0} where
     pub answers : List Applied
     pub after : IsAfter flow_record.first flow_record.window (events_at k items) answers fates
     pub expected : IsExpected fates x
-    pub tied : (ruled.rule ≡ Decided) ⊎ AreDistancesOf x lasts (distances_of numbers.lasts)
+    pub tied : (ruled.rule ≡ Decided) ⊎ AreTied flow_record.first x lasts numbers.lasts
 
   -- it has done so with some items
   pub record IsNoting (accepts : C → List ℕ → Bool) (ruled : RuledAssembler C) (k : ℕ) : Type 0 where

@@ -8,17 +8,17 @@ use worked_frames::refused::{say_refused, say_whether_refused};
 
 /// The flow has a service identifier on the first and the last channel.
 fn three_channels(alloc: Global) -> Result<LastNumbers, AllocError> {
-    LastNumbers::new(alloc, &[true, false, true])
+    LastNumbers::new(alloc, &[true, false, true], 0)
 }
 
 /// Numbers come on both, and one of them is dropped.
 fn expect_passed(rt: &impl Abort, lasts: &mut LastNumbers) {
-    lasts.note(0, 5, 0);
-    assert_eq!(rt; lasts.passed_by_all(0), None);
-    lasts.note(2, 9, 0);
-    assert_eq!(rt; lasts.passed_by_all(0), Some(5));
-    lasts.come_past(6);
-    assert_eq!(rt; lasts.passed_by_all(6), None);
+    lasts.note(0, 5);
+    assert_eq!(rt; lasts.passed_by_all(), None);
+    lasts.note(2, 9);
+    assert_eq!(rt; lasts.passed_by_all(), Some(5));
+    lasts.come_to(6);
+    assert_eq!(rt; lasts.passed_by_all(), None);
     assert_eq!(rt; slid_to(6, 4, 10), Some(7));
 }
 

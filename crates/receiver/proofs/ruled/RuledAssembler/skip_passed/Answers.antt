@@ -6,7 +6,7 @@ use Rattle.std.proofs.lemmas.Result.{IfOk-weaker}
 use Rattle.flow_records.specs.declared.event.Event.TheVariants.{SkipTo}
 use Rattle.flow_core.proofs.OneFlow.{written, written_other}
 use Rattle.loss_rule.specs.declared.last_numbers.LastNumbers.{LastNumbers}
-use Rattle.loss_rule.specs.Numbers.{carried_of, distances_of, IsPassedByAll}
+use Rattle.loss_rule.specs.Numbers.{carried_of, distances_of, expected_of, IsPassedByAll}
 use Rattle.receiver.specs.declared.ruled.RuledNumbers.{RuledNumbers}
 use Rattle.receiver.specs.declared.ruled.RuledAssembler.{RuledAssembler}
 use Rattle.receiver.specs.Inside.Ruling.{KeepsRule, TakesNoted, SkipsPassed, IsNoting}
@@ -29,11 +29,13 @@ noted-kept : {C : Type 0} (ruled : RuledAssembler C) (k : ℕ) (is : RuledNumber
 noted-kept ruled k is = record { rule = refl; count = length-set ruled.numbers.items k is; others = λ j apart. written_other ruled.numbers.items k j is apart }
 
 -- to look for the number changes nothing of what it is looked for in
-looked : (before after : LastNumbers) (expected : ℕ) (passed : Option ℕ) → carried_of after ≡ carried_of before → distances_of after ≡ distances_of before
-    → IsPassedByAll (carried_of before) (distances_of before) expected passed → IsPassedByAll (carried_of after) (distances_of after) expected passed
-looked before after expected passed carried distances is =
-    subst (λ c. IsPassedByAll c (distances_of after) expected passed) (sym carried)
-    (subst (λ d. IsPassedByAll (carried_of before) d expected passed) (sym distances) is)
+looked : (before after : LastNumbers) (passed : Option ℕ) → carried_of after ≡ carried_of before → distances_of after ≡ distances_of before
+    → expected_of after ≡ expected_of before → IsPassedByAll (carried_of before) (distances_of before) (expected_of before) passed
+    → IsPassedByAll (carried_of after) (distances_of after) (expected_of after) passed
+looked before after passed carried distances expected is =
+    subst (λ c. IsPassedByAll c (distances_of after) (expected_of after) passed) (sym carried)
+    (subst (λ d. IsPassedByAll (carried_of before) d (expected_of after) passed) (sym distances)
+    (subst (λ n. IsPassedByAll (carried_of before) (distances_of before) n passed) (sym expected) is))
 
 pub skip_to-requires-clause-noting : goal.skip_to-requires-clause-noting
 skip_to-requires-clause-noting g c =
@@ -41,10 +43,10 @@ skip_to-requires-clause-noting g c =
     let ruled = c.args.self.now in
     let k = c.args.flow in
     let is : RuledNumbers = record { width = c.index_mut.result.now.width; lasts = c.passed_by_all.new.self } in
-    noting-between accepts ruled (record ruled { numbers = with_item ruled.numbers k is }) k c.args.channel c.args.number c.expected-expected.result c.index_mut.result.now is c.requires.number
+    noting-between accepts ruled (record ruled { numbers = with_item ruled.numbers k is }) k c.args.channel c.args.number c.index_mut.result.now is c.requires.number
     refl refl (read accepts ruled k c.requires.noting c.index_mut.result.now is c.index_mut.ensures.value) (wrote accepts ruled k c.requires.noting is is) refl
     (c.passed_by_all.ensures.carried ∙ c.note.ensures.carried)
-    (λ accepted handed records r items. c.expected-expected.ensures.number accepted handed records r items)
+    (c.passed_by_all.ensures.expected ∙ c.note.ensures.expected)
     (c.passed_by_all.ensures.distances ∙ c.note.ensures.distances) c.requires.noting
 
 pub returns-in-None-clause-skips : goal.returns-in-None-clause-skips
@@ -53,13 +55,13 @@ returns-in-None-clause-skips g c =
     let ruled = c.args.self.now in
     let k = c.args.flow in
     let is : RuledNumbers = record { width = c.index_mut.result.now.width; lasts = c.passed_by_all.new.self } in
-    passed-none accepts ruled (record ruled { numbers = with_item ruled.numbers k is }) k c.args.channel c.args.number c.expected-expected.result c.index_mut.result.now is c.requires.number
+    passed-none accepts ruled (record ruled { numbers = with_item ruled.numbers k is }) k c.args.channel c.args.number c.index_mut.result.now is c.requires.number
     refl refl (read accepts ruled k c.requires.noting c.index_mut.result.now is c.index_mut.ensures.value) (wrote accepts ruled k c.requires.noting is is) refl
     (c.passed_by_all.ensures.carried ∙ c.note.ensures.carried)
-    (λ accepted handed records r items. c.expected-expected.ensures.number accepted handed records r items)
+    (c.passed_by_all.ensures.expected ∙ c.note.ensures.expected)
     (c.passed_by_all.ensures.distances ∙ c.note.ensures.distances) c.requires.rule
-    (looked c.note.new.self c.passed_by_all.new.self c.expected-expected.result None c.passed_by_all.ensures.carried c.passed_by_all.ensures.distances
-    (subst (IsPassedByAll (carried_of c.note.new.self) (distances_of c.note.new.self) c.expected-expected.result) c.in-None.is c.passed_by_all.ensures.passed))
+    (looked c.note.new.self c.passed_by_all.new.self None c.passed_by_all.ensures.carried c.passed_by_all.ensures.distances c.passed_by_all.ensures.expected
+    (subst (IsPassedByAll (carried_of c.note.new.self) (distances_of c.note.new.self) (expected_of c.note.new.self)) c.in-None.is c.passed_by_all.ensures.passed))
 
 pub returns-in-None-clause-kept : goal.returns-in-None-clause-kept
 returns-in-None-clause-kept g c = noted-kept c.args.self.now c.args.flow (record { width = c.index_mut.result.now.width; lasts = c.passed_by_all.new.self })
@@ -74,13 +76,13 @@ returns-in-Some-clause-skips g c =
     (λ _. TakesNoted accepts (record ruled { numbers = with_item ruled.numbers k is }) (SkipTo k c.in-Some.passed) c.skip_to.new.self)
     (λ _. SkipsPassed accepts ruled k c.args.channel c.args.number c.skip_to.new.self)
     (λ _ takes.
-    passed-some accepts ruled (record ruled { numbers = with_item ruled.numbers k is }) k c.args.channel c.args.number c.expected-expected.result c.index_mut.result.now is c.requires.number
+    passed-some accepts ruled (record ruled { numbers = with_item ruled.numbers k is }) k c.args.channel c.args.number c.index_mut.result.now is c.requires.number
     refl refl (read accepts ruled k c.requires.noting c.index_mut.result.now is c.index_mut.ensures.value) (wrote accepts ruled k c.requires.noting is is) refl
     (c.passed_by_all.ensures.carried ∙ c.note.ensures.carried)
-    (λ accepted handed records r items. c.expected-expected.ensures.number accepted handed records r items)
+    (c.passed_by_all.ensures.expected ∙ c.note.ensures.expected)
     (c.passed_by_all.ensures.distances ∙ c.note.ensures.distances) c.in-Some.passed c.skip_to.new.self c.requires.rule
-    (looked c.note.new.self c.passed_by_all.new.self c.expected-expected.result (Some c.in-Some.passed) c.passed_by_all.ensures.carried c.passed_by_all.ensures.distances
-    (subst (IsPassedByAll (carried_of c.note.new.self) (distances_of c.note.new.self) c.expected-expected.result) c.in-Some.is c.passed_by_all.ensures.passed))
+    (looked c.note.new.self c.passed_by_all.new.self (Some c.in-Some.passed) c.passed_by_all.ensures.carried c.passed_by_all.ensures.distances c.passed_by_all.ensures.expected
+    (subst (IsPassedByAll (carried_of c.note.new.self) (distances_of c.note.new.self) (expected_of c.note.new.self)) c.in-Some.is c.passed_by_all.ensures.passed))
     takes)
     c.skip_to.ensures.takes
 

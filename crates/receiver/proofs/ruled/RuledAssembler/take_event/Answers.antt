@@ -2,7 +2,8 @@ use Rattle.std.proofs.Common.{◌≡◌, ℕ, ◌<◌, inl, inr, Bool, Some, Lis
 use Rattle.std.proofs.lemmas.Result.{IfOk-weaker}
 use Rattle.flow_records.specs.declared.record.FlowRecord.{FlowRecord}
 use Rattle.flow_records.specs.declared.event.Event.{Event}
-use Rattle.loss_rule.specs.Numbers.{distances_of, distance_from}
+use Rattle.reorder.specs.Number.{offset}
+use Rattle.loss_rule.specs.Numbers.{distances_of, expected_of, distance_from}
 use Rattle.receiver.specs.Inside.Assembly.{HasAssembled}
 use Rattle.receiver.specs.Inside.Ruling.{TakesNoted}
 use Rattle.std.specs.Vec.{with_item}
@@ -14,8 +15,8 @@ use Rattle.receiver.specs.declared.ruled.RuledNumbers.{RuledNumbers}
 use Rattle.receiver.proofs.Ruling.{Expects, noted-flow, noted-numbers, event-led}
 use Rattle.receiver.proofs.ruled.RuledAssembler.take_event.Goals as goal
 
-pub expected-after-requires : goal.expected-after-requires
-expected-after-requires g c =
+pub expected-expected-requires : goal.expected-expected-requires
+expected-expected-requires g c =
     let noting = c.requires.noting in
     let k = flow_of c.args.event in
     let taken = c.in_ok-take.ensures noting.accepted noting.handed noting.setup.flows.items noting.items noting.has.assembled in
@@ -53,20 +54,19 @@ returns-clause-takes g c =
     let k = flow_of c.args.event in
     let all = c.args.self.now.numbers.items in
     let within = noted-numbers accepts c.args.self.now noting.accepted noting.handed noting.setup k noting.flow_record noting.items noting.lasts noting.fates noting.x noting.has in
-    let is : RuledNumbers = record { width = c.index_mut.result.now.width; lasts = c.come_past.new.self } in
+    let is : RuledNumbers = record { width = c.index_mut.result.now.width; lasts = c.come_to.new.self } in
     let at : c.flow-flow.result ≡ k = c.flow-flow.ensures in
     let there : slice_get all k ≡ Some c.index_mut.result.now =
     subst (λ i. slice_get all i ≡ Some c.index_mut.result.now) at (slice_get_read all _ c.flow-flow.result c.index_mut.result.now refl (subst (λ i. i < length all) (sym at) within) c.index_mut.ensures.value) in
     let then : slice_get (slice_set all c.flow-flow.result is) k ≡ Some is = subst (λ i. slice_get (slice_set all i is) k ≡ Some is) (sym at) (written all k is within) in
     event-led accepts c.args.self.now (record { rule = c.args.self.now.rule; assembler = c.take-2.new.self; numbers = with_item c.args.self.now.numbers c.flow-flow.result is })
     c.args.event c.index_mut.result.now is
-    (λ accepted handed records items. c.in_ok-take.ensures accepted handed records items) refl there then refl c.come_past.ensures.carried
+    (λ accepted handed records items. c.in_ok-take.ensures accepted handed records items) refl there then refl c.come_to.ensures.carried
     (inr record {
-      expected = c.expected-before.result;
-      expects = subst (λ i. Expects accepts c.args.self.now.assembler i c.expected-before.result) at (λ accepted handed records r items. c.expected-before.ensures.number accepted handed records r items);
-      then = c.expected-after.result;
-      expects_then = subst (λ i. Expects accepts c.take-2.new.self i c.expected-after.result) at (λ accepted handed records r items. c.expected-after.ensures.number accepted handed records r items);
-      left = c.come_past.ensures.distances ∙ ap (λ by. map (distance_from by) (distances_of c.index_mut.result.now.lasts)) c.offset.ensures;
+      expects = subst (Expects accepts c.take-2.new.self k) (sym c.come_to.ensures.expected)
+          (subst (λ i. Expects accepts c.take-2.new.self i c.expected-expected.result) at (λ accepted handed records r items. c.expected-expected.ensures.number accepted handed records r items));
+      left = c.come_to.ensures.distances
+          ∙ ap (λ to. map (distance_from (offset (expected_of c.index_mut.result.now.lasts) to)) (distances_of c.index_mut.result.now.lasts)) (sym c.come_to.ensures.expected);
     })
 
 pub returns-clause-kept : goal.returns-clause-kept
