@@ -25,6 +25,9 @@ mod pcap_fault;
 mod pcap_parts;
 mod pcap_reader;
 mod pcap_step;
+mod pcap_writer;
+mod record;
+mod record_burst;
 mod tlv;
 
 pub use burst::{Burst, BurstKind, Passed, read_burst};
@@ -34,7 +37,9 @@ pub use pcap::{PCAP_HEADER_BYTES, PcapHeader, RECORD_HEADER_BYTES, RecordHead, R
 pub use pcap_fault::PcapFault;
 pub use pcap_parts::LONGEST_RECORD;
 pub use pcap_reader::PcapReader;
-pub use pcap_step::{Record, Taken};
+pub use pcap_writer::{write_pcap_header, write_record};
+pub use record::{Record, Taken};
+pub use record_burst::burst_in_record;
 pub use tlv::{Tlv, last_value, split_tlv};
 
 #[cfg(test)]
