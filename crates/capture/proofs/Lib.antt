@@ -3,3 +3,4 @@ pub mod LastValues
 pub mod PacketParts
 pub mod PcapBytes
 pub mod PcapSteps
+pub mod OneReading

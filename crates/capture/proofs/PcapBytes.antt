@@ -1,10 +1,7 @@
 -- The headers of a pcap file and of a record, by their bytes.
-use Rattle.std.proofs.Common.{◌≡◌, ℕ, zero, suc, ◌<◌, ◌^◌, inl, inr, ◌==◌, List, [], ◌∷◌, ◌++◌, length, get_or, take, Some, None, refl, sym, ap, ◌∙◌, arith, length-append, append_assoc}
-use Rattle.std.proofs.lemmas.Bool.{cond-false, ne_eqb, cases_eq}
+use Rattle.std.proofs.Common.{◌≡◌, ℕ, zero, suc, ◌<◌, List, [], ◌∷◌, length, get_or, take, Some, refl, sym, ap, ◌∙◌, arith, length-append, append_assoc}
 use Rattle.std.proofs.lemmas.List.{take_at}
-use Rattle.std.proofs.lemmas.Option.{same_Some, none-some}
-use Rattle.std.specs.Int.{w16, w32, to_be_bytes, from_be_bytes}
-use Rattle.std.proofs.lemmas.Nat.{from_be_bytes-to_be_bytes_4}
+use Rattle.std.specs.Int.{w16, w32, from_be_bytes}
 use Rattle.capture.specs.declared.endian.Endian.{Endian}
 use Rattle.capture.specs.declared.endian.Endian.TheVariants.{Big, Little}
 use Rattle.capture.specs.declared.pcap.Resolution.{Resolution}
@@ -55,51 +52,35 @@ small_front (suc n) [] small i = omega arith
 small_front (suc n) (x ∷ xs) small zero = small 0
 small_front (suc n) (x ∷ xs) small (suc i) = small_front n xs (λ j. small (suc j)) i
 
--- a magic number that is known is written by what it says
-known : (magic literal : ℕ) (endian0 endian : Endian) (resolution0 resolution : Resolution) → magic ≡ literal → magic_said literal ≡ Some (endian0, resolution0)
-    → to_be_bytes w32 literal ≡ number_bytes endian0 w32 (magic_of resolution0) → magic_said magic ≡ Some (endian, resolution)
-    → to_be_bytes w32 magic ≡ number_bytes endian w32 (magic_of resolution)
-known magic literal endian0 endian resolution0 resolution same says written e =
-    let pairs : ◌≡◌ {A = Endian × Resolution} (endian0, resolution0) (endian, resolution) = same_Some _ _ (sym says ∙ ap magic_said (sym same) ∙ e) in
-    ap (to_be_bytes w32) same ∙ written ∙ ap (λ (p : Endian × Resolution). number_bytes p.0 w32 (magic_of p.1)) pairs
-
-pub magic_written : (magic : ℕ) (endian : Endian) (resolution : Resolution) → magic_said magic ≡ Some (endian, resolution)
-    → to_be_bytes w32 magic ≡ number_bytes endian w32 (magic_of resolution)
-magic_written magic endian resolution e =
-    elim (cases_eq magic 0xA1B2C3D4) [
-      | inl same ↦ known magic 0xA1B2C3D4 Big endian Microseconds resolution same refl refl e
-      | inr a ↦ elim (cases_eq magic 0xA1B23C4D) [
-        | inl same ↦ known magic 0xA1B23C4D Big endian Nanoseconds resolution same refl refl e
-        | inr b ↦ elim (cases_eq magic 0xD4C3B2A1) [
-          | inl same ↦ known magic 0xD4C3B2A1 Little endian Microseconds resolution same refl refl e
-          | inr c ↦ elim (cases_eq magic 0x4D3CB2A1) [
-            | inl same ↦ known magic 0x4D3CB2A1 Little endian Nanoseconds resolution same refl refl e
-            | inr d ↦
-                let none : magic_said magic ≡ None =
-                cond-false (magic == 0xA1B2C3D4) _ _ (ne_eqb magic _ a) ∙ cond-false (magic == 0xA1B23C4D) _ _ (ne_eqb magic _ b)
-                ∙ cond-false (magic == 0xD4C3B2A1) _ _ (ne_eqb magic _ c) ∙ cond-false (magic == 0x4D3CB2A1) _ _ (ne_eqb magic _ d) in
-                absurd (none-some (endian, resolution) (sym none ∙ e))
-          ]
-        ]
-      ]
-    ]
-
 -- each magic number is known
-said : (endian : Endian) (resolution : Resolution) → magic_said (from_be_bytes w32 (number_bytes endian w32 (magic_of resolution))) ≡ Some (endian, resolution)
+pub said : (endian : Endian) (resolution : Resolution) → magic_said (from_be_bytes w32 (number_bytes endian w32 (magic_of resolution))) ≡ Some (endian, resolution)
 said Big Microseconds = refl
 said Big Nanoseconds = refl
 said Little Microseconds = refl
 said Little Nanoseconds = refl
 
 -- a file's header begins with its magic number
-front_of_header : (header : PcapHeader) → take 4 (header_bytes header) ≡ number_bytes header.endian w32 (magic_of header.resolution)
+pub front_of_header : (header : PcapHeader) → take 4 (header_bytes header) ≡ number_bytes header.endian w32 (magic_of header.resolution)
 front_of_header header = simp append_assoc (take_at _ _ 4 (length-number_4 header.endian (magic_of header.resolution)))
 
--- so bytes that begin with another number begin no file
-pub no_header : (magic : ℕ) (rest : List ℕ) (header : PcapHeader) → magic < 2 ^ 32 → magic_said magic ≡ None → to_be_bytes w32 magic ++ rest ≡ header_bytes header → ⊥
-no_header magic rest header small none e =
-    let word : to_be_bytes w32 magic ≡ number_bytes header.endian w32 (magic_of header.resolution) =
-    sym (take_at (to_be_bytes w32 magic) rest 4 refl) ∙ ap (take 4) e ∙ front_of_header header in
-    let number : magic ≡ from_be_bytes w32 (number_bytes header.endian w32 (magic_of header.resolution)) =
-    sym (from_be_bytes-to_be_bytes_4 magic small) ∙ ap (from_be_bytes w32) word in
-    none-some (header.endian, header.resolution) (sym none ∙ ap magic_said number ∙ said header.endian header.resolution)
+-- four bytes, and two, one by one
+cells_4 : (t : List ℕ) → length t ≡ 4 → t ≡ get_or t 0 0 ∷ get_or t 1 0 ∷ get_or t 2 0 ∷ get_or t 3 0 ∷ []
+cells_4 (a ∷ b ∷ c ∷ d ∷ []) size = refl
+cells_4 [] size = absurd (omega (arith, size))
+cells_4 (a ∷ []) size = absurd (omega (arith, size))
+cells_4 (a ∷ b ∷ []) size = absurd (omega (arith, size))
+cells_4 (a ∷ b ∷ c ∷ []) size = absurd (omega (arith, size))
+cells_4 (a ∷ b ∷ c ∷ d ∷ e ∷ more) size = absurd (omega (arith, size))
+
+cells_2 : (t : List ℕ) → length t ≡ 2 → t ≡ get_or t 0 0 ∷ get_or t 1 0 ∷ []
+cells_2 (a ∷ b ∷ []) size = refl
+cells_2 [] size = absurd (omega (arith, size))
+cells_2 (a ∷ []) size = absurd (omega (arith, size))
+cells_2 (a ∷ b ∷ c ∷ more) size = absurd (omega (arith, size))
+
+-- the bytes of a number, one by one
+pub number_cells_4 : (e : Endian) (n : ℕ) (t : List ℕ) → t ≡ number_bytes e w32 n → get_or t 0 0 ∷ get_or t 1 0 ∷ get_or t 2 0 ∷ get_or t 3 0 ∷ [] ≡ number_bytes e w32 n
+number_cells_4 e n t same = sym (cells_4 t (ap length same ∙ length-number_4 e n)) ∙ same
+
+pub number_cells_2 : (e : Endian) (n : ℕ) (t : List ℕ) → t ≡ number_bytes e w16 n → get_or t 0 0 ∷ get_or t 1 0 ∷ [] ≡ number_bytes e w16 n
+number_cells_2 e n t same = sym (cells_2 t (ap length same ∙ length-number_2 e n)) ∙ same

@@ -1,12 +1,11 @@
 -- What a reader has given and holds back, with some bytes more.
-use Rattle.std.proofs.Common.{◌≡◌, ℕ, ◌+◌, ◌<◌, ◌≤◌, inl, inr, List, [], ◌∷◌, ◌++◌, length, refl, sym, ap, ◌∙◌, arith, append_assoc, length-append, subst}
+use Rattle.std.proofs.Common.{◌≡◌, ℕ, ◌<◌, inl, List, [], ◌∷◌, ◌++◌, length, sym, ap, ◌∙◌, arith, append_assoc, length-append, subst}
 use Rattle.std.specs.List.{AllByRecursion}
 use Rattle.std.proofs.lemmas.List.{append-nil}
 use Rattle.std.proofs.lemmas.List.Concat.{flat_map-append}
 use Rattle.capture.specs.declared.endian.Endian.{Endian}
 use Rattle.capture.specs.declared.pcap.PcapHeader.{PcapHeader}
-use Rattle.capture.specs.declared.pcap.RecordHead.{RecordHead}
-use Rattle.capture.specs.Pcap.{RecordParts, IsRecord, header_bytes, head_bytes, record_bytes, records_bytes, file_bytes, longest_record}
+use Rattle.capture.specs.Pcap.{RecordParts, IsRecord, FitsHeader, header_bytes, head_bytes, record_bytes, records_bytes, file_bytes}
 use Rattle.capture.specs.declared.pcap_fault.PcapFault.{PcapFault}
 use Rattle.capture.specs.declared.pcap_fault.PcapFault.TheVariants.{NotPcap, RecordTooLong, EndsInside, OutOfMemory}
 use Rattle.capture.specs.PcapReading.{Splits, IsBeginning, IsPending, IsNoPcap, HasLongRecord, Reports}
@@ -46,13 +45,14 @@ still_beginning records old new used bytes before whole fewer = record {
 
 -- the header became whole
 pub header_whole : (header : PcapHeader) (records : List RecordParts) (old new used bytes : List ℕ) → IsBeginning records old bytes → header_bytes header ≡ old ++ used → new ≡ []
-    → Splits header (records ++ []) new (bytes ++ used)
-header_whole header records old new used bytes before whole none =
+    → FitsHeader header → Splits header (records ++ []) new (bytes ++ used)
+header_whole header records old new used bytes before whole none fits =
     let no_records : records ++ [] ≡ [] = append-nil records ∙ before.none in
     record {
       spelled =
           ap (λ t. t ++ used) before.all ∙ sym whole ∙ sym (append-nil (header_bytes header)) ∙ sym (append-nil (header_bytes header ++ []))
           ∙ ap (λ r. file_bytes header r ++ []) (sym no_records) ∙ ap (λ t. file_bytes header (records ++ []) ++ t) (sym none);
+      fits = fits;
       each = subst (AllByRecursion IsRecord) (sym no_records) tt;
       rest = inl (omega (arith, ap length none));
     }
@@ -64,6 +64,7 @@ more_pending header records old new used bytes before whole rest = record {
   spelled =
       ap (λ t. t ++ used) before.spelled ∙ append_assoc (file_bytes header records) old used ∙ ap (λ t. file_bytes header records ++ t) (sym whole)
       ∙ ap (λ r. file_bytes header r ++ new) (sym (append-nil records));
+  fits = before.fits;
   each = all_same IsRecord records before.each;
   rest = rest;
 }
@@ -76,6 +77,7 @@ record_whole header records one old new used bytes before whole none lawful = re
       ap (λ t. t ++ used) before.spelled ∙ append_assoc (file_bytes header records) old used ∙ ap (λ t. file_bytes header records ++ t) (sym whole)
       ∙ sym (file_bytes-push header records one) ∙ sym (append-nil (file_bytes header (records ++ one ∷ [])))
       ∙ ap (λ t. file_bytes header (records ++ one ∷ []) ++ t) (sym none);
+  fits = before.fits;
   each = all_more IsRecord records one before.each lawful;
   rest = inl (omega (arith, ap length none));
 }

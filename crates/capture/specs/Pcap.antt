@@ -1,6 +1,6 @@
 -- Files of the format pcap.
-use Rattle.std.specs.Prelude.{◌≡◌, ℕ, ◌+◌, ◌<◌, ◌≤◌, ◌^◌, List, ◌++◌, length, Option, Some, None, ◌==◌, if◌then◌else◌}
-use Rattle.std.specs.List.{flat_map, AllByRecursion}
+use Rattle.std.specs.Prelude.{◌≡◌, ℕ, ◌<◌, ◌≤◌, ◌^◌, List, ◌++◌, length, Option, Some, None, ◌==◌, if◌then◌else◌}
+use Rattle.std.specs.List.{flat_map}
 use Rattle.std.specs.Int.{w16, w32}
 use Rattle.capture.specs.Endian.{number_bytes}
 use Rattle.capture.specs.declared.endian.Endian.{Endian}
@@ -62,6 +62,15 @@ file_bytes header records = header_bytes header ++ records_bytes header.endian r
 -- the greatest length of a record: 1 MiB
 abbrev pub longest_record : ℕ
 longest_record = 1048576
+
+-- the numbers of a file's header have 16 or 32 bits
+pub record FitsHeader (header : PcapHeader) : Type 0 where
+  pub major : header.major < 2 ^ 16
+  pub minor : header.minor < 2 ^ 16
+  pub zone : header.zone < 2 ^ 32
+  pub accuracy : header.accuracy < 2 ^ 32
+  pub snap_length : header.snap_length < 2 ^ 32
+  pub link_type : header.link_type < 2 ^ 32
 
 -- the numbers of a record's header have 32 bits
 pub record FitsHead (head : RecordHead) : Type 0 where

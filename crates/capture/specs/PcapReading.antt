@@ -1,12 +1,12 @@
 -- What a reader of pcap has given of the bytes that it took, and what it holds back.
-use Rattle.std.specs.Prelude.{◌≡◌, ℕ, ◌<◌, ◌≤◌, ◌⊎◌, List, [], ◌∷◌, ◌++◌, length, Option, Some, None}
+use Rattle.std.specs.Prelude.{◌≡◌, ℕ, ◌<◌, ◌≤◌, ◌⊎◌, List, [], ◌++◌, length, Option, Some, None}
 use Rattle.std.specs.List.{AllByRecursion}
 use Rattle.capture.specs.declared.endian.Endian.{Endian}
 use Rattle.capture.specs.declared.pcap.PcapHeader.{PcapHeader}
 use Rattle.capture.specs.declared.pcap.RecordHead.{RecordHead}
 use Rattle.capture.specs.declared.pcap_fault.PcapFault.{PcapFault}
 use Rattle.capture.specs.declared.pcap_fault.PcapFault.TheVariants.{NotPcap, RecordTooLong, EndsInside, OutOfMemory}
-use Rattle.capture.specs.Pcap.{header_bytes, head_bytes, RecordParts, record_bytes, records_bytes, file_bytes, IsRecord, FitsHead, longest_record}
+use Rattle.capture.specs.Pcap.{header_bytes, head_bytes, RecordParts, file_bytes, IsRecord, FitsHead, FitsHeader, longest_record}
 
 -- what a reader knows: the file's header once it was read, the bytes after the last whole record, or all bytes before the header is
 -- whole, and the fault that ended it, if one did
@@ -29,6 +29,7 @@ IsPending endian pending = (length pending < 16) ⊎ IsPartOfRecord endian pendi
 -- the bytes are a header, these records, and what is pending
 pub record Splits (header : PcapHeader) (records : List RecordParts) (pending : List ℕ) (bytes : List ℕ) : Type 0 where
   pub spelled : bytes ≡ file_bytes header records ++ pending
+  pub fits : FitsHeader header
   pub each : AllByRecursion IsRecord records
   pub rest : IsPending header.endian pending
 

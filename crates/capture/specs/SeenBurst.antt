@@ -1,9 +1,11 @@
 -- A burst that was read, its numbers and its values, without where they lie in memory.
-use Rattle.std.specs.Prelude.{◌≡◌, List, ℕ, Ok}
+use Rattle.std.specs.Prelude.{◌≡◌, List, ℕ, Result, Ok, Err}
 use Rattle.capture.specs.Seen.{value_seen}
 use Rattle.capture.specs.Packet.{Parts, packet_bytes}
-use Rattle.capture.specs.Burst.{BurstParts, Numbers, Values, burst_of}
+use Rattle.capture.specs.Burst.{BurstParts, Numbers, Values, Gives, burst_of}
 use Rattle.capture.specs.declared.burst.Burst.{Burst}
+use Rattle.capture.specs.declared.burst.Passed.{Passed}
+use Rattle.capture.specs.declared.burst.Passed.TheVariants.{Malformed}
 use Rattle.capture.specs.declared.burst.BurstNumbers.{BurstNumbers}
 use Rattle.capture.specs.declared.burst.LastValues.{LastValues}
 
@@ -40,3 +42,8 @@ pub record SpellsBurst (bytes : List ℕ) (burst : Burst) : Type 0 where
   pub parts : Parts
   pub spelled : bytes ≡ packet_bytes parts
   pub burst_is : burst_of parts ≡ Ok (burst_parts burst)
+
+-- what was read of the bytes of a packet: what the list of its TLVs says, or that they spell no packet
+pub record IsAnswer (bytes : List ℕ) (answer : Result Burst Passed) : Type 0 where
+  pub spelled : (parts : Parts) → bytes ≡ packet_bytes parts → Gives burst_parts answer (burst_of parts)
+  pub unspelled : ((parts : Parts) → bytes ≡ packet_bytes parts → ⊥) → answer ≡ Err Malformed

@@ -1,7 +1,7 @@
 -- A record that was given, without where it lies in memory.
 use Rattle.std.specs.Prelude.{List, [], ◌∷◌, Option, Some, None}
 use Rattle.capture.specs.Pcap.{RecordParts}
-use Rattle.capture.specs.declared.pcap_step.Record.{Record}
+use Rattle.capture.specs.declared.record.Record.{Record}
 
 abbrev pub record_parts : Record → RecordParts
 record_parts given = record { head = given.head; bytes = given.bytes.items }

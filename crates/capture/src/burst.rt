@@ -38,6 +38,8 @@ pub enum BurstKind {
 /// Why a packet is passed over.
 #[derive(Clone, Copy, Debug, PartialEq, Eq)]
 pub enum Passed {
+    /// The capture kept fewer bytes than the packet had.
+    CutShort,
     /// The packet's type is neither 65 nor 72, so it holds no segment.
     OtherType,
     /// The bytes spell no packet, a number of the burst has no bytes or too many, or the burst is

@@ -1,18 +1,27 @@
-//! Recordings of DOCSIS upstreams: files of captured packets, and the bursts in them.
+//! Recordings of DOCSIS upstreams: pcap files, and the bursts in them.
 //!
 //! An analyser such as the Excentis XRA-31 writes each upstream burst as a packet of link type 273
 //! (LINKTYPE_DOCSIS31_XRA31): a header of four bytes, TLVs that describe the burst, and the burst's
-//! bytes. This crate reads such packets. It knows no flows and no channels of a receiver.
+//! bytes. This crate reads files of such packets and writes them. It knows no flows and no channels
+//! of a receiver.
 //!
 //! The calls, in the order of use:
 //!
-//! 1. [`read_burst`] makes a [`Burst`] of a packet's bytes, with its channel, its SID, its grant and
-//!    the bytes of its segment, or says by [`Passed`] why the packet is passed over.
-//! 2. [`read_packet`] is its first half: the version, the type, the TLVs and the payload of a packet
-//!    of any type. [`split_tlv`] takes the TLVs one after another, and [`last_value`] looks one up.
+//! 1. [`PcapReader`] takes a pcap file in pieces of any size: [`PcapReader::take`] gives a
+//!    [`Record`] as soon as its last byte is there, [`PcapReader::header`] the file's header with
+//!    its link type, and [`PcapReader::finish`] tells whether the file may end here. It holds the
+//!    bytes of one record at most.
+//! 2. [`burst_in_record`] makes a [`Burst`] of a record, with its channel, its SID, its grant and
+//!    the bytes of its segment, or says by [`Passed`] why the record is passed over. [`read_burst`]
+//!    does so for the bytes of a packet.
+//! 3. [`read_packet`] is its first half: version, type, TLVs and payload of a packet of any type.
+//!    [`split_tlv`] takes the TLVs one after another, and [`last_value`] looks one up.
+//! 4. [`write_pcap_header`] and [`write_record`] write a file.
 //!
-//! What matters most: a packet is read exactly if its bytes spell one, and the burst is the one that
-//! the definition `burst_of` looks up in the list of its TLVs.
+//! What matters most: whatever bytes a reader had taken, with those of a piece it has given exactly
+//! the records of all of them (`StandsFor`), and of a whole file its records and no others
+//! ([`laws::a_whole_file_is_given`]). A packet is read exactly if its bytes spell one, and the burst
+//! is the one that the definition `burst_of` looks up in the list of its TLVs.
 #![tactic(auto)]
 
 mod burst;
@@ -25,6 +34,9 @@ mod pcap_fault;
 mod pcap_parts;
 mod pcap_reader;
 mod pcap_step;
+mod pcap_writer;
+mod record;
+mod record_burst;
 mod tlv;
 
 pub use burst::{Burst, BurstKind, Passed, read_burst};
@@ -34,7 +46,9 @@ pub use pcap::{PCAP_HEADER_BYTES, PcapHeader, RECORD_HEADER_BYTES, RecordHead, R
 pub use pcap_fault::PcapFault;
 pub use pcap_parts::LONGEST_RECORD;
 pub use pcap_reader::PcapReader;
-pub use pcap_step::{Record, Taken};
+pub use pcap_writer::{write_pcap_header, write_record};
+pub use record::{Record, Taken};
+pub use record_burst::burst_in_record;
 pub use tlv::{Tlv, last_value, split_tlv};
 
 #[cfg(test)]

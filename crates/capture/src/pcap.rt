@@ -1,6 +1,6 @@
 //! The header of a pcap file, and the header of each record in it.
 ghost use Rattle.std.specs.Prelude.{◌≡◌, length, IfSome, IfNone};
-ghost use Rattle.capture.specs.Pcap.{header_bytes, head_bytes, magic_said, FitsHead};
+ghost use Rattle.capture.specs.Pcap.{header_bytes, head_bytes, magic_said, FitsHead, FitsHeader};
 
 use crate::endian::Endian;
 
@@ -68,6 +68,7 @@ fn magic_said(magic: u32) -> Option<(Endian, Resolution)>
 pub(crate) fn read_pcap_header(bytes: &[u8]) -> Option<PcapHeader>
     requires { length bytes.now ≡ 24 }
     ensures found { IfSome result (λ header. bytes.now ≡ header_bytes header) }
+    ensures fits { IfSome result FitsHeader }
     ensures none { IfNone result ((header : PcapHeader) → bytes.now ≡ header_bytes header → ⊥) }
 {
     let (magic, rest) = Endian::Big.split_u32(bytes);

@@ -3,7 +3,8 @@ ghost use Rattle.std.specs.Prelude.{◌≡◌, ◌++◌, ◌↔◌, ℕ, List, [
 
 use crate::pcap::PcapHeader;
 use crate::pcap_fault::PcapFault;
-use crate::pcap_step::{Stage, Taken, take_part};
+use crate::pcap_step::{Stage, take_part};
+use crate::record::Taken;
 use std::alloc::Global;
 use std::marker::Model;
 

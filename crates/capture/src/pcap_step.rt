@@ -4,24 +4,8 @@ ghost use Rattle.std.specs.Prelude.{◌≡◌, ◌++◌, ◌<◌, ◌≤◌, ℕ
 use crate::pcap::{PcapHeader, RecordHead};
 use crate::pcap_fault::PcapFault;
 use crate::pcap_parts::{take_bytes, take_head, take_header};
+use crate::record::{Record, Taken};
 use std::alloc::Global;
-
-/// A record of a pcap file.
-#[derive(Debug, Drop)]
-pub struct Record {
-    pub head: RecordHead,
-    /// The bytes that were captured, at most 1 MiB.
-    pub bytes: Vec<u8>,
-}
-
-/// What a reader took from a piece.
-#[derive(Debug, Drop)]
-pub struct Taken<'a> {
-    /// The record that these bytes completed, if they did.
-    pub record: Option<Record>,
-    /// What is left of the piece: it has to be handed in next.
-    pub rest: &'a [u8],
-}
 
 /// Which part of a file comes next.
 #[derive(Clone, Copy, Debug, PartialEq, Eq)]

@@ -1,11 +1,11 @@
 -- What is taken from a piece for the part of a file that is next.
-use Rattle.std.specs.Prelude.{◌≡◌, ℕ, ◌<◌, ◌≤◌, List, [], ◌∷◌, ◌++◌, length, Option, Some, None}
+use Rattle.std.specs.Prelude.{◌≡◌, ℕ, ◌<◌, ◌≤◌, List, [], ◌++◌, length, Option, Some, None}
 use Rattle.capture.specs.declared.endian.Endian.{Endian}
 use Rattle.capture.specs.declared.pcap.PcapHeader.{PcapHeader}
 use Rattle.capture.specs.declared.pcap.RecordHead.{RecordHead}
 use Rattle.capture.specs.declared.pcap_fault.PcapFault.{PcapFault}
 use Rattle.capture.specs.declared.pcap_fault.PcapFault.TheVariants.{NotPcap, RecordTooLong, EndsInside, OutOfMemory}
-use Rattle.capture.specs.Pcap.{header_bytes, head_bytes, FitsHead, longest_record}
+use Rattle.capture.specs.Pcap.{header_bytes, head_bytes, FitsHead, FitsHeader, longest_record}
 use Rattle.capture.specs.PcapReading.{IsNoPcap}
 
 -- with bytes from the front of the piece, what is pending becomes the whole, and the rest is left
@@ -23,6 +23,7 @@ pub record Waits (size : ℕ) (old new piece rest : List ℕ) : Type 0 where
 pub record FindsHeader (old new piece rest : List ℕ) (header : PcapHeader) : Type 0 where
   pub completes : Completes old (header_bytes header) piece rest
   pub none : new ≡ []
+  pub fits : FitsHeader header
 
 abbrev pub TakesHeader : List ℕ → List ℕ → List ℕ → Option PcapHeader → List ℕ → Type 0
 TakesHeader old new piece None rest = Waits 24 old new piece rest

@@ -13,7 +13,7 @@ returns-in-Some-clause-passes c =
       goes_on = record {
         used = found.completes.used;
         piece_is = found.completes.piece_is;
-        stands = λ records bytes before. header_whole c.in-Some.header records _ _ _ bytes before found.completes.whole_is found.none;
+        stands = λ records bytes before. header_whole c.in-Some.header records _ _ _ bytes before found.completes.whole_is found.none found.fits;
       };
     }
 
