@@ -108,6 +108,8 @@ too_long_of_all header records old piece bytes before long = record {
   spelled =
       ap (λ t. t ++ piece) before.spelled ∙ append_assoc (file_bytes header records) old piece ∙ ap (λ t. file_bytes header records ++ t) long.spelled
       ∙ sym (append_assoc (file_bytes header records) (head_bytes header.endian long.head) long.more);
+  each = before.each;
+  fits = long.fits;
   long = long.long;
 }
 

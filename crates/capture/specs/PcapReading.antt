@@ -21,6 +21,7 @@ pub record IsPartOfRecord (endian : Endian) (pending : List ℕ) : Type 0 where
   pub bytes : List ℕ
   pub spelled : pending ≡ head_bytes endian head ++ bytes
   pub fits : FitsHead head
+  pub short : head.captured ≤ longest_record
   pub fewer : length bytes < head.captured
 
 abbrev pub IsPending : Endian → List ℕ → Type 0
@@ -59,6 +60,8 @@ pub record HasLongRecord (bytes : List ℕ) : Type 0 where
   pub head : RecordHead
   pub more : List ℕ
   pub spelled : bytes ≡ file_bytes header records ++ head_bytes header.endian head ++ more
+  pub each : AllByRecursion IsRecord records
+  pub fits : FitsHead head
   pub long : longest_record < head.captured
 
 -- what a fault says of all bytes that came, the piece among them

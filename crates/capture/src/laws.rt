@@ -13,7 +13,8 @@ pub fn bytes_spell_one_packet()
 {}
 
 /// A reader that has taken a whole pcap file, in whatever pieces, has given its records and no
-/// others, knows its header and holds nothing back. So what is written is read back.
+/// others, knows its header and holds nothing back. So what is written is read back, where each
+/// record has at most 1 MiB and is written in the byte order of the header.
 pub fn a_whole_file_is_given()
     ensures { (state : PcapState) (header : PcapHeader) (records given : List RecordParts)
         → FitsHeader header → AllByRecursion IsRecord records

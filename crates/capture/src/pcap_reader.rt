@@ -75,6 +75,7 @@ impl PcapReader {
         ensures fault { IfErr result (λ fault. (records : List RecordParts) (bytes : List ℕ)
             → StandsFor self.old records bytes → Reports (bytes ++ piece.now) fault) }
         ensures kept { IfErr result (λ fault. self.new.fault ≡ Some fault) }
+        ensures header { IfErr result (λ _. self.new.header ≡ self.old.header) }
         ensures again { (fault : PcapFault) → self.old.fault ≡ Some fault → result ≡ Err fault }
     {
         if let Some(fault) = self.fault {

@@ -2,8 +2,7 @@
 //!
 //! A receiver gives whole frames of its flows and requests of its channels, one after another: each
 //! is a [`Given`]. A [`Consumer`] is given them by its methods, [`Consumer::frame`] and
-//! [`Consumer::request`]. It never refuses, and a receiver neither waits for it nor asks it for
-//! anything.
+//! [`Consumer::request`]. It never refuses, and is asked for nothing.
 //!
 //! What a consumer makes of what it is given is its own: its relation `after` says which list led
 //! from one of its states to another. Three are here:
@@ -13,7 +12,7 @@
 //! - [`Forgets`] keeps nothing.
 //!
 //! [`give_frames`] and [`give_request`] give a consumer several frames, or a request if there is
-//! one; [`laws`] has what holds of the three before they are given anything.
+//! one; [`laws`] has what holds of these consumers before and after they are given something.
 #![tactic(auto)]
 
 mod collected;

@@ -137,7 +137,7 @@ impl Flow {
     }
 
     /// Joins the next segment, and answers the frames that it completes; `Nothing`: none is next.
-    /// Where an allocation failed nothing changed.
+    /// Where an allocation failed nothing changed. Each call of a flow is to have the same check.
     pub fn advance<C: HeaderCheck>(&mut self, alloc: Global, check: &C) -> Result<Step, AllocError>
         ensures step { IfOk result
             (λ step. Advances (C.accepts check.now) self.old step self.new) }

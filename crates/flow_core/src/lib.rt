@@ -19,10 +19,10 @@
 //!    lost, how many frames were given and how many bytes skipped; [`Core::flow_count`] how many
 //!    flows there are; [`Core::expected`] which number a flow expects.
 //!
-//! [`Flow`] is one flow by itself, with the same calls, for a caller that keeps its flows in a table
-//! of its own and makes each when it is needed; [`Flow::held`] also says how many segments wait.
-//! What is decided about a flow to which no segment came changes nothing, so it needn't be made for
-//! that ([`laws::decisions_about_an_empty_flow_change_nothing`]).
+//! [`Flow`] is one flow by itself, for a caller that keeps its flows in a table of its own and makes
+//! each when it is needed; [`Flow::held`] also says how many segments wait. A gap that is declared
+//! of a flow to which no segment came changes nothing, so it needn't be made for that
+//! ([`laws::decisions_about_an_empty_flow_change_nothing`]); a skip does change it.
 //!
 //! Contracts say which list of events a flow stands for, whatever it stood for before, and [`laws`]
 //! says what follows: over a modem's lawful cut and near events, what a drained flow gave is

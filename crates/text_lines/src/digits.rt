@@ -39,8 +39,9 @@ fn greater(one: u8, other: u8) -> u8
     if one < other { other } else { one }
 }
 
-/// Appends the bytes that these digits spell, two for each, the first of them its high four bits,
-/// and says whether all are digits. There is room for the bytes.
+/// Fills an empty vector, which has room for them, with the bytes that these digits spell, two for
+/// each, the first of them its high four bits, and says whether all are digits. Where one isn't,
+/// what the vector then has means nothing.
 pub fn append_spelled(bytes: &mut Vec<u8>, digits: &[u8]) -> bool
     requires even { length digits.now % 2 ≡ 0 }
     requires none { length bytes.old.items ≡ 0 }

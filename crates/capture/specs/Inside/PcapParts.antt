@@ -53,6 +53,7 @@ pub record IsTooLong (endian : Endian) (bytes : List ℕ) : Type 0 where
   pub head : RecordHead
   pub more : List ℕ
   pub spelled : bytes ≡ head_bytes endian head ++ more
+  pub fits : FitsHead head
   pub long : longest_record < head.captured
 
 -- the fault of a file's header, and of a record's

@@ -36,6 +36,6 @@ returns-in-None-clause-passes c =
         piece_is = waits.completes.piece_is;
         stands = λ records bytes before.
             more_pending c.args.header records (head ++ old) _ used bytes before (ap (λ t. head ++ t) waits.completes.whole_is ∙ sym (append_assoc head old used))
-            (inr (record { head = c.args.head; bytes = c.take_bytes.new.pending.items; spelled = refl; fits = c.requires.fits; fewer = waits.fewer }));
+            (inr (record { head = c.args.head; bytes = c.take_bytes.new.pending.items; spelled = refl; fits = c.requires.fits; short = c.requires.short; fewer = waits.fewer }));
       };
     }

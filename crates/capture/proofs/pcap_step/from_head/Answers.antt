@@ -34,7 +34,7 @@ returns-in-Some-clause-passes c =
         piece_is = found.completes.piece_is;
         stands = λ records bytes before.
             more_pending c.args.header records _ (head ++ rest) _ bytes before (ap (λ t. head ++ t) found.none ∙ append-nil head ∙ found.completes.whole_is)
-            (inr (record { head = c.in-Some.head; bytes = rest; spelled = refl; fits = found.fits; fewer = omega (arith, none, c.if-head-gt0.true) }));
+            (inr (record { head = c.in-Some.head; bytes = rest; spelled = refl; fits = found.fits; short = found.short; fewer = omega (arith, none, c.if-head-gt0.true) }));
       };
     }
 
