@@ -4,7 +4,7 @@ use Rattle.std.specs.Prelude.{IfSome, IsErrAnd}
 use Rattle.engines.specs.declared.device.Device.{Device}
 use Rattle.engines.specs.declared.fault.EngineFault.{EngineFault}
 use Rattle.engines.specs.declared.fault.EngineFault.TheVariants.{Write}
-use Rattle.texts.specs.declared.fault.TextFault.{TextFault}
+use Rattle.text_lines.specs.declared.fault.TextFault.{TextFault}
 use Rattle.engines.specs.Device.{inner_of, has_failed}
 use Rattle.engines.specs.Engine.{WritesFront, RunsEngine}
 use Rattle.engines.specs.Transfer.{AppendsFront, IsReadToEnd}

@@ -4,24 +4,25 @@ use Rattle.std.specs.Prelude.{string_bytes, codes, IsErrAnd}
 use Rattle.loss_rule.specs.declared.rule.LossRule.{LossRule}
 use Rattle.loss_rule.specs.declared.rule.LossRule.TheVariants.{Decided}
 use Rattle.engines.specs.declared.device.Device.{Device}
-use Rattle.engines.specs.declared.command.Command.{Command}
-use Rattle.engines.specs.declared.command.Command.TheVariants.{Join, Cut, Replay, Run, Help}
-use Rattle.engines.specs.declared.command.UsageFault.{UsageFault}
-use Rattle.engines.specs.declared.command.UsageFault.TheVariants as usage
+use Rattle.command_line.specs.declared.command.Command.{Command}
+use Rattle.command_line.specs.declared.command.Command.TheVariants.{Join, Cut, Replay, Run, Help}
+use Rattle.command_line.specs.declared.command.UsageFault.{UsageFault}
+use Rattle.command_line.specs.declared.command.UsageFault.TheVariants as usage
 use Rattle.engines.specs.declared.fault.EngineFault.{EngineFault}
 use Rattle.engines.specs.declared.fault.EngineFault.TheVariants.{Read, Write}
-use Rattle.texts.specs.declared.fault.TextFault.{TextFault}
+use Rattle.text_lines.specs.Capacities.{default_capacity}
+use Rattle.text_lines.specs.declared.fault.TextFault.{TextFault}
 use Rattle.texts.specs.Join.{IsJoined, IsJoinFault}
 use Rattle.texts.specs.Cut.{IsCutText, IsCutFault}
-use Rattle.texts.specs.Replay.{default_capacity, IsReplayed, IsReplayedBy, IsReplayFault, IsReportFault}
+use Rattle.texts.specs.Replay.{IsReplayed, IsReplayedBy, IsReplayFault, IsReportFault}
 use Rattle.texts.specs.Run.{IsRunText, IsRunTextBy}
 use Rattle.engines.specs.Device.{inner_of, IsFresh}
 use Rattle.engines.specs.Fault.{usage_fault}
 use Rattle.engines.specs.Engine.{HasCause, RunsEngine}
-use Rattle.engines.specs.Command.{options_in, AsksToJoin, AsksToReplay, AsksToReplayBy, AsksToRun, AsksToRunBy, AsksToRunByAlone, HasNoHelpWord, Asks}
-use Rattle.engines.proofs.AskedRules.{AskForRule-one}
-use Rattle.engines.proofs.AskedWithoutHelp.{replays_without_help}
-use Rattle.engines.proofs.CommandsApart.{commands_apart, cut_is_not_run, cut_is_not_replay, replay_is_not_run, join_is_another, join_is_not_cut, join_is_not_run}
+use Rattle.command_line.specs.Command.{options_in, AsksToJoin, AsksToReplay, AsksToReplayBy, AsksToRun, AsksToRunBy, AsksToRunByAlone, HasNoHelpWord, Asks}
+use Rattle.command_line.proofs.AskedRules.{AskForRule-one}
+use Rattle.command_line.proofs.AskedWithoutHelp.{replays_without_help}
+use Rattle.command_line.proofs.CommandsApart.{commands_apart, cut_is_not_run, cut_is_not_replay, replay_is_not_run, join_is_another, join_is_not_cut, join_is_not_run}
 use Rattle.engines.proofs.WeakerTexts.{RunsEngine-weaker}
 use Rattle.commands.specs.Program.{AsksToCutOnly, AsksToRunOnly, AsksToRunByOnly, AsksForNothing, RunsCut, RunsRun, RunsRunBy, RunsRunAlone, WritesHelp, Obeys}
 use Rattle.commands.specs.Inside.Program.{Performs}

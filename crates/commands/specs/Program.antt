@@ -8,15 +8,16 @@ use Rattle.engines.specs.declared.device.Device.{Device}
 use Rattle.engines.specs.declared.fault.WriteFault.{WriteFault}
 use Rattle.engines.specs.declared.fault.EngineFault.{EngineFault}
 use Rattle.engines.specs.declared.fault.EngineFault.TheVariants.{OutOfMemory, Read, Write, Usage}
-use Rattle.texts.specs.declared.fault.TextFault.{TextFault}
+use Rattle.text_lines.specs.Capacities.{default_capacity}
+use Rattle.text_lines.specs.declared.fault.TextFault.{TextFault}
 use Rattle.engines.specs.Device.{inner_of, has_failed, is_flushed, IsFresh}
 use Rattle.engines.specs.Transfer.{AppendsFront, IsLeftFlushed, IsReadFault, IsRead}
 use Rattle.engines.specs.Fault.{status_of, exit_status_of, fault_line}
 use Rattle.engines.specs.Engine.{engine_fault, RunsEngine}
-use Rattle.engines.specs.Command.{AsksToJoin, AsksToCut, AsksToReplay, AsksToReplayBy, AsksToRun, AsksToRunBy, AsksToRunByAlone, AsksForAnEngine, AsksForHelp, HasNoHelpWord}
+use Rattle.command_line.specs.Command.{AsksToJoin, AsksToCut, AsksToReplay, AsksToReplayBy, AsksToRun, AsksToRunBy, AsksToRunByAlone, AsksForAnEngine, AsksForHelp, HasNoHelpWord}
 use Rattle.texts.specs.Join.{IsJoined, IsJoinFault}
 use Rattle.texts.specs.Cut.{IsCutText, IsCutFault}
-use Rattle.texts.specs.Replay.{default_capacity, IsReplayed, IsReplayedBy, IsReplayFault, IsReportFault}
+use Rattle.texts.specs.Replay.{IsReplayed, IsReplayedBy, IsReplayFault, IsReportFault}
 use Rattle.texts.specs.Run.{IsRunText, IsRunTextBy}
 
 -- the words ask to cut and not for help

@@ -4,7 +4,7 @@ ghost use Rattle.loss_rule.specs.declared.rule.LossRule.{LossRule};
 ghost use Rattle.engines.specs.declared.fault.EngineFault.{EngineFault};
 ghost use Rattle.engines.specs.Device.{IsFresh};
 ghost use Rattle.engines.specs.Fault.{exit_status_of};
-ghost use Rattle.engines.specs.Command.{AsksToJoin, AsksToReplay, AsksToReplayBy, AsksToRunByAlone};
+ghost use Rattle.command_line.specs.Command.{AsksToJoin, AsksToReplay, AsksToReplayBy, AsksToRunByAlone};
 ghost use Rattle.texts.specs.Join.{IsJoinFault};
 ghost use Rattle.texts.specs.Cut.{IsCutFault};
 ghost use Rattle.texts.specs.Replay.{IsReplayFault};

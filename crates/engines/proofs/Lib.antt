@@ -1,6 +1,2 @@
 pub mod WrittenFront
-pub mod AskedWords
-pub mod AskedRules
-pub mod AskedWithoutHelp
-pub mod CommandsApart
 pub mod WeakerTexts

@@ -3,7 +3,7 @@ use Rattle.std.proofs.Common.{ℕ, List, Option, Some, None, Result, Ok, Err}
 use Rattle.std.specs.Prelude.{IfSome}
 use Rattle.engines.specs.declared.device.Device.{Device}
 use Rattle.engines.specs.declared.fault.EngineFault.{EngineFault}
-use Rattle.texts.specs.declared.fault.TextFault.{TextFault}
+use Rattle.text_lines.specs.declared.fault.TextFault.{TextFault}
 use Rattle.engines.specs.Engine.{WritesText, WritesFront, RunsEngine}
 
 module _ (IsText IsOther : List ℕ → List ℕ → Type 0) (follows : (input text : List ℕ) → IsText input text → IsOther input text) where

@@ -1,11 +1,11 @@
 -- The lines and the exit statuses of faults.
 use Rattle.std.specs.Prelude.{ℕ, List, [], ◌∷◌, ◌++◌, codes, Result, Ok, Err}
 use Rattle.std.specs.Fmt.{decimal}
-use Rattle.texts.specs.Kinds.{kind_text}
+use Rattle.text_lines.specs.Kinds.{kind_text}
+use Rattle.command_line.specs.declared.command.UsageFault.{UsageFault}
+use Rattle.command_line.specs.declared.command.UsageFault.TheVariants as usage
 use Rattle.engines.specs.declared.fault.EngineFault.{EngineFault}
 use Rattle.engines.specs.declared.fault.EngineFault.TheVariants.{Trace, Cut, OutOfMemory, Read, Write, Usage}
-use Rattle.engines.specs.declared.command.UsageFault.{UsageFault}
-use Rattle.engines.specs.declared.command.UsageFault.TheVariants as usage
 use Rattle.docsis_wire.specs.declared.pieces.CutFault.{CutFault}
 use Rattle.docsis_wire.specs.declared.pieces.CutFault.TheVariants as cut_fault
 

@@ -1,4 +1,2 @@
 -- What only the contracts of functions inside this crate cite.
-pub mod Options
-pub mod Command
 pub mod Transfer

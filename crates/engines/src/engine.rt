@@ -4,7 +4,7 @@
 //! An engine itself knows neither reader nor writer. It is a value that turns an input's bytes into
 //! the text that stands for them, or into a fault; `run_engine` puts it between two devices.
 ghost use Rattle.std.specs.Prelude.{ℕ, List, IfOk, IfErr};
-ghost use Rattle.texts.specs.declared.fault.TextFault.{TextFault};
+ghost use Rattle.text_lines.specs.declared.fault.TextFault.{TextFault};
 ghost use Rattle.engines.specs.Device.{IsFresh};
 ghost use Rattle.engines.specs.Engine.{RunsEngine};
 

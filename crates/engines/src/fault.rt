@@ -4,7 +4,7 @@ ghost use Rattle.engines.specs.declared.fault.EngineFault.TheVariants.{OutOfMemo
 ghost use Rattle.engines.specs.Fault.{status_of, exit_status_of, usage_fault};
 ghost use Rattle.engines.specs.Engine.{engine_fault};
 
-use crate::command::UsageFault;
+use command_line::UsageFault;
 use docsis_wire::CutFault;
 use std::alloc::AllocError;
 use std::io;

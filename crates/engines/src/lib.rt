@@ -18,19 +18,16 @@
 //! of a modem's frames the consumer of each flow took.
 #![tactic(auto)]
 
-mod command;
-mod command_line;
 mod cut;
 mod device;
 mod engine;
 mod fault;
 mod fault_line;
 mod join;
-mod losses;
 mod replay;
 mod transfer;
 
-pub use command::{Command, UsageFault, read_words};
+pub use command_line::{Command, UsageFault, read_words};
 pub use cut::cut_text;
 pub use device::Device;
 pub use fault::{EngineFault, WriteFault, exit_status, status};

@@ -5,7 +5,7 @@ use Rattle.docsis_wire.specs.declared.segment.SegmentFault.{SegmentFault}
 use Rattle.docsis_wire.specs.declared.segment.SegmentFault.TheVariants.{TooShort, PointerPast, OutOfMemory}
 use Rattle.docsis_wire.specs.Limits.{header_length}
 use Rattle.docsis_wire.specs.SegmentBytes.{PointsPast}
-use Rattle.texts.specs.Inside.LineFault.{IsLineFault, line_fault_of_segment}
+use Rattle.text_lines.specs.Inside.LineFault.{IsLineFault, line_fault_of_segment}
 use Rattle.texts.specs.Join.Line.{OnlySpells, HasFault}
 
 -- the only field spells bytes that are no segment

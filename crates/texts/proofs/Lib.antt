@@ -1,6 +1,3 @@
-pub mod LinesAndWords
-pub mod ReadSoFar
-pub mod LinesReadOneWay
 pub mod JoinedSoFar
 pub mod JoinLineFaults
 pub mod FirstField
@@ -11,14 +8,11 @@ pub mod OneCutFault
 pub mod TextLengths
 pub mod PrintedSoFar
 pub mod HexText
-pub mod NumberFields
-pub mod FirstBytes
 pub mod NumberedLines
 pub mod OutOfMemoryAlone
 pub mod TraceFields
 pub mod OneTraceLine
 pub mod LastElement
-pub mod KeptByEachLine
 pub mod TraceChecks
 pub mod TraceTags
 pub mod TraceLineFaults

@@ -4,14 +4,14 @@ use Rattle.docsis_wire.specs.declared.pieces.Piece.{Piece}
 use Rattle.docsis_wire.specs.declared.pieces.CutFault.{CutFault}
 use Rattle.docsis_wire.specs.declared.pieces.CutFault.TheVariants as cut_fault
 use Rattle.docsis_wire.specs.Pieces.{Reports, IsCuttable}
-use Rattle.texts.specs.declared.fault.TextFault.{TextFault}
-use Rattle.texts.specs.declared.fault.TextFault.TheVariants.{Trace, Cut, OutOfMemory}
-use Rattle.texts.specs.Lines.{lines_of}
-use Rattle.texts.specs.Format.{IsRead}
+use Rattle.text_lines.specs.declared.fault.TextFault.{TextFault}
+use Rattle.text_lines.specs.declared.fault.TextFault.TheVariants.{Trace, Cut, OutOfMemory}
+use Rattle.text_lines.specs.Lines.{lines_of}
+use Rattle.text_lines.specs.Format.{IsRead}
+use Rattle.text_lines.proofs.LinesReadOneWay.{one_reading}
+use Rattle.text_lines.proofs.LinesReadOneWay as lines
 use Rattle.texts.specs.Cut.{IsCutFault, IsFirstPieceFault, IsPieceFault}
 use Rattle.texts.specs.Cut.Line.{FramesAndPieces, nothing, cut_format}
-use Rattle.texts.proofs.LinesReadOneWay.{one_reading}
-use Rattle.texts.proofs.LinesReadOneWay as lines
 use Rattle.texts.proofs.OneCutLine.{cut_is_determined}
 use Rattle.texts.specs.AnyHeader.{any_header}
 

@@ -2,13 +2,13 @@
 use Rattle.std.proofs.Common.{◌≡◌, ℕ, List, [], ◌∷◌, ◌++◌, ◌⊎◌, length, get_or, inl, inr, refl, sym, ap, ◌∙◌, subst, arith}
 use Rattle.std.specs.Prelude.{codes}
 use Rattle.docsis_wire.specs.declared.pieces.Piece.{Piece}
-use Rattle.texts.specs.declared.fault.TraceKind.{TraceKind}
-use Rattle.texts.specs.declared.fault.TraceKind.TheVariants.{UnknownLine, FieldCount, BadNumber, NotHex}
-use Rattle.texts.specs.Field.{SpellsBytes}
-use Rattle.texts.specs.Number.{IsNumber}
+use Rattle.text_lines.specs.declared.fault.TraceKind.{TraceKind}
+use Rattle.text_lines.specs.declared.fault.TraceKind.TheVariants.{UnknownLine, FieldCount, BadNumber, NotHex}
+use Rattle.text_lines.specs.Field.{SpellsBytes}
+use Rattle.text_lines.specs.Number.{IsNumber}
+use Rattle.text_lines.proofs.LinesReadOneWay.{IsDetermined}
 use Rattle.texts.specs.Cut.Line.{CarriesFrame, CarriesPiece, HasOtherCount, HasBadNumber, HasFault, FramesAndPieces, AddsFrame, AddsPiece, cut_format}
 use Rattle.texts.proofs.FirstField.{none_or_some, one_word, same_after}
-use Rattle.texts.proofs.LinesReadOneWay.{IsDetermined}
 use Rattle.texts.proofs.OneJoinLine.{one_spelling}
 
 -- ---- fields that are there twice

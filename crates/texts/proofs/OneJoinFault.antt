@@ -1,16 +1,16 @@
 -- An input of `join` has one fault, or its lines are all read.
 use Rattle.std.proofs.Common.{◌≡◌, ◌≢◌, ℕ, List, [], refl, ap}
 use Rattle.docsis_wire.specs.declared.segment.Segment.{Segment}
-use Rattle.texts.specs.declared.fault.ParseFault.{ParseFault}
-use Rattle.texts.specs.declared.fault.ParseFault.TheVariants as parse
-use Rattle.texts.specs.declared.fault.TextFault.{TextFault}
-use Rattle.texts.specs.declared.fault.TextFault.TheVariants.{Trace, Cut, OutOfMemory}
-use Rattle.texts.specs.Lines.{lines_of}
-use Rattle.texts.specs.Fault.{text_fault_of_parse}
-use Rattle.texts.specs.Format.{IsRead, IsReadingFault}
+use Rattle.text_lines.specs.declared.fault.ParseFault.{ParseFault}
+use Rattle.text_lines.specs.declared.fault.ParseFault.TheVariants as parse
+use Rattle.text_lines.specs.declared.fault.TextFault.{TextFault}
+use Rattle.text_lines.specs.declared.fault.TextFault.TheVariants.{Trace, Cut, OutOfMemory}
+use Rattle.text_lines.specs.Lines.{lines_of}
+use Rattle.text_lines.specs.Fault.{text_fault_of_parse}
+use Rattle.text_lines.specs.Format.{IsRead, IsReadingFault}
+use Rattle.text_lines.proofs.LinesReadOneWay as lines
 use Rattle.texts.specs.Join.{IsJoinFault}
 use Rattle.texts.specs.Join.Line.{join_format}
-use Rattle.texts.proofs.LinesReadOneWay as lines
 use Rattle.texts.proofs.OneJoinLine.{OneHeader, join_is_determined}
 
 -- a fault of the lines is one of the input

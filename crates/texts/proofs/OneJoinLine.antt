@@ -8,11 +8,11 @@ use Rattle.docsis_wire.specs.Ready.{IsReady}
 use Rattle.docsis_wire.specs.SegmentBytes.{segment_bytes}
 use Rattle.hex.specs.Hex.{decode_of}
 use Rattle.hex.specs.declared.error.FromHexError.TheVariants.{OddLength}
-use Rattle.texts.specs.declared.fault.TraceKind.{TraceKind}
-use Rattle.texts.specs.declared.fault.TraceKind.TheVariants.{FieldCount, NotHex, TooShort, PointerPast}
-use Rattle.texts.specs.Field.{SpellsBytes}
+use Rattle.text_lines.specs.declared.fault.TraceKind.{TraceKind}
+use Rattle.text_lines.specs.declared.fault.TraceKind.TheVariants.{FieldCount, NotHex, TooShort, PointerPast}
+use Rattle.text_lines.specs.Field.{SpellsBytes}
+use Rattle.text_lines.proofs.LinesReadOneWay.{IsDetermined}
 use Rattle.texts.specs.Join.Line.{OnlySpells, Carries, HasFault, IsNotHex, IsTooShort, PointsPast, AddsSegment, join_format}
-use Rattle.texts.proofs.LinesReadOneWay.{IsDetermined}
 
 -- ---- one field, one reading
 

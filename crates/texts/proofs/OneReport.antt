@@ -12,7 +12,7 @@ use Rattle.receiver.specs.declared.outcome.FlowOutcome.{FlowOutcome}
 use Rattle.lane.specs.declared.report.LaneReport.{LaneReport}
 use Rattle.receiver.specs.declared.outcome.Outcome.{Outcome}
 use Rattle.receiver.specs.SameOutcome.{GaveTheSame, ReportTheSame, IsSameOutcome}
-use Rattle.texts.specs.Lines.{line_feed}
+use Rattle.text_lines.specs.Lines.{line_feed}
 use Rattle.texts.specs.Report.{spaced, named, counts_text, frame_line, flow_lines, request_line, refused_text, lane_line, numbered_lines, report_text}
 
 -- the lines of items are those of others, if those of each place are

@@ -1,13 +1,13 @@
 -- The lines of a trace leave nothing open.
 use Rattle.std.proofs.Common.{◌≡◌, ℕ, ◌<◌, ◌≤◌, ⊎_elim, List, [], ◌∷◌, get_or, refl, sym, ap, ◌∙◌, arith}
 use Rattle.std.proofs.lemmas.Bool.{cases_lt}
-use Rattle.texts.specs.declared.fault.TraceKind.{TraceKind}
-use Rattle.texts.specs.declared.fault.TraceKind.TheVariants.{UnknownLine, SetupLate, FieldCount, BadNumber, BadWord, NotHex, UnknownFlow, TooManyFlows, SameFlow, SameSid, TooShort, PointerPast}
-use Rattle.texts.specs.Kinds.{kind_number, IsLeastFault}
+use Rattle.text_lines.specs.declared.fault.TraceKind.{TraceKind}
+use Rattle.text_lines.specs.declared.fault.TraceKind.TheVariants.{UnknownLine, SetupLate, FieldCount, BadNumber, BadWord, NotHex, UnknownFlow, TooManyFlows, SameFlow, SameSid, TooShort, PointerPast}
+use Rattle.text_lines.specs.Kinds.{kind_number, IsLeastFault}
+use Rattle.text_lines.proofs.LinesReadOneWay.{IsDetermined}
 use Rattle.texts.specs.Trace.Line.{word_of, form_of}
 use Rattle.texts.specs.Trace.Place.{Said, with_line, AddsLine, SaysFaulty, HasLineFault, trace_format}
 use Rattle.texts.proofs.FirstField.{none_or_some}
-use Rattle.texts.proofs.LinesReadOneWay.{IsDetermined}
 use Rattle.texts.proofs.OneTraceLine.{one_line}
 
 -- ---- one least fault

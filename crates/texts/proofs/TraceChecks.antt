@@ -7,17 +7,17 @@ use Rattle.flow_records.specs.Setup.{IsInRange, CanBeSetUp}
 use Rattle.lane.specs.declared.sids.SidRow.{SidRow}
 use Rattle.lane.specs.Limits.{channel_limit, sid_limit}
 use Rattle.lane.specs.Rows.{CanBeOpened}
-use Rattle.texts.specs.declared.fault.TraceKind.{TraceKind}
-use Rattle.texts.specs.declared.fault.TraceKind.TheVariants.{UnknownFlow, TooManyFlows, SameFlow, SameSid}
+use Rattle.text_lines.specs.declared.fault.TraceKind.{TraceKind}
+use Rattle.text_lines.specs.declared.fault.TraceKind.TheVariants.{UnknownFlow, TooManyFlows, SameFlow, SameSid}
+use Rattle.text_lines.specs.Format.{IsRead}
+use Rattle.text_lines.proofs.KeptByEachLine.{Keeps, IsRead-keeps}
 use Rattle.texts.specs.declared.trace.line.TraceLine.{TraceLine}
 use Rattle.texts.specs.declared.trace.line.TraceLine.TheVariants as line
-use Rattle.texts.specs.Format.{IsRead}
 use Rattle.texts.specs.Trace.Line.{flow_line, fields_after, AreFields, values_of, Carries}
 use Rattle.texts.specs.Trace.Place.{Said, nothing_said, with_line, HasFaultAmong, trace_format}
 use Rattle.texts.proofs.OneTraceLine.{sid_in_range}
 use Rattle.texts.proofs.TraceLines.{none_among}
 use Rattle.texts.proofs.LastElement.{EachAt, AreApart, EachAt-pushed, AreApart-pushed}
-use Rattle.texts.proofs.KeptByEachLine.{Keeps, IsRead-keeps}
 
 -- ---- the flows
 

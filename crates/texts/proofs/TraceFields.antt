@@ -1,10 +1,10 @@
 -- The fields of a trace's line: they have one form, and of the fields without their form the first has the least fault.
 use Rattle.std.proofs.Common.{◌≡◌, ◌≢◌, ℕ, ◌<◌, ◌≤◌, List, [], ◌∷◌, ◌⊎◌, length, get_or, inl, inr, refl, sym, ap, ◌∙◌, subst, arith}
-use Rattle.texts.specs.declared.fault.TraceKind.{TraceKind}
-use Rattle.texts.specs.declared.fault.TraceKind.TheVariants.{UnknownLine, SetupLate, FieldCount, BadNumber, BadWord, NotHex}
-use Rattle.texts.specs.Kinds.{kind_number}
+use Rattle.text_lines.specs.declared.fault.TraceKind.{TraceKind}
+use Rattle.text_lines.specs.declared.fault.TraceKind.TheVariants.{UnknownLine, SetupLate, FieldCount, BadNumber, BadWord, NotHex}
+use Rattle.text_lines.specs.Kinds.{kind_number}
 use Rattle.texts.specs.Trace.Line.{FieldForm, LineForm, flow_line, sid_line, grant_line, burst_line, gap_line, gap_to_line, word_of, fields_after, Value, IsField, IsUnknown, HasWrongCount, fault_of, IsBadField, HasBadAmong, HasBadField, HasFaultByItself}
-use Rattle.texts.specs.Inside.LineFault.{IsLeastFaultByItself}
+use Rattle.texts.specs.Inside.TraceLine.{IsLeastFaultByItself}
 use Rattle.texts.proofs.FirstField.{one_word, same_after}
 
 -- ---- one form

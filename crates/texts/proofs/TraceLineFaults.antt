@@ -1,14 +1,14 @@
 -- The least fault of a trace's line, from what its first faulty field is.
 use Rattle.std.proofs.Common.{◌≡◌, ◌≢◌, ℕ, List, ◌∷◌, length, get_or, refl, sym, ap, subst, arith}
-use Rattle.texts.specs.declared.fault.TraceKind.{TraceKind}
-use Rattle.texts.specs.declared.fault.TraceKind.TheVariants.{FieldCount, BadNumber, BadWord, NotHex}
-use Rattle.texts.specs.declared.fault.LineFault.{LineFault}
-use Rattle.texts.specs.declared.fault.LineFault.TheVariants as line_fault
-use Rattle.texts.specs.Inside.LineFault.{IsLineFault}
-use Rattle.texts.specs.Field.{IsHex}
-use Rattle.texts.specs.Inside.LineFault.{HasHexFault}
+use Rattle.text_lines.specs.declared.fault.TraceKind.{TraceKind}
+use Rattle.text_lines.specs.declared.fault.TraceKind.TheVariants.{FieldCount, BadNumber, BadWord, NotHex}
+use Rattle.text_lines.specs.declared.fault.LineFault.{LineFault}
+use Rattle.text_lines.specs.declared.fault.LineFault.TheVariants as line_fault
+use Rattle.text_lines.specs.Inside.LineFault.{IsLineFault}
+use Rattle.text_lines.specs.Field.{IsHex}
+use Rattle.text_lines.specs.Inside.LineFault.{HasHexFault}
 use Rattle.texts.specs.Trace.Line.{hex_field, LineForm, flow_line, sid_line, grant_line, burst_line, gap_line, gap_to_line, word_of, fields_after, some_bytes, IsBadField, HasBadField, HasFaultByItself}
-use Rattle.texts.specs.Inside.LineFault.{IsLeastFaultByItself}
+use Rattle.texts.specs.Inside.TraceLine.{IsLeastFaultByItself}
 use Rattle.texts.proofs.TraceFields.{IsFirstBad, least_bad, least_count}
 
 -- ---- a wrong number of fields

@@ -1,12 +1,12 @@
 -- A line of a trace in its place: it has no fault there, or this is the least of its faults.
 use Rattle.std.proofs.Common.{◌≡◌, ℕ, ◌<◌, ◌≤◌, ◌⊎◌, inl, inr, ⊎_elim, List, ◌∷◌, length, refl, ap, ◌∙◌, subst, arith}
-use Rattle.texts.specs.declared.fault.TraceKind.{TraceKind}
-use Rattle.texts.specs.declared.fault.TraceKind.TheVariants.{UnknownLine, SetupLate, FieldCount, BadNumber, BadWord, NotHex, UnknownFlow, TooManyFlows, SameFlow, SameSid, TooShort, PointerPast}
+use Rattle.text_lines.specs.declared.fault.TraceKind.{TraceKind}
+use Rattle.text_lines.specs.declared.fault.TraceKind.TheVariants.{UnknownLine, SetupLate, FieldCount, BadNumber, BadWord, NotHex, UnknownFlow, TooManyFlows, SameFlow, SameSid, TooShort, PointerPast}
+use Rattle.text_lines.specs.Kinds.{kind_number, IsLeastFault}
 use Rattle.texts.specs.declared.trace.line.TraceLine.{TraceLine}
-use Rattle.texts.specs.Kinds.{kind_number, IsLeastFault}
 use Rattle.texts.specs.Trace.Line.{flow_line, sid_line, word_of, Carries}
-use Rattle.texts.specs.Inside.LineFault.{IsLeastFaultByItself}
 use Rattle.texts.specs.Trace.Place.{Said, IsSetupLine, HasFaultAmong, SaysFaulty, HasLineFault}
+use Rattle.texts.specs.Inside.TraceLine.{IsLeastFaultByItself}
 use Rattle.texts.proofs.FirstField.{one_word}
 use Rattle.texts.proofs.OneTraceLine.{one_line, carried_without_fault}
 

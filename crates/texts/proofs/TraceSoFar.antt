@@ -16,19 +16,19 @@ use Rattle.receiver.specs.declared.setup.Lists.{Lists}
 use Rattle.receiver.specs.Items.{inputs_on}
 use Rattle.lane.specs.Limits.{channel_limit}
 use Rattle.lane.specs.Inside.Seen.{HasSeen}
-use Rattle.texts.specs.declared.fault.TraceKind.{TraceKind}
-use Rattle.texts.specs.declared.fault.TraceKind.TheVariants.{UnknownFlow, SameSid}
-use Rattle.texts.specs.declared.fault.LineFault.{LineFault}
-use Rattle.texts.specs.declared.fault.LineFault.TheVariants as line_fault
+use Rattle.text_lines.specs.declared.fault.TraceKind.{TraceKind}
+use Rattle.text_lines.specs.declared.fault.TraceKind.TheVariants.{UnknownFlow, SameSid}
+use Rattle.text_lines.specs.declared.fault.LineFault.{LineFault}
+use Rattle.text_lines.specs.declared.fault.LineFault.TheVariants as line_fault
+use Rattle.text_lines.specs.Inside.LineFault.{IsLineFault}
+use Rattle.text_lines.specs.Kinds.{IsLeastFault}
 use Rattle.texts.specs.declared.trace.line.TraceLine.{TraceLine}
 use Rattle.texts.specs.declared.trace.line.TraceLine.TheVariants as line
 use Rattle.texts.specs.declared.trace.reading.Reading.{Reading}
-use Rattle.texts.specs.Inside.LineFault.{IsLineFault}
-use Rattle.texts.specs.Kinds.{IsLeastFault}
 use Rattle.texts.specs.Trace.{tag_of, came_on, decision_in, AreListsOf}
 use Rattle.texts.specs.Trace.Line.{flow_line, sid_line, word_of, Carries}
-use Rattle.texts.specs.Inside.LineFault.{IsLeastFaultByItself}
 use Rattle.texts.specs.Trace.Place.{Entry, came, decided, Said, HasFaultAmong, HasLineFault, IsSidAbove, AddsLine, with_line}
+use Rattle.texts.specs.Inside.TraceLine.{IsLeastFaultByItself}
 use Rattle.texts.specs.Inside.Reading.{HasRead, HasReadMore}
 use Rattle.texts.proofs.TraceLines.{IsLate, word_of_late, faultless_in_place, least_in_place, least_by_itself}
 use Rattle.texts.proofs.LastElement.{slice_get-pushed, slice_get-front}

@@ -10,7 +10,8 @@ use Rattle.receiver.specs.Items.{Incoming, incoming_of}
 use Rattle.receiver.specs.Order.{times_of, IsLawfulOrder}
 use Rattle.lane.specs.Limits.{senders}
 use Rattle.receiver.specs.AdmittedOrder.{input_counts}
-use Rattle.texts.specs.Format.{IsRead}
+use Rattle.text_lines.specs.Format.{IsRead}
+use Rattle.text_lines.proofs.KeptByEachLine.{Keeps, IsRead-keeps}
 use Rattle.texts.specs.declared.trace.Trace.{Trace}
 use Rattle.texts.specs.declared.trace.line.TraceLine.{TraceLine}
 use Rattle.texts.specs.declared.trace.line.TraceLine.TheVariants as line
@@ -18,7 +19,6 @@ use Rattle.texts.specs.Trace.{tag_of, came_on, decision_in, IsGivenBy}
 use Rattle.texts.specs.Trace.Line.{Carries}
 use Rattle.texts.specs.Trace.Place.{Entry, came, decided, Said, nothing_said, with_line, trace_format}
 use Rattle.texts.proofs.OneTraceLine.{channel_in_range}
-use Rattle.texts.proofs.KeptByEachLine.{Keeps, IsRead-keeps}
 
 -- ---- each input came on one of the four channels
 

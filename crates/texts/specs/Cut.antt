@@ -11,10 +11,10 @@ use Rattle.docsis_wire.specs.Limits.{header_length}
 use Rattle.docsis_wire.specs.SegmentBytes.{segment_bytes}
 use Rattle.docsis_wire.specs.Pieces.{fill_byte, chunks_of, ArePieceSegments, IsFirstBadFrame, IsFirstFillInsideFrame, IsFirstPointerTooFar}
 use Rattle.hex.specs.Hex.{encode_lower}
-use Rattle.texts.specs.declared.fault.TextFault.{TextFault}
-use Rattle.texts.specs.declared.fault.TextFault.TheVariants.{Trace, Cut, OutOfMemory}
-use Rattle.texts.specs.Lines.{lines_of, line_feed}
-use Rattle.texts.specs.Format.{IsRead, IsFirstFaultyLine}
+use Rattle.text_lines.specs.declared.fault.TextFault.{TextFault}
+use Rattle.text_lines.specs.declared.fault.TextFault.TheVariants.{Trace, Cut, OutOfMemory}
+use Rattle.text_lines.specs.Lines.{lines_of, line_feed}
+use Rattle.text_lines.specs.Format.{IsRead, IsFirstFaultyLine}
 use Rattle.texts.specs.Cut.Line.{nothing, cut_format}
 use Rattle.texts.specs.AnyHeader.{any_header}
 

@@ -1,5 +1,5 @@
 -- What only the contracts of functions inside this crate cite.
-pub mod LineFault
+pub mod TraceLine
 pub mod Join
 pub mod Cut
 pub mod Reading

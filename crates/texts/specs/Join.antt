@@ -4,10 +4,10 @@ use Rattle.std.specs.Prelude.{◌≡◌, ℕ, List, [], ◌∷◌, ◌++◌, map
 use Rattle.docsis_wire.specs.declared.segment.Segment.{Segment}
 use Rattle.ccf.specs.Join.{Joins}
 use Rattle.hex.specs.Hex.{encode_lower}
-use Rattle.texts.specs.declared.fault.TextFault.{TextFault}
-use Rattle.texts.specs.declared.fault.TextFault.TheVariants.{Trace, Cut, OutOfMemory}
-use Rattle.texts.specs.Lines.{lines_of, line_feed}
-use Rattle.texts.specs.Format.{IsRead, IsFirstFaultyLine}
+use Rattle.text_lines.specs.declared.fault.TextFault.{TextFault}
+use Rattle.text_lines.specs.declared.fault.TextFault.TheVariants.{Trace, Cut, OutOfMemory}
+use Rattle.text_lines.specs.Lines.{lines_of, line_feed}
+use Rattle.text_lines.specs.Format.{IsRead, IsFirstFaultyLine}
 use Rattle.texts.specs.Join.Line.{join_format}
 use Rattle.texts.specs.AnyHeader.{any_header}
 

@@ -1,10 +1,4 @@
 pub mod AnyHeader
-pub mod Kinds
-pub mod Lines
-pub mod Field
-pub mod Number
-pub mod Fault
-pub mod Format
 pub mod Join
 pub mod Cut
 pub mod Trace

@@ -6,19 +6,16 @@ use Rattle.receiver.specs.Items.{incoming_of}
 use Rattle.receiver.specs.Outcome.{IsOutcome}
 use Rattle.receiver.specs.Ruled.{IsOutcomeBy}
 use Rattle.receiver.specs.AdmittedOrder.{IsAdmittedOrder}
-use Rattle.texts.specs.declared.fault.TextFault.{TextFault}
-use Rattle.texts.specs.declared.fault.TextFault.TheVariants.{Trace, Cut, OutOfMemory}
+use Rattle.text_lines.specs.declared.fault.TextFault.{TextFault}
+use Rattle.text_lines.specs.declared.fault.TextFault.TheVariants.{Trace, Cut, OutOfMemory}
+use Rattle.text_lines.specs.Capacities.{default_capacity}
+use Rattle.text_lines.specs.Lines.{lines_of}
+use Rattle.text_lines.specs.Format.{IsFirstFaultyLine}
 use Rattle.texts.specs.declared.trace.Trace.{Trace as TraceValue}
-use Rattle.texts.specs.Lines.{lines_of}
-use Rattle.texts.specs.Format.{IsFirstFaultyLine}
 use Rattle.texts.specs.AnyHeader.{any_header}
 use Rattle.texts.specs.Report.{report_text}
 use Rattle.texts.specs.Trace.{IsTrace}
 use Rattle.texts.specs.Trace.Place.{nothing_said, trace_format}
-
--- the capacity of the rings and mailboxes of a receiver that is replayed, where none is asked for
-abbrev pub default_capacity : ℕ
-default_capacity = 16
 
 -- what a trace gives: the one-thread answer, in the order in which its lines say that what was admitted came
 pub record IsPlayed (trace : TraceValue) (outcome : Outcome) : Type 0 where

@@ -8,7 +8,7 @@ use Rattle.lane.specs.declared.admitted.Request.{Request}
 use Rattle.receiver.specs.declared.outcome.FlowOutcome.{FlowOutcome}
 use Rattle.lane.specs.declared.report.LaneReport.{LaneReport}
 use Rattle.receiver.specs.declared.outcome.Outcome.{Outcome}
-use Rattle.texts.specs.Lines.{line_feed}
+use Rattle.text_lines.specs.Lines.{line_feed}
 
 -- a space and a number
 abbrev pub spaced : ℕ → List ℕ

@@ -7,10 +7,10 @@ use Rattle.lane.specs.declared.input.Input.{Input}
 use Rattle.flow_records.specs.declared.decision.Decision.{Decision}
 use Rattle.receiver.specs.declared.setup.Lists.{Lists}
 use Rattle.receiver.specs.Items.{inputs_on}
-use Rattle.texts.specs.declared.fault.ParseFault.{ParseFault}
+use Rattle.text_lines.specs.declared.fault.ParseFault.{ParseFault}
+use Rattle.text_lines.specs.Lines.{lines_of}
+use Rattle.text_lines.specs.Format.{IsRead, IsReadingFault}
 use Rattle.texts.specs.declared.trace.Trace.{Trace}
-use Rattle.texts.specs.Lines.{lines_of}
-use Rattle.texts.specs.Format.{IsRead, IsReadingFault}
 use Rattle.texts.specs.Trace.Place.{Entry, came, decided, Said, nothing_said, trace_format}
 
 -- the sender of an entry: its channel, or 4 for a decision

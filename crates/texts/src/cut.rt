@@ -4,21 +4,19 @@ ghost use Rattle.docsis_wire.specs.Header.{header_bytes};
 ghost use Rattle.docsis_wire.specs.Limits.{sequence_modulus};
 ghost use Rattle.hex.specs.Hex.{encode_lower};
 ghost use Rattle.docsis_wire.specs.Pieces.{IsCuttable};
+ghost use Rattle.text_lines.specs.Lines.{lines_of};
+ghost use Rattle.text_lines.specs.Format.{IsRead, IsReadingFault};
 ghost use Rattle.texts.specs.AnyHeader.{any_header};
-ghost use Rattle.texts.specs.Lines.{lines_of};
-ghost use Rattle.texts.specs.Format.{IsRead, IsReadingFault};
 ghost use Rattle.texts.specs.Cut.Line.{nothing, cut_format};
 ghost use Rattle.texts.specs.Cut.{IsCutText, IsCutFault, segment_line, cut_text_length};
 ghost use Rattle.texts.specs.Inside.Cut.{IsPrinted};
 
 mod line;
 
-use crate::fault::{LineFault, ParseFault, TextFault};
-use crate::field::append_hex;
-use crate::lines::{TakeLine, take_lines};
 use docsis_wire::{Bytes, Cutter, FillByte, NoCheck, Piece, Segment, SegmentHeader, write_segment};
 use line::{CutLine, read_cut_line};
 use std::alloc::{AllocError, Global};
+use text_lines::{LineFault, ParseFault, TakeLine, TextFault, append_hex, take_lines};
 
 /// How many bytes of a segment its header takes.
 const HEADER_BYTES: usize = 8;

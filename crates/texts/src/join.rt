@@ -4,13 +4,11 @@ ghost use Rattle.texts.specs.Join.{IsJoined, IsJoinFault, frame_line};
 
 mod line;
 
-use crate::fault::{LineFault, TextFault};
-use crate::field::append_hex;
-use crate::lines::{TakeLine, take_lines};
 use ccf::Joiner;
 use docsis_wire::{Bytes, NoCheck};
 use line::read_segment;
 use std::alloc::{AllocError, Global};
+use text_lines::{LineFault, TakeLine, TextFault, append_hex, take_lines};
 
 /// Appends a line for each frame to a text.
 fn append_joined_frames(

@@ -12,9 +12,10 @@
 //!   segments are lost.
 //! - For a receiver of one's own, [`parse_trace`] reads a trace into the setup, the lists and the
 //!   tags that `receiver` and `uplink` take, and [`report`] prints its outcome; [`read_trace`]
-//!   also frees what it has read. So the crate `engines` receives a trace on threads.
-//! - [`read_number`] reads a number field as all of these do, with [`DEFAULT_CAPACITY`] for a
-//!   command line.
+//!   also frees what it has read. So the crate `commands` receives a trace on threads.
+//!
+//! The lines and fields of all these formats, and the faults of a line, are those of `text_lines`;
+//! those of its names that a caller needs are exported here too.
 //!
 //! [`laws`] states that an input has at most one text, but for `run`, or at most one fault, and
 //! never both.
@@ -23,25 +24,19 @@
 //! segments again.
 #![tactic(auto)]
 
-mod capacities;
 mod cut;
-mod fault;
-mod field;
 mod join;
 pub mod laws;
-mod lines;
-mod number;
 mod receiver_fault;
 mod replay;
 mod report_lines;
 mod trace;
-mod words;
 
-pub use capacities::{Capacities, DEFAULT_CAPACITY};
 pub use cut::cut_lines;
-pub use fault::{ParseFault, TextFault, TraceFault, TraceKind};
 pub use join::join_lines;
-pub use number::read_number;
 pub use replay::{replay_lines, replay_lines_by};
 pub use report_lines::report;
+pub use text_lines::{
+    Capacities, DEFAULT_CAPACITY, ParseFault, TextFault, TraceFault, TraceKind, read_number,
+};
 pub use trace::{Trace, parse_trace, read_trace};

@@ -6,8 +6,6 @@ ghost use Rattle.receiver.specs.AdmittedOrder.{input_counts, IsAdmittedOrder};
 ghost use Rattle.receiver.specs.Order.{IsLawfulOrder};
 ghost use Rattle.texts.specs.Replay.{IsPlayedBy, IsReplayed, IsReplayedBy, IsReplayFault};
 
-use crate::capacities::{Capacities, DEFAULT_CAPACITY};
-use crate::fault::TextFault;
 use crate::receiver_fault::unless_out_of_memory;
 use crate::report_lines::report;
 use crate::trace::{Trace, read_trace};
@@ -15,6 +13,7 @@ use docsis_wire::NoCheck;
 use loss_rule::LossRule;
 use receiver::{Outcome, admitted_order, replay_by};
 use std::alloc::{AllocError, Global};
+use text_lines::{Capacities, DEFAULT_CAPACITY, TextFault};
 
 /// The senders of what a trace's lines say that was admitted, in the order of the lines.
 fn order_of(alloc: Global, trace: &Trace) -> Result<Vec<u8>, AllocError>

@@ -4,13 +4,13 @@ ghost use Rattle.texts.specs.Report.{spaced, named, counts_text, frame_line, flo
 ghost use Rattle.texts.specs.Report.{request_line, refused_text, lane_line, numbered_lines};
 ghost use Rattle.texts.specs.Report.{report_text};
 
-use crate::field::append_hex;
 use docsis_wire::Bytes;
 use flow_core::FlowCounts;
 use itoa::Buffer;
 use lane::{LaneReport, Request};
 use receiver::{FlowOutcome, Outcome};
 use std::alloc::{AllocError, Global};
+use text_lines::append_hex;
 
 /// Appends a word to a text.
 fn append_word(text: &mut Vec<u8>, word: &str) -> Result<(), AllocError>

@@ -2,10 +2,9 @@
 ghost use Rattle.std.specs.Prelude.{◌≤◌, IfOk, IfErr};
 ghost use Rattle.texts.specs.Trace.{IsTrace, IsTraceFault};
 
-use crate::capacities::Capacities;
-use crate::fault::ParseFault;
 use receiver::{Lists, Setup};
 use std::alloc::Global;
+use text_lines::{Capacities, ParseFault};
 
 mod line;
 mod reading;

@@ -1,9 +1,9 @@
 //! Runs of the engines and of the program on texts that were worked out by hand: the tests of the
-//! crate `engines`.
+//! crates `engines`, `commands` and `command_line`.
 //!
 //! They show what no clause says, and no run of the program: failing devices, out of memory, the
-//! longest input, taps, and what single calls answer. They stand apart from `engines`, so that it
-//! is proved once and not a second time with its tests. There is nothing here for a caller.
+//! longest input, taps, and what single calls answer. They stand apart from these, so that they are
+//! proved once and not a second time with their tests. There is nothing here for a caller.
 #![tactic(auto)]
 
 #[cfg(test)]

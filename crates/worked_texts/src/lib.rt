@@ -1,9 +1,9 @@
-//! Texts that were worked out by hand: the tests of the crate `texts`, and the [`samples`] that
-//! `worked_engines` takes too.
+//! Texts that were worked out by hand: the tests of the crates `texts` and `text_lines`, and the
+//! [`samples`] that `worked_engines` takes too.
 //!
 //! They show what no clause says, and no run of the program: that calls succeed, that a failed
-//! allocation is reported, and what single calls answer. They stand apart from `texts`, so that it
-//! is proved once and not a second time with its tests. There is nothing here for a caller.
+//! allocation is reported, and what single calls answer. They stand apart from these, so that they
+//! are proved once and not a second time with their tests. There is nothing here for a caller.
 #![tactic(auto)]
 
 #[cfg(test)]

@@ -1,8 +1,8 @@
 -- What a command does.
 use Rattle.std.specs.Prelude.{◌<◌, ◌≤◌, ℕ, List, Option, Result, string_bytes}
 use Rattle.docsis_wire.specs.Limits.{sequence_modulus}
-use Rattle.engines.specs.declared.command.Command.{Command}
-use Rattle.engines.specs.declared.command.Command.TheVariants.{Join, Cut, Replay, Run, Help}
+use Rattle.command_line.specs.declared.command.Command.{Command}
+use Rattle.command_line.specs.declared.command.Command.TheVariants.{Join, Cut, Replay, Run, Help}
 use Rattle.engines.specs.declared.device.Device.{Device}
 use Rattle.engines.specs.declared.fault.EngineFault.{EngineFault}
 use Rattle.engines.specs.Engine.{RunsEngine}

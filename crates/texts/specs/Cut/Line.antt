@@ -1,11 +1,11 @@
 -- The lines of `cut`: each carries one frame or one piece, or has a fault.
 use Rattle.std.specs.Prelude.{◌≡◌, ◌≢◌, ◌⊎◌, ℕ, List, [], ◌∷◌, ◌++◌, length, codes}
 use Rattle.docsis_wire.specs.declared.pieces.Piece.{Piece}
-use Rattle.texts.specs.declared.fault.TraceKind.{TraceKind}
-use Rattle.texts.specs.declared.fault.TraceKind.TheVariants.{UnknownLine, SetupLate, FieldCount, BadNumber, BadWord, NotHex, UnknownFlow, TooManyFlows, SameFlow, SameSid, TooShort, PointerPast}
-use Rattle.texts.specs.Field.{SpellsBytes, IsHex}
-use Rattle.texts.specs.Number.{IsNumber, IsNoNumber}
-use Rattle.texts.specs.Format.{Format}
+use Rattle.text_lines.specs.declared.fault.TraceKind.{TraceKind}
+use Rattle.text_lines.specs.declared.fault.TraceKind.TheVariants.{UnknownLine, SetupLate, FieldCount, BadNumber, BadWord, NotHex, UnknownFlow, TooManyFlows, SameFlow, SameSid, TooShort, PointerPast}
+use Rattle.text_lines.specs.Field.{SpellsBytes, IsHex}
+use Rattle.text_lines.specs.Number.{IsNumber, IsNoNumber}
+use Rattle.text_lines.specs.Format.{Format}
 
 -- the word that begins the line of a frame
 abbrev pub frame_word : List ℕ

@@ -2,13 +2,13 @@
 use Rattle.std.specs.Prelude.{◌≡◌, ◌<◌, ◌↔◌, ℕ, Result, MatchResult, map}
 use Rattle.lane.specs.Limits.{channel_limit, sid_limit}
 use Rattle.lane.specs.Inside.Seen.{HasSeen}
-use Rattle.texts.specs.declared.fault.LineFault.{LineFault}
-use Rattle.texts.specs.declared.fault.TraceKind.{TraceKind}
+use Rattle.text_lines.specs.declared.fault.LineFault.{LineFault}
+use Rattle.text_lines.specs.declared.fault.TraceKind.{TraceKind}
+use Rattle.text_lines.specs.Inside.LineFault.{IsLineFault}
+use Rattle.text_lines.specs.Kinds.{IsLeastFault}
 use Rattle.texts.specs.declared.trace.line.TraceLine.{TraceLine}
 use Rattle.texts.specs.declared.trace.line.TraceLine.TheVariants as line
 use Rattle.texts.specs.declared.trace.reading.Reading.{Reading}
-use Rattle.texts.specs.Inside.LineFault.{IsLineFault}
-use Rattle.texts.specs.Kinds.{IsLeastFault}
 use Rattle.texts.specs.Trace.{AreListsOf, tag_of}
 use Rattle.texts.specs.Trace.Place.{Said, IsSidAbove, HasFaultAmong, with_line}
 

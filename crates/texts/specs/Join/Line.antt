@@ -5,10 +5,10 @@ use Rattle.docsis_wire.specs.Limits.{header_length}
 use Rattle.docsis_wire.specs.Ready.{IsReady}
 use Rattle.docsis_wire.specs.SegmentBytes.{segment_bytes}
 use Rattle.docsis_wire.specs.SegmentBytes as segment
-use Rattle.texts.specs.declared.fault.TraceKind.{TraceKind}
-use Rattle.texts.specs.declared.fault.TraceKind.TheVariants.{UnknownLine, SetupLate, FieldCount, BadNumber, BadWord, NotHex, UnknownFlow, TooManyFlows, SameFlow, SameSid, TooShort, PointerPast}
-use Rattle.texts.specs.Field.{SpellsBytes, IsHex}
-use Rattle.texts.specs.Format.{Format}
+use Rattle.text_lines.specs.declared.fault.TraceKind.{TraceKind}
+use Rattle.text_lines.specs.declared.fault.TraceKind.TheVariants.{UnknownLine, SetupLate, FieldCount, BadNumber, BadWord, NotHex, UnknownFlow, TooManyFlows, SameFlow, SameSid, TooShort, PointerPast}
+use Rattle.text_lines.specs.Field.{SpellsBytes, IsHex}
+use Rattle.text_lines.specs.Format.{Format}
 
 -- the only field spells these bytes
 pub record OnlySpells (fields : List (List ℕ)) (bytes : List ℕ) : Type 0 where

@@ -1,12 +1,12 @@
 -- What a line of a trace says by itself, and the faults that it has by itself.
 use Rattle.std.specs.Prelude.{◌≡◌, ◌≢◌, ◌⊎◌, ℕ, Bool, true, false, Option, Some, None, List, [], ◌∷◌, length, codes}
 use Rattle.lane.specs.declared.input.Input.TheVariants.{Grant, Burst}
-use Rattle.texts.specs.declared.fault.TraceKind.{TraceKind}
-use Rattle.texts.specs.declared.fault.TraceKind.TheVariants.{UnknownLine, SetupLate, FieldCount, BadNumber, BadWord, NotHex, UnknownFlow, TooManyFlows, SameFlow, SameSid, TooShort, PointerPast}
+use Rattle.text_lines.specs.declared.fault.TraceKind.{TraceKind}
+use Rattle.text_lines.specs.declared.fault.TraceKind.TheVariants.{UnknownLine, SetupLate, FieldCount, BadNumber, BadWord, NotHex, UnknownFlow, TooManyFlows, SameFlow, SameSid, TooShort, PointerPast}
+use Rattle.text_lines.specs.Field.{SpellsBytes}
+use Rattle.text_lines.specs.Number.{IsNumberIn}
 use Rattle.texts.specs.declared.trace.line.TraceLine.{TraceLine}
 use Rattle.texts.specs.declared.trace.line.TraceLine.TheVariants.{Flow, Sid, Input, Gap}
-use Rattle.texts.specs.Field.{SpellsBytes}
-use Rattle.texts.specs.Number.{IsNumberIn}
 
 -- ---- the forms of lines and of their fields
 

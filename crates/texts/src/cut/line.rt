@@ -1,16 +1,13 @@
 //! A line of `cut`.
 ghost use Rattle.std.specs.Prelude.{◌∷◌, IfOk, IfErr};
-ghost use Rattle.texts.specs.Inside.LineFault.{IsLineFault};
-ghost use Rattle.texts.specs.Lines.{words_of};
+ghost use Rattle.text_lines.specs.Inside.LineFault.{IsLineFault};
+ghost use Rattle.text_lines.specs.Lines.{words_of};
 ghost use Rattle.texts.specs.Cut.Line.{HasFault, frame_word, piece_word};
 ghost use Rattle.texts.specs.Inside.Cut.{Carries};
 
-use crate::fault::{LineFault, TraceKind};
-use crate::field::read_hex;
-use crate::number::read_number;
-use crate::words::{only_two_words, only_word};
 use docsis_wire::{Bytes, Piece};
 use std::alloc::Global;
+use text_lines::{LineFault, TraceKind, only_two_words, only_word, read_hex, read_number};
 
 /// The greatest number of bytes, and of fill, that a piece can name.
 const NUMBER_MAX: u32 = 65_535;

@@ -1,14 +1,12 @@
 //! A line of `join`.
 ghost use Rattle.std.specs.Prelude.{◌∷◌, IfOk, IfErr};
-ghost use Rattle.texts.specs.Inside.LineFault.{IsLineFault};
-ghost use Rattle.texts.specs.Lines.{words_of};
+ghost use Rattle.text_lines.specs.Inside.LineFault.{IsLineFault};
+ghost use Rattle.text_lines.specs.Lines.{words_of};
 ghost use Rattle.texts.specs.Join.Line.{Carries, HasFault};
 
-use crate::fault::{LineFault, TraceKind};
-use crate::field::read_hex;
-use crate::words::no_word;
 use docsis_wire::Segment;
 use std::alloc::Global;
+use text_lines::{LineFault, TraceKind, no_word, read_hex};
 
 /// The segment of a line, by its first field and what follows that. The line is to have one
 /// hexadecimal field.

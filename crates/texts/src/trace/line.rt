@@ -1,22 +1,22 @@
 //! A line of a trace, by itself.
 ghost use Rattle.std.specs.Prelude.{◌≡◌, ◌∷◌, ℕ, IfOk, IfErr};
-ghost use Rattle.texts.specs.Inside.LineFault.{IsLineFault};
-ghost use Rattle.texts.specs.Lines.{words_of};
+ghost use Rattle.text_lines.specs.Inside.LineFault.{IsLineFault};
+ghost use Rattle.text_lines.specs.Lines.{words_of};
 ghost use Rattle.texts.specs.Trace.Line.{number_in, check_word, a_number, a_check};
 ghost use Rattle.texts.specs.Trace.Line.{flow_line, sid_line, grant_line, burst_line, gap_line};
 ghost use Rattle.texts.specs.Trace.Line.{word_of, IsField, IsBadField};
 ghost use Rattle.texts.specs.Trace.Line.{Carries};
-ghost use Rattle.texts.specs.Inside.LineFault.{IsLeastFaultByItself};
+ghost use Rattle.texts.specs.Inside.TraceLine.{IsLeastFaultByItself};
 
-use crate::fault::{LineFault, TraceKind};
-use crate::field::read_hex;
-use crate::number::read_number_in;
-use crate::words::{only_four_words, only_three_words, only_two_words, only_word};
 use docsis_wire::Bytes;
 use flow_core::FlowRecord;
 use lane::{Input, SidRow};
 use receiver::Decision;
 use std::alloc::Global;
+use text_lines::{
+    LineFault, TraceKind, only_four_words, only_three_words, only_two_words, only_word, read_hex,
+    read_number_in,
+};
 
 /// The greatest number of a channel.
 const CHANNEL_MAX: u32 = 3;

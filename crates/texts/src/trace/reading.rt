@@ -6,12 +6,11 @@ ghost use Rattle.texts.specs.Trace.Line.{word_of, flow_line, sid_line};
 
 use super::Trace;
 use super::line::{TraceLine, read_trace_line};
-use crate::fault::{LineFault, ParseFault, TraceKind};
-use crate::lines::{TakeLine, take_lines};
 use flow_core::FlowRecord;
 use lane::{Input, SeenSids, SidRow};
 use receiver::{Decision, Lists, Setup};
 use std::alloc::{AllocError, Global};
+use text_lines::{LineFault, ParseFault, TakeLine, TraceKind, take_lines};
 
 /// How many flows a trace may have.
 const FLOWS_MAX: usize = 64;

@@ -1,10 +1,10 @@
 use Rattle.std.proofs.Common.{◌≡◌}
 use Rattle.std.specs.Prelude.{map}
 use Rattle.loss_rule.specs.declared.rule.LossRule.{LossRule}
-use Rattle.engines.specs.declared.command.Command.TheVariants.{Join, Replay, Run}
+use Rattle.command_line.specs.declared.command.Command.TheVariants.{Join, Replay, Run}
 use Rattle.engines.specs.Fault.{usage_fault}
-use Rattle.engines.specs.Command.{AsksToJoin, AsksToReplayBy, AsksToRunByAlone}
-use Rattle.texts.specs.Replay.{default_capacity}
+use Rattle.command_line.specs.Command.{AsksToJoin, AsksToReplayBy, AsksToRunByAlone}
+use Rattle.text_lines.specs.Capacities.{default_capacity}
 use Rattle.commands.proofs.ObeyedWords.{Obeys-performed, Obeys-refused, is_fault}
 use Rattle.commands.proofs.whole_program.obey.Goals as goal
 

@@ -1,11 +1,12 @@
 use Rattle.std.proofs.Common.{◌≡◌, ℕ, List, refl}
-use Rattle.texts.specs.declared.fault.TextFault.{TextFault}
-use Rattle.texts.specs.declared.fault.TextFault.TheVariants.{Trace, Cut, OutOfMemory}
-use Rattle.texts.specs.declared.fault.ParseFault.{ParseFault}
-use Rattle.texts.specs.declared.fault.ParseFault.TheVariants as parse
+use Rattle.text_lines.specs.Capacities.{default_capacity}
+use Rattle.text_lines.specs.declared.fault.TextFault.{TextFault}
+use Rattle.text_lines.specs.declared.fault.TextFault.TheVariants.{Trace, Cut, OutOfMemory}
+use Rattle.text_lines.specs.declared.fault.ParseFault.{ParseFault}
+use Rattle.text_lines.specs.declared.fault.ParseFault.TheVariants as parse
 use Rattle.texts.specs.declared.trace.Trace.{Trace as TraceValue}
 use Rattle.texts.specs.Trace.{IsTrace, IsTraceFault}
-use Rattle.texts.specs.Replay.{default_capacity, IsReportFault}
+use Rattle.texts.specs.Replay.{IsReportFault}
 use Rattle.texts.proofs.laws.faulty_input_has_no_report.Goals as goal
 
 -- a faulty input is no trace

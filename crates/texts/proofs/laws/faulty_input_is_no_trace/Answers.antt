@@ -1,11 +1,11 @@
 use Rattle.std.proofs.Common.{◌≡◌, ℕ, List, refl}
-use Rattle.texts.specs.declared.fault.ParseFault.{ParseFault}
-use Rattle.texts.specs.declared.fault.ParseFault.TheVariants.{Line, OutOfMemory}
+use Rattle.text_lines.specs.declared.fault.ParseFault.{ParseFault}
+use Rattle.text_lines.specs.declared.fault.ParseFault.TheVariants.{Line, OutOfMemory}
+use Rattle.text_lines.specs.Lines.{lines_of}
+use Rattle.text_lines.proofs.LinesReadOneWay as lines
 use Rattle.texts.specs.declared.trace.Trace.{Trace}
-use Rattle.texts.specs.Lines.{lines_of}
 use Rattle.texts.specs.Trace.{IsTrace, IsTraceFault}
 use Rattle.texts.specs.Trace.Place.{nothing_said, trace_format}
-use Rattle.texts.proofs.LinesReadOneWay as lines
 use Rattle.texts.proofs.OneTrace.{trace_is_determined}
 use Rattle.texts.proofs.laws.faulty_input_is_no_trace.Goals as goal
 

@@ -1,8 +1,8 @@
 use Rattle.std.proofs.Common.{◌∙◌, sym, subst}
-use Rattle.texts.specs.Lines.{lines_of}
+use Rattle.text_lines.specs.Lines.{lines_of}
+use Rattle.text_lines.proofs.LinesReadOneWay.{one_reading}
 use Rattle.texts.specs.Trace.{IsGivenBy}
 use Rattle.texts.specs.Trace.Place.{Said, nothing_said, trace_format}
-use Rattle.texts.proofs.LinesReadOneWay.{one_reading}
 use Rattle.texts.proofs.OneTrace.{trace_is_determined}
 use Rattle.texts.proofs.laws.input_is_one_trace.Goals as goal
 

@@ -1,10 +1,10 @@
 use Rattle.std.proofs.Common.{◌∙◌, [], Some, ap, sym, subst}
 use Rattle.std.specs.Prelude.{map, flat_map}
 use Rattle.ccf.specs.Join.{Joins}
-use Rattle.texts.specs.Lines.{lines_of}
+use Rattle.text_lines.specs.Lines.{lines_of}
+use Rattle.text_lines.proofs.LinesReadOneWay.{one_reading}
 use Rattle.texts.specs.Join.{frame_line}
 use Rattle.texts.specs.Join.Line.{join_format}
-use Rattle.texts.proofs.LinesReadOneWay.{one_reading}
 use Rattle.texts.proofs.OneJoinLine.{join_is_determined}
 use Rattle.texts.proofs.laws.join_has_one_text.Goals as goal
 use Rattle.texts.specs.AnyHeader.{any_header}

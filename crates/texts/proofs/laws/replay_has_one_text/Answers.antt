@@ -3,7 +3,7 @@ use Rattle.receiver.specs.Items.{incoming_of}
 use Rattle.receiver.specs.Outcome.{IsOutcome}
 use Rattle.receiver.specs.Ruled.{IsOutcomeBy}
 use Rattle.texts.specs.AnyHeader.{any_header}
-use Rattle.texts.specs.Replay.{default_capacity}
+use Rattle.text_lines.specs.Capacities.{default_capacity}
 use Rattle.texts.proofs.OneReport.{report_text_same}
 use Rattle.texts.proofs.OneReplay.{outcome_moved, outcome_by_moved, one_played_order}
 use Rattle.texts.proofs.laws.replay_has_one_text.Goals as goal

@@ -1,8 +1,8 @@
 use Rattle.std.proofs.Common.{◌≡◌, ◌≢◌, ℕ, List, refl}
-use Rattle.texts.specs.declared.fault.TextFault.{TextFault}
-use Rattle.texts.specs.declared.fault.TextFault.TheVariants.{Trace, Cut, OutOfMemory}
-use Rattle.texts.specs.declared.fault.ParseFault.{ParseFault}
-use Rattle.texts.specs.declared.fault.ParseFault.TheVariants as parse
+use Rattle.text_lines.specs.declared.fault.TextFault.{TextFault}
+use Rattle.text_lines.specs.declared.fault.TextFault.TheVariants.{Trace, Cut, OutOfMemory}
+use Rattle.text_lines.specs.declared.fault.ParseFault.{ParseFault}
+use Rattle.text_lines.specs.declared.fault.ParseFault.TheVariants as parse
 use Rattle.texts.specs.Trace.{IsTraceFault}
 use Rattle.texts.specs.Replay.{IsReportFault}
 use Rattle.texts.proofs.laws.report_has_one_fault.Goals as goal

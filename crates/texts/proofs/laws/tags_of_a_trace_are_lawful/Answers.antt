@@ -2,7 +2,7 @@ use Rattle.std.proofs.Common.{sym, subst}
 use Rattle.receiver.specs.Items.{incoming_of}
 use Rattle.receiver.specs.Order.{IsLawfulOrder}
 use Rattle.receiver.specs.AdmittedOrder.{input_counts}
-use Rattle.texts.specs.Lines.{lines_of}
+use Rattle.text_lines.specs.Lines.{lines_of}
 use Rattle.texts.proofs.TraceTags.{read_of_channels, tags_are_lawful}
 use Rattle.texts.proofs.laws.tags_of_a_trace_are_lawful.Goals as goal
 

@@ -1,10 +1,10 @@
 use Rattle.std.proofs.Common.{◌≡◌, ◌≢◌, ℕ, List, refl, ap}
-use Rattle.texts.specs.declared.fault.ParseFault.{ParseFault}
-use Rattle.texts.specs.declared.fault.ParseFault.TheVariants.{Line, OutOfMemory}
-use Rattle.texts.specs.Lines.{lines_of}
+use Rattle.text_lines.specs.declared.fault.ParseFault.{ParseFault}
+use Rattle.text_lines.specs.declared.fault.ParseFault.TheVariants.{Line, OutOfMemory}
+use Rattle.text_lines.specs.Lines.{lines_of}
+use Rattle.text_lines.proofs.LinesReadOneWay as lines
 use Rattle.texts.specs.Trace.{IsTraceFault}
 use Rattle.texts.specs.Trace.Place.{nothing_said, trace_format}
-use Rattle.texts.proofs.LinesReadOneWay as lines
 use Rattle.texts.proofs.OneTrace.{trace_is_determined}
 use Rattle.texts.proofs.laws.trace_has_one_fault.Goals as goal
 

@@ -3,7 +3,7 @@ use Rattle.flow_records.specs.declared.record.FlowRecord.{FlowRecord}
 use Rattle.flow_records.specs.Setup.{CanBeSetUp}
 use Rattle.lane.specs.declared.sids.SidRow.{SidRow}
 use Rattle.lane.specs.Rows.{CanBeOpened}
-use Rattle.texts.specs.Lines.{lines_of}
+use Rattle.text_lines.specs.Lines.{lines_of}
 use Rattle.texts.proofs.TraceChecks.{read_passes}
 use Rattle.texts.proofs.laws.trace_passes_the_checks.Goals as goal
 

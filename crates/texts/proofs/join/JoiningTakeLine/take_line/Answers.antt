@@ -1,6 +1,6 @@
 use Rattle.std.proofs.Common.{◌≡◌, ◌∷◌, ◌++◌, rules}
 use Rattle.std.specs.Prelude.{flat_map}
-use Rattle.texts.specs.Lines.{words_of}
+use Rattle.text_lines.specs.Lines.{words_of}
 use Rattle.texts.specs.Join.{frame_line}
 use Rattle.texts.proofs.JoinedSoFar.{JoinedSoFar-more}
 use Rattle.texts.proofs.join.JoiningTakeLine.take_line.Goals as goal

@@ -1,7 +1,7 @@
 use Rattle.std.proofs.Common.{◌≡◌, ◌∷◌, [], sym, ap, subst, rules}
 use Rattle.std.proofs.lemmas.Result.{err_from_is_err_and}
-use Rattle.texts.specs.Lines.{words_of}
-use Rattle.texts.specs.Field.{SpellsBytes}
+use Rattle.text_lines.specs.Lines.{words_of}
+use Rattle.text_lines.specs.Field.{SpellsBytes}
 use Rattle.texts.specs.Join.Line.{OnlySpells}
 use Rattle.texts.proofs.JoinLineFaults.{no_segment}
 use Rattle.texts.proofs.join.line.read_segment.Goals as goal

@@ -1,6 +1,6 @@
 use Rattle.std.proofs.Common.{inl, inr, refl}
 use Rattle.std.proofs.lemmas.Result.{err_from_is_err_and}
-use Rattle.texts.specs.Lines.{words_of}
+use Rattle.text_lines.specs.Lines.{words_of}
 use Rattle.texts.specs.Trace.Line.{a_number, a_check, burst_line}
 use Rattle.texts.proofs.TraceLineFaults.{miscounted, number_fault, check_fault, hex_fault, IsBadField-hex}
 use Rattle.texts.proofs.trace.line.read_burst.Goals as goal

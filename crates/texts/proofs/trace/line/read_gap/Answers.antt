@@ -1,6 +1,6 @@
 use Rattle.std.proofs.Common.{inl, inr, refl}
 use Rattle.std.proofs.lemmas.Result.{err_from_is_err_and}
-use Rattle.texts.specs.Lines.{words_of}
+use Rattle.text_lines.specs.Lines.{words_of}
 use Rattle.texts.specs.Trace.Line.{a_number, gap_line, gap_to_line}
 use Rattle.texts.proofs.TraceLineFaults.{miscounted_gap, number_fault}
 use Rattle.texts.proofs.trace.line.read_gap.Goals as goal

@@ -1,6 +1,6 @@
 use Rattle.std.proofs.Common.{◌∷◌, arith}
 use Rattle.std.proofs.lemmas.Result.{err_from_is_err_and}
-use Rattle.texts.specs.Lines.{words_of}
+use Rattle.text_lines.specs.Lines.{words_of}
 use Rattle.texts.proofs.TraceLines.{late_by_word, late_is_least}
 use Rattle.texts.proofs.TraceSoFar.{count-tags, not_late, carried_as, taken_in_place, refused_in_place, refused_by_itself}
 use Rattle.texts.proofs.trace.reading.ReadingTakeLine.take_line.Goals as goal

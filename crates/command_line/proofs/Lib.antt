@@ -1,0 +1,4 @@
+pub mod AskedWords
+pub mod AskedRules
+pub mod AskedWithoutHelp
+pub mod CommandsApart

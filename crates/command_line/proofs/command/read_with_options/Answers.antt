@@ -1,0 +1,5 @@
+use Rattle.std.proofs.Common.{rules}
+use Rattle.command_line.proofs.command.read_with_options.Goals as goal
+
+pub returns-2 : goal.returns-2
+returns-2 g c = ((c.asked_run-run_rule.ensures c.in-Some-run_rule.rule).0 c.in-Some-run_rule.is, search rules, search rules)

@@ -1,0 +1,18 @@
+use Rattle.std.specs.Prelude.{map}
+use Rattle.command_line.proofs.AskedRules.{AskForRule-none, AskForRule-named, AskForRule-twice}
+use Rattle.command_line.proofs.losses.asked_rule.Goals as goal
+
+pub returns-in_default : goal.returns-in_default
+returns-in_default g c = AskForRule-none (map g.S.AsStr.text c.args.options.now) c.in_default.ensures
+
+pub returns-in-None : goal.returns-in-None
+returns-in-None g c =
+    let behind = map g.S.AsStr.text c.in-Some.behind.now in
+    AskForRule-named (map g.S.AsStr.text c.args.options.now) c.in-Some.name.now c.rule_named.result (behind, c.in-Some.ensures, c.in-None.ensures)
+    c.rule_named.ensures
+
+pub returns-in-Some-first_losses : goal.returns-in-Some-first_losses
+returns-in-Some-first_losses g c =
+    let second = c.in-Some-first_losses.field-0 in
+    AskForRule-twice (map g.S.AsStr.text c.args.options.now) c.in-Some.name.now second.0.now (map g.S.AsStr.text c.in-Some.behind.now)
+    (map g.S.AsStr.text second.1.now) c.in-Some.ensures c.in-Some-first_losses.ensures

@@ -1,0 +1,309 @@
+//! What the program's arguments ask for.
+ghost use Rattle.std.specs.Prelude.{◌≡◌, ◌<◌, ◌↔◌, map, codes, IsTrue, IfOk, MatchOption};
+ghost use Rattle.loss_rule.specs.declared.rule.LossRule.{LossRule};
+ghost use Rattle.text_lines.specs.Capacities.{default_capacity};
+ghost use Rattle.command_line.specs.declared.command.UsageFault.TheVariants.{OutOfMemory};
+ghost use Rattle.command_line.specs.Command.{IsCommandAlone, IsCommand, options_in, AsksToJoin};
+ghost use Rattle.command_line.specs.Command.{AsksToReplayBy, AsksToRunBy, AsksToRunByAlone, Asks};
+ghost use Rattle.command_line.specs.Command.{IsHelpWord, HasNoHelpWord, StandsBeforeHelp};
+ghost use Rattle.command_line.specs.Inside.Command.{AsksWithOptions};
+ghost use Rattle.command_line.specs.Inside.Options.{ReadsOptions, ReadsCapacity, ReadsCapacities};
+ghost use Rattle.clap.specs.Matches.{found_of, first_value};
+
+use crate::arguments::command_line;
+use crate::losses::{asked_rule, asked_rule_alone};
+use clap::ArgMatches;
+use clap::error::ErrorKind;
+use docsis_wire::FillByte;
+use loss_rule::LossRule;
+use std::alloc::{AllocError, Global};
+use std::convert::AsStr;
+use std::io;
+use text_lines::{Capacities, DEFAULT_CAPACITY, read_number};
+use thiserror::Error;
+
+/// What the program is asked to do.
+#[derive(Debug, Drop)]
+pub enum Command {
+    /// To join segments into frames. It is what the program does with no command word, too.
+    Join,
+    /// To cut frames into segments.
+    Cut {
+        /// The first segment's number, 0 to 8191.
+        first: u16,
+        /// What pieces are filled with.
+        fill: FillByte,
+    },
+    /// To replay a trace, and report what a receiver gives for it.
+    Replay {
+        /// By what losses are decided.
+        rule: LossRule,
+    },
+    /// To receive a trace on threads, and report what that gave.
+    Run {
+        /// By what losses are decided.
+        rule: LossRule,
+        /// How many entries each of the two mailboxes has room for, end marks included: 1 to
+        /// 65,535.
+        mailbox: u16,
+        /// How many frames the ring of each flow has room for, its end mark included: 1 to 65,535.
+        ring: u16,
+    },
+    /// To print this text, which says how the program is used.
+    Help(String),
+}
+
+/// Why the program's arguments were not read.
+#[derive(Clone, Copy, Debug, PartialEq, Eq, Error)]
+pub enum UsageFault {
+    /// They ask for nothing that the program does.
+    #[error("usage")]
+    Usage,
+    /// An allocation failed.
+    #[error("out of memory")]
+    OutOfMemory,
+}
+
+impl From<AllocError> for UsageFault {
+    ghost from_gives = { λ _ fault. fault ≡ OutOfMemory };
+
+    fn from(_error: AllocError) -> UsageFault {
+        UsageFault::OutOfMemory
+    }
+}
+
+impl From<io::Error> for UsageFault {
+    fn from(error: io::Error) -> UsageFault {
+        match error.kind() {
+            io::ErrorKind::OutOfMemory => UsageFault::OutOfMemory,
+            _ => UsageFault::Usage,
+        }
+    }
+}
+
+impl From<clap::Error> for UsageFault {
+    fn from(error: clap::Error) -> UsageFault {
+        match error.kind() {
+            ErrorKind::OutOfMemory => UsageFault::OutOfMemory,
+            _ => UsageFault::Usage,
+        }
+    }
+}
+
+/// The greatest number of a segment.
+const FIRST_MAX: u32 = 8191;
+
+/// The greatest capacity of a mailbox or a ring.
+const CAPACITY_MAX: u32 = 65_535;
+
+/// Whether the words are the program's name and this command's word.
+fn is_command_alone<S: AsStr>(words: &[S], command: &str) -> bool
+    ensures { IsTrue result ↔ IsCommandAlone command.now (map S.text words.now) }
+{
+    match words {
+        [_, word] => word.as_str() == command,
+        _ => false,
+    }
+}
+
+/// Whether the words, the program's name first, ask to join and for nothing else.
+fn asks_to_join<S: AsStr>(words: &[S]) -> bool
+    ensures { IsTrue result ↔ AsksToJoin (map S.text words.now) }
+{
+    match words {
+        [] | [_] => true,
+        _ => is_command_alone(words, "join"),
+    }
+}
+
+/// The words behind this command, if the words, the program's name first, begin with it.
+fn options_of<'a, S: AsStr>(words: &'a [S], command: &str) -> Option<&'a [S]>
+    ensures { MatchOption result (¬ IsCommand command.now (map S.text words.now))
+        (λ options. IsCommand command.now (map S.text words.now)
+        × (options_in (map S.text words.now) ≡ map S.text options.now)) }
+{
+    let [_, word, options @ ..] = words else {
+        return None;
+    };
+    if word.as_str() != command {
+        return None;
+    }
+    Some(options)
+}
+
+/// Whether the words, the program's name first, begin with this command.
+fn is_command<S: AsStr>(words: &[S], command: &str) -> bool
+    ensures { IsTrue result ↔ IsCommand command.now (map S.text words.now) }
+{
+    options_of(words, command).is_some()
+}
+
+/// The rule by which the words, the program's name first, ask to replay and for nothing else.
+fn asked_replay<S: AsStr>(words: &[S]) -> Option<LossRule>
+    ensures { (rule : LossRule)
+        → (result ≡ Some rule) ↔ AsksToReplayBy rule (map S.text words.now) }
+{
+    asked_rule_alone(options_of(words, "replay")?)
+}
+
+/// The rule by which the words, the program's name first, ask to run and for nothing else.
+fn asked_run_alone<S: AsStr>(words: &[S]) -> Option<LossRule>
+    ensures { (rule : LossRule)
+        → (result ≡ Some rule) ↔ AsksToRunByAlone rule (map S.text words.now) }
+{
+    asked_rule_alone(options_of(words, "run")?)
+}
+
+/// The rule by which the words, the program's name first, ask to run.
+fn asked_run<S: AsStr>(words: &[S]) -> Option<LossRule>
+    ensures { (rule : LossRule)
+        → (result ≡ Some rule) ↔ AsksToRunBy rule (map S.text words.now) }
+{
+    asked_rule(options_of(words, "run")?)
+}
+
+/// Whether a word asks for help.
+fn asks_for_help(word: &str) -> bool
+    ensures { IsTrue result ↔ IsHelpWord word.now }
+{
+    word == "-h" || word == "--help"
+}
+
+/// The words before the first one after the program's name that asks for help.
+fn before_help<S: AsStr>(words: &[S]) -> Option<&[S]>
+    ensures { MatchOption result (HasNoHelpWord (map S.text words.now))
+        (λ before. StandsBeforeHelp (map S.text before.now) (map S.text words.now)) }
+{
+    for place in 1..words.len() {
+        if asks_for_help(words[place].as_str()) {
+            return Some(&words[..place]);
+        }
+    }
+    None
+}
+
+/// Whether a word is the `--` that ends the options.
+fn ends_options<S: AsStr>(words: &[S]) -> bool {
+    for word in words {
+        if word.as_str() == "--" {
+            return true;
+        }
+    }
+    false
+}
+
+/// The first number and the fill that the options of `cut` ask for.
+fn read_cut(options: &ArgMatches<'_>) -> Result<(u16, FillByte), UsageFault>
+    ensures { ReadsOptions (first_value (found_of options.now) (codes "first"))
+        (first_value (found_of options.now) (codes "fill")) result }
+{
+    let Some(first) = read_number(
+        options.get_str("first").unwrap_or("0").as_bytes(),
+        FIRST_MAX,
+    ) else {
+        return Err(UsageFault::Usage);
+    };
+    let fill = match options.get_str("fill").unwrap_or("zero") {
+        "zero" => FillByte::Zero,
+        "ones" => FillByte::Ones,
+        _ => return Err(UsageFault::Usage),
+    };
+    Ok((first as u16, fill))
+}
+
+/// The capacity that an option of `run` asks for.
+fn read_capacity(options: &ArgMatches<'_>, name: &str) -> Result<u16, UsageFault>
+    ensures { ReadsCapacity (first_value (found_of options.now) name.now) result }
+{
+    let Some(text) = options.get_str(name) else {
+        return Ok(DEFAULT_CAPACITY);
+    };
+    match read_number(text.as_bytes(), CAPACITY_MAX) {
+        Some(capacity) if capacity > 0 => Ok(capacity as u16),
+        _ => Err(UsageFault::Usage),
+    }
+}
+
+/// The capacities of the mailboxes and of the rings that the options of `run` ask for.
+fn read_run(options: &ArgMatches<'_>) -> Result<Capacities, UsageFault>
+    ensures { ReadsCapacities (first_value (found_of options.now) (codes "mailbox"))
+        (first_value (found_of options.now) (codes "ring")) result }
+{
+    let mailbox = read_capacity(options, "mailbox")?;
+    let ring = read_capacity(options, "ring")?;
+    Ok(Capacities { mailbox, ring })
+}
+
+/// What words ask for that begin with a command which has options, and of which none asks for help.
+fn read_with_options<'a, S: AsStr>(alloc: Global, words: &'a [S]) -> Result<Command, UsageFault>
+    ensures { IfOk result (AsksWithOptions (map S.text words.now)) }
+{
+    let cuts = is_command(words, "cut");
+    let run_rule = asked_run(words);
+    if !cuts && run_rule.is_none() || ends_options(words) {
+        return Err(UsageFault::Usage);
+    }
+    let matches = command_line(alloc)?.try_get_matches_from(words)?;
+    if cuts && let Some(options) = matches.subcommand_matches("cut") {
+        let (first, fill) = read_cut(options)?;
+        return Ok(Command::Cut { first, fill });
+    }
+    if let Some(rule) = run_rule
+        && let Some(options) = matches.subcommand_matches("run")
+    {
+        let Capacities { mailbox, ring } = read_run(options)?;
+        return Ok(Command::Run {
+            rule,
+            mailbox,
+            ring,
+        });
+    }
+    Err(UsageFault::Usage)
+}
+
+/// The text that says how the program is used, for words of which one asks for it.
+fn help_text<'a, S: AsStr>(alloc: Global, words: &'a [S]) -> Result<String, UsageFault> {
+    let Err(error) = command_line(alloc)?.try_get_matches_from(words) else {
+        return Err(UsageFault::Usage);
+    };
+    if error.kind() != ErrorKind::DisplayHelp {
+        return Err(error.into());
+    }
+    Ok(error.to_string(alloc)?)
+}
+
+/// What the program's words ask for, its name first. No words at all are read as its name alone.
+///
+/// `-h` or `--help` asks for help, whatever follows it, where the words before it are lawful. Words
+/// that ask for nothing that the program does are `Usage`: an unknown word or option, an option of
+/// another command, one that is repeated or has no value or one out of range, a rule of another
+/// name, `help`, `--version` and `--`.
+pub fn read_words<'a, S: AsStr>(alloc: Global, words: &'a [S]) -> Result<Command, UsageFault>
+    ensures asked { IfOk result (Asks (map S.text words.now)) }
+    ensures join { AsksToJoin (map S.text words.now) → result ≡ Ok Command.Join }
+    ensures replay { (rule : LossRule)
+        → AsksToReplayBy rule (map S.text words.now) → result ≡ Ok (Command.Replay rule) }
+    ensures run { (rule : LossRule) → AsksToRunByAlone rule (map S.text words.now)
+        → result ≡ Ok (Command.Run rule default_capacity default_capacity) }
+{
+    if asks_to_join(words) {
+        return Ok(Command::Join);
+    }
+    if let Some(rule) = asked_replay(words) {
+        return Ok(Command::Replay { rule });
+    }
+    if let Some(rule) = asked_run_alone(words) {
+        return Ok(Command::Run {
+            rule,
+            mailbox: DEFAULT_CAPACITY,
+            ring: DEFAULT_CAPACITY,
+        });
+    }
+    let Some(before) = before_help(words) else {
+        return read_with_options(alloc, words);
+    };
+    if !asks_to_join(before) && asked_replay(before).is_none() {
+        read_with_options(alloc, before)?;
+    }
+    Ok(Command::Help(help_text(alloc, words)?))
+}

@@ -1,0 +1,3 @@
+pub mod Given
+pub mod Counting
+pub mod Collecting

@@ -1,6 +1,0 @@
-use Rattle.std.proofs.Common.{rules}
-use Rattle.engines.proofs.AskedWords.{options_behind}
-use Rattle.engines.proofs.command.options_of.Goals as goal
-
-pub returns : goal.returns
-returns g c = (search rules, options_behind g.S.AsStr.text c.args.words.now c.in-len2-up.len_at_least)

@@ -1,5 +1,0 @@
-use Rattle.std.proofs.Common.{rules}
-use Rattle.engines.proofs.command.read_with_options.Goals as goal
-
-pub returns-2 : goal.returns-2
-returns-2 g c = ((c.asked_run-run_rule.ensures c.in-Some-run_rule.rule).0 c.in-Some-run_rule.is, search rules, search rules)

@@ -1,0 +1,2 @@
+-- What only the contracts of calls between these crates cite.
+pub mod LineFault

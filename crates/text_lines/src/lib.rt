@@ -1,0 +1,35 @@
+//! The lines of segrx's texts and their fields, read and written, and the faults of a line.
+//!
+//! A text is a list of lines, and a line has fields, its words; a comment and an empty line have
+//! none. Which fields a line may have is said by a format. The formats themselves stand in `texts`.
+//! In the order of use:
+//!
+//! - [`TakeLine`] says what is made of the lines of one format. [`take_lines`] hands it the lines of
+//!   an input that have fields, one after another, and reports the first faulty line by its number
+//!   ([`ParseFault`]).
+//! - [`no_word`], [`only_word`], [`only_two_words`], [`only_three_words`] and [`only_four_words`]
+//!   split what follows the first field of a line, where it has just so many words.
+//! - [`read_number`], [`read_number_in`] and [`read_hex`] read a field, and [`append_hex`] writes
+//!   one.
+//! - What is wrong with a line is a [`LineFault`], its kind a [`TraceKind`]; a failed allocation,
+//!   the fault of a segment and that of a cut become faults of lines and of texts by `?`.
+//! - [`Capacities`] says how much room a receiver of a trace has, [`DEFAULT_CAPACITY`] where no
+//!   other is asked for.
+//!
+//! It needs `docsis_wire` alone, for the faults of segments and cuts, so that it is proved long
+//! before the receiver whose texts it reads.
+#![tactic(auto)]
+
+mod capacities;
+mod fault;
+mod field;
+mod lines;
+mod number;
+mod words;
+
+pub use capacities::{Capacities, DEFAULT_CAPACITY};
+pub use fault::{LineFault, ParseFault, TextFault, TraceFault, TraceKind};
+pub use field::{append_hex, read_hex};
+pub use lines::{TakeLine, take_lines};
+pub use number::{read_number, read_number_in};
+pub use words::{no_word, only_four_words, only_three_words, only_two_words, only_word};

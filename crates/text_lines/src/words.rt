@@ -1,0 +1,102 @@
+//! The words of a line, and its fields: the words of a line that is no comment.
+ghost use Rattle.std.specs.Prelude.{◌≡◌, ◌≢◌, ◌↔◌, ◌∷◌, [], length, IsTrue, MatchOption, not, position};
+ghost use Rattle.text_lines.specs.Lines.{words_of, fields_of, is_separator};
+
+use memchr::memchr3;
+
+/// Whether a byte separates words: a space, a tab or a carriage return.
+fn separates(byte: u8) -> bool
+    ensures { result ≡ is_separator byte }
+{
+    matches!(byte, b' ' | b'\t' | b'\r')
+}
+
+/// The place of the first byte of a word.
+fn word_start(line: &[u8]) -> Option<usize>
+    ensures { result ≡ position (λ byte. not (is_separator byte)) line.now }
+{
+    line.iter().position(|byte| !separates(*byte))
+}
+
+/// The place of the first byte that separates words.
+fn word_end(line: &[u8]) -> Option<usize>
+    ensures { result ≡ position is_separator line.now }
+{
+    memchr3(b' ', b'\t', b'\r', line)
+}
+
+/// The first word of a line and what follows it.
+fn split_word(line: &[u8]) -> Option<(&[u8], &[u8])>
+    ensures { MatchOption result (words_of line.now ≡ [])
+        (λ r. words_of line.now ≡ r.0.now ∷ words_of r.1.now) }
+{
+    let start = word_start(line)?;
+    let (_, words) = line.split_at(start);
+    match word_end(words) {
+        Some(end) => Some(words.split_at(end)),
+        None => Some((words, &[])),
+    }
+}
+
+/// The first field of a line and what follows it. A line without words, or whose first word begins
+/// with `#`, has none.
+pub fn split_field(line: &[u8]) -> Option<(&[u8], &[u8])>
+    ensures { MatchOption result (fields_of line.now ≡ [])
+        (λ r. fields_of line.now ≡ r.0.now ∷ words_of r.1.now) }
+{
+    let (word, rest) = split_word(line)?;
+    match word {
+        [b'#', ..] => None,
+        _ => Some((word, rest)),
+    }
+}
+
+/// Whether there is no word.
+pub fn no_word(rest: &[u8]) -> bool
+    ensures { IsTrue result ↔ (words_of rest.now ≡ []) }
+{
+    split_word(rest).is_none()
+}
+
+/// The only word, or `None` where there are more or none.
+pub fn only_word(rest: &[u8]) -> Option<&[u8]>
+    ensures { MatchOption result (length (words_of rest.now) ≢ 1)
+        (λ word. words_of rest.now ≡ word.now ∷ []) }
+{
+    let (word, more) = split_word(rest)?;
+    match split_word(more) {
+        Some(_) => None,
+        None => Some(word),
+    }
+}
+
+/// The only two words, or `None` where there are more or fewer.
+pub fn only_two_words(rest: &[u8]) -> Option<(&[u8], &[u8])>
+    ensures { MatchOption result (length (words_of rest.now) ≢ 2)
+        (λ two. words_of rest.now ≡ two.0.now ∷ two.1.now ∷ []) }
+{
+    let (word, more) = split_word(rest)?;
+    let second = only_word(more)?;
+    Some((word, second))
+}
+
+/// The only three words, or `None` where there are more or fewer.
+pub fn only_three_words(rest: &[u8]) -> Option<(&[u8], &[u8], &[u8])>
+    ensures { MatchOption result (length (words_of rest.now) ≢ 3)
+        (λ three. words_of rest.now ≡ three.0.now ∷ three.1.now ∷ three.2.now ∷ []) }
+{
+    let (word, more) = split_word(rest)?;
+    let (second, third) = only_two_words(more)?;
+    Some((word, second, third))
+}
+
+/// The only four words, or `None` where there are more or fewer.
+pub fn only_four_words(rest: &[u8]) -> Option<(&[u8], &[u8], &[u8], &[u8])>
+    ensures { MatchOption result (length (words_of rest.now) ≢ 4)
+        (λ four. words_of rest.now
+        ≡ four.0.now ∷ four.1.now ∷ four.2.now ∷ four.3.now ∷ []) }
+{
+    let (word, more) = split_word(rest)?;
+    let (second, third, fourth) = only_three_words(more)?;
+    Some((word, second, third, fourth))
+}

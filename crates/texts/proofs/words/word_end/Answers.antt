@@ -1,6 +1,0 @@
-use Rattle.texts.specs.Lines.{is_separator}
-use Rattle.texts.proofs.FirstBytes.{position-first}
-use Rattle.texts.proofs.words.word_end.Goals as goal
-
-pub returns : goal.returns
-returns c = position-first is_separator c.args.line.now c.memchr3.result c.memchr3.ensures
