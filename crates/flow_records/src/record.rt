@@ -1,5 +1,5 @@
 //! What is known of each service flow before it runs.
-ghost use Rattle.std.specs.Prelude.{◌≡◌, ◌<◌, ◌↔◌, ℕ, IsTrue, MatchOption, Ok, Err, length};
+ghost use Rattle.std.specs.Prelude.{◌≡◌, ◌≢◌, ◌<◌, ◌≤◌, ◌↔◌, ℕ, IsTrue, MatchOption, Ok, Err, IfOk, length};
 ghost use Rattle.flow_records.specs.Setup.{IsInRange, IsBad, IsRepeated, IsLeast};
 ghost use Rattle.flow_records.specs.Setup.{IsSetupFault, IsSetupFaultWithin};
 ghost use Rattle.flow_records.specs.Setup.{CanBeSetUp, CanBeSetUpWithin};
@@ -7,7 +7,8 @@ ghost use Rattle.flow_records.specs.declared.record.SetupFault.{SetupFault};
 
 use docsis_wire::SEQUENCE_MODULUS;
 use reorder::WIDTH_MAX;
-use std::alloc::AllocError;
+use std::alloc::{AllocError, Global};
+use std::collections::BTreeSet;
 use thiserror::Error;
 
 /// How many flows there may be.
@@ -102,6 +103,32 @@ pub fn check_records_within(limit: usize, records: &[FlowRecord]) -> Result<(), 
     Ok(())
 }
 
+/// The same in little more than a step for each record, for many of them. It keeps the identifiers
+/// that it has seen in a set: where an allocation for it fails, it answers `OutOfMemory` of records
+/// that aren't too many and are in range.
+pub fn check_many_records(
+    alloc: Global,
+    limit: usize,
+    records: &[FlowRecord],
+) -> Result<(), SetupFault>
+    ensures ok { result ≡ Ok tt → CanBeSetUpWithin limit records.now }
+    ensures fault { (fault : SetupFault) → fault ≢ SetupFault.OutOfMemory → result ≡ Err fault
+        → IsSetupFaultWithin limit records.now fault }
+    ensures memory { result ≡ Err SetupFault.OutOfMemory
+        → (length records.now ≤ limit) × ((k : ℕ) → ¬ (IsBad records.now k)) }
+{
+    if limit < records.len() {
+        return Err(SetupFault::TooManyFlows);
+    }
+    if let Some(k) = first_bad(records) {
+        return Err(SetupFault::BadFlow(k));
+    }
+    if let Some(k) = first_repeated_of_many(alloc, records)? {
+        return Err(SetupFault::SameSfid(k));
+    }
+    Ok(())
+}
+
 /// The first record that is out of range.
 fn first_bad(records: &[FlowRecord]) -> Option<usize>
     ensures { MatchOption result ((k : ℕ) → ¬ (IsBad records.now k))
@@ -139,4 +166,22 @@ fn is_repeated(records: &[FlowRecord], k: usize) -> bool
         }
     }
     false
+}
+
+/// The first record whose service flow identifier stands in an earlier one, by a set of those that
+/// were seen.
+fn first_repeated_of_many(
+    alloc: Global,
+    records: &[FlowRecord],
+) -> Result<Option<usize>, AllocError>
+    ensures { IfOk result (λ found. MatchOption found ((k : ℕ) → ¬ (IsRepeated records.now k))
+        (λ k. IsLeast (IsRepeated records.now) k)) }
+{
+    let mut seen = BTreeSet::new(alloc);
+    for (k, record) in records.iter().enumerate() {
+        if !seen.insert(record.sfid)? {
+            return Ok(Some(k));
+        }
+    }
+    Ok(None)
 }
