@@ -66,12 +66,12 @@ class Uplink:
     """Flows, SIDs and what comes in on the channels, as the words of lines. In a calm one there are no decisions, and
     each flow is calm or comes on one channel alone."""
 
-    def __init__(self, rng, crowded=0.01, calm=False):
-        self.rng, self.calm = rng, calm
+    def __init__(self, rng, crowded=0.01, calm=False, channels=CHANNELS):
+        self.rng, self.calm, self.channels = rng, calm, channels
         count = MOST_FLOWS if rng.random() < crowded else rng.choice([0, *[1] * 12, 2, 2, 2, 2, 3, 5])
         self.flows = [SentFlow(rng, index, calm and rng.random() < 0.7) for index in range(count)]
-        self.sids = [{} for _ in range(CHANNELS)]  # the flow of each SID of a channel
-        self.granted = [{} for _ in range(CHANNELS)]  # the flow, the size and what is to come of each outstanding grant
+        self.sids = [{} for _ in range(channels)]  # the flow of each SID of a channel
+        self.granted = [{} for _ in range(channels)]  # the flow, the size and what is to come of each outstanding grant
         self.lines = []
         self.add_setup()
 
@@ -81,7 +81,7 @@ class Uplink:
         for flow, sfid in zip(self.flows, sfids):
             self.lines.append(["flow", sfid, flow.first, flow.window, rng.randrange(1, 9)])
             alone = count >= 6 or (self.calm and not flow.calm)
-            for channel in rng.sample(range(CHANNELS), 1 if alone else rng.choice([1, 2, 4])):
+            for channel in rng.sample(range(self.channels), 1 if alone else min(self.channels, rng.choice([1, 2, 4]))):
                 for sid in rng.sample([0, 1, 2, 16383, rng.randrange(3, 16383)], rng.choice([1, 1, 2])):
                     if sid not in self.sids[channel]:
                         self.sids[channel][sid] = flow
@@ -102,7 +102,7 @@ class Uplink:
 
     def channel_with(self, of_channel):
         """A channel of which there is something, or any where there is none."""
-        return self.rng.choice([channel for channel in range(CHANNELS) if of_channel[channel]] or range(CHANNELS))
+        return self.rng.choice([channel for channel in range(self.channels) if of_channel[channel]] or range(self.channels))
 
     def some_grant(self):
         rng, channel = self.rng, self.channel_with(self.sids)
@@ -128,7 +128,7 @@ class Uplink:
 
     def unfit_grant(self):
         """A grant whose size, number and SID are right or wrong by chance."""
-        rng, channel = self.rng, self.rng.randrange(CHANNELS)
+        rng, channel = self.rng, self.rng.randrange(self.channels)
         number = rng.choice([*NUMBERS, *self.granted[channel]])
         sid = rng.choice([0, 1, 2, 3, 16383, *self.sids[channel]])
         segment = self.sids[channel][sid].some_segment() if sid in self.sids[channel] else bytes(8)

@@ -4,3 +4,12 @@ pub mod PacketParts
 pub mod PcapBytes
 pub mod PcapSteps
 pub mod OneReading
+pub mod OptionLists
+pub mod Powers
+pub mod BlockBytes
+pub mod BlockSteps
+pub mod BlockReading
+pub mod OneBlockReading
+pub mod CaptureSteps
+pub mod WholeCaptures
+pub mod LawfulFiles

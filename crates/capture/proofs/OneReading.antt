@@ -25,12 +25,12 @@ same_number_2 Big m n p q same = sym (from_be_bytes-to_be_bytes_2 m p) ∙ ap (f
 same_number_2 Little m n p q same = sym (from_le_bytes-to_le_bytes_2 m p) ∙ ap (from_le_bytes w16) same ∙ from_le_bytes-to_le_bytes_2 n q
 
 -- and so is one at the front
-front_4 : (e : Endian) (m n : ℕ) (x y : List ℕ) → m < 2 ^ 32 → n < 2 ^ 32 → number_bytes e w32 m ++ x ≡ number_bytes e w32 n ++ y → (m ≡ n) × (x ≡ y)
+pub front_4 : (e : Endian) (m n : ℕ) (x y : List ℕ) → m < 2 ^ 32 → n < 2 ^ 32 → number_bytes e w32 m ++ x ≡ number_bytes e w32 n ++ y → (m ≡ n) × (x ≡ y)
 front_4 e m n x y p q same =
     let parts = same_parts (number_bytes e w32 m) (number_bytes e w32 n) x y (length-number_4 e m ∙ sym (length-number_4 e n)) same in
     (same_number_4 e m n p q parts.0, parts.1)
 
-front_2 : (e : Endian) (m n : ℕ) (x y : List ℕ) → m < 2 ^ 16 → n < 2 ^ 16 → number_bytes e w16 m ++ x ≡ number_bytes e w16 n ++ y → (m ≡ n) × (x ≡ y)
+pub front_2 : (e : Endian) (m n : ℕ) (x y : List ℕ) → m < 2 ^ 16 → n < 2 ^ 16 → number_bytes e w16 m ++ x ≡ number_bytes e w16 n ++ y → (m ≡ n) × (x ≡ y)
 front_2 e m n x y p q same =
     let parts = same_parts (number_bytes e w16 m) (number_bytes e w16 n) x y (length-number_2 e m ∙ sym (length-number_2 e n)) same in
     (same_number_2 e m n p q parts.0, parts.1)
@@ -55,13 +55,13 @@ front_head e a b x y p q same =
     (same_head a b seconds.0 fraction.0 captured.0 original.0, original.1)
 
 -- the other numbers of a file's header, in one order
-numbers_of_header : Endian → PcapHeader → List ℕ
+unfoldable pub numbers_of_header : Endian → PcapHeader → List ℕ
 numbers_of_header e h =
     number_bytes e w16 h.major
     ++ (number_bytes e w16 h.minor
     ++ (number_bytes e w32 h.zone ++ (number_bytes e w32 h.accuracy ++ (number_bytes e w32 h.snap_length ++ number_bytes e w32 h.link_type))))
 
-header_bytes-numbers : (h : PcapHeader) → header_bytes h ≡ number_bytes h.endian w32 (magic_of h.resolution) ++ numbers_of_header h.endian h
+pub header_bytes-numbers : (h : PcapHeader) → header_bytes h ≡ number_bytes h.endian w32 (magic_of h.resolution) ++ numbers_of_header h.endian h
 unfolding numbers_of_header
 header_bytes-numbers h = simp append_assoc
 
@@ -92,7 +92,7 @@ same_header h k endian resolution major minor zone accuracy snap link =
     ∙ ap (λ n. header_with k.endian k.resolution k.major k.minor k.zone k.accuracy k.snap_length n) link
 
 -- a file's header is known by its bytes
-header_bytes-inj : (h k : PcapHeader) → FitsHeader h → FitsHeader k → header_bytes h ≡ header_bytes k → h ≡ k
+pub header_bytes-inj : (h k : PcapHeader) → FitsHeader h → FitsHeader k → header_bytes h ≡ header_bytes k → h ≡ k
 unfolding numbers_of_header
 header_bytes-inj h k p q same =
     let word : number_bytes h.endian w32 (magic_of h.resolution) ≡ number_bytes k.endian w32 (magic_of k.resolution) =

@@ -14,12 +14,12 @@ use Rattle.capture.proofs.FieldLists.{same_parts}
 use Rattle.capture.proofs.PcapBytes.{length-header_bytes}
 
 -- what holds of each holds of one more
-all_more : {X : Type 0} (P : X → Type 0) (xs : List X) (x : X) → AllByRecursion P xs → P x → AllByRecursion P (xs ++ x ∷ [])
+pub all_more : {X : Type 0} (P : X → Type 0) (xs : List X) (x : X) → AllByRecursion P xs → P x → AllByRecursion P (xs ++ x ∷ [])
 all_more P [] x all one = (one, tt)
 all_more P (y ∷ ys) x all one = (all.0, all_more P ys x all.1 one)
 
 -- and of no more
-all_same : {X : Type 0} (P : X → Type 0) (xs : List X) → AllByRecursion P xs → AllByRecursion P (xs ++ [])
+pub all_same : {X : Type 0} (P : X → Type 0) (xs : List X) → AllByRecursion P xs → AllByRecursion P (xs ++ [])
 all_same P xs all = subst (AllByRecursion P) (sym (append-nil xs)) all
 
 -- the bytes of one record more

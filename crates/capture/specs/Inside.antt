@@ -1,2 +1,4 @@
 pub mod PcapParts
 pub mod Stages
+pub mod BlockStages
+pub mod Ready

@@ -8,4 +8,11 @@ pub mod Endian
 pub mod Pcap
 pub mod PcapReading
 pub mod SeenRecord
+pub mod Pcapng
+pub mod PcapngOptions
+pub mod PcapngBlocks
+pub mod PcapngReading
+pub mod PcapngFaults
+pub mod SeenCapture
+pub mod Captures
 pub mod Inside

@@ -18,7 +18,11 @@ pub const LONGEST_RECORD: u32 = 1 << 20;
 
 /// Moves bytes from the front of the piece to those that are pending, until these are as many as are
 /// wanted, and answers the rest of the piece.
-fn fill<'a>(pending: &mut Vec<u8>, wanted: usize, piece: &'a [u8]) -> Result<&'a [u8], AllocError>
+pub(crate) fn fill<'a>(
+    pending: &mut Vec<u8>,
+    wanted: usize,
+    piece: &'a [u8],
+) -> Result<&'a [u8], AllocError>
     requires { length pending.old.items ≤ wanted }
     ensures moved { IfOk result (λ rest.
         Completes pending.old.items pending.new.items piece.now rest.now) }

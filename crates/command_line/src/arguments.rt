@@ -46,80 +46,71 @@ Exit status:
   4  reading or writing failed, or the input is too long
 Each fault is reported by one line on standard error.";
 
+/// An option with a value.
+fn option<'a>(alloc: Global, name: &'a str, value: &'a str, help: &'a str) -> Arg<'a> {
+    Arg::new(alloc, name)
+        .long(name)
+        .value_name(value)
+        .action(ArgAction::Set)
+        .help(help)
+}
+
+/// A command with what its help says first, and how it is called.
+fn command<'a>(alloc: Global, name: &'a str, about: &'a str, usage: &'a str) -> Command<'a> {
+    Command::new(alloc, name)
+        .about(about)
+        .override_usage(usage)
+        .after_help(FORMATS)
+}
+
 /// The option of `replay` and `run` that names a loss rule.
 fn losses_option<'a>(alloc: Global) -> Arg<'a> {
-    Arg::new(alloc, "losses")
-        .long("losses")
-        .value_name("RULE")
-        .action(ArgAction::Set)
-        .help("What is lost: decided, passed or slid [default: decided]")
+    let help = "What is lost: decided, passed or slid [default: decided]";
+    option(alloc, "losses", "RULE", help)
 }
 
-/// The options of the command `cut`.
+/// The command `cut` with its options.
 fn cut_command<'a>(alloc: Global) -> Result<Command<'a>, AllocError> {
-    let first = Arg::new(alloc, "first")
-        .long("first")
-        .value_name("N")
-        .action(ArgAction::Set)
-        .help("Number of the first segment, 0 to 8191 [default: 0]");
-    let fill = Arg::new(alloc, "fill")
-        .long("fill")
-        .value_name("zero|ones")
-        .action(ArgAction::Set)
-        .help("Byte of fill, 00 or ff [default: zero]");
-    Command::new(alloc, "cut")
-        .about("Cuts frames into pieces, and prints one segment a piece")
-        .override_usage("segrx cut [--first N] [--fill zero|ones] < FRAMES_AND_PIECES > SEGMENTS")
-        .after_help(FORMATS)
-        .arg(first)?
-        .arg(fill)
+    let first = "Number of the first segment, 0 to 8191 [default: 0]";
+    let fill = "Byte of fill, 00 or ff [default: zero]";
+    let about = "Cuts frames into pieces, and prints one segment a piece";
+    let usage = "segrx cut [--first N] [--fill zero|ones] < FRAMES_AND_PIECES > SEGMENTS";
+    command(alloc, "cut", about, usage)
+        .arg(option(alloc, "first", "N", first))?
+        .arg(option(alloc, "fill", "zero|ones", fill))
 }
 
-/// The options of the command `replay`.
+/// The command `replay` with its option.
 fn replay_command<'a>(alloc: Global) -> Result<Command<'a>, AllocError> {
-    Command::new(alloc, "replay")
-        .about("Replays a trace, and prints what each flow gave")
-        .override_usage("segrx replay [--losses RULE] < TRACE > REPORT")
-        .after_help(FORMATS)
-        .arg(losses_option(alloc))
+    let about = "Replays a trace, and prints what each flow gave";
+    let usage = "segrx replay [--losses RULE] < TRACE > REPORT";
+    command(alloc, "replay", about, usage).arg(losses_option(alloc))
 }
 
-/// The options of the command `run`.
+/// The command `run` with its options.
 fn run_command<'a>(alloc: Global) -> Result<Command<'a>, AllocError> {
-    let mailbox = Arg::new(alloc, "mailbox")
-        .long("mailbox")
-        .value_name("N")
-        .action(ArgAction::Set)
-        .help("Entries that a mailbox holds, 1 to 65535 [default: 16]");
-    let ring = Arg::new(alloc, "ring")
-        .long("ring")
-        .value_name("N")
-        .action(ArgAction::Set)
-        .help("Frames that a ring holds, 1 to 65535 [default: 16]");
-    Command::new(alloc, "run")
-        .about("Receives a trace on threads, and prints what each flow gave")
-        .override_usage("segrx run [--losses RULE] [--mailbox N] [--ring N] < TRACE > REPORT")
-        .after_help(FORMATS)
+    let mailbox = "Entries that a mailbox holds, 1 to 65535 [default: 16]";
+    let ring = "Frames that a ring holds, 1 to 65535 [default: 16]";
+    let about = "Receives a trace on threads, and prints what each flow gave";
+    let usage = "segrx run [--losses RULE] [--mailbox N] [--ring N] < TRACE > REPORT";
+    command(alloc, "run", about, usage)
         .arg(losses_option(alloc))?
-        .arg(mailbox)?
-        .arg(ring)
+        .arg(option(alloc, "mailbox", "N", mailbox))?
+        .arg(option(alloc, "ring", "N", ring))
 }
+
+/// The program's own usage: that of each command.
+const USAGE: &str = "segrx [join] < SEGMENTS > FRAMES
+       segrx cut [--first N] [--fill zero|ones] < FRAMES_AND_PIECES > SEGMENTS
+       segrx replay [--losses RULE] < TRACE > REPORT
+       segrx run [--losses RULE] [--mailbox N] [--ring N] < TRACE > REPORT";
 
 /// The commands of the program.
 pub fn command_line<'a>(alloc: Global) -> Result<Command<'a>, AllocError> {
-    let join = Command::new(alloc, "join")
-        .about("Joins segments, and prints their frames; the default")
-        .override_usage("segrx join < SEGMENTS > FRAMES")
-        .after_help(FORMATS);
-    Command::new(alloc, "segrx")
-        .about("Receives DOCSIS 3.0 upstream service flows that are bonded over channels")
-        .override_usage(
-            "segrx [join] < SEGMENTS > FRAMES
-       segrx cut [--first N] [--fill zero|ones] < FRAMES_AND_PIECES > SEGMENTS
-       segrx replay [--losses RULE] < TRACE > REPORT
-       segrx run [--losses RULE] [--mailbox N] [--ring N] < TRACE > REPORT",
-        )
-        .after_help(FORMATS)
+    let about = "Joins segments, and prints their frames; the default";
+    let join = command(alloc, "join", about, "segrx join < SEGMENTS > FRAMES");
+    let about = "Receives DOCSIS 3.0 upstream service flows that are bonded over channels";
+    command(alloc, "segrx", about, USAGE)
         .disable_help_subcommand(true)
         .subcommand(join)?
         .subcommand(cut_command(alloc)?)?

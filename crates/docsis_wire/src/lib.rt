@@ -8,9 +8,10 @@
 //! The calls, in the order of use:
 //!
 //! 1. [`Segment::read`] makes a segment of a burst's bytes, or says that they are too few or that
-//!    the pointer leads past the payload. [`ready`] asks the same of a segment that is there, and
-//!    a [`ReadySegment`] keeps the answer. [`read_segment`] and [`write_segment`] read and write
-//!    the header alone.
+//!    the pointer leads past the payload; [`Segment::from_burst`] makes it of the burst's own
+//!    buffer, and [`Segment::head_of`] answers its header alone. [`ready`] asks the same of a
+//!    segment that is there, and a [`ReadySegment`] keeps the answer. [`read_segment`] and
+//!    [`write_segment`] read and write the header alone.
 //! 2. [`read_head`] tells from the front of some bytes how long a frame is, whatever follows it,
 //!    and [`well_formed`] whether bytes are one whole frame. A [`HeaderCheck`] may be handed in
 //!    that looks at a frame's header: [`HeaderSequence`] asks for its check sequence, [`NoCheck`]
@@ -53,5 +54,6 @@ pub use header_check::{HeaderCheck, NoCheck};
 pub use header_sequence::{HeaderSequence, check_sequence, segment_check};
 pub use pieces::{CutFault, FillByte, Piece};
 pub use segment::{
-    HEADER_BYTES, ReadySegment, Segment, SegmentFault, read_segment, ready, write_segment,
+    HEADER_BYTES, ReadySegment, RefusedBurst, Segment, SegmentFault, read_segment, ready,
+    write_segment,
 };

@@ -1,5 +1,6 @@
 //! A segment, and its header and its whole read from bytes and the header written as bytes.
-ghost use Rattle.std.specs.Prelude.{◌≡◌, ◌<◌, ◌≤◌, ◌↔◌, length, take, IsTrue, IsSome, IfSome, IfOk};
+ghost use Rattle.std.specs.Prelude.{◌≡◌, ◌≢◌, ◌+◌, ◌<◌, ◌≤◌, ◌↔◌, true, length, take, IsTrue};
+ghost use Rattle.std.specs.Prelude.{IsSome, IfSome, IfOk, IfErr, IsErrAnd};
 ghost use Rattle.docsis_wire.specs.Limits.{header_length};
 ghost use Rattle.docsis_wire.specs.Header.{header_bytes};
 
@@ -34,6 +35,15 @@ pub enum SegmentFault {
     /// fault.
     #[error("out of memory")]
     OutOfMemory,
+}
+
+/// A burst that is no segment.
+#[derive(Debug, Drop)]
+pub struct RefusedBurst {
+    /// Its bytes, all of them.
+    pub burst: Bytes,
+    /// Why they are no segment: never that an allocation failed.
+    pub fault: SegmentFault,
 }
 
 /// A segment as it came from a modem: its header, and the payload after it.
@@ -114,6 +124,27 @@ impl Segment {
             ↔ (length bytes.now < header_length) }
         ensures pointer_past { (result ≡ Err SegmentFault.PointerPast) ↔ PointsPast bytes.now }
     {
+        match Segment::head_of(bytes) {
+            Ok(head) => {
+                let payload = Vec::from_slice(alloc, &bytes[HEADER_BYTES..])?;
+                let payload = Bytes::from(payload);
+                Ok(Segment { head, payload })
+            }
+            Err(fault) => Err(fault),
+        }
+    }
+
+    /// The header of the segment that the bytes of a burst spell, or why they spell none, as
+    /// [`Segment::read`] answers. It takes no memory, and never answers `OutOfMemory`.
+    pub fn head_of(bytes: &[u8]) -> Result<SegmentHeader, SegmentFault>
+        ensures spelled { IfOk result (λ head. header_bytes head ≡ take header_length bytes.now) }
+        ensures ready { IfOk result
+            (λ head. head.pfi ≡ true → head.pointer + header_length < length bytes.now) }
+        ensures too_short { (result ≡ Err SegmentFault.TooShort)
+            ↔ (length bytes.now < header_length) }
+        ensures pointer_past { (result ≡ Err SegmentFault.PointerPast) ↔ PointsPast bytes.now }
+        ensures memory { result ≢ Err SegmentFault.OutOfMemory }
+    {
         let Some(head) = read_segment(bytes) else {
             return Err(SegmentFault::TooShort);
         };
@@ -121,8 +152,30 @@ impl Segment {
         if head.pfi && usize::from(head.pointer) >= payload.len() {
             return Err(SegmentFault::PointerPast);
         }
-        let payload = Bytes::from(Vec::from_slice(alloc, payload)?);
-        Ok(Segment { head, payload })
+        Ok(head)
+    }
+
+    /// The segment that a burst spells, as [`Segment::read`] answers, of the burst's own buffer: it
+    /// becomes the payload, in which no byte is copied or moved, and no memory is taken. A burst that
+    /// is no segment is given back, with the reason.
+    pub fn from_burst(burst: Bytes) -> Result<Segment, RefusedBurst>
+        ensures segment { IfOk result (λ segment. segment_bytes segment ≡ burst) }
+        ensures ready { IfOk result IsReady }
+        ensures too_short { IsErrAnd result (λ refused. refused.fault ≡ SegmentFault.TooShort)
+            ↔ (length burst < header_length) }
+        ensures pointer_past { IsErrAnd result
+            (λ refused. refused.fault ≡ SegmentFault.PointerPast)
+            ↔ PointsPast burst }
+        ensures memory { IfErr result (λ refused. refused.fault ≢ SegmentFault.OutOfMemory) }
+        ensures given_back { IfErr result (λ refused. refused.burst ≡ burst) }
+    {
+        match Segment::head_of(burst.as_slice()) {
+            Ok(head) => {
+                let payload = burst.without_front(HEADER_BYTES);
+                Ok(Segment { head, payload })
+            }
+            Err(fault) => Err(RefusedBurst { burst, fault }),
+        }
     }
 }
 

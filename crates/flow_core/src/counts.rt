@@ -27,7 +27,7 @@ pub struct FlowCounts {
 
 impl FlowCounts {
     /// Nothing was counted yet.
-    pub(crate) fn none() -> FlowCounts
+    pub fn none() -> FlowCounts
         ensures { result ≡ no_counts }
     {
         FlowCounts {

@@ -21,7 +21,7 @@ use Rattle.lane.specs.declared.admitted.Request.{Request}
 use Rattle.lane.specs.declared.grant.SidFlow.{SidFlow}
 use Rattle.lane.specs.declared.grant.OutstandingGrant.{OutstandingGrant}
 use Rattle.lane.specs.Limits.{grant_max, outstanding_max}
-use Rattle.lane.specs.Rows.{CanBeOpened}
+use Rattle.lane.specs.Rows.{CanBeOpenedWithin}
 use Rattle.lane.specs.Admission.{IsRequestIn, IsMadeOf}
 use Rattle.lane.specs.Inputs.{LaneSetup, Answer, AnsweredInput, IsRowOf, IsUnknown, IsFlowOf, IsKnown, IsGrant, IsAnswerToGrant, IsAnswer, AreAnswered, HasBytes, inputs_of, outstanding_count}
 use Rattle.lane.proofs.LaneTaking.{granted, answered-more, answers-burst}
@@ -128,7 +128,7 @@ module _ (channel : ℕ) (grant : OutstandingGrant) (bytes : List ℕ) (small : 
       (λ (fits : length bytes ≤ grant.bytes). of-fitting hcs_ok fits)
       (cases_lt grant.bytes (length bytes))
 
-module _ (setup : LaneSetup) (can : CanBeOpened setup.rows (length setup.records)) where
+module _ (channels : ℕ) (setup : LaneSetup) (can : CanBeOpenedWithin channels setup.rows (length setup.records)) where
   -- row k has an identifier, or hasn't
   row-or-not : (sid k : ℕ) → ((row : SidRow) × IsRowOf setup sid k row) ⊎ ¬ ((row : SidRow) × IsRowOf setup sid k row)
   row-or-not sid k =

@@ -1,8 +1,8 @@
 -- What one more input makes of what is outstanding, and of what a lane stands for.
-use Rattle.std.proofs.Common.{◌≡◌, ◌≢◌, ℕ, ◌+◌, ◌⊎◌, inl, inr, ⊎_elim, Bool, true, false, cond, IsTrue, Option, Some, None, MatchOption, is_some, Result, Ok, Err, List, [], ◌∷◌, ◌++◌, length, take, slice_get, count_by, sym, ap, subst, ◌∙◌, refl, arith, zero, suc}
-use Rattle.std.specs.Ordering.{nat_cmp}
-use Rattle.std.specs.Cmp.{unsigned_tied}
-use Rattle.std.specs.BTreeMap.{BTreeMap, get, is_at, btree_map_len}
+use Rattle.std.proofs.Common.{◌≡◌, ◌≢◌, ℕ, ◌+◌, ◌⊎◌, inl, inr, ⊎_elim, Bool, true, false, cond, IsTrue, Option, Some, None, MatchOption, is_some, Result, Ok, Err, List, [], ◌∷◌, ◌++◌, length, take, slice_get, count_by, nat_eq, sym, ap, subst, ◌∙◌, refl, arith, zero, suc}
+use Rattle.std.specs.HashMap.{HashMap, get, hash_map_len}
+use Rattle.std.specs.declared.hash.FoldHasher.{FoldHasher}
+use Rattle.std.specs.declared.hash.BuildHasherDefault.{BuildHasherDefault}
 use Rattle.std.specs.Map.{lookup}
 use Rattle.std.proofs.lemmas.Bool.{cases_eq, ne_eqb, false≢true}
 use Rattle.std.proofs.lemmas.Option.{slice_get_within, same_Some}
@@ -18,8 +18,8 @@ use Rattle.lane.specs.declared.lane.Lane.{Lane}
 use Rattle.lane.specs.Inputs.{LaneSetup, AnsweredInput, IsUnknown, IsFlowOf, IsOutstanding, IsKnown, IsGrant, IsAnswer, AreAnswered, IsAnswerToBurst, number_of, outstanding_count, refusal_spends, is_accepted, spends_its_grant}
 use Rattle.lane.specs.declared.refusal.Refusal.{Refusal}
 use Rattle.lane.specs.declared.refusal.Refusal.TheVariants.{GrantRange, GrantKnown, UnknownSid, TooManyGrants, GrantOutOfMemory, NoGrant, TooLong, BadCheck, TooShort, PointerPast, BurstOutOfMemory}
-use Rattle.lane.specs.Admission.{IsMadeOf}
-use Rattle.lane.specs.Stands.{StandsFor, HasFlows}
+use Rattle.lane.specs.Admission.{Fits, IsMadeOf}
+use Rattle.lane.specs.Stands.{StandsFor, HasFlows, flow_at}
 
 module _ {X : Type 0} where
   -- what stands in a list stands in one that it begins
@@ -156,7 +156,7 @@ module _ (setup : LaneSetup) (taken : List AnsweredInput) (one : AnsweredInput) 
     answered = answered-more stands.answered is;
     flows = stands.flows;
     grants = λ number.
-        either-way (¬ (IsKnown taken number)) (¬ (IsKnown then number)) (IsGrant setup taken number) (IsGrant setup then number) (get nat_cmp lane.grants number)
+        either-way (¬ (IsKnown taken number)) (¬ (IsKnown then number)) (IsGrant setup taken number) (IsGrant setup then number) (get nat_eq lane.grants number)
         (still-unknown number (λ sid bytes same. false≢true (sym unaccepted ∙ ap is_accepted same)))
         (λ grant. still-granted number grant (λ of_number spent. false≢true (sym unspent ∙ spent)))
         (stands.grants number);
@@ -166,15 +166,29 @@ module _ (setup : LaneSetup) (taken : List AnsweredInput) (one : AnsweredInput) 
         omega arith;
   }
 
--- one key is not at another
-pub not-at : (k q : ℕ) → q ≢ k → is_at (nat_cmp k) q ≡ false
-not-at k q apart = unsigned_tied k q ∙ ne_eqb k q (λ same. apart (sym same))
+-- a lane whose grants have the same entries stands for the same
+pub stands-for-same : (setup : LaneSetup) (taken : List AnsweredInput) (lane : Lane) (grants : HashMap ℕ OutstandingGrant (BuildHasherDefault FoldHasher))
+    → grants.entries ≡ lane.grants.entries → StandsFor setup lane taken → StandsFor setup (record lane { grants = grants }) taken
+stands-for-same setup taken lane grants same stands = record {
+  channel = stands.channel;
+  answered = stands.answered;
+  flows = stands.flows;
+  grants = λ number.
+      let at = ap (lookup (nat_eq number)) same in
+      let Goal : Option OutstandingGrant → Type 0 = λ o. MatchOption o (¬ (IsKnown taken number)) (IsGrant setup taken number) in
+      subst Goal (sym at) (stands.grants number);
+  count = let count = stands.count in let as_many = ap length same in omega arith;
+}
 
-module _ (setup : LaneSetup) (taken : List AnsweredInput) (lane : Lane) (grants : BTreeMap ℕ OutstandingGrant) where
+-- one key is not at another
+pub not-at : (k q : ℕ) → q ≢ k → nat_eq k q ≡ false
+not-at k q apart = ne_eqb k q (λ same. apart (sym same))
+
+module _ (setup : LaneSetup) (taken : List AnsweredInput) (lane : Lane) (grants : HashMap ℕ OutstandingGrant (BuildHasherDefault FoldHasher)) where
   -- a lane that keeps an accepted grant
   pub stands-with : (number sid : ℕ) (grant : OutstandingGrant)
-      → get nat_cmp grants number ≡ Some grant → ((q : ℕ) → is_at (nat_cmp number) q ≡ false → get nat_cmp grants q ≡ get nat_cmp lane.grants q)
-      → btree_map_len grants ≡ btree_map_len lane.grants + 1 → IsFlowOf setup sid grant.flow
+      → get nat_eq grants number ≡ Some grant → ((q : ℕ) → nat_eq number q ≡ false → get nat_eq grants q ≡ get nat_eq lane.grants q)
+      → hash_map_len grants ≡ hash_map_len lane.grants + 1 → IsFlowOf setup sid grant.flow
       → IsAnswer setup taken (Grant number sid grant.bytes) (Ok None) → StandsFor setup lane taken
       → StandsFor setup (record lane { grants = grants }) (taken ++ granted number sid grant.bytes ∷ [])
   stands-with number sid grant here others len flow is stands =
@@ -187,12 +201,12 @@ module _ (setup : LaneSetup) (taken : List AnsweredInput) (lane : Lane) (grants 
             let Goal : Option OutstandingGrant → Type 0 = λ o. MatchOption o (¬ (IsKnown (taken ++ one ∷ []) q)) (IsGrant setup (taken ++ one ∷ []) q) in
             ⊎_elim
             (λ (same : q ≡ number).
-            subst (λ n. MatchOption (get nat_cmp grants n) (¬ (IsKnown (taken ++ one ∷ []) n)) (IsGrant setup (taken ++ one ∷ []) n)) (sym same)
+            subst (λ n. MatchOption (get nat_eq grants n) (¬ (IsKnown (taken ++ one ∷ []) n)) (IsGrant setup (taken ++ one ∷ []) n)) (sym same)
             (subst (λ o. MatchOption o (¬ (IsKnown (taken ++ one ∷ []) number)) (IsGrant setup (taken ++ one ∷ []) number)) (sym here)
             (record { sid = sid; outstanding = now-outstanding taken number sid grant.bytes; flow = flow })))
             (λ (apart : q ≢ number).
             subst Goal (sym (others q (not-at number q apart)))
-            (either-way (¬ (IsKnown taken q)) (¬ (IsKnown (taken ++ one ∷ []) q)) (IsGrant setup taken q) (IsGrant setup (taken ++ one ∷ []) q) (get nat_cmp lane.grants q)
+            (either-way (¬ (IsKnown taken q)) (¬ (IsKnown (taken ++ one ∷ []) q)) (IsGrant setup taken q) (IsGrant setup (taken ++ one ∷ []) q) (get nat_eq lane.grants q)
             (still-unknown setup taken one q (λ s b same. apart (sym (ap (λ (t : AnsweredInput). number_of t.input) same))))
             (λ grant'. still-granted setup taken one q grant' (λ of_number spent. false≢true spent))
             (stands.grants q)))
@@ -205,8 +219,8 @@ module _ (setup : LaneSetup) (taken : List AnsweredInput) (lane : Lane) (grants 
 
   -- a lane that forgets a spent grant
   pub stands-without : (one : AnsweredInput) (number : ℕ) → number_of one.input ≡ number → is_accepted one ≡ false → spends_its_grant one ≡ true
-      → get nat_cmp grants number ≡ None → ((q : ℕ) → is_at (nat_cmp number) q ≡ false → get nat_cmp grants q ≡ get nat_cmp lane.grants q)
-      → btree_map_len grants + 1 ≡ btree_map_len lane.grants
+      → get nat_eq grants number ≡ None → ((q : ℕ) → nat_eq number q ≡ false → get nat_eq grants q ≡ get nat_eq lane.grants q)
+      → hash_map_len grants + 1 ≡ hash_map_len lane.grants
       → IsAnswer setup taken one.input one.answer → StandsFor setup lane taken
       → StandsFor setup (record lane { grants = grants }) (taken ++ one ∷ [])
   stands-without one number of_number unaccepted spent here others len is stands =
@@ -218,7 +232,7 @@ module _ (setup : LaneSetup) (taken : List AnsweredInput) (lane : Lane) (grants 
             let Goal : Option OutstandingGrant → Type 0 = λ o. MatchOption o (¬ (IsKnown (taken ++ one ∷ []) q)) (IsGrant setup (taken ++ one ∷ []) q) in
             ⊎_elim
             (λ (same : q ≡ number).
-            subst Goal (sym (ap (get nat_cmp grants) same ∙ here))
+            subst Goal (sym (ap (get nat_eq grants) same ∙ here))
             (λ known.
             ⊎_elim
             (λ was. was.1 (of_number ∙ sym same) spent)
@@ -226,7 +240,7 @@ module _ (setup : LaneSetup) (taken : List AnsweredInput) (lane : Lane) (grants 
             (was-outstanding taken one q known.0 known.1 known.2)))
             (λ (apart : q ≢ number).
             subst Goal (sym (others q (not-at number q apart)))
-            (either-way (¬ (IsKnown taken q)) (¬ (IsKnown (taken ++ one ∷ []) q)) (IsGrant setup taken q) (IsGrant setup (taken ++ one ∷ []) q) (get nat_cmp lane.grants q)
+            (either-way (¬ (IsKnown taken q)) (¬ (IsKnown (taken ++ one ∷ []) q)) (IsGrant setup taken q) (IsGrant setup (taken ++ one ∷ []) q) (get nat_eq lane.grants q)
             (still-unknown setup taken one q (λ s b same. false≢true (sym unaccepted ∙ ap is_accepted same)))
             (λ grant. still-granted setup taken one q grant (λ of_q _. apart (sym of_q ∙ of_number)))
             (stands.grants q)))
@@ -238,41 +252,41 @@ module _ (setup : LaneSetup) (taken : List AnsweredInput) (lane : Lane) (grants 
       }
 
 -- a lane of which nothing is outstanding stands for no inputs
-pub new-stands : (setup : LaneSetup) (lane : Lane) → lane.channel ≡ setup.channel → HasFlows setup lane.flows → lane.grants.entries ≡ []
+pub new-stands : (setup : LaneSetup) (lane : Lane) → lane.channel ≡ setup.channel → HasFlows setup lane.flows.items → lane.grants.entries ≡ []
     → StandsFor setup lane []
 new-stands setup lane channel flows empty = record {
   channel = channel;
   answered = λ k one stands. absurd (cc);
   flows = flows;
   grants = λ number.
-      subst (λ o. MatchOption o (¬ (IsKnown [] number)) (IsGrant setup [] number)) (sym (ap (lookup (is_at (nat_cmp number))) empty))
+      subst (λ o. MatchOption o (¬ (IsKnown [] number)) (IsGrant setup [] number)) (sym (ap (lookup (nat_eq number)) empty))
       (λ known. let stands = known.2.stands in absurd (cc));
   count = let none = ap length empty in omega arith;
 }
 
 module _ (setup : LaneSetup) (taken : List AnsweredInput) (lane : Lane) (stands : StandsFor setup lane taken) where
   -- what the maps say is so
-  pub known-from : (number : ℕ) → is_some (get nat_cmp lane.grants number) ≡ true → IsKnown taken number
+  pub known-from : (number : ℕ) → is_some (get nat_eq lane.grants number) ≡ true → IsKnown taken number
   known-from number found =
-      let is = some-from (¬ (IsKnown taken number)) (IsGrant setup taken number) (get nat_cmp lane.grants number) found (stands.grants number) in
+      let is = some-from (¬ (IsKnown taken number)) (IsGrant setup taken number) (get nat_eq lane.grants number) found (stands.grants number) in
       (is.1.sid, is.0.bytes, is.1.outstanding)
 
-  pub unknown-from : (number : ℕ) → get nat_cmp lane.grants number ≡ None → ¬ (IsKnown taken number)
+  pub unknown-from : (number : ℕ) → get nat_eq lane.grants number ≡ None → ¬ (IsKnown taken number)
   unknown-from number none =
       let Goal : Option OutstandingGrant → Type 0 = λ o. MatchOption o (¬ (IsKnown taken number)) (IsGrant setup taken number) in
       subst Goal none (stands.grants number)
 
-  pub grant-from : (number : ℕ) (grant : OutstandingGrant) → get nat_cmp lane.grants number ≡ Some grant → IsGrant setup taken number grant
+  pub grant-from : (number : ℕ) (grant : OutstandingGrant) → get nat_eq lane.grants number ≡ Some grant → IsGrant setup taken number grant
   grant-from number grant some =
       let Goal : Option OutstandingGrant → Type 0 = λ o. MatchOption o (¬ (IsKnown taken number)) (IsGrant setup taken number) in
       subst Goal some (stands.grants number)
 
-  pub no-flow-from : (sid : ℕ) → get nat_cmp lane.flows sid ≡ None → IsUnknown setup sid
+  pub no-flow-from : (sid : ℕ) → flow_at lane.flows.items sid ≡ None → IsUnknown setup sid
   no-flow-from sid none =
       let Goal : Option SidFlow → Type 0 = λ o. MatchOption o (IsUnknown setup sid) (IsFlowOf setup sid) in
       subst Goal none (stands.flows sid)
 
-  pub flow-from : (sid : ℕ) (flow : SidFlow) → get nat_cmp lane.flows sid ≡ Some flow → IsFlowOf setup sid flow
+  pub flow-from : (sid : ℕ) (flow : SidFlow) → flow_at lane.flows.items sid ≡ Some flow → IsFlowOf setup sid flow
   flow-from sid flow some =
       let Goal : Option SidFlow → Type 0 = λ o. MatchOption o (IsUnknown setup sid) (IsFlowOf setup sid) in
       subst Goal some (stands.flows sid)
@@ -280,7 +294,7 @@ module _ (setup : LaneSetup) (taken : List AnsweredInput) (lane : Lane) (stands 
   pub has-row : (sid : ℕ) (flow : SidFlow) → IsFlowOf setup sid flow → ¬ (IsUnknown setup sid)
   has-row sid flow is none = none is.k is.row is.of_row
 
-  pub as-many : btree_map_len lane.grants ≡ outstanding_count taken
+  pub as-many : hash_map_len lane.grants ≡ outstanding_count taken
   as-many = let count = stands.count in omega arith
 
 module _ (setup : LaneSetup) (taken : List AnsweredInput) (number : ℕ) (hcs_ok : Bool) (bytes : List ℕ) where
@@ -309,6 +323,21 @@ spends channel grant hcs_ok bytes TooManyGrants made = absurd made
 spends channel grant hcs_ok bytes GrantOutOfMemory made = absurd made
 spends channel grant hcs_ok bytes NoGrant made = absurd made
 spends channel grant hcs_ok bytes BurstOutOfMemory made = absurd made
+
+-- a burst that is refused doesn't fit its grant
+pub refused-unfit : (channel : ℕ) (grant : OutstandingGrant) (hcs_ok : Bool) (bytes : List ℕ) (refusal : Refusal)
+    → IsMadeOf channel grant hcs_ok bytes (Err refusal) → ¬ (Fits grant hcs_ok bytes)
+refused-unfit channel grant hcs_ok bytes TooLong made fits = let long = made in let short = fits.0 in omega arith
+refused-unfit channel grant hcs_ok bytes BadCheck made fits = made.1 fits.1
+refused-unfit channel grant hcs_ok bytes TooShort made fits = let short = made.2 in let long = fits.2 in omega arith
+refused-unfit channel grant hcs_ok bytes PointerPast made fits = fits.3 made.2
+refused-unfit channel grant hcs_ok bytes GrantRange made fits = made
+refused-unfit channel grant hcs_ok bytes GrantKnown made fits = made
+refused-unfit channel grant hcs_ok bytes UnknownSid made fits = made
+refused-unfit channel grant hcs_ok bytes TooManyGrants made fits = made
+refused-unfit channel grant hcs_ok bytes GrantOutOfMemory made fits = made
+refused-unfit channel grant hcs_ok bytes NoGrant made fits = made
+refused-unfit channel grant hcs_ok bytes BurstOutOfMemory made fits = made
 
 -- and it is the answer to the burst
 pub answers-burst : (setup : LaneSetup) (taken : List AnsweredInput) (number : ℕ) (hcs_ok : Bool) (bytes : List ℕ) (grant : OutstandingGrant) (refusal : Refusal)

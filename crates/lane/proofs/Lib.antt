@@ -1,8 +1,10 @@
 pub mod RowFaults
 pub mod SeenRows
+pub mod MarkedRows
 pub mod LaneTaking
 pub mod SidFlows
 pub mod OneLaneAnswer
+pub mod WouldAdmit
 pub mod LaneReports
 pub mod OutstandingGrants
 pub mod LaneAnswers

@@ -20,8 +20,8 @@ use Rattle.lane.specs.declared.admitted.Admitted.{Admitted}
 use Rattle.lane.specs.declared.admitted.Request.{Request}
 use Rattle.lane.specs.declared.grant.SidFlow.{SidFlow}
 use Rattle.lane.specs.declared.grant.OutstandingGrant.{OutstandingGrant}
-use Rattle.lane.specs.Rows.{CanBeOpened}
-use Rattle.lane.specs.Admission.{IsRequestIn, IsAdmitted, IsMadeOf}
+use Rattle.lane.specs.Rows.{CanBeOpenedWithin}
+use Rattle.lane.specs.Admission.{IsRequestIn, IsAdmitted, IsMadeOf, Fits}
 use Rattle.lane.specs.Inputs.{LaneSetup, Answer, AnsweredInput, IsRowOf, IsFlowOf, IsOutstanding, IsGrant, IsAnswerToGrant, IsAnswerToBurst, IsAnswer, AreAnswered, inputs_of}
 use Rattle.lane.proofs.LaneTaking.{granted, by-cases}
 
@@ -116,6 +116,10 @@ module _ (channel : ℕ) (grant : OutstandingGrant) (hcs_ok : Bool) (bytes : Lis
   long-enough : (segment : Segment) → segment_bytes segment ≡ bytes → 8 ≤ length bytes
   long-enough segment spelled = let long = ap length spelled in omega arith
 
+  -- what is admitted of a burst fits its grant
+  pub made-fits : (admitted : Admitted) → Made (Ok admitted) → Fits grant hcs_ok bytes
+  made-fits admitted is = (is.0, is.1, long-enough admitted.segment is.2.spelled, not-past admitted is.2.spelled)
+
   -- and of a burst in a grant one thing is made
   one-made : (answer other : Result Admitted Refusal) → Made answer → Made other → answer ≡ other
   one-made (Ok admitted) (Ok other) is are = ap Ok (one-admission channel grant.flow bytes admitted other is.2 are.2)
@@ -150,7 +154,7 @@ module _ (channel : ℕ) (grant : OutstandingGrant) (hcs_ok : Bool) (bytes : Lis
   one-made (Err PointerPast) (Err _) is are = absurd are
   one-made (Err _) other is are = absurd is
 
-module _ (setup : LaneSetup) (can : CanBeOpened setup.rows (length setup.records)) where
+module _ (channels : ℕ) (setup : LaneSetup) (can : CanBeOpenedWithin channels setup.rows (length setup.records)) where
   -- an identifier has one row on a channel
   one-row : (sid k j : ℕ) (row other : SidRow) → IsRowOf setup sid k row → IsRowOf setup sid j other → row ≡ other
   one-row sid k j row other is are =

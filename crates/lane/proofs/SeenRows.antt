@@ -4,8 +4,8 @@ use Rattle.std.proofs.lemmas.Bool.{cases_eq, cases_lt}
 use Rattle.std.proofs.lemmas.Option.{same_Some}
 use Rattle.std.proofs.lemmas.List.{get_or-set_same, get_or-set_other}
 use Rattle.lane.specs.declared.sids.SidRow.{SidRow}
-use Rattle.lane.specs.Limits.{channel_limit, sid_limit}
-use Rattle.lane.specs.Rows.{IsOutOfRange, IsSidRepeated}
+use Rattle.lane.specs.Limits.{sid_limit}
+use Rattle.lane.specs.Rows.{IsOutOfRangeWithin, IsSidRepeated}
 
 -- this place of the table is set
 abbrev pub IsSet : List (List Bool) → ℕ → ℕ → Type 0
@@ -67,9 +67,9 @@ IsAmongFirst rows n channel sid =
     (j : ℕ) × (j < n) × (row : SidRow) × (slice_get rows j ≡ Some row) × (row.channel ≡ channel) × (row.sid ≡ sid)
 
 module _ (rows : List SidRow) (k : ℕ) (row : SidRow) (at : slice_get rows k ≡ Some row) where
-  pub in-range : ((j : ℕ) → ¬ (IsOutOfRange rows j)) → (row.channel < channel_limit) × (row.sid < sid_limit)
-  in-range ranges = (
-    ⊎_elim (λ (below : row.channel < channel_limit). below) (λ (not_below : channel_limit ≤ row.channel). absurd (ranges k (row, at, inl not_below))) (cases_lt row.channel channel_limit),
+  pub in-range : (channels : ℕ) → ((j : ℕ) → ¬ (IsOutOfRangeWithin channels rows j)) → (row.channel < channels) × (row.sid < sid_limit)
+  in-range channels ranges = (
+    ⊎_elim (λ (below : row.channel < channels). below) (λ (not_below : channels ≤ row.channel). absurd (ranges k (row, at, inl not_below))) (cases_lt row.channel channels),
     ⊎_elim (λ (below : row.sid < sid_limit). below) (λ (not_below : sid_limit ≤ row.sid). absurd (ranges k (row, at, inr not_below))) (cases_lt row.sid sid_limit),
   )
 

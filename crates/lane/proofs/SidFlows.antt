@@ -1,29 +1,28 @@
 -- The flows of the service identifiers in the first rows.
-use Rattle.std.proofs.Common.{◌≡◌, ◌≢◌, ℕ, ◌+◌, ◌<◌, ◌≤◌, ⊎_elim, false, Option, Some, MatchOption, length, slice_get, sym, ap, subst, ◌∙◌, arith}
-use Rattle.std.specs.Ordering.{nat_cmp}
-use Rattle.std.specs.BTreeMap.{BTreeMap, get, is_at}
+use Rattle.std.proofs.Common.{◌≡◌, ◌≢◌, ℕ, ◌+◌, ◌<◌, ◌≤◌, ⊎_elim, Option, Some, None, MatchOption, List, length, slice_set, slice_get, sym, ap, subst, ◌∙◌, arith}
+use Rattle.std.proofs.lemmas.List.{get_or-set_same, get_or-set_other}
 use Rattle.std.proofs.lemmas.Bool.{cases_eq, cases_lt}
 use Rattle.std.proofs.lemmas.Option.{slice_get_within, same_Some}
 use Rattle.flow_records.specs.declared.record.FlowRecord.{FlowRecord}
 use Rattle.lane.specs.declared.sids.SidRow.{SidRow}
 use Rattle.lane.specs.declared.grant.SidFlow.{SidFlow}
 use Rattle.lane.specs.Inputs.{LaneSetup, IsRowOf, IsUnknown, IsFlowOf}
-use Rattle.lane.specs.Stands.{HasFlows}
-use Rattle.lane.proofs.LaneTaking.{either-way, not-at}
+use Rattle.lane.specs.Stands.{HasFlows, flow_at}
+use Rattle.lane.proofs.LaneTaking.{either-way}
 
 -- the lane's channel has no such row among the first n
 abbrev pub IsUnknownBelow : LaneSetup → ℕ → ℕ → Type 0
 IsUnknownBelow setup n sid = (k : ℕ) (row : SidRow) → k < n → ¬ (IsRowOf setup sid k row)
 
--- the map has the identifiers of the first n rows, each with its flow
-abbrev pub HasFlowsBelow : LaneSetup → ℕ → BTreeMap ℕ SidFlow → Type 0
-HasFlowsBelow setup n flows = (sid : ℕ) → MatchOption (get nat_cmp flows sid) (IsUnknownBelow setup n sid) (IsFlowOf setup sid)
+-- the table has the identifiers of the first n rows, each with its flow
+abbrev pub HasFlowsBelow : LaneSetup → ℕ → List (Option SidFlow) → Type 0
+HasFlowsBelow setup n flows = (sid : ℕ) → MatchOption (flow_at flows sid) (IsUnknownBelow setup n sid) (IsFlowOf setup sid)
 
 module _ (setup : LaneSetup) where
   -- the first rows are all
-  pub has-all : (flows : BTreeMap ℕ SidFlow) → HasFlowsBelow setup (length setup.rows) flows → HasFlows setup flows
+  pub has-all : (flows : List (Option SidFlow)) → HasFlowsBelow setup (length setup.rows) flows → HasFlows setup flows
   has-all flows has sid =
-      either-way (IsUnknownBelow setup (length setup.rows) sid) (IsUnknown setup sid) (IsFlowOf setup sid) (IsFlowOf setup sid) (get nat_cmp flows sid)
+      either-way (IsUnknownBelow setup (length setup.rows) sid) (IsUnknown setup sid) (IsFlowOf setup sid) (IsFlowOf setup sid) (flow_at flows sid)
       (λ none k row is. none k row (slice_get_within setup.rows k row is.stands) is)
       (λ flow is. is)
       (has sid)
@@ -41,27 +40,27 @@ module _ (setup : LaneSetup) where
         (cases_lt k n)
 
     -- a row of another channel
-    pub has-passed : (flows : BTreeMap ℕ SidFlow) → row.channel ≢ setup.channel → HasFlowsBelow setup n flows → HasFlowsBelow setup (n + 1) flows
+    pub has-passed : (flows : List (Option SidFlow)) → row.channel ≢ setup.channel → HasFlowsBelow setup n flows → HasFlowsBelow setup (n + 1) flows
     has-passed flows other has sid =
-        either-way (IsUnknownBelow setup n sid) (IsUnknownBelow setup (n + 1) sid) (IsFlowOf setup sid) (IsFlowOf setup sid) (get nat_cmp flows sid)
+        either-way (IsUnknownBelow setup n sid) (IsUnknownBelow setup (n + 1) sid) (IsFlowOf setup sid) (IsFlowOf setup sid) (flow_at flows sid)
         (none-more sid (λ same _. other same))
         (λ flow is. is)
         (has sid)
 
     -- a row of this channel, whose flow is put in
-    pub has-more : (flows after : BTreeMap ℕ SidFlow) (flow : SidFlow) (flow_record : FlowRecord) → row.channel ≡ setup.channel
+    pub has-more : (flows : List (Option SidFlow)) (flow : SidFlow) (flow_record : FlowRecord) → row.channel ≡ setup.channel
         → slice_get setup.records row.flow ≡ Some flow_record → flow.index ≡ row.flow → flow.clusters ≡ flow_record.clusters
-        → get nat_cmp after row.sid ≡ Some flow → ((q : ℕ) → is_at (nat_cmp row.sid) q ≡ false → get nat_cmp after q ≡ get nat_cmp flows q)
-        → HasFlowsBelow setup n flows → HasFlowsBelow setup (n + 1) after
-    has-more flows after flow flow_record channel stands index clusters here others has sid =
+        → row.sid < length flows → HasFlowsBelow setup n flows → HasFlowsBelow setup (n + 1) (slice_set flows row.sid (Some flow))
+    has-more flows flow flow_record channel stands index clusters within has sid =
         let Goal : Option SidFlow → Type 0 = λ o. MatchOption o (IsUnknownBelow setup (n + 1) sid) (IsFlowOf setup sid) in
+        let after : List (Option SidFlow) = slice_set flows row.sid (Some flow) in
         ⊎_elim
         (λ (same : sid ≡ row.sid).
-        subst Goal (sym (ap (get nat_cmp after) same ∙ here))
+        subst Goal (sym (ap (flow_at after) same ∙ get_or-set_same flows row.sid (Some flow) None within))
         (record { k = n; row = row; of_row = record { stands = at; channel = channel; identifier = sym same }; index = index; flow_record = flow_record; stands = stands; clusters = clusters }))
         (λ (apart : sid ≢ row.sid).
-        subst Goal (sym (others sid (not-at row.sid sid apart)))
-        (either-way (IsUnknownBelow setup n sid) (IsUnknownBelow setup (n + 1) sid) (IsFlowOf setup sid) (IsFlowOf setup sid) (get nat_cmp flows sid)
+        subst Goal (sym (get_or-set_other flows row.sid sid (Some flow) None apart))
+        (either-way (IsUnknownBelow setup n sid) (IsUnknownBelow setup (n + 1) sid) (IsFlowOf setup sid) (IsFlowOf setup sid) (flow_at flows sid)
         (none-more sid (λ _ same. apart (sym same)))
         (λ flow' is. is)
         (has sid)))

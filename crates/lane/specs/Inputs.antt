@@ -78,6 +78,11 @@ answer_spends _ _ = false
 abbrev pub spends_its_grant : AnsweredInput → Bool
 spends_its_grant one = answer_spends one.input one.answer
 
+-- the input is a burst
+abbrev pub is_burst : Input → Bool
+is_burst (Grant number sid bytes) = false
+is_burst (Burst number hcs_ok bytes) = true
+
 -- the bytes of a burst are bytes
 abbrev pub HasBytes : Input → Type 0
 HasBytes (Grant number sid bytes) = Unit {0}

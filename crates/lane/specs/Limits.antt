@@ -5,6 +5,10 @@ use Rattle.std.specs.Prelude.{ℕ}
 abbrev pub channel_limit : ℕ
 channel_limit = 4
 
+-- the greatest number of channels for which a receiver can be made
+abbrev pub most_channels : ℕ
+most_channels = 16
+
 -- with the decisions, which come beside the channels, there are five senders
 abbrev pub senders : ℕ
 senders = 5

@@ -6,10 +6,14 @@ use Rattle.lane.specs.Limits.{channel_limit, sid_limit}
 use Rattle.lane.specs.declared.sids.LaneFault.{LaneFault}
 use Rattle.lane.specs.declared.sids.LaneFault.TheVariants.{SidRange, SameSid, UnknownFlow, OutOfMemory}
 
--- the channel or the service identifier of row k is out of range
+-- of so many channels: the channel or the service identifier of row k is out of range
+abbrev pub IsOutOfRangeWithin : ℕ → List SidRow → ℕ → Type 0
+IsOutOfRangeWithin channels rows k =
+    (row : SidRow) × (slice_get rows k ≡ Some row) × ((channels ≤ row.channel) ⊎ (sid_limit ≤ row.sid))
+
+-- the same of the profile's four channels
 abbrev pub IsOutOfRange : List SidRow → ℕ → Type 0
-IsOutOfRange rows k =
-    (row : SidRow) × (slice_get rows k ≡ Some row) × ((channel_limit ≤ row.channel) ⊎ (sid_limit ≤ row.sid))
+IsOutOfRange = IsOutOfRangeWithin channel_limit
 
 -- the channel and the service identifier of row k stand in an earlier row
 abbrev pub IsSidRepeated : List SidRow → ℕ → Type 0
@@ -21,16 +25,25 @@ IsSidRepeated rows k =
 abbrev pub NamesNoFlow : List SidRow → ℕ → ℕ → Type 0
 NamesNoFlow rows flow_count k = (row : SidRow) × (slice_get rows k ≡ Some row) × (flow_count ≤ row.flow)
 
--- The first fault of some rows, in the order in which they are looked for.
-abbrev pub IsLaneFault : List SidRow → ℕ → LaneFault → Type 0
-IsLaneFault rows flow_count (SidRange k) = IsLeast (IsOutOfRange rows) k
-IsLaneFault rows flow_count (SameSid k) = ((j : ℕ) → ¬ (IsOutOfRange rows j)) × IsLeast (IsSidRepeated rows) k
-IsLaneFault rows flow_count (UnknownFlow k) =
-    ((j : ℕ) → ¬ (IsOutOfRange rows j)) × ((j : ℕ) → ¬ (IsSidRepeated rows j)) × IsLeast (NamesNoFlow rows flow_count) k
-IsLaneFault rows flow_count OutOfMemory = ⊥
+-- The first fault of the rows of so many channels, in the order in which they are looked for.
+abbrev pub IsLaneFaultWithin : ℕ → List SidRow → ℕ → LaneFault → Type 0
+IsLaneFaultWithin channels rows flow_count (SidRange k) = IsLeast (IsOutOfRangeWithin channels rows) k
+IsLaneFaultWithin channels rows flow_count (SameSid k) =
+    ((j : ℕ) → ¬ (IsOutOfRangeWithin channels rows j)) × IsLeast (IsSidRepeated rows) k
+IsLaneFaultWithin channels rows flow_count (UnknownFlow k) =
+    ((j : ℕ) → ¬ (IsOutOfRangeWithin channels rows j)) × ((j : ℕ) → ¬ (IsSidRepeated rows j)) × IsLeast (NamesNoFlow rows flow_count) k
+IsLaneFaultWithin channels rows flow_count OutOfMemory = ⊥
 
--- the rows have no fault, where there are so many flows
-pub record CanBeOpened (rows : List SidRow) (flow_count : ℕ) : Type 0 where
-  pub in_range : (k : ℕ) → ¬ (IsOutOfRange rows k)
+-- the same of the profile's four channels
+abbrev pub IsLaneFault : List SidRow → ℕ → LaneFault → Type 0
+IsLaneFault = IsLaneFaultWithin channel_limit
+
+-- the rows of so many channels have no fault, where there are so many flows
+pub record CanBeOpenedWithin (channels : ℕ) (rows : List SidRow) (flow_count : ℕ) : Type 0 where
+  pub in_range : (k : ℕ) → ¬ (IsOutOfRangeWithin channels rows k)
   pub apart : (k : ℕ) → ¬ (IsSidRepeated rows k)
   pub known : (k : ℕ) → ¬ (NamesNoFlow rows flow_count k)
+
+-- the rows of the profile's four channels have no fault
+abbrev pub CanBeOpened : List SidRow → ℕ → Type 0
+CanBeOpened = CanBeOpenedWithin channel_limit

@@ -1,7 +1,10 @@
 //! An outstanding grant, and what is made of the burst that is received in it.
-ghost use Rattle.std.specs.Prelude.{◌≡◌, ◌<◌, IfOk, OnErr, length, slice_get};
+ghost use Rattle.std.specs.Prelude.{◌≡◌, ◌<◌, ◌≤◌, ◌↔◌, ℕ, IsTrue, MatchOption, IfOk, OnErr};
+ghost use Rattle.std.specs.Prelude.{Err, length, slice_get};
 ghost use Rattle.flow_records.specs.declared.record.FlowRecord.{FlowRecord};
-ghost use Rattle.lane.specs.Admission.{IsMadeOf, IsRequestIn, Fits};
+ghost use Rattle.docsis_wire.specs.Ready.{IsReady};
+ghost use Rattle.docsis_wire.specs.SegmentBytes.{segment_bytes};
+ghost use Rattle.lane.specs.Admission.{IsMadeOf, IsAdmitted, IsRequestIn, Fits};
 
 use crate::admitted::{Admitted, Request};
 use crate::refusal::Refusal;
@@ -29,6 +32,19 @@ impl SidFlow {
     {
         let clusters = records[index].clusters;
         SidFlow { index, clusters }
+    }
+
+    /// What is admitted of a segment of the flow that came on this channel.
+    fn admitted(self, channel: u8, segment: Segment) -> Admitted
+        requires { IsReady segment }
+        ensures { IsAdmitted channel self (segment_bytes segment) result }
+    {
+        let request = self.request_in(channel, &segment.head);
+        Admitted {
+            flow: self.index,
+            segment,
+            request,
+        }
     }
 
     /// The request in the header of a segment that came on this channel.
@@ -69,25 +85,56 @@ impl OutstandingGrant {
         ensures made { IfOk result (λ made. IsMadeOf channel self hcs_ok bytes.now made) }
         ensures memory { OnErr result (Fits self hcs_ok bytes.now) }
     {
-        if bytes.len() > self.bytes as usize {
-            return Ok(Err(Refusal::TooLong));
-        }
-        if !hcs_ok {
-            return Ok(Err(Refusal::BadCheck));
+        if let Some(refusal) = self.refusal_unread(hcs_ok, bytes) {
+            return Ok(Err(refusal));
         }
         match Segment::read(alloc, bytes.as_slice()) {
-            Ok(segment) => {
-                let request = self.flow.request_in(channel, &segment.head);
-                let flow = self.flow.index;
-                Ok(Ok(Admitted {
-                    flow,
-                    segment,
-                    request,
-                }))
-            }
+            Ok(segment) => Ok(Ok(self.flow.admitted(channel, segment))),
             Err(SegmentFault::TooShort) => Ok(Err(Refusal::TooShort)),
             Err(SegmentFault::PointerPast) => Ok(Err(Refusal::PointerPast)),
             Err(SegmentFault::OutOfMemory) => Err(AllocError),
         }
+    }
+
+    /// The same of a burst whose own buffer becomes the payload: it takes no memory.
+    pub fn admit_owned(self, channel: u8, hcs_ok: bool, bytes: Bytes) -> Result<Admitted, Refusal>
+        ensures { IsMadeOf channel self hcs_ok bytes result }
+    {
+        if let Some(refusal) = self.refusal_unread(hcs_ok, &bytes) {
+            return Err(refusal);
+        }
+        match Segment::from_burst(bytes) {
+            Ok(segment) => Ok(self.flow.admitted(channel, segment)),
+            Err(refused) => match refused.fault {
+                SegmentFault::TooShort => Err(Refusal::TooShort),
+                SegmentFault::PointerPast => Err(Refusal::PointerPast),
+                SegmentFault::OutOfMemory => unreachable!(),
+            },
+        }
+    }
+
+    /// Whether a burst that was received in the grant fits it, and so would be admitted.
+    pub fn fits(self, hcs_ok: bool, bytes: &Bytes) -> bool
+        ensures { IsTrue result ↔ Fits self hcs_ok bytes.now }
+    {
+        match self.refusal_unread(hcs_ok, bytes) {
+            Some(_) => false,
+            None => Segment::head_of(bytes.as_slice()).is_ok(),
+        }
+    }
+
+    /// The refusal of a burst that needs no look at its bytes, if there is one: that they are too
+    /// many, or that the check is bad.
+    fn refusal_unread(self, hcs_ok: bool, bytes: &Bytes) -> Option<Refusal>
+        ensures { MatchOption result ((length bytes.now ≤ self.bytes) × IsTrue hcs_ok)
+            (λ refusal. (channel : ℕ) → IsMadeOf channel self hcs_ok bytes.now (Err refusal)) }
+    {
+        if bytes.len() > self.bytes as usize {
+            return Some(Refusal::TooLong);
+        }
+        if !hcs_ok {
+            return Some(Refusal::BadCheck);
+        }
+        None
     }
 }

@@ -1,20 +1,24 @@
 //! A lane: the grants and bursts of one channel.
-ghost use Rattle.std.specs.Prelude.{◌≡◌, ◌↔◌, ℕ, [], IsTrue, IsOk, IfOk, OnErr, Ok, Err, length};
+ghost use Rattle.std.specs.Prelude.{◌≡◌, ◌↔◌, ℕ, [], List, IsTrue, IsOk, IfOk, IfErr, OnErr, Ok, Err, length};
+ghost use Rattle.std.specs.Prelude.{◌<◌, Some, slice_get};
+ghost use Rattle.lane.specs.declared.sids.SidRow.{SidRow};
 ghost use Rattle.lane.specs.declared.sids.LaneFault.{LaneFault};
-ghost use Rattle.lane.specs.Rows.{IsLaneFault, CanBeOpened};
-ghost use Rattle.lane.specs.Inputs.{LaneSetup, IsGrantSize};
-ghost use Rattle.lane.specs.Stands.{HasFlows, StandsFor, TakesInput, StandsForTheSame, IsOutOfMemory, CouldTake};
+ghost use Rattle.lane.specs.Rows.{IsLaneFault, CanBeOpened, CanBeOpenedWithin, NamesNoFlow};
+ghost use Rattle.lane.specs.Inputs.{LaneSetup, AnsweredInput, IsGrantSize, is_burst};
+ghost use Rattle.lane.specs.Inputs.{outstanding_count};
+ghost use Rattle.lane.specs.Stands.{flow_at, HasFlows, StandsFor, TakesInput, StandsForTheSame, IsOutOfMemory, CouldTake};
+ghost use Rattle.lane.specs.Stands.{WouldAdmit, NamesAFlow};
 
 use crate::admitted::Admitted;
 use crate::grant::{OutstandingGrant, SidFlow};
 use crate::input::Input;
 use crate::refusal::Refusal;
 use crate::report::Answer;
-use crate::sids::{LaneFault, SidRow, check_rows};
+use crate::sids::{LaneFault, PROFILE_CHANNELS, SidRow, check_rows};
 use docsis_wire::Bytes;
 use flow_records::FlowRecord;
 use std::alloc::{AllocError, Global};
-use std::collections::BTreeMap;
+use std::collections::HashMap;
 
 /// The fewest bytes of a grant: those of a segment header.
 const GRANT_MIN: u32 = 8;
@@ -28,8 +32,9 @@ const OUTSTANDING_MAX: usize = 65_536;
 #[derive(Drop)]
 pub struct Lane {
     channel: u8,
-    flows: BTreeMap<u16, SidFlow>,
-    grants: BTreeMap<u32, OutstandingGrant>,
+    /// The flow of each service identifier, up to the greatest that a row of the channel has.
+    flows: Vec<Option<SidFlow>>,
+    grants: HashMap<u32, OutstandingGrant>,
 }
 
 impl Lane {
@@ -77,11 +82,31 @@ impl Lane {
         } in
             StandsFor setup lane []) }
     {
+        Lane::open_within(alloc, PROFILE_CHANNELS, channel, rows, records)
+    }
+
+    /// A lane of this channel, one of so many, with nothing outstanding, for rows of so many channels
+    /// that have no fault.
+    pub fn open_within(
+        alloc: Global,
+        channels: u8,
+        channel: u8,
+        rows: &[SidRow],
+        records: &[FlowRecord],
+    ) -> Result<Lane, AllocError>
+        requires can_be_opened { CanBeOpenedWithin channels rows.now (length records.now) }
+        ensures { IfOk result (λ lane. let setup : LaneSetup = record {
+          channel = channel;
+          rows = rows.now;
+          records = records.now;
+        } in
+            StandsFor setup lane []) }
+    {
         let flows = flows_of(alloc, channel, rows, records)?;
         Ok(Lane {
             channel,
             flows,
-            grants: BTreeMap::new(alloc),
+            grants: HashMap::new(alloc),
         })
     }
 
@@ -122,6 +147,74 @@ impl Lane {
         }
     }
 
+    /// Takes a grant or a burst, as [`Lane::answer`] does, and the burst's own buffer becomes the
+    /// payload of its segment: a burst takes no memory. Where an allocation for a grant fails no
+    /// refusal applies, nothing changes, and the input is given back, to be taken again.
+    pub fn take_owned(&mut self, input: Input) -> Result<Answer, Input>
+        ensures answered { IfOk result (λ answer. TakesInput self.old input answer self.new) }
+        ensures not_memory { IfOk result (λ answer. ¬ (IsOutOfMemory input answer)) }
+        ensures given_back { IfErr result (λ back. back ≡ input) }
+        ensures unchanged { OnErr result (StandsForTheSame self.old self.new) }
+        ensures memory { OnErr result (CouldTake self.old input) }
+        ensures bursts { IsTrue (is_burst input) → IsOk result }
+    {
+        match input {
+            Input::Grant { number, sid, bytes } => match self.answer_grant(number, sid, bytes) {
+                Ok(answer) => Ok(answer),
+                Err(_) => Err(Input::Grant { number, sid, bytes }),
+            },
+            Input::Burst {
+                grant,
+                hcs_ok,
+                bytes,
+            } => Ok(self.take_burst(grant, hcs_ok, bytes)),
+        }
+    }
+
+    /// The flow of which a burst would be admitted, if one would be: of whatever is answered to this
+    /// input, the segment that is admitted is of this flow. It takes no memory.
+    pub fn look(&self, input: &Input) -> Option<usize>
+        ensures flow { WouldAdmit self.now input.now result }
+        ensures exists { NamesAFlow self.now result }
+    {
+        match input {
+            Input::Grant { .. } => None,
+            Input::Burst {
+                grant,
+                hcs_ok,
+                bytes,
+            } => self.look_at_burst(*grant, *hcs_ok, bytes),
+        }
+    }
+
+    /// How many grants are outstanding, at most 65,536. It takes no memory.
+    pub fn outstanding(&self) -> usize
+        ensures { (setup : LaneSetup) (taken : List AnsweredInput)
+            → StandsFor setup self.now taken → result ≡ outstanding_count taken }
+    {
+        self.grants.len()
+    }
+
+    /// The flow of which this burst would be admitted, if it would be.
+    fn look_at_burst(&self, number: u32, hcs_ok: bool, bytes: &Bytes) -> Option<usize>
+        ensures flow { WouldAdmit self.now (Input.Burst number hcs_ok bytes.now) result }
+        ensures exists { NamesAFlow self.now result }
+    {
+        let granted = self.grants.get(&number).copied()?;
+        if granted.fits(hcs_ok, bytes) {
+            Some(granted.flow.index)
+        } else {
+            None
+        }
+    }
+
+    /// The flow of a service identifier, if a row of the channel has it.
+    fn flow_of(&self, sid: u16) -> Option<SidFlow>
+        ensures { result ≡ flow_at self.now.flows.items sid }
+    {
+        self.flows.get(usize::from(sid)).copied().unwrap_or(None)
+    }
+
     /// Keeps a grant as outstanding.
     fn answer_grant(&mut self, number: u32, sid: u16, bytes: u32) -> Result<Answer, AllocError>
         ensures answered { IfOk result
@@ -137,7 +230,7 @@ impl Lane {
         if self.grants.contains_key(&number) {
             return Ok(Err(Refusal::GrantKnown));
         }
-        let Some(flow) = self.flows.get(&sid).copied() else {
+        let Some(flow) = self.flow_of(sid) else {
             return Ok(Err(Refusal::UnknownSid));
         };
         if self.grants.len() >= OUTSTANDING_MAX {
@@ -173,6 +266,20 @@ impl Lane {
             Err(refusal) => Ok(Err(refusal)),
         }
     }
+
+    /// Admits or refuses a burst whose own buffer becomes the payload.
+    fn take_burst(&mut self, number: u32, hcs_ok: bool, bytes: Bytes) -> Answer
+        ensures answered { TakesInput self.old (Input.Burst number hcs_ok bytes) result self.new }
+        ensures not_memory { ¬ (IsOutOfMemory (Input.Burst number hcs_ok bytes) result) }
+    {
+        let Some(grant) = self.grants.remove(&number) else {
+            return Err(Refusal::NoGrant);
+        };
+        match grant.admit_owned(self.channel, hcs_ok, bytes) {
+            Ok(admitted) => Ok(Some(admitted)),
+            Err(refusal) => Err(refusal),
+        }
+    }
 }
 
 /// The refusal of an input which can't be kept, since an allocation failed.
@@ -192,25 +299,39 @@ fn is_grant_size(bytes: u32) -> bool
     (GRANT_MIN..=GRANT_MAX).contains(&bytes)
 }
 
-/// The flow of each service identifier of this channel.
+/// The flow of each service identifier of this channel, up to the greatest that has a row.
 fn flows_of(
     alloc: Global,
     channel: u8,
     rows: &[SidRow],
     records: &[FlowRecord],
-) -> Result<BTreeMap<u16, SidFlow>, AllocError>
-    requires can_be_opened { CanBeOpened rows.now (length records.now) }
+) -> Result<Vec<Option<SidFlow>>, AllocError>
+    requires known { (k : ℕ) → ¬ (NamesNoFlow rows.now (length records.now) k) }
     ensures { IfOk result (λ flows. let setup : LaneSetup = record {
       channel = channel;
       rows = rows.now;
       records = records.now;
-    } in HasFlows setup flows) }
+    } in HasFlows setup flows.items) }
 {
-    let mut flows = BTreeMap::new(alloc);
+    let mut flows = vec![in alloc; None; sid_count(channel, rows)]?;
     for row in rows {
         if row.channel == channel {
-            flows.insert(row.sid, SidFlow::of(records, row.flow))?;
+            flows[usize::from(row.sid)] = Some(SidFlow::of(records, row.flow));
         }
     }
     Ok(flows)
+}
+
+/// How many service identifiers there are up to the greatest that a row of this channel has.
+fn sid_count(channel: u8, rows: &[SidRow]) -> usize
+    ensures { (k : ℕ) (row : SidRow) → slice_get rows.now k ≡ Some row → row.channel ≡ channel
+        → row.sid < result }
+{
+    let mut count = 0;
+    for row in rows {
+        if channel == row.channel {
+            count = count.max(usize::from(row.sid) + 1);
+        }
+    }
+    count
 }

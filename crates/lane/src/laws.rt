@@ -1,7 +1,8 @@
 //! Laws about the definitions: each input of a lane has one answer, what is outstanding and what is
 //! admitted after one more input, and rows have at most one first fault.
 //!
-//! Each function states a law in its contract; its body is empty.
+//! Each function states a law in its contract; its body is empty. A clause whose name ends in
+//! `within` says the same of rows of any number of channels.
 ghost use Rattle.std.specs.Prelude.{◌≡◌, ◌≢◌, ◌↔◌, ℕ, ◌+◌, IsTrue, Ok, None};
 ghost use Rattle.std.specs.Prelude.{List, [], ◌∷◌, ◌++◌, length, All};
 ghost use Rattle.flow_records.specs.Counted.{counted};
@@ -10,7 +11,7 @@ ghost use Rattle.lane.specs.declared.lane.Lane.{Lane};
 ghost use Rattle.lane.specs.declared.grant.OutstandingGrant.{OutstandingGrant};
 ghost use Rattle.lane.specs.declared.sids.LaneFault.{LaneFault};
 ghost use Rattle.lane.specs.declared.sids.SidRow.{SidRow};
-ghost use Rattle.lane.specs.Rows.{CanBeOpened, IsLaneFault};
+ghost use Rattle.lane.specs.Rows.{CanBeOpened, CanBeOpenedWithin, IsLaneFault, IsLaneFaultWithin};
 ghost use Rattle.lane.specs.Inputs.{LaneSetup, Answer, AnsweredInput, IsGrant, IsAnswer};
 ghost use Rattle.lane.specs.Inputs.{AreAnswered, inputs_of, number_of, is_accepted};
 ghost use Rattle.lane.specs.Inputs.{spends_its_grant, IsOutstanding, IsKnown};
@@ -20,8 +21,12 @@ ghost use Rattle.lane.specs.Stands.{StandsFor, TakesInput};
 
 /// The same inputs have at most one list of answers.
 pub fn lane_has_at_most_one_answer_to_each_input()
-    ensures { (setup : LaneSetup) (taken others : List AnsweredInput)
+    ensures one { (setup : LaneSetup) (taken others : List AnsweredInput)
         → CanBeOpened setup.rows (length setup.records)
+        → AreAnswered setup taken → AreAnswered setup others
+        → inputs_of taken ≡ inputs_of others → taken ≡ others }
+    ensures one_within { (channels : ℕ) (setup : LaneSetup) (taken others : List AnsweredInput)
+        → CanBeOpenedWithin channels setup.rows (length setup.records)
         → AreAnswered setup taken → AreAnswered setup others
         → inputs_of taken ≡ inputs_of others → taken ≡ others }
 {}
@@ -35,6 +40,13 @@ pub fn each_input_has_an_answer()
     ensures all { (setup : LaneSetup) (inputs : List Input)
         → CanBeOpened setup.rows (length setup.records) → All HasBytes inputs
         → (taken : List AnsweredInput) × AreAnswered setup taken × (inputs_of taken ≡ inputs) }
+    ensures next_within { (channels : ℕ) (setup : LaneSetup) (taken : List AnsweredInput)
+        (input : Input) → CanBeOpenedWithin channels setup.rows (length setup.records)
+        → AreAnswered setup taken
+        → HasBytes input → (answer : Answer) × IsAnswer setup taken input answer }
+    ensures all_within { (channels : ℕ) (setup : LaneSetup) (inputs : List Input)
+        → CanBeOpenedWithin channels setup.rows (length setup.records) → All HasBytes inputs
+        → (taken : List AnsweredInput) × AreAnswered setup taken × (inputs_of taken ≡ inputs) }
 {}
 
 /// With one more input at the end a list of inputs is answered rightly exactly if it was so
@@ -47,9 +59,15 @@ pub fn next_input_is_answered()
 
 /// Of each number one grant at most is outstanding, with one flow and so many bytes.
 pub fn number_has_one_outstanding_grant()
-    ensures { (setup : LaneSetup) (taken : List AnsweredInput) (number : ℕ)
+    ensures one { (setup : LaneSetup) (taken : List AnsweredInput) (number : ℕ)
         (grant other : OutstandingGrant)
         → CanBeOpened setup.rows (length setup.records) → AreAnswered setup taken
+        → IsGrant setup taken number grant → IsGrant setup taken number other
+        → grant ≡ other }
+    ensures one_within { (channels : ℕ) (setup : LaneSetup) (taken : List AnsweredInput)
+        (number : ℕ) (grant other : OutstandingGrant)
+        → CanBeOpenedWithin channels setup.rows (length setup.records)
+        → AreAnswered setup taken
         → IsGrant setup taken number grant → IsGrant setup taken number other
         → grant ≡ other }
 {}
@@ -57,9 +75,15 @@ pub fn number_has_one_outstanding_grant()
 /// Lanes that stand for the same inputs answer the next one alike, so that an input which a failed
 /// allocation left out can be taken again.
 pub fn lanes_of_the_same_inputs_answer_alike()
-    ensures { (setup : LaneSetup) (taken : List AnsweredInput) (input : Input)
+    ensures alike { (setup : LaneSetup) (taken : List AnsweredInput) (input : Input)
         (lane other after other_after : Lane) (answer other_answer : Answer)
         → CanBeOpened setup.rows (length setup.records)
+        → StandsFor setup lane taken → StandsFor setup other taken
+        → TakesInput lane input answer after → TakesInput other input other_answer other_after
+        → answer ≡ other_answer }
+    ensures alike_within { (channels : ℕ) (setup : LaneSetup) (taken : List AnsweredInput)
+        (input : Input) (lane other after other_after : Lane) (answer other_answer : Answer)
+        → CanBeOpenedWithin channels setup.rows (length setup.records)
         → StandsFor setup lane taken → StandsFor setup other taken
         → TakesInput lane input answer after → TakesInput other input other_answer other_after
         → answer ≡ other_answer }
@@ -112,4 +136,13 @@ pub fn rows_have_one_first_fault()
         → fault ≡ other }
     ensures none { (rows : List SidRow) (flow_count : ℕ) (fault : LaneFault)
         → IsLaneFault rows flow_count fault → ¬ (CanBeOpened rows flow_count) }
+    ensures one_within { (channels : ℕ) (rows : List SidRow) (flow_count : ℕ)
+        (fault other : LaneFault)
+        → IsLaneFaultWithin channels rows flow_count fault
+        → IsLaneFaultWithin channels rows flow_count other
+        → fault ≡ other }
+    ensures none_within { (channels : ℕ) (rows : List SidRow) (flow_count : ℕ)
+        (fault : LaneFault)
+        → IsLaneFaultWithin channels rows flow_count fault
+        → ¬ (CanBeOpenedWithin channels rows flow_count) }
 {}

@@ -9,7 +9,8 @@
 //! The calls, in the order of use:
 //!
 //! 1. [`check_rows`] finds the first fault of the rows ([`LaneFault`]); [`Lane::new`] does so
-//!    itself, and [`Lane::open`] is for rows that have none.
+//!    itself, and [`Lane::open`] is for rows that have none. They are of four channels;
+//!    [`check_rows_within`] and [`Lane::open_within`] are of as many as are named, at most 16.
 //! 2. [`Lane::take`], or [`Lane::answer`] where a failed allocation is an error of its own.
 //! 3. [`LaneReport::note`] counts what was answered.
 //!
@@ -31,4 +32,6 @@ pub use input::Input;
 pub use lane::Lane;
 pub use refusal::Refusal;
 pub use report::{Answer, LaneReport, admitted_segment};
-pub use sids::{CHANNELS, LaneFault, SIDS, SeenSids, SidRow, check_rows};
+pub use sids::{
+    CHANNELS, LaneFault, MOST_CHANNELS, SIDS, SeenSids, SidRow, check_rows, check_rows_within,
+};

@@ -1,20 +1,27 @@
 //! Which flow each service identifier of a channel belongs to, and the faults of such rows.
-ghost use Rattle.std.specs.Prelude.{◌≡◌, ◌↔◌, ℕ, MatchOption, Ok, Err};
+ghost use Rattle.std.specs.Prelude.{◌≡◌, ◌≢◌, ◌≤◌, ◌↔◌, ℕ, MatchOption, Ok, Err, IfOk};
 ghost use Rattle.flow_records.specs.Setup.{IsLeast};
-ghost use Rattle.lane.specs.Rows.{IsOutOfRange, IsSidRepeated, NamesNoFlow};
-ghost use Rattle.lane.specs.Rows.{IsLaneFault, CanBeOpened};
+ghost use Rattle.lane.specs.Limits.{most_channels};
+ghost use Rattle.lane.specs.Rows.{IsOutOfRange, IsOutOfRangeWithin, IsSidRepeated, NamesNoFlow};
+ghost use Rattle.lane.specs.Rows.{IsLaneFault, IsLaneFaultWithin};
+ghost use Rattle.lane.specs.Rows.{CanBeOpened, CanBeOpenedWithin};
 ghost use Rattle.lane.specs.declared.sids.LaneFault.{LaneFault};
 
 mod seen;
+mod table;
 
-pub use seen::{CHANNELS, SIDS, SeenSids};
-use std::alloc::AllocError;
+pub use seen::{CHANNELS, MOST_CHANNELS, SIDS, SeenSids};
+use std::alloc::{AllocError, Global};
+use table::SidTable;
 use thiserror::Error;
+
+/// How many channels there are where no number is named.
+pub const PROFILE_CHANNELS: u8 = 4;
 
 /// A service identifier of a channel, and the flow to which it belongs.
 #[derive(Clone, Copy, Debug, PartialEq, Eq)]
 pub struct SidRow {
-    /// The channel, 0 to 3.
+    /// The channel: 0 to 3, or below the number of channels that is named.
     pub channel: u8,
     /// The service identifier, 0 to 16,383.
     pub sid: u16,
@@ -25,8 +32,8 @@ pub struct SidRow {
 /// Why a lane can't be opened. Rows are counted from 0. The first of these is reported.
 #[derive(Clone, Copy, Debug, PartialEq, Eq, Error)]
 pub enum LaneFault {
-    /// The channel of this row is above 3, or its service identifier above 16,383. It is the first
-    /// such row.
+    /// The channel of this row is above 3, or not below the number of channels where one is named,
+    /// or its service identifier is above 16,383. It is the first such row.
     #[error("row {0} is out of range")]
     SidRange(usize),
     /// The channel and the service identifier of this row stand in an earlier row. It is the first
@@ -52,14 +59,14 @@ impl From<AllocError> for LaneFault {
     }
 }
 
-/// Looks for the first fault of the rows, where there are so many flows. It takes no memory and
-/// never answers `OutOfMemory`.
+/// Looks for the first fault of the rows of four channels, where there are so many flows. It takes
+/// no memory and never answers `OutOfMemory`.
 pub fn check_rows(rows: &[SidRow], flow_count: usize) -> Result<(), LaneFault>
     ensures ok { (result ≡ Ok tt) ↔ CanBeOpened rows.now flow_count }
     ensures fault { (fault : LaneFault)
         → (result ≡ Err fault) ↔ IsLaneFault rows.now flow_count fault }
 {
-    if let Some(k) = first_out_of_range(rows) {
+    if let Some(k) = first_out_of_range(PROFILE_CHANNELS, rows) {
         return Err(LaneFault::SidRange(k));
     }
     if let Some(k) = first_repeated(rows) {
@@ -71,13 +78,41 @@ pub fn check_rows(rows: &[SidRow], flow_count: usize) -> Result<(), LaneFault>
     Ok(())
 }
 
-/// The first row that is out of range.
-fn first_out_of_range(rows: &[SidRow]) -> Option<usize>
-    ensures { MatchOption result ((k : ℕ) → ¬ (IsOutOfRange rows.now k))
-        (λ k. IsLeast (IsOutOfRange rows.now) k) }
+/// Looks for the first fault of the rows of so many channels, at most 16, where there are so many
+/// flows. It keeps which identifiers it has seen in memory, 16 KiB a channel: where an allocation
+/// for them fails, it answers `OutOfMemory` of rows that are all in range.
+pub fn check_rows_within(
+    alloc: Global,
+    channels: u8,
+    rows: &[SidRow],
+    flow_count: usize,
+) -> Result<(), LaneFault>
+    requires { channels ≤ most_channels }
+    ensures ok { result ≡ Ok tt → CanBeOpenedWithin channels rows.now flow_count }
+    ensures fault { (fault : LaneFault) → fault ≢ LaneFault.OutOfMemory → result ≡ Err fault
+        → IsLaneFaultWithin channels rows.now flow_count fault }
+    ensures memory { result ≡ Err LaneFault.OutOfMemory
+        → (k : ℕ) → ¬ (IsOutOfRangeWithin channels rows.now k) }
+{
+    if let Some(k) = first_out_of_range(channels, rows) {
+        return Err(LaneFault::SidRange(k));
+    }
+    if let Some(k) = first_repeated_of_many(alloc, channels, rows)? {
+        return Err(LaneFault::SameSid(k));
+    }
+    if let Some(k) = first_without_flow(rows, flow_count) {
+        return Err(LaneFault::UnknownFlow(k));
+    }
+    Ok(())
+}
+
+/// The first row that is out of range, where there are so many channels.
+fn first_out_of_range(channels: u8, rows: &[SidRow]) -> Option<usize>
+    ensures { MatchOption result ((k : ℕ) → ¬ (IsOutOfRangeWithin channels rows.now k))
+        (λ k. IsLeast (IsOutOfRangeWithin channels rows.now) k) }
 {
     for (k, row) in rows.iter().enumerate() {
-        if usize::from(row.channel) >= CHANNELS || usize::from(row.sid) >= SIDS {
+        if row.channel >= channels || usize::from(row.sid) >= SIDS {
             return Some(k);
         }
     }
@@ -98,6 +133,27 @@ fn first_repeated(rows: &[SidRow]) -> Option<usize>
         seen.insert(row.channel, row.sid);
     }
     None
+}
+
+/// The first row whose channel and service identifier stand in an earlier one, by a table in memory
+/// of those of so many channels.
+fn first_repeated_of_many(
+    alloc: Global,
+    channels: u8,
+    rows: &[SidRow],
+) -> Result<Option<usize>, AllocError>
+    requires in_range { (k : ℕ) → ¬ (IsOutOfRangeWithin channels rows.now k) }
+    ensures { IfOk result (λ found. MatchOption found ((k : ℕ) → ¬ (IsSidRepeated rows.now k))
+        (λ k. IsLeast (IsSidRepeated rows.now) k)) }
+{
+    let mut table = SidTable::new(alloc, channels)?;
+    for (k, row) in rows.iter().enumerate() {
+        if table.contains(row.channel, row.sid) {
+            return Ok(Some(k));
+        }
+        table.insert(row.channel, row.sid);
+    }
+    Ok(None)
 }
 
 /// The first row whose flow has no record.

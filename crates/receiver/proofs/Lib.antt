@@ -1,3 +1,5 @@
+pub mod SetupErrors
+pub mod Tallies
 pub mod OrderPlaces
 pub mod Interleaving
 pub mod FourLanes
@@ -14,3 +16,8 @@ pub mod FlowComings
 pub mod FlowChannels
 pub mod RuledCounts
 pub mod DealtItems
+pub mod AnsweredInputs
+pub mod AskedRequests
+pub mod InputsTaken
+pub mod ClosedFlows
+pub mod OneInput

@@ -206,7 +206,7 @@ module _ (setup : Setup) (incoming : Incoming) where
     module _ (lanes : AreLanesOf setup incoming answered) (also : AreLanesOf setup incoming others) where
       pub one-lane : (channel : ℕ) → channel < channel_limit → answered channel ≡ others channel
       one-lane channel below =
-          one-list-of-answers (lane_setup setup channel) can.lanes (answered channel) (others channel)
+          one-list-of-answers channel_limit (lane_setup setup channel) can.lanes (answered channel) (others channel)
           (lanes channel below).answers (also channel below).answers
           ((lanes channel below).inputs ∙ sym (also channel below).inputs)
 

@@ -4,8 +4,13 @@ pub mod Intake
 pub mod Outcome
 pub mod AdmittedOrder
 pub mod Faults
+pub mod Widths
+pub mod Tallies
 pub mod SameOutcome
 pub mod Inside
 pub mod Ruled
 pub mod Channels
 pub mod Modem
+pub mod HandedIn
+pub mod Receiving
+pub mod Received

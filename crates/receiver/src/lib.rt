@@ -17,19 +17,31 @@
 //! rule a flow gives exactly the modem's frames all of whose segments came in.
 #![tactic(auto)]
 
+mod closing;
 mod flows;
 mod incoming;
 pub mod laws;
 mod one_thread;
 mod order;
 mod outcome;
+mod receiver;
+mod reply;
 mod ruled;
 mod setup;
+mod tallied_lane;
+mod tally;
+mod width;
 
+pub use bonded_flows::{DecideFault, FlowDecision, NotReady, SegmentVerdict, Told};
+pub use closing::{Closed, Closing};
 pub use flow_records::Decision;
 pub use flows::close_flow;
 pub use one_thread::{ReplayFault, admitted_order, replay, replay_by};
 pub use order::check_order;
 pub use outcome::{FlowOutcome, Outcome};
+pub use receiver::Receiver;
+pub use reply::{DecisionReply, Reply, RestartError, TakeError};
 pub use ruled::RuledAssembler;
-pub use setup::{BadSetup, Lists, Setup};
+pub use setup::{BadSetup, Lists, Setup, SetupError};
+pub use tally::LaneTally;
+pub use width::{Width, WidthFault};

@@ -1,3 +1,4 @@
 pub mod DeliveryRounds
 pub mod FiveSenders
 pub mod WindowLemmas
+pub mod InputByInput

@@ -6,5 +6,6 @@ pub mod Flow
 pub mod HeaderCheck
 pub mod Window
 pub mod OneFlow
+pub mod OneAtATime
 pub mod RunCaller
 pub mod LossesByRule

@@ -11,6 +11,7 @@ pub mod flow;
 pub mod header_check;
 pub mod losses_by_rule;
 pub mod midstream;
+pub mod one_at_a_time;
 pub mod one_flow;
 pub mod run_caller;
 pub mod window;

@@ -1,5 +1,7 @@
 //! Grants and bursts that were worked out by hand, one after another.
 mod failed_allocations;
+mod owned;
+mod width;
 
 use docsis_wire::{Bytes, Segment};
 use flow_core::FlowRecord;

@@ -1,6 +1,7 @@
 //! Check sequences of headers and of frames.
 mod by_chance;
 
+use crate::expect::{expect_bytes, expect_same, expect_same_at, expect_true};
 use docsis_wire::{
     HeaderCheck, HeaderSequence, check_sequence, frame_check_sequence, segment_check, well_formed,
 };
@@ -16,28 +17,39 @@ const HEADERS: [[u8; 8]; 4] = [
 /// The values that are published of the two CRCs for this text.
 #[test]
 fn have_the_published_values(rt: HostRuntime) {
-    assert_eq!(rt; check_sequence(b"123456789"), 0x906E);
-    assert_eq!(rt; frame_check_sequence(b"123456789"), 0xCBF4_3926);
+    let header = check_sequence(b"123456789");
+    expect_same(&rt, "of headers", header, 0x906E);
+    let frame = frame_check_sequence(b"123456789");
+    expect_same(&rt, "of frames", frame, 0xCBF4_3926);
 }
 
 #[test]
 fn stand_in_segment_headers_with_the_low_byte_first(rt: HostRuntime) {
-    for header in HEADERS {
+    for header in &HEADERS {
         let (front, sequence) = header.split_at(6);
         let sent = check_sequence(front).to_le_bytes();
-        assert_eq!(rt; sent.as_slice(), sequence, "{header:?}");
-        assert!(rt; segment_check(&header), "{header:?}");
+        expect_bytes(&rt, "the sequence", sent.as_slice(), sequence);
+        expect_same(
+            &rt,
+            "the check",
+            (*header, segment_check(header)),
+            (*header, true),
+        );
     }
 }
 
 #[test]
 fn show_each_single_flipped_bit(rt: HostRuntime) {
-    for header in HEADERS {
+    for header in &HEADERS {
         for bit in 0..64_usize {
-            let mut spoiled = header;
+            let mut spoiled = *header;
             spoiled[bit / 8] ^= 1 << (bit % 8);
-            assert!(rt; !segment_check(&spoiled), "{bit} of {header:?}");
-            assert!(rt; !HeaderSequence.passes(&spoiled), "{bit} of {header:?}");
+            let found = (
+                spoiled,
+                segment_check(&spoiled),
+                HeaderSequence.passes(&spoiled),
+            );
+            expect_same_at(&rt, "a flipped bit", bit, found, (spoiled, false, false));
         }
     }
 }
@@ -67,15 +79,19 @@ fn tell_right_headers_of_frames_from_wrong_ones(rt: HostRuntime) {
             false,
         ),
     ];
-    for (name, frame, right) in cases {
-        assert_eq!(rt; well_formed(frame, &HeaderSequence), right, "{name}");
+    for (name, frame, right) in &cases {
+        expect_same(&rt, name, well_formed(frame, &HeaderSequence), *right);
     }
 }
 
 #[test]
 fn are_of_two_bytes(rt: HostRuntime) {
-    assert!(rt; !HeaderSequence.passes(&[]), "nothing");
-    assert!(rt; !HeaderSequence.passes(&[0]), "one byte");
-    assert!(rt; HeaderSequence.passes(&[0, 0]), "nothing and its sequence");
-    assert!(rt; !HeaderSequence.passes(&[0, 1]), "nothing and another");
+    expect_true(&rt, "nothing", !HeaderSequence.passes(&[]));
+    expect_true(&rt, "one byte", !HeaderSequence.passes(&[0]));
+    expect_true(
+        &rt,
+        "nothing and its sequence",
+        HeaderSequence.passes(&[0, 0]),
+    );
+    expect_true(&rt, "nothing and another", !HeaderSequence.passes(&[0, 1]));
 }

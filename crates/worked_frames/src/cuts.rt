@@ -8,6 +8,7 @@ mod worked;
 
 use docsis_wire::{Bytes, Piece, Segment, write_segment};
 use std::alloc::{AllocError, Global};
+use std::process::Abort;
 
 fn owned(alloc: Global, frames: &[&[u8]]) -> Result<Vec<Bytes>, AllocError> {
     let mut all = Vec::new(alloc);
@@ -35,10 +36,21 @@ fn is(segment: &Segment, wanted: &[u8]) -> bool {
         .is_some_and(|payload| segment.payload.as_slice() == payload)
 }
 
+/// Whether the segments have these bytes.
 fn are(segments: &[Segment], wanted: &[&[u8]]) -> bool {
     segments.len() == wanted.len()
         && segments
             .iter()
             .zip(wanted)
             .all(|(segment, want)| is(segment, want))
+}
+
+/// Ends the test if the segments have other bytes.
+fn expect_segments(rt: &impl Abort, name: &str, segments: &[Segment], wanted: &[&[u8]]) {
+    assert!(rt; are(segments, wanted), "{name}: {segments:?}");
+}
+
+/// Ends the test if the segment has other bytes.
+fn expect_segment(rt: &impl Abort, segment: &Segment, wanted: &[u8]) {
+    assert!(rt; is(segment, wanted), "{segment:?}");
 }

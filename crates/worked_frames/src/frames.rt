@@ -1,6 +1,7 @@
 //! Heads and whole frames.
 mod failed_allocations;
 
+use crate::expect::{expect_same, expect_true};
 use crate::samples::{EXTENDED, PLAIN};
 use docsis_wire::{HeadFault, HeadRead, NoCheck, read_head, well_formed};
 use std::process::Abort;
@@ -52,8 +53,8 @@ const HEADS: [(&str, &[u8], HeadRead); 11] = [
 ];
 
 fn expect_heads(rt: &impl Abort) {
-    for (name, bytes, head) in HEADS {
-        assert_eq!(rt; read_head(bytes), head, "{name}");
+    for (name, bytes, head) in &HEADS {
+        expect_same(rt, name, read_head(bytes), *head);
     }
 }
 
@@ -74,22 +75,23 @@ fn says_what_is_wrong_with_a_head(rt: HostRuntime) -> Result<(), Fail> {
             "the extended header is too long",
         ),
     ];
-    for (fault, text) in texts {
-        assert_eq!(rt; fault.to_string(rt.alloc())?.as_str(), text);
+    for (fault, text) in &texts {
+        let said = fault.to_string(rt.alloc())?;
+        expect_same(&rt, text, said.as_str(), text);
     }
     Ok(())
 }
 
 fn expect_frames(rt: &impl Abort) {
-    assert!(rt; well_formed(PLAIN, &NoCheck));
-    assert!(rt; well_formed(EXTENDED, &NoCheck));
-    assert!(rt; !well_formed(&PLAIN[..7], &NoCheck), "one byte short");
-    assert!(rt;
-        !well_formed(&EXTENDED[..8], &NoCheck),
-        "one byte short, extended"
-    );
-    assert!(rt; !well_formed(&[0, 0, 0, 0, 0x11, 0x11], &NoCheck), "fill");
-    assert!(rt; !well_formed(&[], &NoCheck), "nothing");
+    expect_true(rt, "plain", well_formed(PLAIN, &NoCheck));
+    expect_true(rt, "extended", well_formed(EXTENDED, &NoCheck));
+    let short = well_formed(&PLAIN[..7], &NoCheck);
+    expect_true(rt, "one byte short", !short);
+    let short = well_formed(&EXTENDED[..8], &NoCheck);
+    expect_true(rt, "one byte short, extended", !short);
+    let fill = well_formed(&[0, 0, 0, 0, 0x11, 0x11], &NoCheck);
+    expect_true(rt, "fill", !fill);
+    expect_true(rt, "nothing", !well_formed(&[], &NoCheck));
 }
 
 #[test]

@@ -1,16 +1,15 @@
 //! Flows of a few segments, with what each completes, and the greatest sizes.
-ghost use Rattle.std.specs.Prelude.{IfOk};
-ghost use Rattle.docsis_wire.specs.Ready.{IsReady};
-
 mod failed_allocations;
 
+use crate::expect::{expect_bytes, expect_same, expect_true};
 use crate::samples::{EXTENDED, FIRST, NotEndingIn12, PLAIN, SECOND, SPOILED, THIRD, same_bytes};
-use ccf::Joiner;
+use ccf::{Fed, Joiner};
 use docsis_wire::{HeaderCheck, NoCheck, Segment, ready};
-use std::alloc::Global;
+use std::alloc::{AllocError, Global};
 use std::process::Abort;
 use std::test::Fail;
 
+#[derive(Clone, Copy)]
 struct Joining {
     name: &'static str,
     /// The segments in order, header and payload.
@@ -23,6 +22,14 @@ struct Joining {
     idle: bool,
 }
 
+const TWO_FRAMES: Joining = Joining {
+    name: "two frames cut inside both headers",
+    segments: &[FIRST, SECOND, THIRD],
+    frames: &[&[], &[PLAIN], &[EXTENDED]],
+    skipped: &[0, 0, 0],
+    idle: true,
+};
+
 const JOININGS: [Joining; 9] = [
     Joining {
         name: "the first of the three segments is lost",
@@ -31,13 +38,7 @@ const JOININGS: [Joining; 9] = [
         skipped: &[3, 0],
         idle: true,
     },
-    Joining {
-        name: "two frames cut inside both headers",
-        segments: &[FIRST, SECOND, THIRD],
-        frames: &[&[], &[PLAIN], &[EXTENDED]],
-        skipped: &[0, 0, 0],
-        idle: true,
-    },
+    TWO_FRAMES,
     Joining {
         name: "two bytes of zero fill",
         segments: &[
@@ -123,6 +124,48 @@ const JOININGS: [Joining; 9] = [
     },
 ];
 
+impl Joining {
+    /// Whether the segment in this place completes what it should.
+    fn is_answered(&self, place: usize, fed: &Fed) -> bool {
+        match (self.frames.get(place), self.skipped.get(place)) {
+            (Some(frames), Some(skipped)) => {
+                same_bytes(&fed.frames, frames) && fed.skipped == *skipped
+            }
+            _ => false,
+        }
+    }
+
+    /// Ends the test if the segment in this place completes something else.
+    fn expect_answered(&self, rt: &impl Abort, place: usize, fed: &Fed) {
+        let right = self.is_answered(place, fed);
+        assert!(rt; right, "{}, segment {place}: {fed:?}", self.name);
+    }
+}
+
+/// Feeds a segment of these bytes.
+fn feed_bytes<C: HeaderCheck>(
+    rt: &impl Abort,
+    alloc: Global,
+    joiner: &mut Joiner,
+    bytes: &[u8],
+    check: &C,
+) -> Result<Fed, Fail> {
+    let next = Segment::read(alloc, bytes)?;
+    expect_true(rt, "a segment that was read", ready(&next));
+    Ok(joiner.feed(alloc, &next, check)?)
+}
+
+/// How many frames a segment of these bytes completes, and how many bytes are skipped.
+fn feed_and_count(
+    rt: &impl Abort,
+    alloc: Global,
+    joiner: &mut Joiner,
+    bytes: &[u8],
+) -> Result<(usize, usize), Fail> {
+    let fed = feed_bytes(rt, alloc, joiner, bytes, &NoCheck)?;
+    Ok((fed.frames.len(), fed.skipped))
+}
+
 /// Feeds the segments of a flow and compares what each completes.
 fn joins_as<C: HeaderCheck>(
     rt: &impl Abort,
@@ -130,24 +173,13 @@ fn joins_as<C: HeaderCheck>(
     joining: &Joining,
     check: &C,
 ) -> Result<(), Fail> {
-    let name = joining.name;
     let mut joiner = Joiner::new(alloc);
-    assert!(rt; joiner.is_idle(), "{name}");
-    for (i, bytes) in joining.segments.iter().enumerate() {
-        let next = Segment::read(alloc, bytes)?;
-        let fed = joiner.feed(alloc, &next, check)?;
-        let frames = joining.frames.get(i).ok_or("no frames")?;
-        assert!(rt;
-            same_bytes(&fed.frames, frames),
-            "{name}, segment {i}: {fed:?}"
-        );
-        assert_eq!(rt;
-            Some(&fed.skipped),
-            joining.skipped.get(i),
-            "{name}, segment {i}"
-        );
+    expect_true(rt, joining.name, joiner.is_idle());
+    for (place, bytes) in joining.segments.iter().enumerate() {
+        let fed = feed_bytes(rt, alloc, &mut joiner, bytes, check)?;
+        joining.expect_answered(rt, place, &fed);
     }
-    assert_eq!(rt; joiner.is_idle(), joining.idle, "{name}");
+    expect_same(rt, joining.name, joiner.is_idle(), joining.idle);
     Ok(())
 }
 
@@ -159,29 +191,42 @@ fn joins(rt: HostRuntime) -> Result<(), Fail> {
     Ok(())
 }
 
+/// The second of three segments is lost: five bytes are dropped, and those after it belong to no
+/// frame.
+fn gap_before(
+    rt: &impl Abort,
+    alloc: Global,
+    name: &str,
+    after: &[u8],
+    skipped: usize,
+) -> Result<(), Fail> {
+    let mut joiner = Joiner::new(alloc);
+    let before = feed_and_count(rt, alloc, &mut joiner, FIRST)?;
+    expect_same(rt, name, before, (0, 0));
+    expect_true(rt, name, !joiner.is_idle());
+    expect_same(rt, name, joiner.gap(), 5);
+    expect_true(rt, name, joiner.is_idle());
+    let counted = feed_and_count(rt, alloc, &mut joiner, after)?;
+    expect_same(rt, name, counted, (0, skipped));
+    Ok(())
+}
+
+/// The end of a frame in a segment of its own.
+const LAST: &[u8] = &[0, 0, 0, 0x10, 0, 0, 0, 0, 0x11, 0xaa, 0xbb];
+
 /// What a flow gives of which a segment was lost: the gap is made where the segment would have
 /// come.
 #[test]
 fn goes_on_after_a_gap(rt: HostRuntime) -> Result<(), Fail> {
-    let alloc = rt.alloc();
-    assert_eq!(rt; Joiner::new(alloc).gap(), 0, "nothing is unfinished");
-    let last: &[u8] = &[0, 0, 0, 0x10, 0, 0, 0, 0, 0x11, 0xaa, 0xbb];
-    // The second of the three is lost: five bytes are dropped, and those after it belong to no
-    // frame.
-    for (name, after, skipped) in [
-        ("the frame's end and the next frame's front", THIRD, 5),
-        ("a segment without payload", last, 3),
-    ] {
-        let mut joiner = Joiner::new(alloc);
-        let before = joiner.feed(alloc, &Segment::read(alloc, FIRST)?, &NoCheck)?;
-        assert_eq!(rt; (before.frames.len(), before.skipped), (0, 0), "{name}");
-        assert!(rt; !joiner.is_idle(), "{name}");
-        assert_eq!(rt; joiner.gap(), 5, "{name}");
-        assert!(rt; joiner.is_idle(), "{name}");
-        let fed = joiner.feed(alloc, &Segment::read(alloc, after)?, &NoCheck)?;
-        assert_eq!(rt; (fed.frames.len(), fed.skipped), (0, skipped), "{name}");
-    }
-    Ok(())
+    expect_same(
+        &rt,
+        "nothing is unfinished",
+        Joiner::new(rt.alloc()).gap(),
+        0,
+    );
+    let name = "the frame's end and the next frame's front";
+    gap_before(&rt, rt.alloc(), name, THIRD, 5)?;
+    gap_before(&rt, rt.alloc(), "a segment without payload", LAST, 3)
 }
 
 /// The two frames and the spoiled one between them, in one segment.
@@ -233,107 +278,125 @@ fn drops_what_fails_the_check(rt: HostRuntime) -> Result<(), Fail> {
     joins_as(&rt, rt.alloc(), &UNCHECKED, &NoCheck)
 }
 
-/// A segment with so many more bytes of payload.
-fn long_segment(alloc: Global, head: &[u8], more: usize) -> Result<Segment, Fail>
-    ensures { IfOk result IsReady }
-{
-    let mut bytes = Vec::from_slice(alloc, head)?;
+/// These bytes, and so many more.
+fn extended(alloc: Global, front: &[u8], more: usize, byte: u8) -> Result<Vec<u8>, AllocError> {
+    let mut bytes = Vec::from_slice(alloc, front)?;
     for _ in 0..more {
-        bytes.push(0x11)?;
+        bytes.push(byte)?;
     }
-    Ok(Segment::read(alloc, &bytes)?)
+    Ok(bytes)
 }
 
+/// The header of a segment in which a frame of 65,541 bytes begins, with an extended header of 240,
+/// and the front of that frame.
+const LONGEST: &[u8] = &[0x80, 0, 0, 0, 0, 0, 0, 0, 1, 240, 0xff, 0xff];
+
+/// The header of a segment in which another frame begins 5,537 bytes further on.
+const END_OF_LONGEST: &[u8] = &[0x80 | 0x15, 0xa1, 0, 0x10, 0, 0, 0, 0];
+
+/// The longest frame, and then the plain one.
+fn expect_longest_and_plain(rt: &impl Abort, fed: &Fed) {
+    expect_same(
+        rt,
+        "frames, skipped",
+        (fed.frames.len(), fed.skipped),
+        (2, 0),
+    );
+    if let [longest, plain] = fed.frames.as_slice() {
+        expect_same(rt, "the longest frame's bytes", longest.len(), 65_541);
+        let end = longest.as_slice().last().copied();
+        expect_same(rt, "the longest frame's end", end, Some(0x22));
+        expect_bytes(rt, "the plain frame", plain.as_slice(), PLAIN);
+    }
+}
+
+/// Three segments, and in the third one a short frame too.
 #[test]
 fn joins_the_longest_frame(rt: HostRuntime) -> Result<(), Fail> {
-    let alloc = rt.alloc();
-    let mut joiner = Joiner::new(alloc);
-    // 65,541 bytes with an extended header of 240, in three segments, and then a short frame.
-    let first = long_segment(
-        alloc,
-        &[0x80, 0, 0, 0, 0, 0, 0, 0, 1, 240, 0xff, 0xff],
-        30_000,
-    )?;
-    let second = long_segment(alloc, &[0, 0, 0, 8, 0, 0, 0, 0], 30_000)?;
-    let mut third = Vec::from_slice(alloc, &[0x80 | 0x15, 0xa1, 0, 0x10, 0, 0, 0, 0])?;
-    for _ in 0..5537 {
-        third.push(0x22)?;
-    }
+    let mut joiner = Joiner::new(rt.alloc());
+    let first = extended(rt.alloc(), LONGEST, 30_000, 0x11)?;
+    let counted = feed_and_count(&rt, rt.alloc(), &mut joiner, &first)?;
+    expect_same(&rt, "the first segment", counted, (0, 0));
+    let second = extended(rt.alloc(), &[0, 0, 0, 8, 0, 0, 0, 0], 30_000, 0x11)?;
+    let counted = feed_and_count(&rt, rt.alloc(), &mut joiner, &second)?;
+    expect_same(&rt, "the second segment", counted, (0, 0));
+    let mut third = extended(rt.alloc(), END_OF_LONGEST, 5537, 0x22)?;
     third.extend_from_slice(PLAIN)?;
-    let third = Segment::read(alloc, &third)?;
-    for (next, wanted) in [(first, 0), (second, 0), (third, 2)] {
-        assert!(rt; ready(&next));
-        let fed = joiner.feed(alloc, &next, &NoCheck)?;
-        assert_eq!(rt; fed.frames.len(), wanted);
-        assert_eq!(rt; fed.skipped, 0);
-        if let [longest, plain] = fed.frames.as_slice() {
-            assert_eq!(rt; longest.len(), 65_541);
-            assert_eq!(rt; longest.as_slice().last(), Some(&0x22));
-            assert_eq!(rt; plain.as_slice(), PLAIN);
-        }
-    }
-    assert!(rt; joiner.is_idle());
+    let fed = feed_bytes(&rt, rt.alloc(), &mut joiner, &third, &NoCheck)?;
+    expect_longest_and_plain(&rt, &fed);
+    expect_true(&rt, "idle in the end", joiner.is_idle());
+    Ok(())
+}
+
+/// A frame with this length in its header, whole in one segment of so many bytes.
+fn joins_whole(rt: &impl Abort, alloc: Global, length: u16, size: usize) -> Result<(), Fail> {
+    let [high, low] = length.to_be_bytes();
+    let head = [0x80, 0, 0, 0, 0, 0, 0, 0, 0, 0, high, low];
+    let bytes = extended(alloc, &head, usize::from(length) + 2, 0x11)?;
+    let payload = bytes.get(8..).ok_or("a header alone")?;
+    expect_same(rt, "the payload's bytes", payload.len(), size);
+    let mut joiner = Joiner::new(alloc);
+    let fed = feed_bytes(rt, alloc, &mut joiner, &bytes, &NoCheck)?;
+    expect_true(
+        rt,
+        "the payload is the frame",
+        same_bytes(&fed.frames, &[payload]),
+    );
+    expect_same(rt, "skipped", fed.skipped, 0);
+    expect_true(rt, "idle in the end", joiner.is_idle());
     Ok(())
 }
 
 /// The longest frame whole in one segment, and the longest payload that a grant has room for.
 #[test]
 fn joins_a_long_frame_of_one_segment(rt: HostRuntime) -> Result<(), Fail> {
-    let alloc = rt.alloc();
-    for (length, size) in [(0xffff_u16, 65_541), (0xfff1, 65_527)] {
-        let [high, low] = length.to_be_bytes();
-        let head = [0x80, 0, 0, 0, 0, 0, 0, 0, 0, 0, high, low];
-        let next = long_segment(alloc, &head, usize::from(length) + 2)?;
-        assert_eq!(rt; next.payload.len(), size);
-        let mut joiner = Joiner::new(alloc);
-        let fed = joiner.feed(alloc, &next, &NoCheck)?;
-        assert_eq!(rt; fed.frames.len(), 1, "{size}");
-        assert!(rt;
-            fed.frames
-                .iter()
-                .all(|frame| frame.as_slice() == next.payload.as_slice()),
-            "{size}"
-        );
-        assert_eq!(rt; fed.skipped, 0, "{size}");
-        assert!(rt; joiner.is_idle(), "{size}");
-    }
-    Ok(())
+    joins_whole(&rt, rt.alloc(), 0xffff, 65_541)?;
+    joins_whole(&rt, rt.alloc(), 0xfff1, 65_527)
 }
 
-#[test]
-fn joins_many_frames_of_one_segment(rt: HostRuntime) -> Result<(), Fail> {
-    let alloc = rt.alloc();
+/// A segment of a thousand plain frames.
+fn thousand_frames(alloc: Global) -> Result<Vec<u8>, AllocError> {
     let mut bytes = Vec::from_slice(alloc, &[0x80, 0, 0, 0, 0, 0, 0, 0])?;
     for _ in 0..1000 {
         bytes.extend_from_slice(PLAIN)?;
     }
-    let next = Segment::read(alloc, &bytes)?;
-    let fed = Joiner::new(alloc).feed(alloc, &next, &NoCheck)?;
-    assert_eq!(rt; fed.frames.len(), 1000);
-    assert!(rt; fed.frames.iter().all(|frame| frame.as_slice() == PLAIN));
-    assert_eq!(rt; fed.skipped, 0);
-    Ok(())
+    Ok(bytes)
 }
 
 #[test]
+fn joins_many_frames_of_one_segment(rt: HostRuntime) -> Result<(), Fail> {
+    let bytes = thousand_frames(rt.alloc())?;
+    let mut joiner = Joiner::new(rt.alloc());
+    let fed = feed_bytes(&rt, rt.alloc(), &mut joiner, &bytes, &NoCheck)?;
+    expect_same(
+        &rt,
+        "frames, skipped",
+        (fed.frames.len(), fed.skipped),
+        (1000, 0),
+    );
+    let plain = fed.frames.iter().all(|frame| frame.as_slice() == PLAIN);
+    expect_true(&rt, "plain frames", plain);
+    Ok(())
+}
+
+/// The segment whose pointer is one byte too low.
+const LOW: &[u8] = &[0x80, 2, 0, 8, 0, 0, 0, 0, 0x11, 0xaa, 0xbb, 1, 1, 0, 3];
+
+/// The five bytes that stay, bb01010003, announce a frame of 262 bytes.
+#[test]
 fn keeps_what_a_low_pointer_begins(rt: HostRuntime) -> Result<(), Fail> {
-    let alloc = rt.alloc();
-    let mut joiner = Joiner::new(alloc);
-    let low = [0x80, 2, 0, 8, 0, 0, 0, 0, 0x11, 0xaa, 0xbb, 1, 1, 0, 3];
-    // The five bytes that stay, bb01010003, announce a frame of 262 bytes.
-    let rest = long_segment(alloc, &[0, 0, 0, 0x10, 0, 0, 0, 0], 257)?;
-    for (next, wanted) in [
-        (Segment::read(alloc, FIRST)?, 0),
-        (Segment::read(alloc, &low)?, 0),
-        (rest, 1),
-    ] {
-        assert!(rt; ready(&next));
-        let fed = joiner.feed(alloc, &next, &NoCheck)?;
-        assert_eq!(rt; fed.frames.len(), wanted);
-        if let [frame] = fed.frames.as_slice() {
-            assert_eq!(rt; frame.len(), 262);
-            assert!(rt; frame.as_slice().starts_with(&[0xbb, 1, 1, 0, 3]));
-        }
+    let mut joiner = Joiner::new(rt.alloc());
+    let first = feed_and_count(&rt, rt.alloc(), &mut joiner, FIRST)?;
+    expect_same(&rt, "frames of the first segment", first.0, 0);
+    let low = feed_and_count(&rt, rt.alloc(), &mut joiner, LOW)?;
+    expect_same(&rt, "frames of the second segment", low.0, 0);
+    let rest = extended(rt.alloc(), &[0, 0, 0, 0x10, 0, 0, 0, 0], 257, 0x11)?;
+    let fed = feed_bytes(&rt, rt.alloc(), &mut joiner, &rest, &NoCheck)?;
+    expect_same(&rt, "frames of the third segment", fed.frames.len(), 1);
+    if let [frame] = fed.frames.as_slice() {
+        expect_same(&rt, "the frame's bytes", frame.len(), 262);
+        let begins = frame.as_slice().starts_with(&[0xbb, 1, 1, 0, 3]);
+        expect_true(&rt, "the frame begins with what stayed", begins);
     }
     Ok(())
 }

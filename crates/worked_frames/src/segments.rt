@@ -1,6 +1,7 @@
 //! Headers and whole segments, read and written.
 mod failed_allocations;
 
+use crate::expect::{expect_bytes, expect_same, expect_true};
 use docsis_wire::{
     Bytes, Segment, SegmentFault, SegmentHeader, read_segment, ready, write_segment,
 };
@@ -58,14 +59,11 @@ const READINGS: [Reading; 3] = [
 
 fn expect_readings(rt: &impl Abort) {
     for reading in &READINGS {
-        let name = reading.name;
-        assert_eq!(rt; read_segment(&reading.bytes), Some(reading.head), "{name}");
+        let head = read_segment(&reading.bytes);
+        expect_same(rt, reading.name, head, Some(reading.head));
     }
-    assert_eq!(rt;
-        read_segment(&[0x40, 0x05, 0, 0x0a, 0, 0x10, 0]),
-        None,
-        "seven bytes"
-    );
+    let short = read_segment(&[0x40, 0x05, 0, 0x0a, 0, 0x10, 0]);
+    expect_same(rt, "seven bytes", short, None);
 }
 
 #[test]
@@ -75,8 +73,8 @@ fn reads_headers(rt: HostRuntime) {
 
 fn expect_writings(rt: &impl Abort) {
     for reading in &READINGS {
-        let name = reading.name;
-        assert_eq!(rt; write_segment(&reading.head), reading.bytes, "{name}");
+        let bytes = write_segment(&reading.head);
+        expect_same(rt, reading.name, bytes, reading.bytes);
     }
 }
 
@@ -100,20 +98,20 @@ const POINTINGS: [(&str, [u8; 8], usize, bool); 4] = [
 
 fn pointing_segments(alloc: Global) -> Result<Vec<Segment>, AllocError> {
     let mut segments = Vec::new(alloc);
-    for (_, bytes, len, _) in POINTINGS {
-        let Some(head) = read_segment(&bytes) else {
+    for (_, bytes, len, _) in &POINTINGS {
+        let Some(head) = read_segment(bytes) else {
             unreachable!()
         };
-        let payload = Bytes::from(vec![in alloc; 0; len]?);
+        let payload = Bytes::from(vec![in alloc; 0; *len]?);
         segments.push(Segment { head, payload })?;
     }
     Ok(segments)
 }
 
 fn expect_pointings(rt: &impl Abort, segments: &[Segment]) {
-    assert_eq!(rt; segments.len(), POINTINGS.len());
-    for (segment, (name, _, _, within)) in segments.iter().zip(POINTINGS) {
-        assert_eq!(rt; ready(segment), within, "{name}");
+    expect_same(rt, "segments", segments.len(), POINTINGS.len());
+    for (segment, (name, _, _, within)) in segments.iter().zip(&POINTINGS) {
+        expect_same(rt, name, ready(segment), *within);
     }
 }
 
@@ -129,10 +127,15 @@ const POINTED: &[u8] = &[0x80, 2, 0, 8, 0, 0, 0, 0, 0x11, 0x22, 0x33];
 #[test]
 fn reads_segments(rt: HostRuntime) -> Result<(), Fail> {
     let segment = Segment::read(rt.alloc(), POINTED)?;
-    assert_eq!(rt; segment.head, read_segment(POINTED).ok_or("too short")?);
-    assert_eq!(rt; segment.payload.as_slice(), [0x11, 0x22, 0x33].as_slice());
+    expect_same(&rt, "the head", Some(segment.head), read_segment(POINTED));
+    expect_bytes(
+        &rt,
+        "the payload",
+        segment.payload.as_slice(),
+        &[0x11, 0x22, 0x33],
+    );
     let empty = Segment::read(rt.alloc(), &[0; 8])?;
-    assert!(rt; empty.payload.is_empty());
+    expect_true(&rt, "a header alone", empty.payload.is_empty());
     Ok(())
 }
 
@@ -156,15 +159,69 @@ const FAULTS: [(&str, &[u8], SegmentFault); 4] = [
 ];
 
 fn expect_faults(rt: &impl Abort, alloc: Global) {
-    for (name, bytes, fault) in FAULTS {
+    for (name, bytes, fault) in &FAULTS {
         let answer = Segment::read(alloc, bytes);
-        assert_eq!(rt; answer.err(), Some(fault), "{name}");
+        expect_same(rt, name, answer.err(), Some(*fault));
     }
 }
 
 #[test]
 fn reads_no_faulty_segments(rt: HostRuntime) {
     expect_faults(&rt, rt.alloc());
+}
+
+/// The bytes of a burst, as they are received.
+fn burst_of(alloc: Global, bytes: &[u8]) -> Result<Bytes, AllocError> {
+    Ok(Bytes::from(Vec::from_slice(alloc, bytes)?))
+}
+
+#[test]
+fn makes_segments_of_bursts(rt: HostRuntime) -> Result<(), Fail> {
+    let segment = Segment::from_burst(burst_of(rt.alloc(), POINTED)?)?;
+    let payload = [0x11, 0x22, 0x33];
+    expect_same(&rt, "the head", Ok(segment.head), Segment::head_of(POINTED));
+    expect_bytes(&rt, "the payload", segment.payload.as_slice(), &payload);
+    expect_same(&rt, "its length", segment.payload.len(), 3);
+    let Segment {
+        head: _,
+        payload: bytes,
+    } = segment;
+    expect_bytes(&rt, "as a vector", bytes.into_vec().as_slice(), &payload);
+    let empty = Segment::from_burst(burst_of(rt.alloc(), &[0; 8])?)?;
+    expect_true(&rt, "a header alone", empty.payload.is_empty());
+    Ok(())
+}
+
+#[test]
+fn gives_faulty_bursts_back(rt: HostRuntime) -> Result<(), Fail> {
+    for (name, bytes, fault) in &FAULTS {
+        let answer = Segment::from_burst(burst_of(rt.alloc(), bytes)?);
+        let refused = answer.err().ok_or("a segment")?;
+        expect_same(&rt, name, refused.fault, *fault);
+        expect_bytes(&rt, name, refused.burst.as_slice(), bytes);
+        expect_same(&rt, name, Segment::head_of(bytes), Err(*fault));
+    }
+    Ok(())
+}
+
+/// How many bytes more are left out, and what is left then.
+const LEFT_OUT: [(&str, usize, &[u8]); 4] = [
+    ("none", 0, &[1, 2, 3, 4, 5]),
+    ("two", 2, &[3, 4, 5]),
+    ("one more", 1, &[4, 5]),
+    ("all", 2, &[]),
+];
+
+#[test]
+fn leaves_bytes_out_at_the_front(rt: HostRuntime) -> Result<(), Fail> {
+    let mut bytes = burst_of(rt.alloc(), &[1, 2, 3, 4, 5])?;
+    for (name, count, left) in &LEFT_OUT {
+        expect_true(&rt, name, *count <= bytes.len());
+        bytes = bytes.without_front(*count);
+        expect_bytes(&rt, name, bytes.as_slice(), left);
+        expect_same(&rt, name, bytes.is_empty(), left.is_empty());
+    }
+    Ok(())
 }
 
 #[test]
@@ -174,8 +231,9 @@ fn says_why_bytes_are_no_segment(rt: HostRuntime) -> Result<(), Fail> {
         (SegmentFault::PointerPast, "pointer past the end"),
         (SegmentFault::OutOfMemory, "out of memory"),
     ];
-    for (fault, text) in texts {
-        assert_eq!(rt; fault.to_string(rt.alloc())?.as_str(), text);
+    for (fault, text) in &texts {
+        let said = fault.to_string(rt.alloc())?;
+        expect_same(&rt, text, said.as_str(), text);
     }
     Ok(())
 }

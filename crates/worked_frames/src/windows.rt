@@ -1,7 +1,10 @@
 //! Calls on windows: that the definitions give the answers that were worked out by hand.
+ghost use Rattle.std.specs.Prelude.{◌<◌};
+
 mod failed_allocations;
 mod giving_up;
 
+use crate::expect::{expect_same, expect_same_at, expect_true};
 use reorder::{Declared, MODULUS, Verdict, WIDTH_MAX, Window};
 use std::alloc::Global;
 use std::fmt::Debug;
@@ -21,27 +24,34 @@ enum Step {
     Held(usize),
 }
 
-fn play(rt: &impl Abort, name: &str, window: &mut Window<u8>, steps: &[Step]) {
-    for step in steps {
-        match *step {
-            Step::Offer(number, item, verdict) => {
-                assert!(rt; number < MODULUS);
-                assert_eq!(rt; window.offer(number, item), verdict, "{name}: {number}");
-            }
-            Step::Next(item) => assert_eq!(rt; window.next().copied(), item, "{name}"),
-            Step::TakeNext(item) => assert_eq!(rt; window.take_next(), item, "{name}"),
-            Step::Declare(declared) => assert_eq!(rt; window.declare(), declared, "{name}"),
-            Step::DeclareTo(number, count) => {
-                assert!(rt; number < MODULUS);
-                assert_eq!(rt; window.declare_to(number), count, "{name}: to {number}");
-            }
-            Step::SkipTo(number, count) => {
-                assert!(rt; number < MODULUS);
-                assert_eq!(rt; window.skip_to(number), count, "{name}: to {number}");
-            }
-            Step::Expected(number) => assert_eq!(rt; window.expected(), number, "{name}"),
-            Step::Held(count) => assert_eq!(rt; window.held(), count, "{name}"),
+/// Makes a call that names a number, and says whether the answer is the expected one.
+fn answers_to_number(rt: &impl Abort, window: &mut Window<u8>, number: u16, step: Step) -> bool {
+    expect_true(rt, "a sequence number", number < MODULUS);
+    match step {
+        Step::Offer(_, item, verdict) => window.offer(number, item) == verdict,
+        Step::DeclareTo(_, count) => window.declare_to(number) == count,
+        Step::SkipTo(_, count) => window.skip_to(number) == count,
+        _ => false,
+    }
+}
+
+/// Makes a call, and says whether the answer is the expected one.
+fn answers(rt: &impl Abort, window: &mut Window<u8>, step: Step) -> bool {
+    match step {
+        Step::Offer(number, ..) | Step::DeclareTo(number, _) | Step::SkipTo(number, _) => {
+            answers_to_number(rt, window, number, step)
         }
+        Step::Next(item) => window.next().copied() == item,
+        Step::TakeNext(item) => window.take_next() == item,
+        Step::Declare(declared) => window.declare() == declared,
+        Step::Expected(number) => window.expected() == number,
+        Step::Held(count) => window.held() == count,
+    }
+}
+
+fn play(rt: &impl Abort, name: &str, window: &mut Window<u8>, steps: &[Step]) {
+    for (place, step) in steps.iter().enumerate() {
+        expect_same_at(rt, name, place, answers(rt, window, *step), true);
     }
 }
 
@@ -219,48 +229,61 @@ fn skipped_over_an_outage(rt: HostRuntime) -> Result<(), Fail> {
     Ok(())
 }
 
+/// Offers the item `index` under the number that lies so far ahead of 8191.
+fn expect_kept(rt: &impl Abort, window: &mut Window<u16>, index: u16)
+    requires { index < 4096 }
+{
+    let number = (8191 + index) % MODULUS;
+    let verdict = window.offer(number, index);
+    expect_same_at(rt, "offered", usize::from(number), verdict, Verdict::Kept);
+}
+
 #[test]
 fn full_window(rt: HostRuntime) -> Result<(), Fail> {
     let mut window = Window::new(rt.alloc(), 8191, 4096)?;
     for index in 0_u16..4096 {
-        let number = (8191 + index) % MODULUS;
-        assert_eq!(rt; window.offer(number, index), Verdict::Kept, "{number}");
+        expect_kept(&rt, &mut window, index);
     }
-    assert_eq!(rt; window.held(), 4096);
-    assert_eq!(rt; window.offer(4094, 7), Verdict::Repeat(7));
-    assert_eq!(rt; window.offer(4095, 7), Verdict::Late(7));
+    expect_same(&rt, "held", window.held(), 4096);
+    expect_same(
+        &rt,
+        "the last again",
+        window.offer(4094, 7),
+        Verdict::Repeat(7),
+    );
+    expect_same(&rt, "beyond", window.offer(4095, 7), Verdict::Late(7));
     for index in 0_u16..4096 {
-        assert_eq!(rt; window.take_next(), Some(index));
+        expect_same(&rt, "taken", window.take_next(), Some(index));
     }
-    assert_eq!(rt; window.expected(), 4095);
-    assert_eq!(rt; window.declare(), Declared::NothingHeld);
+    expect_same(&rt, "expected", window.expected(), 4095);
+    expect_same(&rt, "declared", window.declare(), Declared::NothingHeld);
     Ok(())
 }
 
 /// What an empty window answers to one offer.
-#[derive(Clone, Copy)]
+#[derive(Clone, Copy, Debug, PartialEq)]
 enum First {
     Kept,
     Beyond,
     Late,
 }
 
-fn first_verdict(rt: &impl Abort, alloc: Global, case: (u16, u16, u16, First)) -> Result<(), Fail> {
-    let (first, width, number, answer) = case;
-    assert!(rt; first < MODULUS && number < MODULUS);
-    assert!(rt; 1 <= width && width <= WIDTH_MAX);
-    let verdict = match answer {
+fn verdict_of(answer: First) -> Verdict<u8> {
+    match answer {
         First::Kept => Verdict::Kept,
         First::Beyond => Verdict::Beyond(7),
         First::Late => Verdict::Late(7),
-    };
+    }
+}
+
+fn first_verdict(rt: &impl Abort, alloc: Global, case: (u16, u16, u16, First)) -> Result<(), Fail> {
+    let (first, width, number, answer) = case;
+    let in_range = first < MODULUS && number < MODULUS && 1 <= width && width <= WIDTH_MAX;
+    expect_true(rt, "numbers and a width", in_range);
+    let verdict = verdict_of(answer);
     let mut window = Window::new(alloc, first, width)?;
-    assert_eq!(rt;
-        window.offer(number, 7),
-        verdict,
-        "{number} at {first}, width {width}"
-    );
-    assert_eq!(rt; window.expected(), first);
+    let found = (case, window.offer(number, 7), window.expected());
+    expect_same(rt, "a first offer", found, (case, verdict, first));
     Ok(())
 }
 
@@ -351,14 +374,14 @@ fn goes_through<T: PartialEq + Debug + Drop>(
     other: T,
 ) -> Result<(), Fail> {
     let mut window = Window::new(alloc, 8191, 2)?;
-    assert!(rt; window.offer(8191, item) == Verdict::Kept, "kept");
+    expect_true(rt, "kept", window.offer(8191, item) == Verdict::Kept);
     match window.offer(8191, other) {
-        Verdict::Repeat(back) => assert!(rt; back != *same, "handed back"),
+        Verdict::Repeat(back) => expect_true(rt, "handed back", back != *same),
         verdict => assert!(rt; false, "{verdict:?}"),
     }
-    assert!(rt; window.next() == Some(same), "shown");
-    assert!(rt; window.take_next().as_ref() == Some(same), "taken");
-    assert_eq!(rt; window.expected(), 0);
+    expect_true(rt, "shown", window.next() == Some(same));
+    expect_true(rt, "taken", window.take_next().as_ref() == Some(same));
+    expect_same(rt, "expected", window.expected(), 0);
     Ok(())
 }
 

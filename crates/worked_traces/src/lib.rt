@@ -9,6 +9,8 @@ mod orders;
 #[cfg(test)]
 mod outcomes;
 #[cfg(test)]
+mod received;
+#[cfg(test)]
 mod replayed;
 #[cfg(test)]
 mod ruled_replays;

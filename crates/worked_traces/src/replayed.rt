@@ -1,5 +1,5 @@
 //! Traces whose one-thread answers were worked out by hand.
-mod cases;
+pub(crate) mod cases;
 mod failed_allocations;
 
 use crate::outcomes::*;

@@ -2,6 +2,9 @@
 ghost use Rattle.std.specs.Prelude.{◌≡◌, ◌<◌, ◌↔◌, ◌⊎◌, ℕ, IsTrue, [], length, slice_index_or};
 ghost use Rattle.lane.specs.Limits.{channel_limit, sid_limit};
 
+/// The greatest number of channels for which a receiver can be made.
+pub const MOST_CHANNELS: usize = 16;
+
 /// How many channels there are.
 pub const CHANNELS: usize = 4;
 /// How many service identifiers a channel has: they have 14 bits.

@@ -2,7 +2,7 @@
 //! `without_memory` with all later ones refused too. Each says `refused` when a call was.
 use super::{Answer, RECORD, ROW, answer_of, burst, grant};
 use docsis_wire::Bytes;
-use lane::{Input, Lane, LaneFault, SidRow};
+use lane::{Input, Lane, LaneFault, SidRow, check_rows_within};
 use std::alloc::Global;
 use std::process::Abort;
 use std::test::Fail;
@@ -108,6 +108,66 @@ fn take_refused(rt: HostRuntime) -> Result<(), Fail> {
     }
     for number in 0..u32::from(MANY) {
         admits(&rt, rt.alloc(), &mut lane, number)?;
+    }
+    Ok(())
+}
+
+/// A grant that is handed over and can't be kept is given back, and is accepted when it is taken
+/// again.
+#[test]
+fn take_owned_refused(rt: HostRuntime) -> Result<(), Fail> {
+    let mut lane = lane_again(&rt, rt.alloc(), &[ROW])?;
+    for number in 0..u32::from(MANY) {
+        let outstanding = lane.outstanding();
+        let answer = match lane.take_owned(grant(number, ROW.sid, 9)) {
+            Ok(answer) => answer,
+            Err(input) => {
+                say_refused(&rt)?;
+                assert_eq!(rt; lane.outstanding(), outstanding);
+                lane.take_owned(input)?
+            }
+        };
+        assert_eq!(rt; answer_of(answer), Answer::Accepted);
+        assert_eq!(rt; lane.outstanding(), outstanding.saturating_add(1));
+    }
+    Ok(())
+}
+
+/// A burst that is handed over takes no memory, and neither does a look at a lane.
+#[test]
+fn owned_bursts_without_memory(rt: HostRuntime) -> Result<(), Fail> {
+    let Some((mut lane, bursts)) = refused_bursts(rt.alloc()) else {
+        return say_refused(&rt);
+    };
+    let Ok(fitting) = burst(rt.alloc(), 4, true, &[0; 13]) else {
+        return say_refused(&rt);
+    };
+    if lane.take(rt.alloc(), &grant(4, ROW.sid, 13)).is_err() {
+        return say_refused(&rt);
+    }
+    assert_eq!(rt; lane.look(&fitting), Some(0));
+    let admitted = answer_of(lane.take_owned(fitting)?);
+    assert_eq!(rt; admitted, Answer::Admitted(None));
+    for (received, number) in bursts.into_iter().zip(7..) {
+        assert_eq!(rt; lane.look(&received), None);
+        let answer = answer_of(lane.take_owned(received)?);
+        assert_eq!(rt; answer, Answer::Refused(number));
+    }
+    assert_eq!(rt; lane.outstanding(), 0);
+    say_whether_refused(&rt, rt.alloc())
+}
+
+/// The table of identifiers that were seen is asked for once all rows are known to be in range.
+#[test]
+fn check_rows_within_refused(rt: HostRuntime) -> Result<(), Fail> {
+    let rows = [SidRow { channel: 15, ..ROW }, ROW];
+    let far = [SidRow { channel: 16, ..ROW }];
+    let refused = check_rows_within(rt.alloc(), 16, &far, 1);
+    assert_eq!(rt; refused, Err(LaneFault::SidRange(0)));
+    if let Err(fault) = check_rows_within(rt.alloc(), 16, &rows, 1) {
+        expect_refused(&rt, fault, LaneFault::OutOfMemory)?;
+        let again = check_rows_within(rt.alloc(), 16, &rows, 1);
+        assert_eq!(rt; again, Ok(()));
     }
     Ok(())
 }

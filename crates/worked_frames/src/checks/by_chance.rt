@@ -1,4 +1,5 @@
 //! Check sequences of bytes by chance, against a division of polynomials.
+use crate::expect::expect_same_at;
 use docsis_wire::{check_sequence, frame_check_sequence};
 
 /// For each length from 0 to 64 the sums of 64 header check sequences and of 64 frame check
@@ -110,6 +111,7 @@ fn sums(chance: &mut Chance, length: usize) -> (u32, u32) {
 fn are_what_the_division_leaves(rt: HostRuntime) {
     let mut chance = Chance { number: 1 };
     for (length, wanted) in SUMS.iter().enumerate() {
-        assert_eq!(rt; sums(&mut chance, length), *wanted, "{length} bytes");
+        let found = sums(&mut chance, length);
+        expect_same_at(&rt, "bytes by chance", length, found, *wanted);
     }
 }

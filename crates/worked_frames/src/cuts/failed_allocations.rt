@@ -1,12 +1,14 @@
 //! Tests to be run with the Nth request for memory refused, and the one whose name ends in
 //! `without_memory` with all later ones refused too. Each says `refused` when a call was.
-use super::faults::{FAULTS, long_and_plain};
+use super::faults::{FAULTS, Fault, long_and_plain};
 use super::worked::{INSIDE_PIECES, INSIDE_SEGMENTS};
-use super::{are, is, named, owned};
+use super::{expect_segment, expect_segments, named, owned};
+use crate::expect::{expect_same, expect_true};
 use crate::refused::{expect_refused, say_refused, say_whether_refused};
 use crate::samples::{EXTENDED, PLAIN};
 use docsis_wire::{Bytes, CutFault, Cutter, FillByte, NoCheck, Piece, Segment, cut};
 use std::alloc::{AllocError, Global};
+use std::process::Abort;
 use std::test::Fail;
 
 /// Makes the two frames, and once more where the first call was refused memory.
@@ -36,8 +38,7 @@ fn cut_again(rt: HostRuntime) -> Result<(), Fail> {
         expect_refused(&rt, fault, CutFault::OutOfMemory)?;
         answer = cut(rt.alloc(), &frames, &pieces, 0, FillByte::Zero, &NoCheck);
     }
-    let segments = answer?;
-    assert!(rt; are(&segments, INSIDE_SEGMENTS), "{segments:?}");
+    expect_segments(&rt, "cut again", &answer?, INSIDE_SEGMENTS);
     Ok(())
 }
 
@@ -61,7 +62,7 @@ fn next_again(rt: HostRuntime) -> Result<(), Fail> {
     let mut cutter = Cutter::new(&frames, &pieces, 0, FillByte::Zero, &NoCheck)?;
     for wanted in INSIDE_SEGMENTS {
         let segment = next_of(&rt, rt.alloc(), &mut cutter)?.ok_or("too few")?;
-        assert!(rt; is(&segment, wanted), "{segment:?}");
+        expect_segment(&rt, &segment, wanted);
     }
     Ok(())
 }
@@ -75,23 +76,41 @@ struct Faulty {
     fault: CutFault,
 }
 
-fn faulty_cuts(alloc: Global) -> Result<Vec<Faulty>, AllocError> {
-    let mut cuts = Vec::new(alloc);
-    for case in &FAULTS {
-        cuts.push(Faulty {
-            name: case.name,
-            frames: owned(alloc, case.frames)?,
-            pieces: named(alloc, case.pieces)?,
-            fault: case.fault,
-        })?;
-    }
-    cuts.push(Faulty {
+fn faulty_cut(alloc: Global, case: &Fault) -> Result<Faulty, AllocError> {
+    Ok(Faulty {
+        name: case.name,
+        frames: owned(alloc, case.frames)?,
+        pieces: named(alloc, case.pieces)?,
+        fault: case.fault,
+    })
+}
+
+/// The frame behind the long one would need a pointer of 16,384.
+fn far_cut(alloc: Global) -> Result<Faulty, AllocError> {
+    Ok(Faulty {
         name: "a pointer of 16,384",
         frames: long_and_plain(alloc, 0x3ffb)?,
         pieces: named(alloc, &[(1, 0), (16_392, 0)])?,
         fault: CutFault::PointerTooFar(1),
-    })?;
+    })
+}
+
+fn faulty_cuts(alloc: Global) -> Result<Vec<Faulty>, AllocError> {
+    let mut cuts = Vec::new(alloc);
+    for case in &FAULTS {
+        cuts.push(faulty_cut(alloc, case)?)?;
+    }
+    cuts.push(far_cut(alloc)?)?;
     Ok(cuts)
+}
+
+/// The fault is reported at once and a segment at a time.
+fn expect_fault(rt: &impl Abort, alloc: Global, faulty: &Faulty) {
+    let Faulty { frames, pieces, .. } = faulty;
+    let answer = cut(alloc, frames, pieces, 0, FillByte::Zero, &NoCheck);
+    expect_same(rt, faulty.name, answer.err(), Some(faulty.fault));
+    let cutter = Cutter::new(frames, pieces, 0, FillByte::Zero, &NoCheck);
+    expect_same(rt, faulty.name, cutter.err(), Some(faulty.fault));
 }
 
 /// Faults are looked for before any memory is taken, and a cutter takes none when it is made. In
@@ -104,17 +123,10 @@ fn faults_without_memory(rt: HostRuntime) -> Result<(), Fail> {
     let (Ok(cuts), Ok(frames), Ok(pieces)) = (cuts, frames, pieces) else {
         return say_refused(&rt);
     };
-    for Faulty {
-        name,
-        frames,
-        pieces,
-        fault,
-    } in &cuts {
-        let answer = cut(rt.alloc(), frames, pieces, 0, FillByte::Zero, &NoCheck);
-        assert_eq!(rt; answer.err(), Some(*fault), "{name}");
-        let cutter = Cutter::new(frames, pieces, 0, FillByte::Zero, &NoCheck);
-        assert_eq!(rt; cutter.err(), Some(*fault), "{name}, a segment at a time");
+    for faulty in &cuts {
+        expect_fault(&rt, rt.alloc(), faulty);
     }
-    assert!(rt; Cutter::new(&frames, &pieces, 0, FillByte::Zero, &NoCheck).is_ok());
+    let cutter = Cutter::new(&frames, &pieces, 0, FillByte::Zero, &NoCheck);
+    expect_true(&rt, "a cutter", cutter.is_ok());
     say_whether_refused(&rt, rt.alloc())
 }

@@ -1,8 +1,10 @@
 //! What can be at fault with frames and pieces.
 use super::{named, owned};
+use crate::expect::expect_same;
 use crate::samples::{EXTENDED, NotEndingIn12, PLAIN, SPOILED};
 use docsis_wire::{Bytes, CutFault, FillByte, NoCheck, cut};
 use std::alloc::{AllocError, Global};
+use std::process::Abort;
 use std::test::Fail;
 
 pub(super) struct Fault {
@@ -55,14 +57,22 @@ pub(super) const FAULTS: [Fault; 6] = [
     },
 ];
 
+/// The fault of a cut of the frames into these pieces.
+fn fault_of(
+    alloc: Global,
+    frames: &[Bytes],
+    pieces: &[(u16, u16)],
+) -> Result<Option<CutFault>, AllocError> {
+    let pieces = named(alloc, pieces)?;
+    Ok(cut(alloc, frames, &pieces, 0, FillByte::Zero, &NoCheck).err())
+}
+
 #[test]
 fn reports_faults(rt: HostRuntime) -> Result<(), Fail> {
     for case in &FAULTS {
-        let name = case.name;
         let frames = owned(rt.alloc(), case.frames)?;
-        let pieces = named(rt.alloc(), case.pieces)?;
-        let answer = cut(rt.alloc(), &frames, &pieces, 0, FillByte::Zero, &NoCheck);
-        assert_eq!(rt; answer.err(), Some(case.fault), "{name}");
+        let found = fault_of(rt.alloc(), &frames, case.pieces)?;
+        expect_same(&rt, case.name, found, Some(case.fault));
     }
     Ok(())
 }
@@ -77,45 +87,31 @@ pub(super) fn long_and_plain(alloc: Global, len: u16) -> Result<Vec<Bytes>, Allo
     Ok(frames)
 }
 
+/// A pointer of 16,384 is too far, which is found only where there is no fill inside a frame.
+fn points_too_far(rt: &impl Abort, alloc: Global) -> Result<(), AllocError> {
+    let frames = long_and_plain(alloc, 0x3ffb)?;
+    let fault = fault_of(alloc, &frames, &[(1, 0), (16_392, 0)])?;
+    expect_same(rt, "too far", fault, Some(CutFault::PointerTooFar(1)));
+    let fault = fault_of(alloc, &frames, &[(1, 0), (16_391, 1)])?;
+    expect_same(rt, "fill first", fault, Some(CutFault::FillInsideFrame(1)));
+    Ok(())
+}
+
+/// A pointer of 16,383 is not.
+fn points_as_far_as_it_can(rt: &impl Abort, alloc: Global) -> Result<(), Fail> {
+    let frames = long_and_plain(alloc, 0x3ffa)?;
+    let pieces = named(alloc, &[(1, 0), (16_391, 0)])?;
+    let segments = cut(alloc, &frames, &pieces, 0, FillByte::Zero, &NoCheck)?;
+    let second = segments.get(1).ok_or("one segment")?;
+    let found = (second.head.pfi, second.head.pointer, second.payload.len());
+    expect_same(rt, "the second segment", found, (true, 16_383, 16_391));
+    Ok(())
+}
+
 #[test]
 fn points_no_further_than_a_pointer_can(rt: HostRuntime) -> Result<(), Fail> {
-    let frames = long_and_plain(rt.alloc(), 0x3ffb)?;
-    let answer = cut(
-        rt.alloc(),
-        &frames,
-        &named(rt.alloc(), &[(1, 0), (16_392, 0)])?,
-        0,
-        FillByte::Zero,
-        &NoCheck,
-    );
-    assert_eq!(rt; answer.err(), Some(CutFault::PointerTooFar(1)));
-    let answer = cut(
-        rt.alloc(),
-        &frames,
-        &named(rt.alloc(), &[(1, 0), (16_391, 1)])?,
-        0,
-        FillByte::Zero,
-        &NoCheck,
-    );
-    assert_eq!(rt;
-        answer.err(),
-        Some(CutFault::FillInsideFrame(1)),
-        "fill first"
-    );
-    let frames = long_and_plain(rt.alloc(), 0x3ffa)?;
-    let segments = cut(
-        rt.alloc(),
-        &frames,
-        &named(rt.alloc(), &[(1, 0), (16_391, 0)])?,
-        0,
-        FillByte::Zero,
-        &NoCheck,
-    )?;
-    let second = segments.get(1).ok_or("one segment")?;
-    assert!(rt; second.head.pfi);
-    assert_eq!(rt; second.head.pointer, 16_383);
-    assert_eq!(rt; second.payload.len(), 16_391);
-    Ok(())
+    points_too_far(&rt, rt.alloc())?;
+    points_as_far_as_it_can(&rt, rt.alloc())
 }
 
 #[test]
@@ -132,34 +128,35 @@ fn says_what_is_at_fault(rt: HostRuntime) -> Result<(), Fail> {
         ),
         (CutFault::OutOfMemory, "out of memory"),
     ];
-    for (fault, text) in texts {
-        assert_eq!(rt; fault.to_string(rt.alloc())?.as_str(), text);
+    for (fault, text) in &texts {
+        let said = fault.to_string(rt.alloc())?;
+        expect_same(&rt, text, said.as_str(), text);
     }
+    Ok(())
+}
+
+/// A cut of one frame into one piece reports this fault, or none, and without the check it has one
+/// segment.
+fn expect_checked(
+    rt: &impl Abort,
+    alloc: Global,
+    (name, frame, bytes): (&str, &[u8], u16),
+    fault: Option<CutFault>,
+) -> Result<(), Fail> {
+    let frames = owned(alloc, &[frame])?;
+    let pieces = named(alloc, &[(bytes, 0)])?;
+    let checked = cut(alloc, &frames, &pieces, 0, FillByte::Zero, &NotEndingIn12);
+    expect_same(rt, name, checked.err(), fault);
+    let unchecked = cut(alloc, &frames, &pieces, 0, FillByte::Zero, &NoCheck)?;
+    expect_same(rt, name, unchecked.len(), 1);
     Ok(())
 }
 
 #[test]
 fn cuts_only_frames_whose_header_passes(rt: HostRuntime) -> Result<(), Fail> {
-    let cases: [(&[u8], u16, Option<CutFault>); 3] = [
-        (SPOILED, 8, Some(CutFault::BadFrame(0))),
-        // The header of seven bytes ends in 0x22.
-        (EXTENDED, 9, None),
-        (PLAIN, 8, None),
-    ];
-    for (frame, bytes, fault) in cases {
-        let frames = owned(rt.alloc(), &[frame])?;
-        let pieces = named(rt.alloc(), &[(bytes, 0)])?;
-        let answer = cut(
-            rt.alloc(),
-            &frames,
-            &pieces,
-            0,
-            FillByte::Zero,
-            &NotEndingIn12,
-        );
-        assert_eq!(rt; answer.err(), fault, "{frame:?}");
-        let unchecked = cut(rt.alloc(), &frames, &pieces, 0, FillByte::Zero, &NoCheck)?;
-        assert_eq!(rt; unchecked.len(), 1, "{frame:?}");
-    }
-    Ok(())
+    let bad = Some(CutFault::BadFrame(0));
+    expect_checked(&rt, rt.alloc(), ("a spoiled header", SPOILED, 8), bad)?;
+    let extended = ("a header of seven bytes that ends in 0x22", EXTENDED, 9);
+    expect_checked(&rt, rt.alloc(), extended, None)?;
+    expect_checked(&rt, rt.alloc(), ("a plain frame", PLAIN, 8), None)
 }

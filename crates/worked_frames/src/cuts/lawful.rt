@@ -1,9 +1,11 @@
 //! The definition of a lawful cut, decided by trying each length of each chunk.
-use super::worked::CUTTINGS;
+use super::worked::{CUTTINGS, Cutting};
 use super::{named, owned};
+use crate::expect::expect_same;
 use crate::samples::{EXTENDED, PLAIN};
 use docsis_wire::{Bytes, CutFault, FillByte, NoCheck, Segment, cut, well_formed};
 use std::alloc::{AllocError, Global};
+use std::process::Abort;
 use std::test::Fail;
 
 /// The frames end to end, where each starts, and where there may be fill.
@@ -99,21 +101,57 @@ fn byte(fill: FillByte) -> u8 {
     }
 }
 
+/// A cut is lawful, and one by another first number is not, unless it has no segments.
+fn expect_lawful(rt: &impl Abort, alloc: Global, cutting: &Cutting) -> Result<(), Fail> {
+    let (frames, segments) = cutting.cut(rt, alloc)?;
+    let fill = byte(cutting.fill);
+    let lawful = is_lawful_cut(alloc, &frames, cutting.first, fill, &segments)?;
+    let later = is_lawful_cut(alloc, &frames, cutting.first ^ 1, fill, &segments)?;
+    let found = (lawful, later);
+    expect_same(rt, cutting.name, found, (true, segments.is_empty()));
+    Ok(())
+}
+
 #[test]
 fn cuts_lawfully(rt: HostRuntime) -> Result<(), Fail> {
     for cutting in &CUTTINGS {
-        let name = cutting.name;
-        let (frames, segments) = cutting.cut(&rt, rt.alloc())?;
-        let fill = byte(cutting.fill);
-        let lawful = is_lawful_cut(rt.alloc(), &frames, cutting.first, fill, &segments)?;
-        assert!(rt; lawful, "{name}");
-        let later = is_lawful_cut(rt.alloc(), &frames, cutting.first ^ 1, fill, &segments)?;
-        assert_eq!(rt;
-            later,
-            segments.is_empty(),
-            "{name}, by a different first number"
-        );
+        expect_lawful(&rt, rt.alloc(), cutting)?;
     }
+    Ok(())
+}
+
+/// Whether the two frames, of eight and nine bytes, have neither a start nor an end here.
+fn is_inside(place: u16) -> bool {
+    ![0, 8, 17].contains(&place)
+}
+
+/// Fill is at fault in the first of the pieces whose end lies inside a frame.
+fn fault_of(bytes: u16, more: u16, fills: u16) -> Option<CutFault> {
+    if fills % 2 == 1 && is_inside(bytes) {
+        return Some(CutFault::FillInsideFrame(0));
+    }
+    if fills / 2 == 1 && is_inside(bytes.saturating_add(more).min(17)) {
+        return Some(CutFault::FillInsideFrame(1));
+    }
+    None
+}
+
+/// Cuts the frames into three pieces of which the first two have so many bytes and maybe fill.
+fn expect_lawful_or_fault(
+    rt: &impl Abort,
+    alloc: Global,
+    frames: &[Bytes],
+    (bytes, more, fills): (u16, u16, u16),
+) -> Result<(), Fail> {
+    let pieces = named(alloc, &[(bytes, fills % 2), (more, fills / 2), (20, 1)])?;
+    let answer = cut(alloc, frames, &pieces, 0, FillByte::Ones, &NoCheck);
+    if let Some(fault) = fault_of(bytes, more, fills) {
+        expect_same(rt, "a fault", answer.err(), Some(fault));
+        return Ok(());
+    }
+    let segments = answer?;
+    let lawful = is_lawful_cut(alloc, frames, 0, 255, &segments)?;
+    assert!(rt; lawful, "{bytes} and {more}: {segments:?}");
     Ok(())
 }
 
@@ -124,21 +162,7 @@ fn cuts_lawfully_wherever_there_may_be_fill(rt: HostRuntime) -> Result<(), Fail>
     for bytes in 0..10u16 {
         for more in 0..10u16 {
             for fills in 0..4u16 {
-                let pieces = named(
-                    rt.alloc(),
-                    &[(bytes, fills % 2), (more, fills / 2), (20, 1)],
-                )?;
-                let inside = |place: u16| ![0, 8, 17].contains(&place);
-                let answer = cut(rt.alloc(), &frames, &pieces, 0, FillByte::Ones, &NoCheck);
-                if fills % 2 == 1 && inside(bytes) {
-                    assert_eq!(rt; answer.err(), Some(CutFault::FillInsideFrame(0)));
-                } else if fills / 2 == 1 && inside((bytes + more).min(17)) {
-                    assert_eq!(rt; answer.err(), Some(CutFault::FillInsideFrame(1)));
-                } else {
-                    let segments = answer?;
-                    let lawful = is_lawful_cut(rt.alloc(), &frames, 0, 255, &segments)?;
-                    assert!(rt; lawful, "{bytes} and {more}: {segments:?}");
-                }
+                expect_lawful_or_fault(&rt, rt.alloc(), &frames, (bytes, more, fills))?;
             }
         }
     }

@@ -1,48 +1,71 @@
 //! Cuts of great sizes.
-use docsis_wire::{Bytes, Cutter, FillByte, NoCheck, Piece, cut};
+use crate::expect::{expect_same, expect_same_at, expect_true};
+use docsis_wire::{Bytes, Cutter, FillByte, NoCheck, Piece, Segment, cut};
+use std::alloc::{AllocError, Global};
+use std::process::Abort;
 use std::test::Fail;
+
+/// Frames without payload end to end.
+fn many_frames(alloc: Global) -> Result<Vec<Bytes>, AllocError> {
+    let mut frames = Vec::new(alloc);
+    for number in 0..23_400_u32 {
+        let mark = 1 + (number % 255) as u8;
+        let frame = Vec::from_slice(alloc, &[0, mark, 0, 0, 0, 0])?;
+        frames.push(Bytes::from(frame))?;
+    }
+    Ok(frames)
+}
+
+/// Ends the test if the segment in this place is another: two bytes of a frame, which begins in
+/// every third segment.
+fn expect_third_of_a_frame(rt: &impl Abort, place: usize, segment: &Segment) {
+    let starts = place % 3 == 0;
+    let mark = if starts {
+        1 + (place / 3 % 255) as u8
+    } else {
+        0
+    };
+    let head = segment.head;
+    let found = (head.pfi, head.pointer, usize::from(head.sequence));
+    let number = (8000 + place % 8192) % 8192;
+    expect_same_at(rt, "the head", place, found, (starts, 0, number));
+    let has_payload = segment.payload.as_slice() == [0, mark].as_slice();
+    expect_same_at(rt, "the payload", place, has_payload, true);
+}
+
+/// Ends the test if these are two segments.
+fn expect_same_segment(rt: &impl Abort, place: usize, made: &Segment, wanted: &Segment) {
+    let is_payload = made.payload.as_slice() == wanted.payload.as_slice();
+    expect_same_at(rt, "the head", place, made.head, wanted.head);
+    expect_same_at(rt, "the payload", place, is_payload, true);
+}
+
+/// Ends the test if the frames are cut into other segments one by one.
+fn expect_one_by_one(
+    rt: &impl Abort,
+    alloc: Global,
+    cutter: &mut Cutter<'_>,
+    segments: &[Segment],
+) -> Result<(), Fail> {
+    for (place, segment) in segments.iter().enumerate() {
+        let made = cutter.next(alloc)?.ok_or("too few")?;
+        expect_same_segment(rt, place, &made, segment);
+    }
+    expect_true(rt, "no more", cutter.next(alloc)?.is_none());
+    Ok(())
+}
 
 /// Frames without payload end to end, in more than 70,000 pieces of two bytes: three pieces a
 /// frame.
 #[test]
 fn cuts_into_many_pieces(rt: HostRuntime) -> Result<(), Fail> {
-    let mut frames = Vec::new(rt.alloc());
-    let mut pieces = Vec::new(rt.alloc());
-    for number in 0..23_400_u32 {
-        let frame = Vec::from_slice(rt.alloc(), &[0, 1 + (number % 255) as u8, 0, 0, 0, 0])?;
-        frames.push(Bytes::from(frame))?;
-        for _ in 0..3 {
-            pieces.push(Piece { bytes: 2, fill: 0 })?;
-        }
-    }
+    let frames = many_frames(rt.alloc())?;
+    let pieces = vec![in rt.alloc(); Piece { bytes: 2, fill: 0 }; 70_200]?;
     let segments = cut(rt.alloc(), &frames, &pieces, 8000, FillByte::Ones, &NoCheck)?;
-    assert_eq!(rt; segments.len(), 70_200);
-    for (index, segment) in segments.iter().enumerate() {
-        let starts = index % 3 == 0;
-        assert_eq!(rt; segment.head.pfi, starts, "{index}");
-        assert_eq!(rt; segment.head.pointer, 0, "{index}");
-        assert_eq!(rt;
-            usize::from(segment.head.sequence),
-            (8000 + index) % 8192,
-            "{index}"
-        );
-        let mark = if starts {
-            1 + (index / 3 % 255) as u8
-        } else {
-            0
-        };
-        assert_eq!(rt; segment.payload.as_slice(), [0, mark].as_slice(), "{index}");
+    expect_same(&rt, "segments", segments.len(), 70_200);
+    for (place, segment) in segments.iter().enumerate() {
+        expect_third_of_a_frame(&rt, place, segment);
     }
     let mut cutter = Cutter::new(&frames, &pieces, 8000, FillByte::Ones, &NoCheck)?;
-    for (index, segment) in segments.iter().enumerate() {
-        let made = cutter.next(rt.alloc())?.ok_or("too few")?;
-        assert_eq!(rt; made.head, segment.head, "{index}");
-        assert_eq!(rt;
-            made.payload.as_slice(),
-            segment.payload.as_slice(),
-            "{index}"
-        );
-    }
-    assert!(rt; cutter.next(rt.alloc())?.is_none());
-    Ok(())
+    expect_one_by_one(&rt, rt.alloc(), &mut cutter, &segments)
 }

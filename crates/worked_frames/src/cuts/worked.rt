@@ -1,5 +1,6 @@
 //! Worked examples, at once and a segment at a time.
-use super::{are, is, named, owned};
+use super::{expect_segment, expect_segments, named, owned};
+use crate::expect::{expect_same, expect_true};
 use crate::samples::{EXTENDED, FIRST, PLAIN, SECOND, THIRD};
 use docsis_wire::{Bytes, CutFault, Cutter, FillByte, NoCheck, Segment, cut};
 use std::alloc::Global;
@@ -147,7 +148,7 @@ impl Cutting {
     pub fn cut(&self, rt: &impl Abort, alloc: Global) -> Result<(Vec<Bytes>, Vec<Segment>), Fail> {
         let frames = owned(alloc, self.frames)?;
         let pieces = named(alloc, self.pieces)?;
-        assert!(rt; self.first < 8192, "{}", self.name);
+        expect_true(rt, self.name, self.first < 8192);
         let segments = cut(alloc, &frames, &pieces, self.first, self.fill, &NoCheck)?;
         Ok((frames, segments))
     }
@@ -156,9 +157,8 @@ impl Cutting {
 #[test]
 fn cuts(rt: HostRuntime) -> Result<(), Fail> {
     for cutting in &CUTTINGS {
-        let name = cutting.name;
-        let segments = cutting.cut(&rt, rt.alloc())?.1;
-        assert!(rt; are(&segments, cutting.segments), "{name}: {segments:?}");
+        let (_, segments) = cutting.cut(&rt, rt.alloc())?;
+        expect_segments(&rt, cutting.name, &segments, cutting.segments);
     }
     Ok(())
 }
@@ -171,12 +171,18 @@ fn cuts_one_by_one(rt: HostRuntime) -> Result<(), Fail> {
     let mut cutter = Cutter::new(&frames, &pieces, 0, FillByte::Zero, &NoCheck)?;
     for wanted in INSIDE_SEGMENTS {
         let segment = cutter.next(rt.alloc())?.ok_or("too few")?;
-        assert!(rt; is(&segment, wanted), "{segment:?}");
+        expect_segment(&rt, &segment, wanted);
     }
-    assert!(rt; cutter.next(rt.alloc())?.is_none());
-    assert!(rt; cutter.next(rt.alloc())?.is_none());
+    expect_true(&rt, "no more", cutter.next(rt.alloc())?.is_none());
+    expect_true(&rt, "no more again", cutter.next(rt.alloc())?.is_none());
+    Ok(())
+}
+
+#[test]
+fn makes_no_cutter_for_fill_inside_a_frame(rt: HostRuntime) -> Result<(), Fail> {
+    let frames = owned(rt.alloc(), &[PLAIN, EXTENDED])?;
     let inside = named(rt.alloc(), &[(5, 1)])?;
     let fault = Cutter::new(&frames, &inside, 0, FillByte::Zero, &NoCheck).err();
-    assert_eq!(rt; fault, Some(CutFault::FillInsideFrame(0)));
+    expect_same(&rt, "fault", fault, Some(CutFault::FillInsideFrame(0)));
     Ok(())
 }

@@ -2,11 +2,14 @@
 //! `without_memory` with all later ones refused too. Each says `refused` when a call was.
 ghost use Rattle.docsis_wire.specs.Ready.{IsReady};
 
+use super::TWO_FRAMES;
+use crate::expect::expect_same;
 use crate::refused::{expect_refused, say_refused, say_whether_refused, segment_again};
-use crate::samples::{EXTENDED, FIRST, PLAIN, SECOND, THIRD, same_bytes};
+use crate::samples::FIRST;
 use ccf::{Fed, Joiner};
 use docsis_wire::{NoCheck, Segment, SegmentFault};
 use std::alloc::Global;
+use std::process::Abort;
 use std::test::Fail;
 
 /// Feeds a segment, and once more where the first call was refused memory.
@@ -28,14 +31,12 @@ fn feed_twice(
 #[test]
 fn feed_again(rt: HostRuntime) -> Result<(), Fail> {
     let mut joiner = Joiner::new(rt.alloc());
-    for (i, bytes) in [FIRST, SECOND, THIRD].iter().enumerate() {
+    for (place, bytes) in TWO_FRAMES.segments.iter().enumerate() {
         let next = segment_again(&rt, rt.alloc(), bytes)?;
         let fed = feed_twice(&rt, rt.alloc(), &mut joiner, &next)?;
-        let wanted: [&[&[u8]]; 3] = [&[], &[PLAIN], &[EXTENDED]];
-        assert!(rt; same_bytes(&fed.frames, wanted[i]), "segment {i}: {fed:?}");
-        assert_eq!(rt; fed.skipped, 0, "segment {i}");
+        TWO_FRAMES.expect_answered(&rt, place, &fed);
     }
-    assert!(rt; joiner.is_idle());
+    expect_same(&rt, "idle in the end", joiner.is_idle(), true);
     Ok(())
 }
 
@@ -47,6 +48,13 @@ fn waiting(alloc: Global) -> Result<Joiner, SegmentFault> {
     Ok(joiner)
 }
 
+/// So many bytes are unfinished, and dropped by a gap.
+fn expect_gap(rt: &impl Abort, joiner: &mut Joiner, unfinished: usize) {
+    expect_same(rt, "idle before a gap", joiner.is_idle(), unfinished == 0);
+    expect_same(rt, "dropped by a gap", joiner.gap(), unfinished);
+    expect_same(rt, "idle behind a gap", joiner.is_idle(), true);
+}
+
 /// In the end it asks for memory itself, so that a run is known in which nothing else did.
 #[test]
 fn calls_without_memory(rt: HostRuntime) -> Result<(), Fail> {
@@ -54,12 +62,8 @@ fn calls_without_memory(rt: HostRuntime) -> Result<(), Fail> {
         Ok(joiner) => joiner,
         Err(fault) => return expect_refused(&rt, fault, SegmentFault::OutOfMemory),
     };
-    assert!(rt; !joiner.is_idle());
-    assert_eq!(rt; joiner.gap(), 5);
-    assert!(rt; joiner.is_idle());
-    assert_eq!(rt; joiner.gap(), 0);
-    let mut another = Joiner::new(rt.alloc());
-    assert!(rt; another.is_idle());
-    assert_eq!(rt; another.gap(), 0);
+    expect_gap(&rt, &mut joiner, 5);
+    expect_same(&rt, "a second gap", joiner.gap(), 0);
+    expect_gap(&rt, &mut Joiner::new(rt.alloc()), 0);
     say_whether_refused(&rt, rt.alloc())
 }

@@ -3,6 +3,7 @@
 use super::{
     POINTED, expect_faults, expect_pointings, expect_readings, expect_writings, pointing_segments,
 };
+use crate::expect::expect_same;
 use crate::refused::{expect_refused, say_refused, say_whether_refused};
 use docsis_wire::{Segment, SegmentFault};
 use std::test::Fail;
@@ -15,7 +16,7 @@ fn reads_again(rt: HostRuntime) -> Result<(), Fail> {
         expect_refused(&rt, fault, SegmentFault::OutOfMemory)?;
         answer = Segment::read(rt.alloc(), POINTED);
     }
-    assert_eq!(rt; answer?.payload.len(), 3);
+    expect_same(&rt, "the payload", answer?.payload.len(), 3);
     Ok(())
 }
 

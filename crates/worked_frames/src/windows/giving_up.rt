@@ -1,4 +1,5 @@
 //! How many numbers are given up where a number is declared or skipped to.
+use crate::expect::{expect_same, expect_true};
 use reorder::{MODULUS, Verdict, WIDTH_MAX, Window};
 use std::alloc::Global;
 use std::process::Abort;
@@ -36,41 +37,35 @@ fn up_to(
 }
 
 fn window_of(rt: &impl Abort, alloc: Global, case: &UpTo) -> Result<Window<u16>, Fail> {
-    let name = case.name;
-    assert!(rt; case.first < MODULUS);
-    assert!(rt; 1 <= case.width && case.width <= WIDTH_MAX);
+    let in_range = case.first < MODULUS && 1 <= case.width && case.width <= WIDTH_MAX;
+    expect_true(rt, case.name, in_range);
     let mut window = Window::new(alloc, case.first, case.width)?;
     for number in case.held {
-        assert!(rt; *number < MODULUS);
-        assert_eq!(rt; window.offer(*number, *number), Verdict::Kept, "{name}");
+        expect_true(rt, case.name, *number < MODULUS);
+        expect_same(rt, case.name, window.offer(*number, *number), Verdict::Kept);
     }
     Ok(window)
 }
 
 fn gave_up(rt: &impl Abort, window: &Window<u16>, case: &UpTo) {
-    let name = case.name;
-    assert_eq!(rt; window.expected(), case.expected, "{name}");
-    assert_eq!(rt; window.held(), case.held.len(), "{name}");
-    let next = case
-        .held
-        .iter()
-        .copied()
-        .find(|number| *number == case.expected);
-    assert_eq!(rt; window.next().copied(), next, "{name}");
+    expect_same(rt, case.name, window.expected(), case.expected);
+    expect_same(rt, case.name, window.held(), case.held.len());
+    let next = case.held.contains(&case.expected).then_some(case.expected);
+    expect_same(rt, case.name, window.next().copied(), next);
 }
 
 fn declares_to(rt: &impl Abort, alloc: Global, case: &UpTo) -> Result<(), Fail> {
-    assert!(rt; case.number < MODULUS);
+    expect_true(rt, case.name, case.number < MODULUS);
     let mut window = window_of(rt, alloc, case)?;
-    assert_eq!(rt; window.declare_to(case.number), case.count, "{}", case.name);
+    expect_same(rt, case.name, window.declare_to(case.number), case.count);
     gave_up(rt, &window, case);
     Ok(())
 }
 
 fn skips_to(rt: &impl Abort, alloc: Global, case: &UpTo) -> Result<(), Fail> {
-    assert!(rt; case.number < MODULUS);
+    expect_true(rt, case.name, case.number < MODULUS);
     let mut window = window_of(rt, alloc, case)?;
-    assert_eq!(rt; window.skip_to(case.number), case.count, "{}", case.name);
+    expect_same(rt, case.name, window.skip_to(case.number), case.count);
     gave_up(rt, &window, case);
     Ok(())
 }

@@ -3,6 +3,7 @@ use Rattle.std.proofs.Common.{◌≡◌, ◌↔◌, ℕ, Result, Ok, Err, List, 
 use Rattle.lane.specs.declared.sids.SidRow.{SidRow}
 use Rattle.lane.specs.declared.sids.LaneFault.{LaneFault}
 use Rattle.lane.specs.declared.sids.LaneFault.TheVariants.{SidRange, SameSid, UnknownFlow}
+use Rattle.lane.specs.Limits.{channel_limit}
 use Rattle.lane.specs.Rows.{IsLaneFault, CanBeOpened}
 use Rattle.lane.proofs.RowFaults.{one_fault, fault-refused}
 use Rattle.lane.proofs.sids.check_rows.Goals as goal
@@ -10,12 +11,12 @@ use Rattle.lane.proofs.sids.check_rows.Goals as goal
 -- an answer with a fault
 fault-ok : (rows : List SidRow) (n : ℕ) (fault : LaneFault) → IsLaneFault rows n fault
     → (◌≡◌ {A = Result (Unit {0}) LaneFault} (Err fault) (Ok tt)) ↔ CanBeOpened rows n
-fault-ok rows n fault is = (λ e. absurd (cc), λ can. absurd (fault-refused rows n fault is can))
+fault-ok rows n fault is = (λ e. absurd (cc), λ can. absurd (fault-refused channel_limit rows n fault is can))
 
 fault-is : (rows : List SidRow) (n : ℕ) (fault : LaneFault) → IsLaneFault rows n fault
     → (other : LaneFault) → (◌≡◌ {A = Result (Unit {0}) LaneFault} (Err fault) (Err other)) ↔ IsLaneFault rows n other
 fault-is rows n fault is other =
-    (λ e. let same : fault ≡ other = cc in subst (IsLaneFault rows n) same is, λ are. ap Err (one_fault rows n fault other is are))
+    (λ e. let same : fault ≡ other = cc in subst (IsLaneFault rows n) same is, λ are. ap Err (one_fault channel_limit rows n fault other is are))
 
 pub returns-in-Some-clause-ok : goal.returns-in-Some-clause-ok
 returns-in-Some-clause-ok c = fault-ok c.args.rows.now c.args.flow_count (SidRange c.in-Some.k) c.in-Some.ensures
@@ -43,4 +44,4 @@ returns-in-Some-first_without_flow-clause-fault c =
 
 pub returns-clause-fault : goal.returns-clause-fault
 returns-clause-fault c fault =
-    (λ e. absurd (cc), λ is. absurd (fault-refused c.args.rows.now c.args.flow_count fault is (record { in_range = c.in_default.ensures; apart = c.in_default-first_repeated.ensures; known = c.in_default-first_without_flow.ensures })))
+    (λ e. absurd (cc), λ is. absurd (fault-refused channel_limit c.args.rows.now c.args.flow_count fault is (record { in_range = c.in_default.ensures; apart = c.in_default-first_repeated.ensures; known = c.in_default-first_without_flow.ensures })))

@@ -11,11 +11,10 @@ loop-k-preserved c =
     let is = get_or_from_slice_get c.args.rows.now c.loop-k.k bad.0 (record { channel = 0; sid = 0; flow = 0 }) bad.1 in
     let channel = ap (λ (row : SidRow). row.channel) is in
     let sid = ap (λ (row : SidRow). row.sid) is in
-    let channel_read = c.from.ensures in
-    let sid_read = c.from-else-from-ge-CHANNELS.ensures in
-    let channel_below = c.if-from-ge-CHANNELS.false in
+    let sid_read = c.from.ensures in
+    let channel_below = c.if-row-channels.false in
     let sid_below = c.if-from-ge-SIDS.false in
-    ⊎_elim (λ (above : 4 ≤ bad.0.channel). omega arith) (λ (above : 16384 ≤ bad.0.sid). omega arith) bad.2)
+    ⊎_elim (λ (above : c.args.channels ≤ bad.0.channel). omega arith) (λ (above : 16384 ≤ bad.0.sid). omega arith) bad.2)
 
 pub returns : goal.returns
 returns c k bad =

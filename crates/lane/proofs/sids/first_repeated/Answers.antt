@@ -1,23 +1,24 @@
 use Rattle.std.proofs.Common.{◌≡◌, ⊎_elim, inl, inr, true, below_more, arith}
 use Rattle.std.proofs.lemmas.Option.{slice_get_within, slice_get-get_or}
+use Rattle.lane.specs.Limits.{channel_limit}
 use Rattle.lane.proofs.SeenRows.{in-range, repeated, unrepeated, among-more}
 use Rattle.lane.proofs.sids.first_repeated.Goals as goal
 
 pub contains-requires-clause-channel : goal.contains-requires-clause-channel
 contains-requires-clause-channel c =
-    (in-range c.args.rows.now c.loop-k.k _ (slice_get-get_or c.args.rows.now c.loop-k.k _ c.loop-k-test.true) c.requires.in_range).0
+    (in-range c.args.rows.now c.loop-k.k _ (slice_get-get_or c.args.rows.now c.loop-k.k _ c.loop-k-test.true) channel_limit c.requires.in_range).0
 
 pub contains-requires-clause-sid : goal.contains-requires-clause-sid
 contains-requires-clause-sid c =
-    (in-range c.args.rows.now c.loop-k.k _ (slice_get-get_or c.args.rows.now c.loop-k.k _ c.loop-k-test.true) c.requires.in_range).1
+    (in-range c.args.rows.now c.loop-k.k _ (slice_get-get_or c.args.rows.now c.loop-k.k _ c.loop-k-test.true) channel_limit c.requires.in_range).1
 
 pub insert-requires-clause-channel : goal.insert-requires-clause-channel
 insert-requires-clause-channel c =
-    (in-range c.args.rows.now c.loop-k.k _ (slice_get-get_or c.args.rows.now c.loop-k.k _ c.loop-k-test.true) c.requires.in_range).0
+    (in-range c.args.rows.now c.loop-k.k _ (slice_get-get_or c.args.rows.now c.loop-k.k _ c.loop-k-test.true) channel_limit c.requires.in_range).0
 
 pub insert-requires-clause-sid : goal.insert-requires-clause-sid
 insert-requires-clause-sid c =
-    (in-range c.args.rows.now c.loop-k.k _ (slice_get-get_or c.args.rows.now c.loop-k.k _ c.loop-k-test.true) c.requires.in_range).1
+    (in-range c.args.rows.now c.loop-k.k _ (slice_get-get_or c.args.rows.now c.loop-k.k _ c.loop-k-test.true) channel_limit c.requires.in_range).1
 
 pub returns-then-contains : goal.returns-then-contains
 returns-then-contains c = (

@@ -15,7 +15,7 @@ returns-clause-one c input text other a b =
     let same = c.input_is_one_trace.ensures default_capacity default_capacity input b.trace a.trace b.is_trace a.is_trace in
     let can = c.trace_passes_the_checks.ensures default_capacity default_capacity input a.trace (omega arith) a.is_trace in
     let order =
-    one_played_order c.lane_has_at_most_one_answer_to_each_input.ensures c.lists_have_one_merge.ensures.one a.trace b.trace same can a.played.order
+    one_played_order c.lane_has_at_most_one_answer_to_each_input.ensures.one c.lists_have_one_merge.ensures.one a.trace b.trace same can a.played.order
     b.played.order a.played.admitted b.played.admitted
     in
     let answered : IsOutcome any_header setup incoming b.played.order b.outcome =
@@ -34,7 +34,7 @@ returns-clause-by_rule c rule input text other a b =
     let same = c.input_is_one_trace.ensures default_capacity default_capacity input b.trace a.trace b.is_trace a.is_trace in
     let can = c.trace_passes_the_checks.ensures default_capacity default_capacity input a.trace (omega arith) a.is_trace in
     let order =
-    one_played_order c.lane_has_at_most_one_answer_to_each_input.ensures c.lists_have_one_merge.ensures.one a.trace b.trace same can a.played.order
+    one_played_order c.lane_has_at_most_one_answer_to_each_input.ensures.one c.lists_have_one_merge.ensures.one a.trace b.trace same can a.played.order
     b.played.order a.played.admitted b.played.admitted
     in
     let answered : IsOutcomeBy rule any_header setup incoming b.played.order b.outcome =

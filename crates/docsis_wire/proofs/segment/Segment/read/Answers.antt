@@ -1,7 +1,10 @@
-use Rattle.std.proofs.Common.{refl, arith}
-use Rattle.docsis_wire.proofs.SegmentReads.{PointsPast-from}
+-- A fault of the header is the segment's.
+use Rattle.std.proofs.Common.{◌≡◌, Err, ap}
+use Rattle.docsis_wire.specs.declared.segment.SegmentFault.TheVariants.{PointerPast}
 use Rattle.docsis_wire.proofs.segment.Segment.read.Goals as goal
 
-pub returns-then-from-payload-clause-pointer_past : goal.returns-then-from-payload-clause-pointer_past
-returns-then-from-payload-clause-pointer_past c =
-    (λ e. PointsPast-from c.args.bytes.now c.in-Some.head c.in-Some.ensures.spelled c.if-head.true (omega arith), λ past. refl)
+pub returns-in-Err-clause-pointer_past : goal.returns-in-Err-clause-pointer_past
+returns-in-Err-clause-pointer_past c = (
+  λ e. let same : c.in-Err.fault ≡ PointerPast = cc in c.in-Err.ensures.pointer_past.0 (ap Err same),
+  λ past. let e = c.in-Err.ensures.pointer_past.1 past in let same : c.in-Err.fault ≡ PointerPast = cc in ap Err same,
+)

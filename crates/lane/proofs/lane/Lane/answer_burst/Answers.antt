@@ -1,7 +1,7 @@
 -- The map says what is outstanding, and what is made of the burst is the answer.
 use Rattle.std.proofs.Common.{◌≡◌, ◌+◌, cond, is_some, Some, None, Ok, Err, refl, subst, ◌∙◌}
-use Rattle.std.specs.Ordering.{nat_cmp}
-use Rattle.std.specs.BTreeMap.{get, btree_map_len}
+use Rattle.std.specs.Prelude.{nat_eq}
+use Rattle.std.specs.HashMap.{get, hash_map_len}
 use Rattle.lane.specs.declared.input.Input.TheVariants.{Burst}
 use Rattle.lane.specs.declared.refusal.Refusal.TheVariants.{NoGrant}
 use Rattle.lane.specs.Admission.{IsMadeOf}
@@ -10,20 +10,20 @@ use Rattle.lane.proofs.lane.Lane.answer_burst.Goals as goal
 
 pub returns-in_default-clause-answered : goal.returns-in_default-clause-answered
 returns-in_default-clause-answered c setup taken stands =
-    let none : get nat_cmp c.args.self.now.grants c.args.number ≡ None = cc in
+    let none : get nat_eq c.args.self.now.grants c.args.number ≡ None = cc in
     stands-as-before setup taken (record { input = Burst c.args.number c.args.hcs_ok c.args.bytes.now; answer = Err NoGrant }) c.args.self.now refl refl
     (unknown-from setup taken c.args.self.now stands c.args.number none)
     stands
 
 pub returns-in-Ok-clause-answered : goal.returns-in-Ok-clause-answered
 returns-in-Ok-clause-answered c setup taken stands =
-    let some : get nat_cmp c.args.self.now.grants c.args.number ≡ Some c.in-Some.grant = cc in
+    let some : get nat_eq c.args.self.now.grants c.args.number ≡ Some c.in-Some.grant = cc in
     let made : IsMadeOf c.args.self.now.channel c.in-Some.grant c.args.hcs_ok c.args.bytes.now (Ok c.in-Ok.admitted) =
     subst (IsMadeOf c.args.self.now.channel c.in-Some.grant c.args.hcs_ok c.args.bytes.now) c.in-Ok.is c.in_ok-made.ensures.made in
     stands-without setup taken c.args.self.now c.remove.new.self
     (record { input = Burst c.args.number c.args.hcs_ok c.args.bytes.now; answer = Ok (Some c.in-Ok.admitted) }) c.args.number refl refl refl
     c.remove.ensures.updates.1 c.remove.ensures.updates.2
-    (subst (λ old. btree_map_len c.remove.new.self + cond (is_some old) 1 0 ≡ btree_map_len c.args.self.now.grants) (c.remove.ensures.value ∙ some) c.remove.ensures.len) (
+    (subst (λ old. hash_map_len c.remove.new.self + cond (is_some old) 1 0 ≡ hash_map_len c.args.self.now.grants) (c.remove.ensures.value ∙ some) c.remove.ensures.len) (
       c.in-Some.grant,
       grant-from setup taken c.args.self.now stands c.args.number c.in-Some.grant some,
       subst (λ channel. IsMadeOf channel c.in-Some.grant c.args.hcs_ok c.args.bytes.now (Ok c.in-Ok.admitted)) stands.channel made,
@@ -32,14 +32,14 @@ returns-in-Ok-clause-answered c setup taken stands =
 
 pub returns-in-Err-clause-answered : goal.returns-in-Err-clause-answered
 returns-in-Err-clause-answered c setup taken stands =
-    let some : get nat_cmp c.args.self.now.grants c.args.number ≡ Some c.in-Some.grant = cc in
+    let some : get nat_eq c.args.self.now.grants c.args.number ≡ Some c.in-Some.grant = cc in
     let made : IsMadeOf c.args.self.now.channel c.in-Some.grant c.args.hcs_ok c.args.bytes.now (Err c.in-Err.refusal) =
     subst (IsMadeOf c.args.self.now.channel c.in-Some.grant c.args.hcs_ok c.args.bytes.now) c.in-Err.is c.in_ok-made.ensures.made in
     stands-without setup taken c.args.self.now c.remove.new.self
     (record { input = Burst c.args.number c.args.hcs_ok c.args.bytes.now; answer = Err c.in-Err.refusal }) c.args.number refl refl
     (spends c.args.self.now.channel c.in-Some.grant c.args.hcs_ok c.args.bytes.now c.in-Err.refusal made)
     c.remove.ensures.updates.1 c.remove.ensures.updates.2
-    (subst (λ old. btree_map_len c.remove.new.self + cond (is_some old) 1 0 ≡ btree_map_len c.args.self.now.grants) (c.remove.ensures.value ∙ some) c.remove.ensures.len)
+    (subst (λ old. hash_map_len c.remove.new.self + cond (is_some old) 1 0 ≡ hash_map_len c.args.self.now.grants) (c.remove.ensures.value ∙ some) c.remove.ensures.len)
     (answers-burst setup taken c.args.number c.args.hcs_ok c.args.bytes.now c.in-Some.grant c.in-Err.refusal
     (grant-from setup taken c.args.self.now stands c.args.number c.in-Some.grant some)
     (subst (λ channel. IsMadeOf channel c.in-Some.grant c.args.hcs_ok c.args.bytes.now (Err c.in-Err.refusal)) stands.channel made))

@@ -1,0 +1,68 @@
+-- Each of what can be left is done.
+use Rattle.std.proofs.Common.{[], sym, ◌∙◌}
+use Rattle.bonded_flows.specs.declared.pending.Pending.TheVariants.{Close}
+use Rattle.bonded_flows.proofs.GoneOn.{still-under_way, some-anyhow, joined-goes-on, arrival-goes-on, slide-goes-on}
+use Rattle.bonded_flows.proofs.bonded_flow.BondedFlow.go_on.Goals as goal
+
+pub drain-requires : goal.drain-requires
+drain-requires g c = some-anyhow (g.C.HeaderCheck.accepts c.args.check.now) c.args.self.now c.replace.new.dest c.requires
+
+pub slide-requires-clause-has_taken : goal.slide-requires-clause-has_taken
+slide-requires-clause-has_taken g c = some-anyhow (g.C.HeaderCheck.accepts c.args.check.now) c.args.self.now c.replace.new.dest c.requires
+
+pub arrive-requires-clause-has_taken : goal.arrive-requires-clause-has_taken
+arrive-requires-clause-has_taken g c = some-anyhow (g.C.HeaderCheck.accepts c.args.check.now) c.args.self.now c.replace.new.dest c.requires
+
+pub returns-in-Nothing-clause-takes : goal.returns-in-Nothing-clause-takes
+returns-in-Nothing-clause-takes g c =
+    joined-goes-on g.O.Consumer.after (g.C.HeaderCheck.accepts c.args.check.now) c.args.self.now c.drain.new.self c.args.out.now c.drain.new.out c.replace.new.dest
+    (sym c.replace.ensures.value ∙ c.in-Nothing.is ∙ sym (c.drain.ensures.pending ∙ c.replace.ensures.after)) c.drain.ensures.gives
+
+pub returns-in_err-slide-in-Slide-clause-takes : goal.returns-in_err-slide-in-Slide-clause-takes
+returns-in_err-slide-in-Slide-clause-takes g c =
+    slide-goes-on g.O.Consumer.after (g.C.HeaderCheck.accepts c.args.check.now) c.args.self.now c.slide.new.self c.args.out.now c.slide.new.out c.replace.new.dest
+    c.in-Slide.ready (sym c.replace.ensures.value ∙ c.in-Slide.is) c.slide.ensures.takes
+
+pub returns-in_ok-slide-in-Slide-clause-takes : goal.returns-in_ok-slide-in-Slide-clause-takes
+returns-in_ok-slide-in-Slide-clause-takes g c =
+    slide-goes-on g.O.Consumer.after (g.C.HeaderCheck.accepts c.args.check.now) c.args.self.now c.slide.new.self c.args.out.now c.slide.new.out c.replace.new.dest
+    c.in-Slide.ready (sym c.replace.ensures.value ∙ c.in-Slide.is) c.slide.ensures.takes
+
+pub returns-in_err-arrive-in-Arrive-clause-takes : goal.returns-in_err-arrive-in-Arrive-clause-takes
+returns-in_err-arrive-in-Arrive-clause-takes g c =
+    arrival-goes-on g.O.Consumer.after (g.C.HeaderCheck.accepts c.args.check.now) c.args.self.now c.arrive.new.self c.args.out.now c.arrive.new.out c.replace.new.dest
+    c.in-Arrive.ready (sym c.replace.ensures.value ∙ c.in-Arrive.is) c.arrive.ensures.takes
+
+pub returns-in_ok-arrive-in-Arrive-clause-takes : goal.returns-in_ok-arrive-in-Arrive-clause-takes
+returns-in_ok-arrive-in-Arrive-clause-takes g c =
+    arrival-goes-on g.O.Consumer.after (g.C.HeaderCheck.accepts c.args.check.now) c.args.self.now c.arrive.new.self c.args.out.now c.arrive.new.out c.replace.new.dest
+    c.in-Arrive.ready (sym c.replace.ensures.value ∙ c.in-Arrive.is) c.arrive.ensures.takes
+
+pub returns-in-Close-clause-takes : goal.returns-in-Close-clause-takes
+returns-in-Close-clause-takes g c =
+    joined-goes-on g.O.Consumer.after (g.C.HeaderCheck.accepts c.args.check.now) c.args.self.now c.drain-in-Close.new.self c.args.out.now c.drain-in-Close.new.out Close
+    (sym c.replace.ensures.value ∙ c.in-Close.is ∙ sym c.drain-in-Close.ensures.pending) c.drain-in-Close.ensures.gives
+
+pub returns-in-Nothing-clause-under_way : goal.returns-in-Nothing-clause-under_way
+returns-in-Nothing-clause-under_way g c =
+    still-under_way g.O.Consumer.after (g.C.HeaderCheck.accepts c.args.check.now) c.args.self.now c.drain.new.self c.args.out.now c.drain.new.out [] (returns-in-Nothing-clause-takes g c) c.requires
+
+pub returns-in_err-slide-in-Slide-clause-under_way : goal.returns-in_err-slide-in-Slide-clause-under_way
+returns-in_err-slide-in-Slide-clause-under_way g c =
+    still-under_way g.O.Consumer.after (g.C.HeaderCheck.accepts c.args.check.now) c.args.self.now c.slide.new.self c.args.out.now c.slide.new.out [] (returns-in_err-slide-in-Slide-clause-takes g c) c.requires
+
+pub returns-in_ok-slide-in-Slide-clause-under_way : goal.returns-in_ok-slide-in-Slide-clause-under_way
+returns-in_ok-slide-in-Slide-clause-under_way g c =
+    still-under_way g.O.Consumer.after (g.C.HeaderCheck.accepts c.args.check.now) c.args.self.now c.slide.new.self c.args.out.now c.slide.new.out [] (returns-in_ok-slide-in-Slide-clause-takes g c) c.requires
+
+pub returns-in_err-arrive-in-Arrive-clause-under_way : goal.returns-in_err-arrive-in-Arrive-clause-under_way
+returns-in_err-arrive-in-Arrive-clause-under_way g c =
+    still-under_way g.O.Consumer.after (g.C.HeaderCheck.accepts c.args.check.now) c.args.self.now c.arrive.new.self c.args.out.now c.arrive.new.out [] (returns-in_err-arrive-in-Arrive-clause-takes g c) c.requires
+
+pub returns-in_ok-arrive-in-Arrive-clause-under_way : goal.returns-in_ok-arrive-in-Arrive-clause-under_way
+returns-in_ok-arrive-in-Arrive-clause-under_way g c =
+    still-under_way g.O.Consumer.after (g.C.HeaderCheck.accepts c.args.check.now) c.args.self.now c.arrive.new.self c.args.out.now c.arrive.new.out [] (returns-in_ok-arrive-in-Arrive-clause-takes g c) c.requires
+
+pub returns-in-Close-clause-under_way : goal.returns-in-Close-clause-under_way
+returns-in-Close-clause-under_way g c =
+    still-under_way g.O.Consumer.after (g.C.HeaderCheck.accepts c.args.check.now) c.args.self.now c.drain-in-Close.new.self c.args.out.now c.drain-in-Close.new.out [] (returns-in-Close-clause-takes g c) c.requires

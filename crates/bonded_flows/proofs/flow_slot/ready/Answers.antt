@@ -1,0 +1,6 @@
+use Rattle.std.proofs.Common.{◌≡◌, true}
+use Rattle.bonded_flows.proofs.flow_slot.ready.Goals as goal
+
+pub returns-clause-settled : goal.returns-clause-settled
+returns-clause-settled g c =
+    c.in_ok-go_on.ensures.settled (λ closing. let yes : c.is_being_closed.result ≡ true = c.is_being_closed.ensures.1 closing in let no = c.if-is_being_closed.false in absurd cc)

@@ -1,0 +1,9 @@
+pub mod FlowSetup
+pub mod Answers
+pub mod ByRule
+pub mod Stands
+pub mod Taking
+pub mod Channels
+pub mod Parts
+pub mod Slots
+pub mod Table

@@ -1,0 +1,53 @@
+//! Joining all segments of a flow that are next.
+ghost use Rattle.std.specs.Prelude.{◌≡◌, ℕ, Bool, List, IfOk};
+ghost use Rattle.flow_core.specs.Stands.{IsDrained};
+ghost use Rattle.bonded_flows.specs.Stands.{HasTakenSome, IsUpToDate};
+ghost use Rattle.bonded_flows.specs.Taking.{IsRunning, Joins, GivesMore};
+
+use super::BondedFlow;
+use consumer::{Consumer, give_frames};
+use docsis_wire::HeaderCheck;
+use flow_core::{Flow, Step, WINDOW_MAX};
+use std::alloc::{AllocError, Global};
+
+impl BondedFlow {
+    /// Joins all segments that are next, and gives their frames. What the flow has come past then
+    /// no longer lies ahead.
+    pub(super) fn drain<C: HeaderCheck, O: Consumer>(
+        &mut self,
+        alloc: Global,
+        check: &C,
+        out: &mut O,
+    ) -> Result<(), AllocError>
+        requires { HasTakenSome (C.accepts check.now) self.old }
+        ensures gives { GivesMore O.after (C.accepts check.now) self.old out.old self.new out.new }
+        ensures up_to_date { IfOk result (λ _. IsUpToDate self.new) }
+        ensures pending { self.new.pending ≡ self.old.pending }
+        ensures index { self.new.index ≡ self.old.index }
+    {
+        join_all(alloc, check, self.index, &mut self.flow, out)?;
+        self.lasts.come_to(self.flow.expected());
+        Ok(())
+    }
+}
+
+/// Advances a flow until nothing is next, and gives the frames of each step.
+fn join_all<C: HeaderCheck, O: Consumer>(
+    alloc: Global,
+    check: &C,
+    index: usize,
+    flow: &mut Flow,
+    out: &mut O,
+) -> Result<(), AllocError>
+    requires { IsRunning (C.accepts check.now) flow.old }
+    ensures joins { Joins O.after (C.accepts check.now) index flow.old out.old flow.new out.new }
+    ensures drained { IfOk result (λ _. IsDrained flow.new) }
+{
+    for _joined in 0..=WINDOW_MAX {
+        match flow.advance(alloc, check)? {
+            Step::Frames(frames) => give_frames(out, index, frames),
+            Step::Nothing => return Ok(()),
+        }
+    }
+    Ok(())
+}

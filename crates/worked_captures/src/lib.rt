@@ -1,0 +1,11 @@
+//! Captures that are read, worked out byte by byte: the tests of `capture` for pcapng files and for
+//! files of either format.
+//!
+//! They stand apart from that crate, so that it is proved once and not a second time with them.
+//! There is nothing here for a caller.
+#![tactic(auto)]
+
+#[cfg(test)]
+mod captures;
+#[cfg(test)]
+mod pcapng;
