@@ -2,7 +2,7 @@
 //! `docsis_wire`, `reorder` and `ccf`.
 //!
 //! They stand apart from these crates, so that those are proved once and not a second time with
-//! their tests. There is nothing here for a caller, but [`expect`], [`samples`] and [`refused`] are for the
+//! their tests. There is nothing here for a caller, but [`samples`] and [`refused`] are for the
 //! tests of other parts too.
 #![tactic(auto)]
 
@@ -10,7 +10,8 @@
 mod checks;
 #[cfg(test)]
 mod cuts;
-pub mod expect;
+#[cfg(test)]
+mod expect;
 #[cfg(test)]
 mod frames;
 #[cfg(test)]

@@ -4,6 +4,7 @@ ghost use Rattle.receiver.specs.Receiving.{IsReceiving};
 
 mod failed_allocations;
 
+use crate::expect::{expect_same, expect_same_at, expect_true};
 use crate::outcomes::*;
 use crate::replayed::cases::{CASES, Case};
 use crate::traces::*;
@@ -19,7 +20,6 @@ use std::alloc::{AllocError, Global};
 use std::process::Abort;
 use std::test::Fail;
 use uplink::{Input, Outcome, Refusal, Setup, admitted_order, replay};
-use worked_frames::expect::{expect_same, expect_same_at, expect_true};
 
 /// A receiver of the profile's width that decides nothing by itself.
 fn receiver(alloc: Global, setup: &Setup) -> Result<Receiver<NoCheck>, SetupError>

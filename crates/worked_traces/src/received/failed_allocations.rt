@@ -3,6 +3,7 @@ ghost use Rattle.std.specs.Prelude.{IfOk};
 ghost use Rattle.receiver.specs.Receiving.{IsReceiving};
 
 use super::{collected, input, receiver};
+use crate::expect::expect_same;
 use crate::traces::*;
 use consumer::Collected;
 use docsis_wire::{HeaderCheck, NoCheck};
@@ -11,7 +12,6 @@ use std::alloc::Global;
 use std::process::Abort;
 use std::test::Fail;
 use uplink::Input;
-use worked_frames::expect::expect_same;
 use worked_frames::refused::say_refused;
 
 /// Makes the setup, a consumer and a receiver, and once more where memory was refused.
