@@ -20,7 +20,8 @@
 //!    its SID, its grant and the bytes of its segment, or say by [`Passed`] why the record is passed
 //!    over. [`read_burst`] does so for the bytes of a packet.
 //! 5. [`read_packet`] is its first half: version, type, TLVs and payload of a packet of any type.
-//!    [`split_tlv`] takes the TLVs one after another, and [`last_value`] looks one up.
+//!    [`split_tlv`] takes the TLVs one after another, [`last_value`] looks one up, and [`are_tlvs`]
+//!    tells whether bytes are whole TLVs.
 //! 6. [`write_pcap_header`] and [`write_record`] write a file.
 //!
 //! What matters most: whatever bytes a reader had taken, with those of a piece it has given exactly
@@ -75,7 +76,7 @@ pub use pcapng_reader::PcapngReader;
 pub use pcapng_section::MOST_INTERFACES;
 pub use record::{Record, Taken};
 pub use record_burst::{burst_in_capture, burst_in_record};
-pub use tlv::{Tlv, last_value, split_tlv};
+pub use tlv::{Tlv, are_tlvs, last_value, split_tlv};
 
 #[cfg(test)]
 mod tests;

@@ -26,7 +26,7 @@ pub fn split_tlv(bytes: &[u8]) -> Option<(Tlv<'_>, &[u8])>
 }
 
 /// Whether the bytes are whole TLVs to the end.
-pub(crate) fn are_tlvs(bytes: &[u8]) -> bool
+pub fn are_tlvs(bytes: &[u8]) -> bool
     ensures { IsTrue result ↔ AreFields bytes.now }
 {
     let mut rest = bytes;

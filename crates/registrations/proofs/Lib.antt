@@ -1,0 +1,2 @@
+pub mod FieldsOfBytes
+pub mod ToldSoFar

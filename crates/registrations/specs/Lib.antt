@@ -1,0 +1,4 @@
+pub mod Message
+pub mod Part
+pub mod Values
+pub mod Told
