@@ -1,7 +1,7 @@
 //! Captures that are read, worked out byte by byte: the tests of `capture` for pcapng files and for
-//! files of either format.
+//! files of either format, and those of `registrations`.
 //!
-//! They stand apart from that crate, so that it is proved once and not a second time with them.
+//! They stand apart from these crates, so that each is proved once and not a second time with them.
 //! There is nothing here for a caller.
 #![tactic(auto)]
 
@@ -9,3 +9,5 @@
 mod captures;
 #[cfg(test)]
 mod pcapng;
+#[cfg(test)]
+mod registrations;
