@@ -1,2 +1,3 @@
 pub mod FieldsOfBytes
 pub mod ToldSoFar
+pub mod JoinedParts

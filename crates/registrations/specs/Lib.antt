@@ -2,3 +2,5 @@ pub mod Message
 pub mod Part
 pub mod Values
 pub mod Told
+pub mod Joining
+pub mod UnderWay

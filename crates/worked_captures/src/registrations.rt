@@ -1,6 +1,7 @@
 //! Registrations, byte by byte. What they tell is what tshark 4.0.17 shows of these packets.
 mod faults;
 mod found;
+mod joined;
 mod parts;
 
 use registrations::{Action, ChannelSid, Told, UpstreamFlow};
