@@ -9,6 +9,7 @@ pub mod Tallies
 pub mod SameOutcome
 pub mod Inside
 pub mod Ruled
+pub mod TakenInOrder
 pub mod Channels
 pub mod Modem
 pub mod HandedIn

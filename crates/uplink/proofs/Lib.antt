@@ -1,6 +1,8 @@
-pub mod ItemOffered
-pub mod RestOffered
+pub mod FramesOffered
+pub mod ItemsTaken
+pub mod FlowsClosed
 pub mod ItemsCollected
 pub mod AllAssembled
+pub mod RuledOutcomes
 pub mod RunOutcome
 pub mod AllSettled

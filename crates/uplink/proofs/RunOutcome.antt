@@ -1,7 +1,7 @@
 -- What is known of a running receiver before its start, after its end, and of its outcome.
-use Rattle.std.proofs.Common.{◌≡◌, ℕ, suc, ◌<◌, ◌==◌, Bool, true, false, Some, All, List, [], ◌∷◌, ◌++◌, map, filter, length, get_or, slice_get, option_map, if◌then◌else◌, Vec, Global, eq-eqb, refl, sym, ap, subst, ◌∙◌, arith}
-use Rattle.std.proofs.lemmas.List.{length-map}
-use Rattle.std.proofs.lemmas.List.Elements.{All-nil, All-cons, All-head, All-tail, All-same, All-weaker, All-get_or}
+use Rattle.std.proofs.Common.{◌≡◌, ℕ, suc, ◌<◌, Bool, true, Some, All, List, [], ◌∷◌, ◌++◌, map, filter, length, get_or, slice_get, option_map, Vec, Global, refl, sym, ap, subst, ◌∙◌, arith}
+use Rattle.std.proofs.lemmas.List.{length-map, get_or-map}
+use Rattle.std.proofs.lemmas.List.Elements.{All-get_or}
 use Rattle.std.proofs.lemmas.Option.{slice_get_within, get_or_from_slice_get, same_Some, slice_get-map}
 use Rattle.docsis_wire.proofs.StreamPlaces.{element_at}
 use Rattle.docsis_wire.specs.declared.buffer.Bytes.{Bytes}
@@ -34,48 +34,35 @@ use Rattle.uplink.specs.declared.finish.Ended.{Ended}
 use Rattle.receiver.specs.declared.setup.Setup.{Setup}
 use Rattle.lane.specs.Inputs.{AnsweredInput}
 use Rattle.lane.specs.Report.{admitted_of, requests_of}
-use Rattle.receiver.specs.Items.{Incoming, IsLaneOf, AreLanesOf, IsItem, lane_setup, items_of}
+use Rattle.receiver.specs.Items.{Incoming, IsLaneOf, AreLanesOf, lane_setup, items_of}
 use Rattle.lane.specs.Report.{event_of_admitted}
 use Rattle.flow_records.specs.Decisions.{event_of_decision, names_a_flow}
 use Rattle.lane.specs.Limits.{channel_limit}
 use Rattle.receiver.specs.Order.{picked, IsMergeOf}
 use Rattle.lane.specs.Limits.{senders}
-use Rattle.receiver.specs.Outcome.{GivesAtItsClose, requests_on}
+use Rattle.receiver.specs.Outcome.{requests_on}
+use Rattle.receiver.specs.HandedIn.{made_of}
+use Rattle.receiver.specs.Received.{GaveAllParts}
+use Rattle.receiver.specs.TakenInOrder.{table_inputs}
+use Rattle.consumer.specs.Given.{frames_of}
+use Rattle.bonded_flows.specs.Table.{flow_setup, inputs_at}
 use Rattle.receiver.specs.Ruled.{ruled_flow, comings_at, IsRuledOutcome, AreRuledOutcomes, IsOutcomeBy}
 use Rattle.loss_rule.specs.declared.rule.LossRule.{LossRule}
 use Rattle.lane.specs.Report.{IsReportOf}
 use Rattle.lane.specs.Stands.{StandsFor}
 use Rattle.workers.specs.Inside.Carried.{carried}
 use Rattle.workers.specs.Inside.Working.{HasPosted, HasSent, HasServed, DidLane, kept_of}
-use Rattle.uplink.specs.Inside.Offering.{NamesOneOf, GivesByRule}
+use Rattle.uplink.specs.Inside.Feeding.{offered_to}
 use Rattle.uplink.specs.Inside.Running.{IsOpened, HasEnded, CanSettle, HasConcluded, closed_arrivals, closed_requests, all_posted}
-use Rattle.receiver.proofs.ChannelInputs.{items-admitted}
 use Rattle.receiver.proofs.Interleaving.{five}
-use Rattle.receiver.proofs.FourLanes.{four, decided-are_items}
+use Rattle.receiver.proofs.FourLanes.{four}
+use Rattle.uplink.proofs.FramesOffered.{offered-there}
+use Rattle.uplink.proofs.RuledOutcomes.{ruled-outcome}
 
 module _ {X : Type 0} (P : X → Type 0) where
   -- what holds of all holds of the one at this place
   all-at : (xs : List X) (k : ℕ) (x : X) → All P xs → slice_get xs k ≡ Some x → P x
   all-at xs k x all at = subst P (get_or_from_slice_get xs k x x at) (All-get_or P xs k x (slice_get_within xs k x at) all)
-
-  -- what holds of all but perhaps the first
-  all-rest : (first : Bool) (x : X) (xs : List X) → All P (if first then x ∷ xs else xs) → All P xs
-  all-rest true x xs all = All-tail P x xs all
-  all-rest false x xs all = all
-
-  -- what holds of all items of each sender holds of all items
-  all-merged : (order : List ℕ) (items : List X) → All (λ tag. tag < senders) order → length order ≡ length items
-      → ((sender : ℕ) → sender < senders → All P (picked sender order items)) → All P items
-  all-merged order [] named paired each = All-nil P
-  all-merged [] (x ∷ items) named paired each = absurd (omega arith)
-  all-merged (tag ∷ order) (x ∷ items) named paired each =
-      let Named : ℕ → Type 0 = λ t. t < senders in
-      let here : x ∷ picked tag order items ≡ picked tag (tag ∷ order) (x ∷ items) =
-      sym (ap (λ b. if b then x ∷ picked tag order items else picked tag order items) (eq-eqb tag tag refl)) in
-      All-cons P x items
-      (All-head P x (picked tag order items) (All-same P _ _ here (each tag (All-head Named tag order named))))
-      (all-merged order items (All-tail Named tag order named) (omega arith)
-      (λ sender below. all-rest (sender == tag) x (picked sender order items) (each sender below)))
 
 -- two lists are the same by some function of each element, if each element has such a fellow in the other list
 same-by : {X Y Z : Type 0} (f : X → Z) (h : Y → Z) (xs : List X) (ys : List Y) → length ys ≡ length xs
@@ -189,7 +176,7 @@ module _ {C : Type 0} (accepts : C → List ℕ → Bool) (accepted : List ℕ �
           (λ k taker at. let its = has.consumed.each k taker at in (its.0, its.1, its.2.ring_is)));
       closed = consumers-closed;
       consumer_count = consumers-counted;
-      count_of_counts = has.has_assembled.count ∙ is.rings.count_is;
+      count_of_counts = has.has_assembled.count ∙ is.flows.flow_count;
     }
 
     -- the answers to the inputs of each channel
@@ -224,16 +211,6 @@ module _ {C : Type 0} (accepts : C → List ℕ → Bool) (accepted : List ℕ �
         (posted-first ports.p2 (requests_of done-2.answered) end.done.l2.requests done-2.served.requests_are none.p2)
         (posted-first ports.p3 (requests_of done-3.answered) end.done.l3.requests done-3.served.requests_are none.p3)
 
-    -- a flow can take each item of a sender
-    items-fit : (sender : ℕ) → sender < senders → All (IsItem (length setup.flows.items)) (items_of setup incoming answered sender)
-    items-fit =
-        five (λ sender. All (IsItem (length setup.flows.items)) (items_of setup incoming answered sender))
-        (items-admitted (lane_setup setup 0) done-0.answered done-0.lane.answers)
-        (items-admitted (lane_setup setup 1) done-1.answered done-1.lane.answers)
-        (items-admitted (lane_setup setup 2) done-2.answered done-2.lane.answers)
-        (items-admitted (lane_setup setup 3) done-3.answered done-3.lane.answers)
-        (decided-are_items (length setup.flows.items) incoming.decisions)
-
     module _ (outcome : Outcome) (concluded : HasConcluded setup.flows.items end outcome) where
       -- the items of each sender were taken
       items-taken : (sender : ℕ) → sender < senders → picked sender end.assembled.order.items has.items ≡ items_of setup incoming answered sender
@@ -245,14 +222,6 @@ module _ {C : Type 0} (accepts : C → List ℕ → Bool) (accepted : List ℕ �
       -- so they were merged
       merged : IsMergeOf (items_of setup incoming answered) end.assembled.order.items has.items
       merged = record { named = has.has_collected.named; paired = has.has_collected.paired; lists_are = items-taken }
-
-      -- and each names one of the flows
-      all-exist : All (NamesOneOf (length setup.flows.items)) has.items
-      all-exist =
-          let Fits = IsItem (length setup.flows.items) in
-          All-weaker Fits (NamesOneOf (length setup.flows.items)) (λ item fits. fits.flow_exists) has.items
-          (all-merged Fits end.assembled.order.items has.items merged.named merged.paired
-          (λ sender below. All-same Fits _ _ (items-taken sender below) (items-fit sender below)))
 
       -- the requests that were kept of each channel
       requests-kept : (channel : ℕ) → channel < channel_limit → requests_on outcome channel ≡ requests_of (answered channel)
@@ -268,27 +237,34 @@ module _ {C : Type 0} (accepts : C → List ℕ → Bool) (accepted : List ℕ �
         pub count : FlowCounts
         pub took : slice_get end.done.consumed.items k ≡ Some one
         pub counted : slice_get end.assembled.counts.items k ≡ Some count
-        pub gives : GivesByRule rule accepted setup k flow_record end.assembled.order.items has.items one.frames.items count
+        pub gave : GaveAllParts accepted (flow_setup (made_of rule channel_limit setup) k flow_record)
+            (inputs_at k (table_inputs end.assembled.order.items has.items)) one.frames.items count
 
       -- it did so through its ring
-      gave-through : (k : ℕ) (flow_record : FlowRecord) (feeder : Feeder) (closed : ClosedFeeder) (taker : Taker)
+      gave-through : (k : ℕ) (flow_record : FlowRecord) (feeder : Feeder) (closed : ClosedFeeder) (taker : Taker) (count : FlowCounts)
           → slice_get setup.flows.items k ≡ Some flow_record → slice_get opened.rings.feeders.items k ≡ Some feeder
-          → slice_get end.feeders.items k ≡ Some closed → slice_get opened.rings.takers.items k ≡ Some taker → DidFlow k flow_record
-      gave-through k flow_record feeder closed taker of_flow at_feeder at_closed at_taker =
+          → slice_get end.feeders.items k ≡ Some closed → slice_get opened.rings.takers.items k ≡ Some taker → slice_get end.assembled.counts.items k ≡ Some count
+          → DidFlow k flow_record
+      gave-through k flow_record feeder closed taker count of_flow at_feeder at_closed at_taker at_count =
           let its = has.consumed.each k taker at_taker in
-          let gave = has.has_assembled.gives accepted setup k flow_record feeder closed is.flows all-exist of_flow at_feeder at_closed in
-          let none_offered = all-at (λ f. offered f ≡ []) opened.rings.feeders.items k feeder is.rings.none_offered at_feeder in
+          let made = made_of rule channel_limit setup in
+          let given = frames_of k has.has_assembled.given in
+          let none_offered : offered_to opened.rings.feeders.items k ≡ [] =
+          offered-there opened.rings.feeders.items k feeder at_feeder ∙ all-at (λ f. offered f ≡ []) opened.rings.feeders.items k feeder is.rings.none_offered at_feeder in
           let none_taken = all-at (λ t. takers.taken t ≡ []) opened.rings.takers.items k taker is.rings.none_taken at_taker in
-          let given : closed_offered closed ≡ gave.0 = gave.3 ∙ ap (λ l. l ++ gave.0) none_offered in
+          let all_offered : closed_offered closed ≡ given =
+          sym (ap closed_offered (get_or_from_slice_get end.feeders.items k closed closed at_closed))
+          ∙ sym (get_or-map closed_offered end.feeders.items k closed [] (slice_get_within end.feeders.items k closed at_closed))
+          ∙ has.has_assembled.offered k ∙ ap (λ l. l ++ given) none_offered in
           let taken_all : takers.taken its.0.taker ≡ its.0.frames.items = its.2.frames_are ∙ ap (λ l. l ++ its.0.frames.items) none_taken in
-          let frames : gave.0 ≡ its.0.frames.items = sym given ∙ sym (concluded.frames k closed its.0 at_closed its.1) ∙ taken_all in
+          let frames : given ≡ its.0.frames.items = sym all_offered ∙ sym (concluded.frames k closed its.0 at_closed its.1) ∙ taken_all in
           record {
             one = its.0;
-            count = gave.1;
+            count = count;
             took = its.1;
-            counted = gave.2;
-            gives = subst (λ by. GivesByRule by accepted setup k flow_record end.assembled.order.items has.items its.0.frames.items gave.1) is.by_rule
-                (subst (λ l. GivesByRule opened.flows.rule accepted setup k flow_record end.assembled.order.items has.items l gave.1) frames gave.4);
+            counted = at_count;
+            gave = subst (λ frames. GaveAllParts accepted (flow_setup made k flow_record) (inputs_at k (table_inputs end.assembled.order.items has.items)) frames count) frames
+                (has.has_assembled.gave accepted made is.flows k flow_record count of_flow at_count);
           }
 
       -- and so did each flow
@@ -298,7 +274,8 @@ module _ {C : Type 0} (accepts : C → List ℕ → Bool) (accepted : List ℕ �
           let feeder = element_at opened.rings.feeders.items k (let count = is.rings.count_is in omega arith) in
           let closed = element_at end.feeders.items k (let count = feeders-counted in omega arith) in
           let taker = element_at opened.rings.takers.items k (let count = takers-counted in omega arith) in
-          gave-through k flow_record feeder.0 closed.0 taker.0 of_flow feeder.1 closed.1 taker.1
+          let count = element_at end.assembled.counts.items k (let count = can-settle.count_of_counts in omega arith) in
+          gave-through k flow_record feeder.0 closed.0 taker.0 count.0 of_flow feeder.1 closed.1 taker.1 count.1
 
       -- and the outcome says so
       flow-is : (k : ℕ) (flow_record : FlowRecord) (flow : FlowOutcome) → slice_get setup.flows.items k ≡ Some flow_record
@@ -306,24 +283,14 @@ module _ {C : Type 0} (accepts : C → List ℕ → Bool) (accepted : List ℕ �
           → IsRuledOutcome rule accepted (ruled_flow setup.sids.items k flow_record) flow_record (comings_at k end.assembled.order.items has.items) flow
       flow-is k flow_record flow of_flow at =
           let gave = flow-gave k flow_record of_flow in
-          let by = gave.gives in
-          let Gives : List (List ℕ) → FlowCounts → Type 0 = GivesAtItsClose accepted flow_record by.events in
           let frames : Consumed → Vec Bytes Global = λ one. one.frames in
           let took : slice_get (map frames end.done.consumed.items) k ≡ Some (frames gave.one) =
           slice_get-map frames end.done.consumed.items k ∙ ap (option_map frames) gave.took in
           let says = concluded.flows.each k flow flow_record (frames gave.one) gave.count at of_flow took gave.counted in
-          record {
-            events = by.events;
-            lasts = by.lasts;
-            fates = by.fates;
-            ruled = by.ruled;
-            gave = record {
-              sfid = says.0;
-              gives =
-                  subst (Gives flow.frames.items) (sym says.2)
-                  (subst (λ (given : Vec Bytes Global). Gives given.items gave.count) (sym says.1) by.gives);
-            };
-          }
+          let Gave : List (List ℕ) → FlowCounts → Type 0 =
+          GaveAllParts accepted (flow_setup (made_of rule channel_limit setup) k flow_record) (inputs_at k (table_inputs end.assembled.order.items has.items)) in
+          ruled-outcome rule accepted setup k flow_record end.assembled.order.items has.items flow
+          (subst (Gave flow.frames.items) (sym says.2) (subst (λ (given : Vec Bytes Global). Gave given.items gave.count) (sym says.1) gave.gave)) says.0
 
       flows-are : AreRuledOutcomes rule accepted setup outcome.order.items has.items outcome.flows.items
       flows-are = record {

@@ -1,29 +1,33 @@
 //! The assembler, which is the caller of a running receiver.
-ghost use Rattle.std.specs.Prelude.{◌≡◌, ◌<◌, ◌≤◌, ◌++◌, ◌∷◌, [], ℕ, List, Some, true, IfSome, IfOk, OnOk, length, map};
+ghost use Rattle.std.specs.Prelude.{◌≡◌, ◌<◌, ◌≤◌, ◌++◌, ◌∷◌, [], ℕ, List, Some, true, IsTrue, IfSome, IfOk, length, map};
+ghost use Rattle.docsis_wire.specs.Ready.{IsReady};
 ghost use Rattle.mailbox.specs.Mouths.{places, taken, ended};
-ghost use Rattle.delivery.specs.Feeders.{feeder_ring, offered, closed_ring, closed_offered};
+ghost use Rattle.delivery.specs.Feeders.{feeder_ring, closed_ring};
 ghost use Rattle.flow_records.specs.declared.event.Event.{Event};
-ghost use Rattle.flow_core.specs.Flows.{IsDrainedAt, OthersStay};
-ghost use Rattle.flow_core.specs.Giving.{IsRunning};
+ghost use Rattle.flow_records.specs.Events.{IsTakable};
 ghost use Rattle.lane.specs.Limits.{senders};
-ghost use Rattle.receiver.specs.Inside.Assembly.{IsTaking, GivesTheRest};
-ghost use Rattle.receiver.specs.Inside.Ruling.{IsRuling};
-ghost use Rattle.uplink.specs.Inside.Offering.{HasCollected, HasAssembledSoFar, OffersItem, OffersTheRest, HasAssembledAll};
+ghost use Rattle.loss_rule.specs.Rule.{on_channel, handed_in};
+ghost use Rattle.bonded_flows.specs.ByRule.{decision_event, IsTakable as IsDecisionTakable};
+ghost use Rattle.bonded_flows.specs.Parts.{comes};
+ghost use Rattle.bonded_flows.specs.Table.{IsInUse};
+ghost use Rattle.uplink.specs.Inside.Feeding.{rings_of};
+ghost use Rattle.uplink.specs.Inside.Offering.{HasCollected, HasAssembledSoFar, Takes, TakesItem, ClosesFlows, HasAssembledAll};
 
+use crate::feeding::Feeding;
+use bonded_flows::{FlowDecision, FlowTable};
 use delivery::{ClosedFeeder, Feeder};
-use docsis_wire::{Bytes, HeaderCheck};
-use flow_core::{Core, FlowCounts};
+use docsis_wire::{HeaderCheck, Segment};
+use flow_core::{Event, FlowCounts};
 use mailbox::{Mouth, Taken};
-use receiver::{RuledAssembler, close_flow};
 use std::alloc::{AllocError, Global};
 use std::sync::Wait;
 use std::thread;
-use workers::{Item, close_feeders, flush_all, offer_all};
+use workers::{Item, close_feeders};
 
 /// All flows, and the order of the items that were taken so far.
 #[derive(Drop)]
 pub struct Taking<C> {
-    pub flows: RuledAssembler<C>,
+    pub flows: FlowTable<C>,
     pub order: Vec<u8>,
 }
 
@@ -49,13 +53,12 @@ pub struct AssembledAll {
 pub fn assemble<C: HeaderCheck + Drop, R: Wait>(
     alloc: Global,
     rt: &R,
-    flows: RuledAssembler<C>,
+    flows: FlowTable<C>,
     mouth: Mouth<Item>,
     feeders: Vec<Feeder>,
     closed: Vec<ClosedFeeder>,
 ) -> AssembledAll
-    requires ruling { IsRuling C.accepts flows }
-    requires flows { length flows.assembler.core.flows.items ≡ length feeders.items }
+    requires in_use { IsInUse C.accepts flows }
     requires room { (closed.items ≡ []) × (length feeders.items ≤ closed.cap) }
     ensures places { places result.mouth ≡ places mouth }
     ensures ended { (sender : ℕ) → sender < senders → ended result.mouth sender ≡ true }
@@ -66,11 +69,13 @@ pub fn assemble<C: HeaderCheck + Drop, R: Wait>(
         result.feeders.items done.counts.items) }
 {
     let mut mouth = mouth;
-    let mut feeders = feeders;
-    let all_feeders = feeders.as_mut_slice();
-    let taking = take_items(alloc, rt, flows, &mut mouth, all_feeders);
-    let done = close_flows(alloc, taking, all_feeders);
-    let feeders = close_feeders(rt, feeders, closed);
+    let mut feeding = Feeding {
+        feeders,
+        whole: true,
+    };
+    let taking = take_items(alloc, rt, flows, &mut mouth, &mut feeding);
+    let done = close_flows(alloc, taking, &mut feeding);
+    let feeders = close_feeders(rt, feeding.feeders, closed);
     AssembledAll {
         mouth,
         feeders,
@@ -83,17 +88,16 @@ pub fn assemble<C: HeaderCheck + Drop, R: Wait>(
 fn take_items<C: HeaderCheck + Drop, R: Wait>(
     alloc: Global,
     rt: &R,
-    flows: RuledAssembler<C>,
+    flows: FlowTable<C>,
     mouth: &mut Mouth<Item>,
-    feeders: &mut [Feeder],
+    feeding: &mut Feeding,
 ) -> Option<Taking<C>>
-    requires ruling { IsRuling C.accepts flows }
-    requires flows { length flows.assembler.core.flows.items ≡ length feeders.old }
+    requires { IsInUse C.accepts flows }
     ensures places { places mouth.new ≡ places mouth.old }
     ensures ended { (sender : ℕ) → sender < senders → ended mouth.new sender ≡ true }
-    ensures rings { map feeder_ring feeders.new ≡ map feeder_ring feeders.old }
-    ensures so_far { IfSome result (λ made. HasAssembledSoFar C.accepts flows feeders.old
-        (taken mouth.old) (taken mouth.new) feeders.new made) }
+    ensures rings { rings_of feeding.new ≡ rings_of feeding.old }
+    ensures so_far { IfSome result (λ made. HasAssembledSoFar C.accepts flows feeding.old
+        (taken mouth.old) (taken mouth.new) made feeding.new) }
 {
     let mut taking = Some(Taking {
         flows,
@@ -105,11 +109,11 @@ fn take_items<C: HeaderCheck + Drop, R: Wait>(
         }
         match mouth.next(rt) {
             Taken::Item { from, item } => {
-                taking = with_item(alloc, taking, feeders, from, item);
+                taking = with_item(alloc, taking, feeding, from, item);
             }
             Taken::End { .. } => {}
             Taken::Empty => {
-                flush_all(feeders);
+                feeding.flush();
                 thread::yield_now();
             }
         }
@@ -122,118 +126,144 @@ fn take_items<C: HeaderCheck + Drop, R: Wait>(
 fn with_item<C: HeaderCheck + Drop>(
     alloc: Global,
     taking: Option<Taking<C>>,
-    feeders: &mut [Feeder],
+    feeding: &mut Feeding,
     from: u8,
     item: Item,
 ) -> Option<Taking<C>>
-    requires ruling { IfSome taking (λ t. IsRuling C.accepts t.flows) }
-    requires flows { IfSome taking
-        (λ t. length t.flows.assembler.core.flows.items ≡ length feeders.old) }
-    ensures rings { map feeder_ring feeders.new ≡ map feeder_ring feeders.old }
-    ensures order { IfSome result (λ now. (was : _) × (taking ≡ Some was)
+    requires { IfSome taking (λ was. IsInUse C.accepts was.flows) }
+    ensures rings { rings_of feeding.new ≡ rings_of feeding.old }
+    ensures takes { IfSome result (λ now. (was : _) × (taking ≡ Some was)
         × (now.order.items ≡ was.order.items ++ from ∷ [])
-        × OffersItem C.accepts was.flows feeders.old from item.event now.flows feeders.new) }
+        × TakesItem C.accepts was.flows feeding.old from item.event now.flows feeding.new) }
 {
     let Taking {
         mut flows,
         mut order,
     } = taking?;
     order.push(from).ok()?;
-    offer_item(alloc, &mut flows, feeders, from, item).ok()?;
+    take_item(&mut flows, alloc, from, item.event, feeding)?;
+    if !feeding.whole {
+        return None;
+    }
     Some(Taking { flows, order })
 }
 
-/// Has an item's flow take it, with what by the rule is lost before it, and offers the frames that
-/// the flow then gives. An item of a flow that there isn't is passed over; none that is posted is
-/// such.
-fn offer_item<C: HeaderCheck + Drop>(
+/// Has an item's flow take it, and offers the frames that the flow then gives. An item of a flow
+/// that there isn't is passed over; none that is posted is such. Nothing where an allocation failed.
+fn take_item<C: HeaderCheck + Drop>(
+    flows: &mut FlowTable<C>,
     alloc: Global,
-    flows: &mut RuledAssembler<C>,
-    feeders: &mut [Feeder],
     from: u8,
-    item: Item,
-) -> Result<(), AllocError>
-    requires ruling { IsRuling C.accepts flows.old }
-    requires flows { length flows.old.assembler.core.flows.items ≡ length feeders.old }
-    ensures rings { map feeder_ring feeders.new ≡ map feeder_ring feeders.old }
-    ensures offers { OnOk result
-        (OffersItem C.accepts flows.old feeders.old from item.event flows.new feeders.new) }
+    item: Event,
+    feeding: &mut Feeding,
+) -> Option<()>
+    requires in_use { IsInUse C.accepts flows.old }
+    requires takable { IsTakable item }
+    ensures rings { rings_of feeding.new ≡ rings_of feeding.old }
+    ensures takes { IfSome result (λ _.
+        TakesItem C.accepts flows.old feeding.old from item flows.new feeding.new) }
 {
-    let flow = item.event.flow();
+    let flow = item.flow();
     if flow >= flows.flow_count() {
-        return Ok(());
+        return Some(());
     }
-    flows.take(alloc, from, item.event)?;
-    let frames = flows.hand_over(alloc, flow);
-    offer_all(&mut feeders[flow], frames)
+    match item {
+        Event::Arrive { segment, .. } => {
+            take_segment(flows, alloc, flow, usize::from(from), segment, feeding)
+        }
+        Event::Gap { .. } => decide(flows, alloc, flow, FlowDecision::Gap, feeding),
+        Event::GapTo { number, .. } => {
+            decide(flows, alloc, flow, FlowDecision::GapTo(number), feeding)
+        }
+        Event::SkipTo { number, .. } => {
+            decide(flows, alloc, flow, FlowDecision::SkipTo(number), feeding)
+        }
+    }
+}
+
+/// Has a flow take a segment that comes on this channel. Nothing where an allocation failed.
+fn take_segment<C: HeaderCheck + Drop>(
+    flows: &mut FlowTable<C>,
+    alloc: Global,
+    flow: usize,
+    channel: usize,
+    segment: Segment,
+    feeding: &mut Feeding,
+) -> Option<()>
+    requires in_use { IsInUse C.accepts flows.old }
+    requires exists { flow < length flows.old.slots.items }
+    requires ready { IsReady segment }
+    ensures rings { rings_of feeding.new ≡ rings_of feeding.old }
+    ensures takes { IfSome result (λ _. Takes C.accepts flows.old feeding.old
+        (record { flow = flow; input = comes (on_channel channel segment) } ∷ [])
+        flows.new feeding.new) }
+{
+    flows.prepare(alloc, flow, feeding).ok()?;
+    flows
+        .take_segment(alloc, flow, channel, segment, feeding)
+        .ok()?;
+    Some(())
+}
+
+/// Has a flow take a decision. Nothing where an allocation failed.
+fn decide<C: HeaderCheck + Drop>(
+    flows: &mut FlowTable<C>,
+    alloc: Global,
+    flow: usize,
+    decision: FlowDecision,
+    feeding: &mut Feeding,
+) -> Option<()>
+    requires in_use { IsInUse C.accepts flows.old }
+    requires exists { flow < length flows.old.slots.items }
+    requires takable { IsDecisionTakable decision }
+    ensures rings { rings_of feeding.new ≡ rings_of feeding.old }
+    ensures takes { IfSome result (λ _. Takes C.accepts flows.old feeding.old
+        (record { flow = flow; input = comes (handed_in (decision_event decision)) } ∷ [])
+        flows.new feeding.new) }
+{
+    flows.decide(alloc, flow, decision, feeding).ok()?;
+    Some(())
 }
 
 /// Closes all flows, and offers the frames that this gives. Answers the order of the items and what
-/// was counted of each flow.
+/// was counted of each flow. Nothing where there was nothing, or where an allocation failed.
 fn close_flows<C: HeaderCheck + Drop>(
     alloc: Global,
     taking: Option<Taking<C>>,
-    feeders: &mut [Feeder],
+    feeding: &mut Feeding,
 ) -> Option<Assembled>
-    requires ruling { IfSome taking (λ t. IsRuling C.accepts t.flows) }
-    requires flows { IfSome taking
-        (λ t. length t.flows.assembler.core.flows.items ≡ length feeders.old) }
-    ensures rings { map feeder_ring feeders.new ≡ map feeder_ring feeders.old }
-    ensures counts { IfSome result (λ done. length done.counts.items ≡ length feeders.old) }
-    ensures closed { IfSome result (λ done. (was : _) × (taking ≡ Some was)
+    requires { IfSome taking (λ was. IsInUse C.accepts was.flows) }
+    ensures rings { rings_of feeding.new ≡ rings_of feeding.old }
+    ensures closes { IfSome result (λ done. (was : _) × (taking ≡ Some was)
         × (done.order ≡ was.order)
-        × OffersTheRest C.accepts was.flows.assembler.core was.flows.assembler.frames.items
-        feeders.old feeders.new done.counts.items) }
+        × ClosesFlows C.accepts was.flows feeding.old done.counts.items feeding.new) }
+    ensures whole { IfSome result (λ _. IsTrue feeding.new.whole) }
 {
-    let Taking { flows, order } = taking?;
-    let (mut core, waiting) = flows.into_parts();
-    let counts = offer_the_rest(alloc, &mut core, waiting, feeders).ok()?;
+    let Taking { mut flows, order } = taking?;
+    let counts = close_all(alloc, &mut flows, feeding).ok()?;
+    if !feeding.whole {
+        return None;
+    }
     Some(Assembled { order, counts })
 }
 
-/// Closes all flows, offers the frames that wait for each and those that it then gives, and answers
+/// Closes all flows, in the order of their records, offers the frames that this gives, and answers
 /// what was counted of each.
-fn offer_the_rest<C: HeaderCheck + Drop>(
+fn close_all<C: HeaderCheck + Drop>(
     alloc: Global,
-    core: &mut Core<C>,
-    waiting: Vec<Vec<Bytes>>,
-    feeders: &mut [Feeder],
+    flows: &mut FlowTable<C>,
+    feeding: &mut Feeding,
 ) -> Result<Vec<FlowCounts>, AllocError>
-    requires taking { IsTaking C.accepts core.old }
-    requires waiting { length waiting.items ≡ length feeders.old }
-    requires flows { length core.old.flows.items ≡ length feeders.old }
-    ensures rings { map feeder_ring feeders.new ≡ map feeder_ring feeders.old }
-    ensures counts { IfOk result (λ counts. length counts.items ≡ length feeders.old) }
-    ensures offers { IfOk result (λ counts.
-        OffersTheRest C.accepts core.old waiting.items feeders.old feeders.new counts.items) }
+    requires { IsInUse C.accepts flows.old }
+    ensures rings { rings_of feeding.new ≡ rings_of feeding.old }
+    ensures closes { IfOk result (λ counts.
+        ClosesFlows C.accepts flows.old feeding.old counts.items feeding.new) }
 {
-    let mut counts = Vec::with_capacity(alloc, feeders.len())?;
-    for frames in waiting {
-        let flow = counts.len();
-        let count = offer_rest(alloc, core, flow, frames, &mut feeders[flow])?;
-        counts.push_reserved(count);
+    let flow_count = flows.flow_count();
+    let mut counts = Vec::with_capacity(alloc, flow_count)?;
+    for flow in 0..flow_count {
+        let counted = flows.restart(alloc, flow, 0, feeding)?;
+        counts.push_reserved(counted);
     }
-    Ok(counts)
-}
-
-/// Closes a drained flow, offers the frames that wait and those that it then gives, and answers
-/// what was counted of it.
-fn offer_rest<C: HeaderCheck + Drop>(
-    alloc: Global,
-    core: &mut Core<C>,
-    flow: usize,
-    waiting: Vec<Bytes>,
-    feeder: &mut Feeder,
-) -> Result<FlowCounts, AllocError>
-    requires running { IsRunning C.accepts core.old flow }
-    requires drained { IsDrainedAt core.old flow }
-    ensures ring { feeder_ring feeder.new ≡ feeder_ring feeder.old }
-    ensures gives { IfOk result (λ counts. GivesTheRest C.accepts core.old flow
-        (offered feeder.old ++ waiting.items) (offered feeder.new) counts) }
-    ensures others { OthersStay core.old core.new flow }
-{
-    let mut frames = waiting;
-    let counts = close_flow(alloc, core, flow, &mut frames)?;
-    offer_all(feeder, frames)?;
     Ok(counts)
 }

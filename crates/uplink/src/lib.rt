@@ -19,6 +19,7 @@
 
 mod assembler;
 mod eight_threads;
+mod feeding;
 mod finish;
 pub mod laws;
 mod open;

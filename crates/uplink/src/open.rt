@@ -3,11 +3,12 @@ ghost use Rattle.std.specs.Prelude.{IfOk};
 ghost use Rattle.receiver.specs.Faults.{CanReceive};
 ghost use Rattle.uplink.specs.Inside.Running.{AreOpenLanes, IsOpened};
 
+use bonded_flows::FlowTable;
 use delivery::ClosedFeeder;
 use docsis_wire::HeaderCheck;
 use lane::{Lane, Request};
 use loss_rule::LossRule;
-use receiver::{RuledAssembler, Setup};
+use receiver::{Setup, Width};
 use std::alloc::{AllocError, Global};
 use workers::{Item, Lanes, OpenMailbox, Rings, StartWord, both_made, open_mailbox, open_rings};
 
@@ -17,7 +18,7 @@ use workers::{Item, Lanes, OpenMailbox, Rings, StartWord, both_made, open_mailbo
 pub struct Opened<C> {
     pub start: StartWord,
     pub lanes: Lanes,
-    pub flows: RuledAssembler<C>,
+    pub flows: FlowTable<C>,
     pub rings: Rings,
     pub closed: Vec<ClosedFeeder>,
     pub arrivals: OpenMailbox<Item>,
@@ -36,7 +37,8 @@ pub fn open_all<C: HeaderCheck + Drop>(
     ensures { IfOk result (IsOpened C.accepts (C.accepts check) rule setup.now) }
 {
     let lanes = open_lanes(alloc, setup);
-    let flows = RuledAssembler::new(alloc, rule, setup, check);
+    let channels = Width::PROFILE.channels();
+    let flows = FlowTable::new(alloc, rule, &setup.flows, channels, &setup.sids, check);
     let rings = open_rings(alloc, &setup.flows);
     let closed = Vec::with_capacity(alloc, setup.flows.len());
     let arrivals = open_mailbox(alloc, setup.mailbox);

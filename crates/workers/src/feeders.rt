@@ -1,25 +1,10 @@
 //! The feeders of all flows, which the assembler of a running receiver drives.
-ghost use Rattle.std.specs.Prelude.{◌≡◌, ◌≤◌, ◌++◌, [], OnOk, length, map};
+ghost use Rattle.std.specs.Prelude.{◌≡◌, ◌≤◌, [], length, map};
 ghost use Rattle.delivery.specs.Feeders.{feeder_ring, offered, closed_ring, closed_offered};
 
 use delivery::{ClosedFeeder, Feeder};
-use docsis_wire::Bytes;
-use std::alloc::AllocError;
 use std::sync::Wait;
 use std::thread;
-
-/// Offers frames to a feeder, in order.
-pub fn offer_all(feeder: &mut Feeder, frames: Vec<Bytes>) -> Result<(), AllocError>
-    ensures ring { feeder_ring feeder.new ≡ feeder_ring feeder.old }
-    ensures offered { OnOk result (offered feeder.new ≡ offered feeder.old ++ frames.items) }
-{
-    for frame in frames {
-        let Ok(()) = feeder.offer(frame.into_vec()) else {
-            return Err(AllocError);
-        };
-    }
-    Ok(())
-}
 
 /// Moves what the backlogs hold into the rings for as long as they have room.
 pub fn flush_all(feeders: &mut [Feeder])

@@ -12,7 +12,7 @@
 //!    [`Taps`] are what the caller brings.
 //! 3. [`start_team`] starts all workers, and [`Team::join`] waits for them and hands on what they
 //!    have [`Done`].
-//! 4. Meanwhile the caller takes [`Item`]s and drives the feeders: [`offer_all`], [`flush_all`] and
+//! 4. Meanwhile the caller takes [`Item`]s and drives the feeders: [`flush_all`] and
 //!    [`close_feeders`].
 //! 5. [`settle_rings`] settles the rings.
 #![tactic(auto)]
@@ -34,7 +34,7 @@ mod team;
 mod work;
 
 pub use both::{both_done, both_made};
-pub use feeders::{close_feeders, flush_all, offer_all};
+pub use feeders::{close_feeders, flush_all};
 pub use frame_worker::Consumed;
 pub use item::Item;
 pub use lane_worker::LaneDone;

@@ -23,9 +23,10 @@ use Rattle.uplink.specs.declared.open.Opened.{Opened}
 use Rattle.uplink.specs.declared.finish.Ended.{Ended}
 use Rattle.receiver.specs.declared.setup.Setup.{Setup}
 use Rattle.loss_rule.specs.declared.rule.LossRule.{LossRule}
-use Rattle.receiver.specs.Inside.Assembly.{none_handed}
-use Rattle.receiver.specs.Inside.Ruling.{HasRuled, IsRuling}
+use Rattle.receiver.specs.HandedIn.{made_of}
 use Rattle.receiver.specs.Items.{Incoming, lane_setup}
+use Rattle.bonded_flows.specs.Table.{IsInUse}
+use Rattle.bonded_flows.specs.Table.{StandsFor as TableStandsFor}
 use Rattle.lane.specs.Limits.{channel_limit}
 use Rattle.uplink.specs.Inside.Offering.{HasCollected, HasAssembledAll}
 use Rattle.lane.specs.Limits.{senders}
@@ -43,18 +44,17 @@ pub record AreOpenLanes (setup : Setup) (lanes : Lanes) : Type 0 where
 -- what a receiver of this setup and this rule needs before its workers start
 pub record IsOpened {C : Type 0} (accepts : C → List ℕ → Bool) (accepted : List ℕ → Bool) (rule : LossRule) (setup : Setup) (opened : Opened C) : Type 0 where
   pub lanes : AreOpenLanes setup opened.lanes
-  pub flows : HasRuled accepts opened.flows accepted none_handed setup [] []
-  pub by_rule : opened.flows.rule ≡ rule
+  pub flows : TableStandsFor accepts opened.flows accepted (made_of rule channel_limit setup) [] []
+  pub in_use : IsInUse accepts opened.flows
   pub rings : AreOpenRings setup.flows.items opened.rings
   pub none_closed : opened.closed.items ≡ []
   pub room : length setup.flows.items ≤ opened.closed.cap
   pub arrivals : IsOpenMailbox setup.mailbox opened.arrivals
   pub requests : IsOpenMailbox setup.mailbox opened.requests
 
--- what can be started: the flows have taken some items, there is a feeder for each flow, and room for it once it is closed
+-- what can be started: the flows are in use, and there is room for each feeder once it is closed
 pub record CanStart {C : Type 0} (accepts : C → List ℕ → Bool) (opened : Opened C) : Type 0 where
-  pub ruling : IsRuling accepts opened.flows
-  pub flows : length opened.flows.assembler.core.flows.items ≡ length opened.rings.feeders.items
+  pub in_use : IsInUse accepts opened.flows
   pub none_closed : opened.closed.items ≡ []
   pub room : length opened.rings.feeders.items ≤ opened.closed.cap
 

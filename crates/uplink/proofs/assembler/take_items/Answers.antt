@@ -1,7 +1,8 @@
 -- One item after another is taken.
-use Rattle.std.proofs.Common.{rules, refl}
+use Rattle.std.proofs.Common.{rules, refl, ◌∙◌}
 use Rattle.mailbox.specs.Mouths.{taken}
-use Rattle.uplink.proofs.AllAssembled.{begins, item_made, nothing_made, flows_as_feeders}
+use Rattle.uplink.proofs.AllAssembled.{begins, item-made, nothing-made, in-use}
+use Rattle.uplink.proofs.FramesOffered.{none-offered}
 use Rattle.uplink.proofs.assembler.take_items.Goals as goal
 
 pub loop-init : goal.loop-init
@@ -9,15 +10,14 @@ loop-init g c =
     record {
       places_are = refl;
       rings = refl;
-      so_far = begins g.C.HeaderCheck.accepts c.args.flows c.args.feeders.now (taken c.args.mouth.now)
-          (record { flows = c.args.flows; order = c.new.result }) refl c.new.ensures.items c.requires.ruling;
+      so_far = begins g.C.HeaderCheck.accepts c.args.flows c.args.feeding.now (taken c.args.mouth.now)
+          (record { flows = c.args.flows; order = c.new.result }) refl c.new.ensures.items;
     }
 
-pub with_item-taking-requires-clause-flows : goal.with_item-taking-requires-clause-flows
-with_item-taking-requires-clause-flows g c =
+pub with_item-taking-requires : goal.with_item-taking-requires
+with_item-taking-requires g c =
     let loop = c.loop in
-    flows_as_feeders g.C.HeaderCheck.accepts c.args.flows c.args.feeders.now (taken c.args.mouth.now) (taken loop.mouth) loop.feeders loop.taking
-    c.requires.flows loop.invariant.rings loop.invariant.so_far
+    in-use g.C.HeaderCheck.accepts c.args.flows c.args.feeding.now (taken c.args.mouth.now) (taken loop.mouth) loop.feeding c.requires loop.taking loop.invariant.so_far
 
 pub loop-preserved-in-Item : goal.loop-preserved-in-Item
 loop-preserved-in-Item g c =
@@ -26,9 +26,9 @@ loop-preserved-in-Item g c =
     record {
       places_are = search rules;
       rings = search rules;
-      so_far = item_made g.C.HeaderCheck.accepts c.args.flows c.args.feeders.now (taken c.args.mouth.now) (taken loop.mouth)
-          (taken c.next-in-loop.new.self) loop.feeders c.with_item-taking.new.feeders c.in-Item.from c.in-Item.item loop.taking c.with_item-taking.result
-          takes.five takes.taken_is c.with_item-taking.ensures.order loop.invariant.so_far;
+      so_far = item-made g.C.HeaderCheck.accepts c.args.flows c.args.feeding.now (taken c.args.mouth.now) (taken loop.mouth)
+          (taken c.next-in-loop.new.self) loop.feeding c.with_item-taking.new.feeding c.in-Item.from c.in-Item.item loop.taking c.with_item-taking.result
+          takes.five takes.taken_is c.with_item-taking.ensures.takes loop.invariant.so_far;
     }
 
 pub loop-preserved-in-End : goal.loop-preserved-in-End
@@ -36,9 +36,9 @@ loop-preserved-in-End g c =
     let loop = c.loop in
     record {
       places_are = search rules;
-      rings = search rules;
-      so_far = nothing_made g.C.HeaderCheck.accepts c.args.flows c.args.feeders.now (taken c.args.mouth.now) (taken loop.mouth)
-          (taken c.next-in-loop.new.self) loop.feeders loop.feeders loop.taking c.in-End.ensures.takes.taken_is refl loop.invariant.so_far;
+      rings = loop.invariant.rings;
+      so_far = nothing-made g.C.HeaderCheck.accepts c.args.flows c.args.feeding.now (taken c.args.mouth.now) (taken loop.mouth)
+          (taken c.next-in-loop.new.self) loop.feeding loop.feeding loop.taking c.in-End.ensures.takes.taken_is (none-offered loop.feeding) loop.invariant.so_far;
     }
 
 pub loop-preserved : goal.loop-preserved
@@ -46,8 +46,7 @@ loop-preserved g c =
     let loop = c.loop in
     record {
       places_are = search rules;
-      rings = search rules;
-      so_far = nothing_made g.C.HeaderCheck.accepts c.args.flows c.args.feeders.now (taken c.args.mouth.now) (taken loop.mouth)
-          (taken c.next-in-loop.new.self) loop.feeders c.flush_all.new.feeders loop.taking c.in-Empty.ensures.takes.taken_is
-          c.flush_all.ensures.offered loop.invariant.so_far;
+      rings = c.flush.ensures.rings ∙ loop.invariant.rings;
+      so_far = nothing-made g.C.HeaderCheck.accepts c.args.flows c.args.feeding.now (taken c.args.mouth.now) (taken loop.mouth)
+          (taken c.next-in-loop.new.self) loop.feeding c.flush.new.self loop.taking c.in-Empty.ensures.takes.taken_is c.flush.ensures loop.invariant.so_far;
     }

@@ -1,0 +1,140 @@
+-- All flows are closed, one after another.
+use Rattle.std.proofs.Common.{◌≡◌, ℕ, suc, ◌<◌, ⊎_elim, Bool, Some, List, [], ◌∷◌, ◌++◌, length, map, slice_get, ap, sym, subst, ◌∙◌, append_assoc, append-nil, arith}
+use Rattle.std.proofs.lemmas.List.{length_push}
+use Rattle.std.proofs.lemmas.Option.{same_Some, slice_get_within}
+use Rattle.docsis_wire.proofs.StreamPlaces.{element_at}
+use Rattle.flow_records.specs.declared.record.FlowRecord.{FlowRecord}
+use Rattle.flow_core.specs.declared.counts.FlowCounts.{FlowCounts}
+use Rattle.lane.proofs.LaneTaking.{from-pushed}
+use Rattle.consumer.specs.declared.given.Given.{Given}
+use Rattle.consumer.specs.declared.given.Given.TheVariants.{Frame}
+use Rattle.consumer.specs.Given.{frames_of}
+use Rattle.bonded_flows.specs.declared.flow_slot.FlowSlot.{FlowSlot}
+use Rattle.bonded_flows.specs.declared.flow_table.FlowTable.{FlowTable}
+use Rattle.bonded_flows.specs.FlowSetup.{FlowSetup}
+use Rattle.bonded_flows.specs.ByRule.{GaveByRule}
+use Rattle.bonded_flows.specs.Parts.{FlowInput, begins_anew, last_part, begun_at}
+use Rattle.bonded_flows.specs.Slots.{SlotStands, PartStands}
+use Rattle.bonded_flows.specs.Table.{TableSetup, TableInput, flow_setup, inputs_at, StandsFor, IsInUse, BeginsAnewAt}
+use Rattle.bonded_flows.proofs.TableTurns.{frames-own, frames-others}
+use Rattle.receiver.specs.Received.{GaveAllParts, closings}
+use Rattle.receiver.proofs.ClosedFlows.{still-open}
+use Rattle.uplink.specs.declared.feeding.Feeding.{Feeding}
+use Rattle.uplink.specs.Inside.Feeding.{HasOffered}
+use Rattle.uplink.specs.Inside.Offering.{GaveAll, ClosesFlows}
+use Rattle.uplink.proofs.FramesOffered.{none-offered}
+
+module _ {C : Type 0} (accepts : C → List ℕ → Bool) (flows0 : FlowTable C) (feeding0 : Feeding) where
+  -- so many of the flows are closed and gave all, and the others are as they were
+  pub record HaveClosed (flows : FlowTable C) (check : List ℕ → Bool) (setup : TableSetup) (history : List TableInput) (given : List Given) (counts : List FlowCounts) : Type 0 where
+    pub stands : StandsFor accepts flows check setup (history ++ closings (length counts)) given
+    pub gave : GaveAll check setup history given counts
+
+  -- the flows so far are closed, and what that gave was offered
+  pub record ClosesSoFar (flows : FlowTable C) (feeding : Feeding) (counts : List FlowCounts) : Type 0 where
+    pub more : List Given
+    pub offered : HasOffered feeding0 more feeding
+    pub closed : (check : List ℕ → Bool) (setup : TableSetup) (history : List TableInput) (given : List Given)
+        → StandsFor accepts flows0 check setup history given → HaveClosed flows check setup history (given ++ more) counts
+
+  -- none is closed yet
+  pub none-closed : ClosesSoFar flows0 feeding0 []
+  none-closed = record {
+    more = [];
+    offered = none-offered feeding0;
+    closed = λ check setup history given stands. record {
+      stands =
+          subst (λ h. StandsFor accepts flows0 check setup h (given ++ [])) (sym (append-nil history))
+          (subst (λ g. StandsFor accepts flows0 check setup history g) (sym (append-nil given)) stands);
+      gave = λ k flow_record count of_record there. let within = slice_get_within [] k count there in absurd (omega arith);
+    };
+  }
+
+  -- there are as many flows as at first
+  pub as-many : (flows : FlowTable C) (feeding : Feeding) (counts : List FlowCounts) → IsInUse accepts flows0 → ClosesSoFar flows feeding counts
+      → length flows.slots.items ≡ length flows0.slots.items
+  as-many flows feeding counts in_use so_far =
+      (so_far.closed in_use.check in_use.made in_use.history in_use.given in_use.stands).stands.flow_count ∙ sym in_use.stands.flow_count
+
+  module _ (flows flows' : FlowTable C) (feeding feeding' : Feeding) (counts : List FlowCounts) (so_far : ClosesSoFar flows feeding counts) (count : FlowCounts)
+      (anew : BeginsAnewAt HasOffered accepts flows feeding (length counts) 0 count flows' feeding') (inside : length counts < length flows.slots.items) where
+    abbrev n : ℕ
+    n = length counts
+
+    abbrev counts' : List FlowCounts
+    counts' = counts ++ count ∷ []
+
+    abbrev gave_more : List Given
+    gave_more = map (Frame n) anew.more
+
+    module _ (check : List ℕ → Bool) (setup : TableSetup) (history : List TableInput) (given : List Given)
+        (have : HaveClosed flows check setup history given counts) where
+      -- the next flow gave all
+      next-gave : (flow_record : FlowRecord) → slice_get setup.records n ≡ Some flow_record
+          → GaveAllParts check (flow_setup setup n flow_record) (inputs_at n history) (frames_of n (given ++ gave_more)) count
+      next-gave flow_record of_record =
+          let made : FlowSetup = flow_setup setup n flow_record in
+          let slot = element_at flows.slots.items n inside in
+          let stands : SlotStands check made slot.0 (inputs_at n history) (frames_of n given) =
+          subst (λ (inputs : List FlowInput). SlotStands check made slot.0 inputs (frames_of n given)) (still-open n n history (omega arith))
+          (have.stands.flows n flow_record slot.0 of_record slot.1) in
+          let begun : FlowSetup = begun_at made (last_part made (inputs_at n history)).first in
+          let part : PartStands (accepts flows.check) begun slot.0 (last_part made (inputs_at n history)).comings stands.own =
+          subst (λ (c : List ℕ → Bool). PartStands c begun slot.0 (last_part made (inputs_at n history)).comings stands.own) (sym have.stands.check_is) stands.part in
+          record {
+            earlier = stands.earlier;
+            own = stands.own ++ anew.more;
+            gave = stands.gave;
+            last =
+                subst (λ (c : List ℕ → Bool). GaveByRule c begun (last_part made (inputs_at n history)).comings (stands.own ++ anew.more) count) have.stands.check_is
+                (anew.gave begun (last_part made (inputs_at n history)).comings stands.own
+                (λ one there. subst (λ (s : FlowSlot). PartStands (accepts flows.check) begun s (last_part made (inputs_at n history)).comings stands.own)
+                (same_Some slot.0 one (sym slot.1 ∙ there)) part));
+            all = frames-own n history [] given anew.more ∙ ap (λ frames. frames ++ anew.more) stands.all ∙ append_assoc stands.earlier stands.own anew.more;
+          }
+
+      -- and so did each before it
+      all-gave : GaveAll check setup history (given ++ gave_more) counts'
+      all-gave k flow_record one of_record there =
+          ⊎_elim
+          (λ before.
+          let within = slice_get_within counts k one before in
+          subst (λ (frames : List (List ℕ)). GaveAllParts check (flow_setup setup k flow_record) (inputs_at k history) frames one)
+          (sym (frames-others n history [] given anew.more k (λ same. absurd (omega arith))))
+          (have.gave k flow_record one of_record before))
+          (λ last.
+          subst (λ (m : ℕ). slice_get setup.records m ≡ Some flow_record → GaveAllParts check (flow_setup setup m flow_record) (inputs_at m history) (frames_of m (given ++ gave_more)) one) (sym last.0)
+          (λ own. subst (λ (c : FlowCounts). GaveAllParts check (flow_setup setup n flow_record) (inputs_at n history) (frames_of n (given ++ gave_more)) c) (sym last.1) (next-gave flow_record own))
+          of_record)
+          (from-pushed counts count k one there)
+
+      one-more-closed : HaveClosed flows' check setup history (given ++ gave_more) counts'
+      one-more-closed = record {
+        stands =
+            let many : length counts' ≡ suc n = length_push counts count ∙ omega arith in
+            subst (λ m. StandsFor accepts flows' check setup (history ++ closings m) (given ++ gave_more)) (sym many)
+            (subst (λ h. StandsFor accepts flows' check setup h (given ++ gave_more))
+            (append_assoc history (closings n) (record { flow = n; input = begins_anew 0 } ∷ []))
+            (anew.stands check setup (history ++ closings n) given have.stands));
+        gave = all-gave;
+      }
+
+    -- one flow more is closed
+    pub next-closed : ClosesSoFar flows' feeding' counts'
+    next-closed = record {
+      more = so_far.more ++ gave_more;
+      offered = anew.was_given feeding0 so_far.more so_far.offered;
+      closed = λ check setup history given stands.
+          subst (λ g. HaveClosed flows' check setup history g counts') (append_assoc given so_far.more gave_more)
+          (one-more-closed check setup history (given ++ so_far.more) (so_far.closed check setup history given stands));
+    }
+
+  -- all are closed
+  pub all-closed : (flows : FlowTable C) (feeding : Feeding) (counts : List FlowCounts) → ClosesSoFar flows feeding counts → length counts ≡ length flows0.slots.items
+      → ClosesFlows accepts flows0 feeding0 counts feeding
+  all-closed flows feeding counts so_far count = record {
+    more = so_far.more;
+    offered = so_far.offered;
+    count = count;
+    gave = λ check setup history given stands. (so_far.closed check setup history given stands).gave;
+  }
