@@ -47,7 +47,7 @@ within-base (Err why) part base same ok = absurd (false≢true ok)
 within-base (Ok x) part base same ok =
     fitting (nat_lt longest_message (length x.tlvs + length part.tlvs)) (grown x part) ok ∙ ap (λ m. Ok (grown m part)) (same x refl)
 
-joined-base : (before : Option OpenParts) (part : PartParts) → IsOk (joined before part) → joined before part ≡ Ok (grown (base_of before part) part)
+pub joined-base : (before : Option OpenParts) (part : PartParts) → IsOk (joined before part) → joined before part ≡ Ok (grown (base_of before part) part)
 joined-base before part ok = within-base (message_of before part) part (base_of before part) (base-is before part) ok
 
 -- a message by its fields

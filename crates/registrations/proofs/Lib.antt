@@ -1,3 +1,4 @@
 pub mod FieldsOfBytes
 pub mod ToldSoFar
 pub mod JoinedParts
+pub mod InTurn

@@ -1,5 +1,5 @@
 -- Messages whose parts come one after another.
-use Rattle.std.specs.Prelude.{◌≡◌, ◌+◌, ℕ, ◌==◌, ◌&&◌, nat_lt, Bool, false, List, [], ◌++◌, length, Option, Some, None, Result, Ok, Err, if◌then◌else◌}
+use Rattle.std.specs.Prelude.{◌≡◌, ◌+◌, ℕ, ◌==◌, ◌&&◌, nat_lt, Bool, false, List, [], ◌++◌, length, Option, Some, None, Result, Ok, Err, if◌then◌else◌, ◌∷◌}
 use Rattle.registrations.specs.Part.{PartParts}
 use Rattle.registrations.specs.declared.part.MessageName.{MessageName}
 use Rattle.registrations.specs.declared.part.MessageName.TheVariants.{RegRspMp, DbcReq}
@@ -75,6 +75,18 @@ given_of modem held =
 
 abbrev pub left_of : OpenParts → Option OpenParts
 left_of held = if held.taken == held.of then None else Some held
+
+-- parts of one message, from this number on up to the last one
+abbrev pub AreInTurn : ℕ → MessageName → ℕ → ℕ → List PartParts → Type 0
+AreInTurn modem message of number [] = number ≡ of + 1
+AreInTurn modem message of number (part ∷ more) =
+    (part.modem ≡ modem) × (part.message ≡ message) × (part.of ≡ of) × (part.number ≡ number) × AreInTurn modem message of (number + 1) more
+
+-- nothing was given before the last one, and this with it
+abbrev pub GivesAtLast : WholeParts → List (Option WholeParts) → Type 0
+GivesAtLast whole [] = ⊥
+GivesAtLast whole (given ∷ []) = given ≡ Some whole
+GivesAtLast whole (given ∷ next ∷ more) = (given ≡ None) × GivesAtLast whole (next ∷ more)
 
 -- ---- inside
 

@@ -1,5 +1,5 @@
 -- The messages that are under way, one of a modem.
-use Rattle.std.specs.Prelude.{◌≡◌, ◌≢◌, ◌≤◌, ◌<◌, ◌⊎◌, ◌+◌, ℕ, nat_eq, Option, None, is_some, option_map, Ok, Err, IsSome, if◌then◌else◌}
+use Rattle.std.specs.Prelude.{◌≡◌, ◌≢◌, ◌≤◌, ◌<◌, ◌⊎◌, ◌+◌, ℕ, nat_eq, Option, None, is_some, option_map, Ok, Err, IsSome, if◌then◌else◌, List, [], ◌∷◌, ◌==◌, filter}
 use Rattle.std.specs.HashMap.{get, hash_map_len}
 use Rattle.registrations.specs.Part.{PartParts}
 use Rattle.registrations.specs.Joining.{most_under_way, OpenParts, WholeParts, open_seen, joined, given_of, left_of, base_of}
@@ -44,6 +44,26 @@ Refused old new part OutOfTurn = DoesNotJoin old new part OutOfTurn
 Refused old new part TooLong = DoesNotJoin old new part TooLong
 Refused old new part TooManyUnderWay = FindsNoRoom old new part
 Refused old new part OutOfMemory = Unit {0}
+
+-- a part, and what was given when it was taken
+pub record TakenPart : Type 0 where
+  pub part : PartParts
+  pub given : Option WholeParts
+
+-- it was taken, and nothing changed of other modems
+pub record Takes (old new : Unfinished) (taken : TakenPart) : Type 0 where
+  pub joins : Joins old new taken.part taken.given
+  pub others : (modem : ℕ) → modem ≢ taken.part.modem → held_at new modem ≡ held_at old modem
+
+-- parts were taken, one after another
+pub data TakesAll : Unfinished → List TakenPart → Unfinished → Type 0 where
+  none_taken : {unfinished : Unfinished} → TakesAll unfinished [] unfinished
+  one_taken : {old between new : Unfinished} {taken : TakenPart} {more : List TakenPart}
+      → Takes old between taken → TakesAll between more new → TakesAll old (taken ∷ more) new
+
+-- those of one modem
+abbrev pub taken_of : ℕ → List TakenPart → List TakenPart
+taken_of modem taken = filter (λ one. one.part.modem == modem) taken
 
 -- ---- inside
 

@@ -6,7 +6,8 @@
 //!
 //! - [`TakeLine`] says what is made of the lines of one format. [`take_lines`] hands it the lines of
 //!   an input that have fields, one after another, and reports the first faulty line by its number
-//!   ([`ParseFault`]).
+//!   ([`ParseFault`]). A format with faults of its own walks over its lines itself, by [`split_line`]
+//!   and [`split_field`].
 //! - [`no_word`], [`only_word`], [`only_two_words`], [`only_three_words`] and [`only_four_words`]
 //!   split what follows the first field of a line, where it has just so many words.
 //! - [`read_number`], [`read_number_in`] and [`read_hex`] read a field, and [`append_hex`] writes
@@ -31,6 +32,8 @@ mod words;
 pub use capacities::{Capacities, DEFAULT_CAPACITY};
 pub use fault::{LineFault, ParseFault, TextFault, TraceFault, TraceKind};
 pub use field::{append_hex, read_hex};
-pub use lines::{TakeLine, take_lines};
+pub use lines::{TakeLine, split_line, take_lines};
 pub use number::{read_number, read_number_in};
-pub use words::{no_word, only_four_words, only_three_words, only_two_words, only_word};
+pub use words::{
+    no_word, only_four_words, only_three_words, only_two_words, only_word, split_field,
+};

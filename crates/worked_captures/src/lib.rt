@@ -1,5 +1,5 @@
 //! Captures that are read, worked out byte by byte: the tests of `capture` for pcapng files and for
-//! files of either format, and those of `registrations`.
+//! files of either format, and those of `registrations` and `capture_map`.
 //!
 //! They stand apart from these crates, so that each is proved once and not a second time with them.
 //! There is nothing here for a caller.
@@ -7,6 +7,8 @@
 
 #[cfg(test)]
 mod captures;
+#[cfg(test)]
+mod maps;
 #[cfg(test)]
 mod pcapng;
 #[cfg(test)]

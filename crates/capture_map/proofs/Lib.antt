@@ -1,0 +1,3 @@
+pub mod NothingSaid
+pub mod SidsSoFar
+pub mod MapSoFar

@@ -1,0 +1,4 @@
+pub mod Line
+pub mod Fault
+pub mod Reading
+pub mod Inside
