@@ -1,3 +1,5 @@
 pub mod NothingSaid
 pub mod SidsSoFar
 pub mod MapSoFar
+pub mod OneMapLine
+pub mod OneMap
