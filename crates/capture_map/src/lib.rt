@@ -12,8 +12,8 @@
 //! [`MapKind`]. A map has at most 16 channels and 16,384 flows, as many as a receiver.
 //!
 //! What matters most: a map is read exactly as its lines say one after another by the definition
-//! `Reads`, and a fault is one that the first faulty line has after the lines above it; a text comes to
-//! only one of these ([`laws::lines_come_to_one_thing`]).
+//! `Reads`, and a fault is one that the first faulty line has after the lines above it; a text comes
+//! to only one of these ([`laws::lines_come_to_one_thing`]).
 #![tactic(auto)]
 
 mod fault;

@@ -10,8 +10,8 @@ pub const MOST_FLOWS: usize = 16_384;
 pub struct MapFlow {
     /// The service flow identifier.
     pub sfid: u32,
-    /// The number of the flow's first segment, 0 to 8191; none where it is `auto`, the least of those
-    /// that come first.
+    /// The number of the flow's first segment, 0 to 8191; none where it is `auto`, the least of
+    /// those that come first.
     pub first: Option<u16>,
     /// How many numbers, from the expected one on, may be held: 1 to 4096.
     pub window: u16,

@@ -2,3 +2,4 @@ pub mod FieldsOfBytes
 pub mod ToldSoFar
 pub mod JoinedParts
 pub mod InTurn
+pub mod ShortMessages

@@ -1,8 +1,8 @@
 -- The messages that are under way, one of a modem.
-use Rattle.std.specs.Prelude.{◌≡◌, ◌≢◌, ◌≤◌, ◌<◌, ◌⊎◌, ◌+◌, ℕ, nat_eq, Option, None, is_some, option_map, Ok, Err, IsSome, if◌then◌else◌, List, [], ◌∷◌, ◌==◌, filter}
+use Rattle.std.specs.Prelude.{◌≡◌, ◌≢◌, ◌≤◌, ◌<◌, ◌⊎◌, ◌+◌, ℕ, nat_eq, Option, None, is_some, option_map, Ok, Err, IsSome, if◌then◌else◌, List, [], ◌∷◌, ◌==◌, filter, length, Some}
 use Rattle.std.specs.HashMap.{get, hash_map_len}
 use Rattle.registrations.specs.Part.{PartParts}
-use Rattle.registrations.specs.Joining.{most_under_way, OpenParts, WholeParts, open_seen, joined, given_of, left_of, base_of}
+use Rattle.registrations.specs.Joining.{most_under_way, longest_message, OpenParts, WholeParts, open_seen, joined, given_of, left_of, base_of}
 use Rattle.registrations.specs.declared.joining.JoinFault.{JoinFault}
 use Rattle.registrations.specs.declared.joining.JoinFault.TheVariants.{NoBeginning, OutOfTurn, TooLong, TooManyUnderWay, OutOfMemory}
 use Rattle.registrations.specs.declared.unfinished.Unfinished.{Unfinished}
@@ -64,6 +64,10 @@ pub data TakesAll : Unfinished → List TakenPart → Unfinished → Type 0 wher
 -- those of one modem
 abbrev pub taken_of : ℕ → List TakenPart → List TakenPart
 taken_of modem taken = filter (λ one. one.part.modem == modem) taken
+
+-- no message that is under way has too long TLVs
+abbrev pub AreShort : Unfinished → Type 0
+AreShort unfinished = (modem : ℕ) (held : OpenParts) → held_at unfinished modem ≡ Some held → length held.tlvs ≤ longest_message
 
 -- ---- inside
 

@@ -1,10 +1,10 @@
 //! What follows from the definitions alone.
-ghost use Rattle.std.specs.Prelude.{◌≡◌, ◌↔◌, ◌≤◌, ℕ, List, Some, map, flat_map};
+ghost use Rattle.std.specs.Prelude.{◌≡◌, ◌↔◌, ◌≤◌, ℕ, List, Some, length, map, flat_map};
 ghost use Rattle.capture.specs.Fields.{Field, fields_bytes};
 ghost use Rattle.registrations.specs.Part.{PartParts};
 ghost use Rattle.registrations.specs.Values.{fields_of};
-ghost use Rattle.registrations.specs.Joining.{AreInTurn, GivesAtLast};
-ghost use Rattle.registrations.specs.UnderWay.{TakenPart, TakesAll, taken_of};
+ghost use Rattle.registrations.specs.Joining.{AreInTurn, GivesAtLast, WholeParts, longest_message};
+ghost use Rattle.registrations.specs.UnderWay.{TakenPart, Joins, TakesAll, taken_of, AreShort};
 ghost use Rattle.registrations.specs.declared.part.MessageName.{MessageName};
 ghost use Rattle.registrations.specs.declared.unfinished.Unfinished.{Unfinished};
 
@@ -14,9 +14,9 @@ pub fn tlvs_that_are_found_spell_the_bytes()
         → (fields_of bytes ≡ Some fields) ↔ (bytes ≡ fields_bytes fields) }
 {}
 
-/// Parts 1 to the last one of a message are joined, whatever of other modems is taken between them and
-/// whatever was under way before: nothing is given before the last one, and with it the message, whose
-/// TLVs are those of the parts end to end.
+/// Parts 1 to the last one of a message are joined, whatever of other modems is taken between them
+/// and whatever was under way before: nothing is given before the last one, and with it the message,
+/// whose TLVs are those of the parts end to end.
 pub fn parts_in_turn_are_joined()
     ensures { (old new : Unfinished) (taken : List TakenPart) (modem of : ℕ) (message : MessageName)
         → TakesAll old taken new → 1 ≤ of
@@ -26,4 +26,13 @@ pub fn parts_in_turn_are_joined()
           message = message;
           tlvs = flat_map (λ one. one.part.tlvs) (taken_of modem taken);
         }) (map (λ one. one.given) (taken_of modem taken)) }
+{}
+
+/// Whatever parts are taken, no message that is under way becomes too long, and none is given that
+/// is.
+pub fn messages_stay_short()
+    ensures under_way { (old new : Unfinished) (taken : List TakenPart)
+        → TakesAll old taken new → AreShort old → AreShort new }
+    ensures given { (old new : Unfinished) (part : PartParts) (whole : WholeParts)
+        → Joins old new part (Some whole) → length whole.tlvs ≤ longest_message }
 {}
