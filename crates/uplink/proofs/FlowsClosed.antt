@@ -24,24 +24,24 @@ use Rattle.uplink.specs.Inside.Feeding.{HasOffered}
 use Rattle.uplink.specs.Inside.Offering.{GaveAll, ClosesFlows}
 use Rattle.uplink.proofs.FramesOffered.{none-offered}
 
-module _ {C : Type 0} (accepts : C → List ℕ → Bool) (flows0 : FlowTable C) (feeding0 : Feeding) where
+module _ {C O : Type 0} (accepts : C → List ℕ → Bool) (after : O → List Given → O → Type 0) (flows0 : FlowTable C) (out0 : O) where
   -- so many of the flows are closed and gave all, and the others are as they were
   pub record HaveClosed (flows : FlowTable C) (check : List ℕ → Bool) (setup : TableSetup) (history : List TableInput) (given : List Given) (counts : List FlowCounts) : Type 0 where
     pub stands : StandsFor accepts flows check setup (history ++ closings (length counts)) given
     pub gave : GaveAll check setup history given counts
 
-  -- the flows so far are closed, and what that gave was offered
-  pub record ClosesSoFar (flows : FlowTable C) (feeding : Feeding) (counts : List FlowCounts) : Type 0 where
+  -- the flows so far are closed, and what that gave was given to the consumer
+  pub record ClosesSoFar (flows : FlowTable C) (out : O) (counts : List FlowCounts) : Type 0 where
     pub more : List Given
-    pub offered : HasOffered feeding0 more feeding
+    pub was_given : (start : O) (given : List Given) → after start given out0 → after start (given ++ more) out
     pub closed : (check : List ℕ → Bool) (setup : TableSetup) (history : List TableInput) (given : List Given)
         → StandsFor accepts flows0 check setup history given → HaveClosed flows check setup history (given ++ more) counts
 
   -- none is closed yet
-  pub none-closed : ClosesSoFar flows0 feeding0 []
+  pub none-closed : ClosesSoFar flows0 out0 []
   none-closed = record {
     more = [];
-    offered = none-offered feeding0;
+    was_given = λ start given was. subst (λ g. after start g out0) (sym (append-nil given)) was;
     closed = λ check setup history given stands. record {
       stands =
           subst (λ h. StandsFor accepts flows0 check setup h (given ++ [])) (sym (append-nil history))
@@ -51,13 +51,13 @@ module _ {C : Type 0} (accepts : C → List ℕ → Bool) (flows0 : FlowTable C)
   }
 
   -- there are as many flows as at first
-  pub as-many : (flows : FlowTable C) (feeding : Feeding) (counts : List FlowCounts) → IsInUse accepts flows0 → ClosesSoFar flows feeding counts
+  pub as-many : (flows : FlowTable C) (out : O) (counts : List FlowCounts) → IsInUse accepts flows0 → ClosesSoFar flows out counts
       → length flows.slots.items ≡ length flows0.slots.items
-  as-many flows feeding counts in_use so_far =
+  as-many flows out counts in_use so_far =
       (so_far.closed in_use.check in_use.made in_use.history in_use.given in_use.stands).stands.flow_count ∙ sym in_use.stands.flow_count
 
-  module _ (flows flows' : FlowTable C) (feeding feeding' : Feeding) (counts : List FlowCounts) (so_far : ClosesSoFar flows feeding counts) (count : FlowCounts)
-      (anew : BeginsAnewAt HasOffered accepts flows feeding (length counts) 0 count flows' feeding') (inside : length counts < length flows.slots.items) where
+  module _ (flows flows' : FlowTable C) (out out' : O) (counts : List FlowCounts) (so_far : ClosesSoFar flows out counts) (count : FlowCounts)
+      (anew : BeginsAnewAt after accepts flows out (length counts) 0 count flows' out') (inside : length counts < length flows.slots.items) where
     abbrev n : ℕ
     n = length counts
 
@@ -120,21 +120,28 @@ module _ {C : Type 0} (accepts : C → List ℕ → Bool) (flows0 : FlowTable C)
       }
 
     -- one flow more is closed
-    pub next-closed : ClosesSoFar flows' feeding' counts'
+    pub next-closed : ClosesSoFar flows' out' counts'
     next-closed = record {
       more = so_far.more ++ gave_more;
-      offered = anew.was_given feeding0 so_far.more so_far.offered;
+      was_given = λ start given was.
+          subst (λ g. after start g out') (append_assoc given so_far.more gave_more)
+          (anew.was_given start (given ++ so_far.more) (so_far.was_given start given was));
       closed = λ check setup history given stands.
           subst (λ g. HaveClosed flows' check setup history g counts') (append_assoc given so_far.more gave_more)
           (one-more-closed check setup history (given ++ so_far.more) (so_far.closed check setup history given stands));
     }
 
+module _ {C : Type 0} (accepts : C → List ℕ → Bool) (flows0 flows : FlowTable C) (feeding0 feeding : Feeding) (counts : List FlowCounts)
+    (so_far : ClosesSoFar accepts HasOffered flows0 feeding0 flows feeding counts) where
+  -- what that gave was offered
+  pub closing-offered : HasOffered feeding0 so_far.more feeding
+  closing-offered = so_far.was_given feeding0 [] (none-offered feeding0)
+
   -- all are closed
-  pub all-closed : (flows : FlowTable C) (feeding : Feeding) (counts : List FlowCounts) → ClosesSoFar flows feeding counts → length counts ≡ length flows0.slots.items
-      → ClosesFlows accepts flows0 feeding0 counts feeding
-  all-closed flows feeding counts so_far count = record {
+  pub all-closed : length counts ≡ length flows0.slots.items → ClosesFlows accepts flows0 feeding0 counts feeding
+  all-closed count = record {
     more = so_far.more;
-    offered = so_far.offered;
+    offered = closing-offered;
     count = count;
     gave = λ check setup history given stands. (so_far.closed check setup history given stands).gave;
   }

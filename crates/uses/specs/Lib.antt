@@ -9,3 +9,4 @@ pub mod OneFlow
 pub mod OneAtATime
 pub mod RunCaller
 pub mod LossesByRule
+pub mod Midstream

@@ -5,7 +5,7 @@ use Rattle.flow_core.specs.declared.counts.FlowCounts.{FlowCounts}
 use Rattle.bonded_flows.specs.Table.{BeginsAnewAt}
 use Rattle.uplink.specs.Inside.Feeding.{HasOffered}
 use Rattle.uplink.proofs.FramesOffered.{rings-stay}
-use Rattle.uplink.proofs.FlowsClosed.{ClosesSoFar, none-closed, as-many, next-closed, all-closed}
+use Rattle.uplink.proofs.FlowsClosed.{ClosesSoFar, none-closed, as-many, next-closed, closing-offered, all-closed}
 use Rattle.uplink.proofs.assembler.close_all.Goals as goal
 
 pub loop-flow-init : goal.loop-flow-init
@@ -19,7 +19,7 @@ loop-flow-init g c =
       next = ap length c.in_ok-counts.ensures.items;
       many = sym c.flow_count-flow_count.ensures;
       in_use = c.requires;
-      so_far = subst (λ (counts : List FlowCounts). ClosesSoFar accepts flows feeding flows feeding counts) (sym c.in_ok-counts.ensures.items) (none-closed accepts flows feeding);
+      so_far = subst (λ (counts : List FlowCounts). ClosesSoFar accepts HasOffered flows feeding flows feeding counts) (sym c.in_ok-counts.ensures.items) (none-closed accepts HasOffered flows feeding);
     }
 
 pub restart-requires-clause-in_use : goal.restart-requires-clause-in_use
@@ -32,7 +32,7 @@ pub returns-in_err-counted-clause-rings : goal.returns-in_err-counted-clause-rin
 returns-in_err-counted-clause-rings g c =
     let loop = c.loop-flow in
     rings-stay g.C.HeaderCheck.accepts loop.flows c.restart.new.self loop.feeding c.restart.new.out loop.flow [] c.in_err-counted.ensures.not_taken
-    ∙ loop.invariant.so_far.offered.rings
+    ∙ (closing-offered g.C.HeaderCheck.accepts c.args.flows.now loop.flows c.args.feeding.now loop.feeding loop.counts.items loop.invariant.so_far).rings
 
 pub push_reserved-requires : goal.push_reserved-requires
 push_reserved-requires g c =
@@ -50,21 +50,23 @@ loop-flow-preserved g c =
     let pushed = c.push_reserved.ensures.items in
     let anew = subst (λ k. BeginsAnewAt HasOffered accepts loop.flows loop.feeding k 0 counted flows feeding) (sym loop.invariant.next) c.in_ok-counted.ensures.begins_anew in
     let inside : length counts < length loop.flows.slots.items = omega (arith, loop.invariant.next, loop.invariant.many, c.loop-flow-test.true) in
-    let closed = next-closed accepts c.args.flows.now c.args.feeding.now loop.flows flows loop.feeding feeding counts loop.invariant.so_far counted anew inside in
+    let closed = next-closed accepts HasOffered c.args.flows.now c.args.feeding.now loop.flows flows loop.feeding feeding counts loop.invariant.so_far counted anew inside in
     record {
       room = omega (arith, c.push_reserved.ensures.capacity, loop.invariant.room);
       few = omega (arith, c.loop-flow-test.true);
       next = ap length pushed ∙ length_push counts counted ∙ ap (λ n. n + 1) loop.invariant.next;
-      many = as-many accepts c.args.flows.now c.args.feeding.now flows feeding (counts ++ counted ∷ []) c.requires closed ∙ sym c.flow_count-flow_count.ensures;
+      many = as-many accepts HasOffered c.args.flows.now c.args.feeding.now flows feeding (counts ++ counted ∷ []) c.requires closed ∙ sym c.flow_count-flow_count.ensures;
       in_use = c.in_ok-counted.ensures.in_use;
-      so_far = subst (λ (all : List FlowCounts). ClosesSoFar accepts c.args.flows.now c.args.feeding.now flows feeding all) (sym {A = List FlowCounts} pushed) closed;
+      so_far = subst (λ (all : List FlowCounts). ClosesSoFar accepts HasOffered c.args.flows.now c.args.feeding.now flows feeding all) (sym {A = List FlowCounts} pushed) closed;
     }
 
 pub returns-clause-rings : goal.returns-clause-rings
-returns-clause-rings g c = c.loop-flow.invariant.so_far.offered.rings
+returns-clause-rings g c =
+    let loop = c.loop-flow in
+    (closing-offered g.C.HeaderCheck.accepts c.args.flows.now loop.flows c.args.feeding.now loop.feeding loop.counts.items loop.invariant.so_far).rings
 
 pub returns-clause-closes : goal.returns-clause-closes
 returns-clause-closes g c =
     let loop = c.loop-flow in
-    all-closed g.C.HeaderCheck.accepts c.args.flows.now c.args.feeding.now loop.flows loop.feeding loop.counts.items loop.invariant.so_far
+    all-closed g.C.HeaderCheck.accepts c.args.flows.now loop.flows c.args.feeding.now loop.feeding loop.counts.items loop.invariant.so_far
     (omega (arith, loop.invariant.next, loop.invariant.few, c.loop-flow-test.false, c.flow_count-flow_count.ensures))

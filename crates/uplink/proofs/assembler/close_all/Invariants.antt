@@ -1,6 +1,7 @@
 -- The flows so far are closed, and what that gave was offered.
 use Rattle.std.proofs.Common.{◌≡◌, ◌≤◌, length, vec_capacity}
 use Rattle.bonded_flows.specs.Table.{IsInUse}
+use Rattle.uplink.specs.Inside.Feeding.{HasOffered}
 use Rattle.uplink.proofs.FlowsClosed.{ClosesSoFar}
 use Rattle.uplink.proofs.assembler.close_all.Given as goal
 
@@ -12,5 +13,5 @@ invariant-loop-flow g l =
       next : length l.counts.items ≡ l.flow;
       many : length l.flows.slots.items ≡ l.flow_count;
       in_use : IsInUse g.C.HeaderCheck.accepts l.flows;
-      so_far : ClosesSoFar g.C.HeaderCheck.accepts l.fn.flows l.fn.feeding l.flows l.feeding l.counts.items;
+      so_far : ClosesSoFar g.C.HeaderCheck.accepts HasOffered l.fn.flows l.fn.feeding l.flows l.feeding l.counts.items;
     }
