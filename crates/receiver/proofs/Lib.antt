@@ -21,3 +21,8 @@ pub mod AskedRequests
 pub mod InputsTaken
 pub mod ClosedFlows
 pub mod OneInput
+pub mod TakenInOrder
+pub mod HandedOrder
+pub mod PlayingTurns
+pub mod PlayedOut
+pub mod ReplayedOrder

@@ -1,8 +1,9 @@
 -- What is left of five lists after a place of an order, and that an order has one fault.
-use Rattle.std.proofs.Common.{◌≡◌, ◌≢◌, ℕ, ◌+◌, ◌-◌, ◌<◌, ◌≤◌, ◌↔◌, ◌⊎◌, inl, inr, ⊎_elim, cond, Result, Ok, Err, is_ok, Some, List, length, take, get_or, ◌==◌, eq-eqb, ne_eqb, slice_get, slice_index_or, slice_set, refl, sym, ap, subst, ◌∙◌, arith}
+use Rattle.std.proofs.Common.{◌≡◌, ◌≢◌, ℕ, ◌+◌, ◌-◌, ◌<◌, ◌≤◌, ◌↔◌, ◌⊎◌, inl, inr, ⊎_elim, cond, Result, Ok, Err, is_ok, Some, List, [], ◌++◌, length, length-append, append-nil, take, get_or, ◌==◌, eq-eqb, ne_eqb, slice_get, slice_index_or, slice_set, refl, sym, ap, subst, ◌∙◌, arith}
 use Rattle.std.proofs.lemmas.Bool.{cases_eq, cases_lt}
 use Rattle.std.proofs.lemmas.List.Sums.{count_by_more_yes, count_by_more_no, sum_by-take-le}
-use Rattle.std.proofs.lemmas.List.{length-set, get_or-set_same, get_or-set_other, take_all}
+use Rattle.std.proofs.Math.Seq.{take-append_seam}
+use Rattle.std.proofs.lemmas.List.{length-set, get_or-set_same, get_or-set_other, take_all, take-append-le, get_or_append_left}
 use Rattle.std.proofs.lemmas.List.Elements.{All-get_or, All-from_get_or}
 use Rattle.std.proofs.lemmas.Option.{slice_get_within, get_or_from_slice_get, slice_get-get_or}
 use Rattle.flow_records.proofs.Setup.{least-one}
@@ -152,3 +153,47 @@ module _ (lengths order : List ℕ) where
               (cases_lt (get_or order i 0) senders));
           whole = λ sender named. let counted = counted-all sender named in let nothing = none sender named in omega arith;
         }
+
+-- of an order that begins as a lawful one does no place there is bad
+module _ (lengths taken rest : List ℕ) (lawful : IsLawfulOrder lengths (taken ++ rest)) where
+  good-before : (others : List ℕ) (j : ℕ) → j < length taken → ¬ (IsBadPlace lengths (taken ++ others) j)
+  good-before others j before (tag, at, out) =
+      let within : j < length (taken ++ rest) = omega (arith, length-append taken rest) in
+      let here : get_or (taken ++ rest) j tag ≡ tag =
+      get_or_append_left taken rest tag j before ∙ sym (get_or_append_left taken others tag j before) ∙ get_or_from_slice_get (taken ++ others) j tag tag at in
+      let there : slice_get (taken ++ rest) j ≡ Some tag = slice_get-get_or (taken ++ rest) j tag within ∙ ap Some here in
+      let same : take j (taken ++ others) ≡ take j (taken ++ rest) =
+      take-append-le j taken others (omega (arith, before)) ∙ sym (take-append-le j taken rest (omega (arith, before))) in
+      lawful-good lengths (taken ++ rest) lawful j
+      (tag, there, subst (λ (t : List ℕ). (senders ≤ tag) ⊎ (slice_index_or lengths tag 0 ≤ times_of tag t)) same out)
+
+  -- where no sender stands behind it, or one of which all is taken, the order is at fault
+  pub fault-behind : (others : List ℕ) (tag : ℕ) → slice_get (taken ++ others) (length taken) ≡ Some tag
+      → ((senders ≤ tag) ⊎ (slice_index_or lengths tag 0 ≤ times_of tag taken)) → IsOrderFault lengths (taken ++ others) (length taken)
+  fault-behind others tag at out =
+      let same : take (length taken) (taken ++ others) ≡ taken = take-append_seam taken others in
+      inl ((tag, at, subst (λ (t : List ℕ). (senders ≤ tag) ⊎ (slice_index_or lengths tag 0 ≤ times_of tag t)) (sym same) out), good-before others)
+
+  -- and where it ends there, and something is left over
+  pub fault-end : 0 < length rest → IsOrderFault lengths taken (length taken)
+  fault-end some =
+      let named : get_or (taken ++ rest) (length taken) 0 < senders =
+      All-get_or (λ t. t < senders) (taken ++ rest) (length taken) 0 (omega (arith, length-append taken rest, some)) lawful.named in
+      let tag = get_or (taken ++ rest) (length taken) 0 in
+      inr (
+        λ j bad.
+            let within = slice_get_within taken j bad.0 bad.1 in
+            good-before [] j within (subst (λ (t : List ℕ). IsBadPlace lengths t j) (sym (append-nil taken)) bad),
+        refl,
+        (
+          tag,
+          named,
+          let whole = lawful.whole tag named in
+              let inside : length taken < length (taken ++ rest) = omega (arith, length-append taken rest, some) in
+          let here = get_or_from_slice_get (taken ++ rest) (length taken) tag tag (slice_get-get_or (taken ++ rest) (length taken) 0 inside) in
+          let more = times-same (taken ++ rest) (length taken) tag inside here in
+              let before = ap (times_of tag) (take-append_seam taken rest) in
+              let all = sum_by-take-le (λ t. cond {A = ℕ} (t == tag) 1 0) (taken ++ rest) (length taken + 1) in
+              omega arith,
+        ),
+      )

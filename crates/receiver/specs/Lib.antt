@@ -15,3 +15,5 @@ pub mod Modem
 pub mod HandedIn
 pub mod Receiving
 pub mod Received
+pub mod HandedOrder
+pub mod Playing

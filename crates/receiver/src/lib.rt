@@ -24,6 +24,7 @@ pub mod laws;
 mod one_thread;
 mod order;
 mod outcome;
+mod playing;
 mod receiver;
 mod reply;
 mod ruled;

@@ -19,7 +19,7 @@ use crate::laws;
 use crate::order::check_order;
 use crate::order::merge::Merging;
 use crate::outcome::{FlowOutcome, Outcome};
-use crate::ruled::RuledAssembler;
+use crate::playing::Playing;
 use crate::setup::{BadSetup, Lists, Setup};
 use docsis_wire::HeaderCheck;
 use flow_core::{Event, SetupFault};
@@ -174,19 +174,6 @@ fn keep(alloc: Global, flags: Merging<bool>, tags: &[u8]) -> Result<Vec<u8>, All
     Ok(kept)
 }
 
-/// The decisions that name a flow, as what they are to the flows.
-fn decisions_of(alloc: Global, setup: &Setup, lists: &Lists) -> Result<Vec<Event>, AllocError>
-    ensures { IfOk result (λ items.
-        items.items ≡ map event_of_decision
-        (filter (names_a_flow (length setup.now.flows.items)) lists.now.decisions.items)) }
-{
-    let flow_count = setup.flows.len();
-    (lists.decisions.iter())
-        .filter(|decision| decision.names_a_flow(flow_count))
-        .map(|decision| decision.event())
-        .collect(alloc)
-}
-
 /// Replays the inputs of all channels and the decisions on the caller's thread: it takes the
 /// segments that each channel admits and the decisions that name a flow in this order, 0 to 3 for
 /// the channels and 4 for decisions, drains a flow after each, and then closes each flow.
@@ -228,62 +215,14 @@ pub fn replay_by<C: HeaderCheck + Drop>(
     ensures fault { IfErr result (IsReplayFault setup.now (incoming_of lists.now) order.now) }
 {
     setup.check()?;
-    let received = receive_all(alloc, setup, lists)?;
-    let decided = decisions_of(alloc, setup, lists)?;
-    if let Err(place) = check_order(item_counts(&received, &decided), order) {
+    let mut playing = Playing::new(alloc, rule, setup, check)?;
+    let bad = playing.take_in_order(alloc, lists, order)?;
+    let left_over = playing.take_rest(alloc, lists)?;
+    if let Some(place) = bad {
         return Err(ReplayFault::BadOrder(place));
     }
-    let FourReceived { r0, r1, r2, r3 } = received;
-    let merging = Merging::of(r0.items, r1.items, r2.items, r3.items, decided);
-    let flows = assemble(alloc, rule, setup, merging, order, check)?;
-    Ok(Outcome {
-        flows,
-        requests: [r0.requests, r1.requests, r2.requests, r3.requests],
-        lanes: [r0.report, r1.report, r2.report, r3.report],
-        order: Vec::from_slice(alloc, order)?,
-    })
-}
-
-/// How many items each of the five senders has.
-fn item_counts(received: &FourReceived, decided: &[Event]) -> [usize; 5]
-    ensures { result ≡ length received.now.r0.items.items ∷ length received.now.r1.items.items
-        ∷ length received.now.r2.items.items ∷ length received.now.r3.items.items
-        ∷ length decided.now ∷ [] }
-{
-    [
-        received.r0.items.len(),
-        received.r1.items.len(),
-        received.r2.items.len(),
-        received.r3.items.len(),
-        decided.len(),
-    ]
-}
-
-/// What all flows give once they have taken the items of five senders in this order, and by this
-/// rule.
-fn assemble<C: HeaderCheck + Drop>(
-    alloc: Global,
-    rule: LossRule,
-    setup: &Setup,
-    merging: Merging<Event>,
-    order: &[u8],
-    check: C,
-) -> Result<Vec<FlowOutcome>, AllocError>
-    requires set_up { CanBeSetUp setup.now.flows.items }
-    requires items { (sender : ℕ) → sender < senders
-        → All (IsItem (length setup.now.flows.items)) (left_of merging sender) }
-    requires lawful { IsLawfulOrder (lengths_of (left_of merging)) order.now }
-    ensures { IfOk result (λ flows. (items : List Event)
-        × IsMergeOf (left_of merging) order.now items
-        × AreRuledOutcomes rule (C.accepts check) setup.now order.now items flows.items) }
-{
-    let mut merging = merging;
-    let mut assembler = RuledAssembler::new(alloc, rule, setup, check)?;
-    for sender in order {
-        let Some(item) = merging.next(*sender) else {
-            unreachable!()
-        };
-        assembler.take(alloc, *sender, item)?;
+    if left_over {
+        return Err(ReplayFault::BadOrder(order.len()));
     }
-    assembler.finish(alloc, setup)
+    Ok(playing.finish(alloc, setup, Vec::from_slice(alloc, order)?)?)
 }

@@ -1,38 +1,75 @@
--- What the channels gave, with what the flows then gave, is the outcome.
-use Rattle.std.proofs.Common.{◌∷◌, [], refl, subst, ◌∙◌}
-use Rattle.receiver.specs.declared.outcome.Outcome.{Outcome}
+-- All is handed in, and the receiver is closed.
+use Rattle.std.proofs.Common.{◌≡◌, ℕ, None, Some, Option, MatchOption, List, ◌++◌, [], length, take, drop, refl, sym, ap, subst, ◌∙◌, arith}
+use Rattle.std.proofs.lemmas.List.{length-take-le, take-append-drop}
+use Rattle.std.proofs.lemmas.Option.{slice_get_within}
+use Rattle.receiver.specs.declared.playing.Playing.{Playing}
 use Rattle.receiver.specs.Items.{incoming_of}
-use Rattle.receiver.specs.Order.{IsOrderFault}
-use Rattle.receiver.proofs.FourLanes.{items-takable, bad-order, outcome-is}
+use Rattle.receiver.specs.Faults.{HasBadOrder}
+use Rattle.receiver.specs.HandedOrder.{IsHandedFrom}
+use Rattle.receiver.specs.Playing.{PlaysMore, FindsNone}
+use Rattle.receiver.proofs.ReplayedOrder.{from-nothing, all-handed, replayed, left-over, none-there}
+use Rattle.receiver.proofs.one_thread.replay_by.Given.{Over}
 use Rattle.receiver.proofs.one_thread.replay_by.Goals as goal
 
-pub returns-in-Err-clause-fault : goal.returns-in-Err-clause-fault
-returns-in-Err-clause-fault g c = (
-  c.in_ok-check.ensures.ok.0 refl,
-  bad-order c.args.setup.now (incoming_of c.args.lists.now) c.in_ok-received.received c.in_ok-received.ensures c.args.order.now
-      c.deref.result.now c.in-Err.place (c.deref.ensures.value ∙ c.in_ok-decided.ensures)
-      (subst (λ counts. IsOrderFault counts c.args.order.now c.in-Err.place) c.item_counts.ensures ((c.in-Err.ensures.fault c.in-Err.place).0 refl)),
-)
+pub returns-in-Some-clause-fault : goal.returns-in-Some-clause-fault
+returns-in-Some-clause-fault g c =
+    let accepts = g.C.HeaderCheck.accepts in
+    let incoming = incoming_of c.args.lists.now in
+    let order = c.args.order.now in
+    let first = c.in_ok-playing.playing in
+    let k = c.in-Some.place in
+    let found = subst (λ (bad : Option ℕ). MatchOption bad (PlaysMore accepts incoming first order c.take_in_order.new.self)
+    (λ k. PlaysMore accepts incoming first (take k order) c.take_in_order.new.self × FindsNone incoming order k c.take_in_order.new.self.places)) c.in-Some.is c.in_ok-bad.ensures.takes in
+    let within = slice_get_within order k found.1.tag found.1.at in
+    let long : length (take k order) ≡ k = length-take-le k order (omega (arith, within)) in
+    let whole = take-append-drop k order in
+    let rest = c.in_ok-left_over.ensures.takes in
+    let none = none-there accepts c.args.rule (accepts c.args.check) c.args.setup.now incoming first c.take_in_order.new.self c.take_rest.new.self c.in_ok-playing.ensures.plays
+    (from-nothing incoming first.places c.in_ok-playing.ensures.playing.five c.in_ok-playing.ensures.places) (take k order) rest.0 found.0 rest.1 c.in_ok-left_over.ensures.used_up (drop k order)
+    (subst (λ (n : ℕ). FindsNone incoming (take k order ++ drop k order) n c.take_in_order.new.self.places) (sym long)
+    (subst (λ (t : List ℕ). FindsNone incoming t k c.take_in_order.new.self.places) (sym whole) found.1)) in (
+      c.in_ok-check.ensures.ok.0 refl,
+      subst (λ (n : ℕ). HasBadOrder c.args.setup.now incoming order n) long
+          (subst (λ (t : List ℕ). HasBadOrder c.args.setup.now incoming t (length (take k order))) whole none),
+    )
 
-pub assemble-requires-clause-items : goal.assemble-requires-clause-items
-assemble-requires-clause-items g c =
-    let merging = c.of-merging.ensures in
-    items-takable c.args.setup.now (incoming_of c.args.lists.now) c.in_ok-received.received c.in_ok-received.ensures c.of-merging.result
-    merging.l0 merging.l1 merging.l2 merging.l3 (merging.l4 ∙ c.in_ok-decided.ensures)
+pub returns-then-left_over-clause-fault : goal.returns-then-left_over-clause-fault
+returns-then-left_over-clause-fault g c =
+    let accepts = g.C.HeaderCheck.accepts in
+    let incoming = incoming_of c.args.lists.now in
+    let order = c.args.order.now in
+    let first = c.in_ok-playing.playing in
+    let taken = subst (λ (bad : Option ℕ). MatchOption bad (PlaysMore accepts incoming first order c.take_in_order.new.self)
+    (λ k. PlaysMore accepts incoming first (take k order) c.take_in_order.new.self × FindsNone incoming order k c.take_in_order.new.self.places)) c.in_default.is c.in_ok-bad.ensures.takes in
+    let rest = c.in_ok-left_over.ensures.takes in (
+      c.in_ok-check.ensures.ok.0 refl,
+      left-over accepts c.args.rule (accepts c.args.check) c.args.setup.now incoming first c.take_in_order.new.self c.take_rest.new.self c.in_ok-playing.ensures.plays
+          (from-nothing incoming first.places c.in_ok-playing.ensures.playing.five c.in_ok-playing.ensures.places) order rest.0 taken rest.1 c.in_ok-left_over.ensures.used_up
+          (sym rest.2 ∙ c.if-left_over.true),
+    )
+
+pub finish-requires : goal.finish-requires
+finish-requires g c =
+    let accepts = g.C.HeaderCheck.accepts in
+    let incoming = incoming_of c.args.lists.now in
+    let first = c.in_ok-playing.playing in
+    let taken = subst (λ (bad : Option ℕ). MatchOption bad (PlaysMore accepts incoming first c.args.order.now c.take_in_order.new.self)
+    (λ k. PlaysMore accepts incoming first (take k c.args.order.now) c.take_in_order.new.self × FindsNone incoming c.args.order.now k c.take_in_order.new.self.places)) c.in_default.is c.in_ok-bad.ensures.takes in
+    let rest = c.in_ok-left_over.ensures.takes in
+    let all = all-handed accepts c.args.rule (accepts c.args.check) c.args.setup.now incoming first c.take_in_order.new.self c.take_rest.new.self c.in_ok-playing.ensures.plays
+    (from-nothing incoming first.places c.in_ok-playing.ensures.playing.five c.in_ok-playing.ensures.places) c.args.order.now rest.0 taken rest.1 c.in_ok-left_over.ensures.used_up in
+    (c.args.rule, accepts c.args.check, all.0, all.1)
 
 pub returns-clause-outcome : goal.returns-clause-outcome
 returns-clause-outcome g c =
-    let received = c.in_ok-received.received in
-    let check = g.C.HeaderCheck.accepts c.args.check in
-    let merging = c.of-merging.ensures in
-    let outcome : Outcome = record {
-      flows = c.in_ok-flows.flows;
-      requests = received.r0.requests ∷ received.r1.requests ∷ received.r2.requests ∷ received.r3.requests ∷ [];
-      lanes = received.r0.report ∷ received.r1.report ∷ received.r2.report ∷ received.r3.report ∷ [];
-      order = c.in_ok-from_slice.field-0;
-    } in
-    let gave = c.in_ok-flows.ensures in
-    outcome-is c.args.setup.now (incoming_of c.args.lists.now) received c.in_ok-received.ensures c.of-merging.result
-    merging.l0 merging.l1 merging.l2 merging.l3 (merging.l4 ∙ c.in_ok-decided.ensures)
-    c.args.order.now c.args.rule check gave.0 outcome gave.1 gave.2
-    refl refl c.in_ok-from_slice.ensures.items
+    let accepts = g.C.HeaderCheck.accepts in
+    let incoming = incoming_of c.args.lists.now in
+    let first = c.in_ok-playing.playing in
+    let taken = subst (λ (bad : Option ℕ). MatchOption bad (PlaysMore accepts incoming first c.args.order.now c.take_in_order.new.self)
+    (λ k. PlaysMore accepts incoming first (take k c.args.order.now) c.take_in_order.new.self × FindsNone incoming c.args.order.now k c.take_in_order.new.self.places)) c.in_default.is c.in_ok-bad.ensures.takes in
+    let rest = c.in_ok-left_over.ensures.takes in
+    replayed accepts c.args.rule (accepts c.args.check) c.args.setup.now incoming first c.take_in_order.new.self c.take_rest.new.self c.in_ok-playing.ensures.plays
+    (from-nothing incoming first.places c.in_ok-playing.ensures.playing.five c.in_ok-playing.ensures.places) c.args.order.now rest.0 taken rest.1 c.in_ok-left_over.ensures.used_up
+    (sym rest.2 ∙ c.if-left_over.false) c.in_ok-finish.field-0
+    (λ handed plays sent. c.in_ok-finish.ensures.gives c.args.rule (accepts c.args.check) handed plays sent)
+    (c.in_ok-finish.ensures.order ∙ c.in_ok-from_slice.ensures.items)
