@@ -22,7 +22,7 @@ use Rattle.receiver.specs.HandedOrder.{sender_of, IsSent, event_decided, item_in
 use Rattle.receiver.specs.TakenInOrder.{table_input_of, table_inputs}
 
 -- its sender is one of the five
-sent-named : (one : HandedIn) → IsSent one → sender_of one < senders
+pub sent-named : (one : HandedIn) → IsSent one → sender_of one < senders
 sent-named (came channel one) sent = omega (arith, sent)
 sent-named (decided flow decision) sent = omega arith
 sent-named (restarted flow first) sent = absurd sent

@@ -20,7 +20,7 @@ pub record IsLeftOver (lengths order : List ℕ) (k : ℕ) (left : List ℕ) : T
 pub times-same : (order : List ℕ) (k tag : ℕ) → k < length order → get_or order k tag ≡ tag → times_of tag (take (k + 1) order) ≡ times_of tag (take k order) + 1
 times-same order k tag within here = count_by_more_yes (λ t. t == tag) order k tag within (eq-eqb (get_or order k tag) tag here)
 
-times-other : (order : List ℕ) (k tag sender : ℕ) → k < length order → get_or order k tag ≡ tag → sender ≢ tag → times_of sender (take (k + 1) order) ≡ times_of sender (take k order)
+pub times-other : (order : List ℕ) (k tag sender : ℕ) → k < length order → get_or order k tag ≡ tag → sender ≢ tag → times_of sender (take (k + 1) order) ≡ times_of sender (take k order)
 times-other order k tag sender within here differ = count_by_more_no (λ t. t == sender) order k tag within (ne_eqb (get_or order k tag) sender (λ same. differ (sym same ∙ here)))
 
 err-ok : (k : ℕ) → ◌≡◌ {A = Result (Unit {0}) ℕ} (Err k) (Ok tt) → ⊥
@@ -190,8 +190,8 @@ module _ (lengths taken rest : List ℕ) (lawful : IsLawfulOrder lengths (taken 
           named,
           let whole = lawful.whole tag named in
               let inside : length taken < length (taken ++ rest) = omega (arith, length-append taken rest, some) in
-          let here = get_or_from_slice_get (taken ++ rest) (length taken) tag tag (slice_get-get_or (taken ++ rest) (length taken) 0 inside) in
-          let more = times-same (taken ++ rest) (length taken) tag inside here in
+              let here = get_or_from_slice_get (taken ++ rest) (length taken) tag tag (slice_get-get_or (taken ++ rest) (length taken) 0 inside) in
+              let more = times-same (taken ++ rest) (length taken) tag inside here in
               let before = ap (times_of tag) (take-append_seam taken rest) in
               let all = sum_by-take-le (λ t. cond {A = ℕ} (t == tag) 1 0) (taken ++ rest) (length taken + 1) in
               omega arith,

@@ -22,7 +22,7 @@ use Rattle.receiver.specs.Items.{Incoming}
 use Rattle.receiver.specs.HandedIn.{HandedIn, came, came_on, made_of, answered_on}
 use Rattle.receiver.specs.HandedOrder.{sender_of, IsSent, gives_item, order_of, handed_by, handed_decision, IsHandedFrom}
 use Rattle.receiver.specs.Receiving.{TakesMore}
-use Rattle.receiver.specs.Playing.{Plays, IsPlaying, PlaysOne, PlaysInput, PlaysMore}
+use Rattle.receiver.specs.Playing.{Plays, IsPlaying, PlaysOne, PlaysInput, PlaysNext, PlaysMore, PlaysTags}
 use Rattle.receiver.proofs.HandedOrder.{order-append, order-one}
 
 -- what came on a channel after one more
@@ -83,22 +83,60 @@ module _ {C : Type 0} (accepts : C → List ℕ → Bool) (playing after : Playi
     five = five;
   }
 
-  -- it gives an item or not
+  -- it comes next from its sender, and gives an item or not
   pub plays-next : (incoming : Incoming) (sender : ℕ) (is_item : Bool) → PlaysOne accepts playing one after
       → ((handed : List HandedIn) → IsHandedFrom incoming playing.places handed → IsHandedFrom incoming after.places (handed ++ one ∷ []))
       → ((rule : LossRule) (check : List ℕ → Bool) (setup : Setup) (handed : List HandedIn) → Plays accepts rule check setup playing handed
       → is_item ≡ gives_item (length setup.flows.items) one)
-      → sender_of one ≡ sender → PlaysMore accepts incoming playing (cond is_item (sender ∷ []) []) after
+      → sender_of one ≡ sender → PlaysNext accepts incoming playing sender is_item after
   plays-next incoming sender is_item plays from item of_sender rule check setup handed was fits = (
-    one ∷ [],
+    one,
     plays rule check setup handed was,
     from handed fits,
-    order-one (length setup.flows.items) one
-        ∙ ap (λ (b : Bool). cond b (sender_of one ∷ []) []) (sym (item rule check setup handed was))
-        ∙ ap (λ (s : ℕ). cond is_item (s ∷ []) []) of_sender,
+    of_sender,
+    item rule check setup handed was,
   )
 
 module _ {C : Type 0} (accepts : C → List ℕ → Bool) (incoming : Incoming) where
+  -- what comes next is more
+  pub next-more : (playing after : Playing C) (sender : ℕ) (is_item : Bool) → PlaysNext accepts incoming playing sender is_item after
+      → PlaysMore accepts incoming playing (cond is_item (sender ∷ []) []) after
+  next-more playing after sender is_item next rule check setup handed plays from =
+      let one = next rule check setup handed plays from in (
+        one.0 ∷ [],
+        one.1,
+        one.2,
+        order-one (length setup.flows.items) one.0
+            ∙ ap (λ (b : Bool). cond b (sender_of one.0 ∷ []) []) (sym one.4)
+            ∙ ap (λ (s : ℕ). cond is_item (s ∷ []) []) one.3,
+      )
+
+  -- by tags nothing is handed in, or what comes next besides
+  pub tags-none : (playing : Playing C) → PlaysTags accepts incoming playing [] [] playing
+  tags-none playing rule check setup handed plays from = (
+    [],
+    subst (λ (h : List HandedIn). Plays accepts rule check setup playing h) (sym (append-nil handed)) plays,
+    subst (λ (h : List HandedIn). IsHandedFrom incoming playing.places h) (sym (append-nil handed)) from,
+    refl,
+    refl,
+  )
+
+  pub tags-next : (first second third : Playing C) (tags order : List ℕ) (sender : ℕ) (is_item : Bool) → PlaysTags accepts incoming first tags order second
+      → PlaysNext accepts incoming second sender is_item third → PlaysTags accepts incoming first (tags ++ sender ∷ []) (order ++ cond is_item (sender ∷ []) []) third
+  tags-next first second third tags order sender is_item before next rule check setup handed plays from =
+      let some = before rule check setup handed plays from in
+      let one = next rule check setup (handed ++ some.0) some.1 some.2 in (
+        some.0 ++ one.0 ∷ [],
+        subst (λ (h : List HandedIn). Plays accepts rule check setup third h) (append_assoc handed some.0 (one.0 ∷ [])) one.1,
+        subst (λ (h : List HandedIn). IsHandedFrom incoming third.places h) (append_assoc handed some.0 (one.0 ∷ [])) one.2,
+        map-append sender_of some.0 (one.0 ∷ []) ∙ ap (λ (t : List ℕ). t ++ sender_of one.0 ∷ []) some.3 ∙ ap (λ (s : ℕ). tags ++ s ∷ []) one.3,
+        order-append (length setup.flows.items) some.0 (one.0 ∷ []) ∙ ap (λ (t : List ℕ). t ++ order_of (length setup.flows.items) (one.0 ∷ [])) some.4
+            ∙ ap (λ (t : List ℕ). order ++ t)
+            (order-one (length setup.flows.items) one.0
+            ∙ ap (λ (b : Bool). cond b (sender_of one.0 ∷ []) []) (sym one.4)
+            ∙ ap (λ (s : ℕ). cond is_item (s ∷ []) []) one.3),
+      )
+
   pub plays-none : (playing : Playing C) → PlaysMore accepts incoming playing [] playing
   plays-none playing rule check setup handed plays from = (
     [],

@@ -1,31 +1,34 @@
 -- A replay whose lists were handed in whole: its order is lawful, or at fault where an item was missing or left over.
-use Rattle.std.proofs.Common.{◌≡◌, ◌≢◌, ℕ, zero, suc, ◌+◌, ◌<◌, ◌≤◌, ◌⊎◌, inl, inr, ⊎_elim, Bool, true, false, ◌==◌, nat_lt, cond, Some, All, List, [], ◌∷◌, ◌++◌, length, map, take, drop, slice_get, slice_index_or, refl, sym, ap, subst, ◌∙◌, arith, length-append, append-nil}
+use Rattle.std.proofs.Common.{◌≡◌, ◌≢◌, ℕ, zero, suc, ◌+◌, ◌<◌, ◌≤◌, ◌⊎◌, inl, inr, ⊎_elim, Bool, true, false, ◌==◌, nat_lt, cond, Some, None, All, List, [], ◌∷◌, ◌++◌, is_some, length, map, filter, take, drop, slice_get, slice_index_or, refl, sym, ap, subst, ◌∙◌, arith, length-append, append-nil}
 use Rattle.std.proofs.lemmas.Bool.{cases_lt, lt-ltb, ltb-true, true≢false}
 use Rattle.std.proofs.lemmas.List.{length-map, length-take-le, take_all, take-append-drop, nil_from_length}
-use Rattle.std.proofs.lemmas.List.Elements.{All-nil, filter-append}
+use Rattle.std.proofs.lemmas.List.Elements.{All-nil, All-cons, All-head, All-tail, filter-append}
 use Rattle.std.proofs.lemmas.List.Sums.{sum_by-append}
 use Rattle.std.proofs.lemmas.Option.{slice_get_cases}
+use Rattle.flow_records.specs.declared.decision.Decision.{Decision}
 use Rattle.flow_records.specs.declared.event.Event.{Event}
+use Rattle.flow_records.specs.Decisions.{names_a_flow, event_of_decision}
 use Rattle.lane.specs.declared.input.Input.{Input}
 use Rattle.lane.specs.Limits.{channel_limit, senders}
 use Rattle.lane.specs.Inputs.{AnsweredInput, AreAnswered, inputs_of}
-use Rattle.lane.specs.Report.{admitted_of, event_of_admitted}
+use Rattle.lane.specs.Report.{admitted_by, admitted_of, event_of_admitted}
 use Rattle.loss_rule.specs.declared.rule.LossRule.{LossRule}
 use Rattle.receiver.specs.declared.setup.Setup.{Setup}
 use Rattle.receiver.specs.declared.outcome.Outcome.{Outcome}
 use Rattle.receiver.specs.declared.playing.Playing.{Playing}
-use Rattle.receiver.specs.Items.{Incoming, AreLanesOf, lane_setup, items_of}
-use Rattle.receiver.specs.Order.{times_of, picked, lengths_of, IsMergeOf, IsLawfulOrder}
-use Rattle.receiver.specs.Intake.{IsIntake}
+use Rattle.receiver.specs.Items.{Incoming, AreLanesOf, lane_setup, items_of, are_items}
+use Rattle.receiver.specs.Order.{times_of, picked, kept_places, lengths_of, IsMergeOf, IsLawfulOrder}
+use Rattle.receiver.specs.AdmittedOrder.{IsAdmittedOrder, input_counts}
 use Rattle.receiver.specs.Ruled.{IsOutcomeBy}
 use Rattle.receiver.specs.Faults.{HasBadOrder}
 use Rattle.receiver.specs.HandedIn.{HandedIn, came, answered_on}
-use Rattle.receiver.specs.HandedOrder.{sender_of, IsSent, items_in, order_of, handed_by, handed_decision, count_from, IsHandedFrom, IsUsedUp}
-use Rattle.receiver.specs.Playing.{Plays, PlaysMore, FindsNone, IsGiven}
+use Rattle.receiver.specs.HandedOrder.{sender_of, IsSent, gives_item, items_in, order_of, handed_by, handed_decision, count_from, IsHandedFrom, IsUsedUp}
+use Rattle.receiver.specs.Playing.{Plays, PlaysMore, PlaysTags, FindsNone, IsGiven}
 use Rattle.receiver.proofs.Interleaving.{five}
 use Rattle.receiver.proofs.MergedLists.{merge-lawful, times-picked}
 use Rattle.receiver.proofs.OrderPlaces.{fault-behind, fault-end}
-use Rattle.receiver.proofs.HandedOrder.{picked-by, order-paired, order-named, order-append, items-came, items-decided, came-by}
+use Rattle.receiver.proofs.HandedOrder.{sent-named, picked-by, order-paired, order-named, order-append, items-came, item-decided, items-decided, came-by}
+use Rattle.receiver.proofs.PlayingTurns.{admitted-item}
 
 -- nothing is handed in at first
 pub from-nothing : (incoming : Incoming) (places : List ℕ) → length places ≡ senders → ((sender : ℕ) → slice_index_or places sender 0 ≡ 0) → IsHandedFrom incoming places []
@@ -66,6 +69,53 @@ module _ (incoming : Incoming) (places : List ℕ) (handed : List HandedIn) (fro
       (λ all. ap (λ (t : List HandedIn). length t) (whole-decisions all) ∙ length-map incoming.decisions handed_decision) used)
       (cases_lt sender channel_limit)
 
+-- of all that was handed in, what came from a sender
+tags-picked : {X : Type 0} (f : HandedIn → X) (sender : ℕ) (handed : List HandedIn) → picked sender (map sender_of handed) (map f handed) ≡ map f (handed_by sender handed)
+tags-picked f sender [] = refl
+tags-picked {X} f sender (one ∷ handed) = either (tags-picked f sender handed) (sender == sender_of one)
+  where
+    either : picked sender (map sender_of handed) (map f handed) ≡ map f (handed_by sender handed) → (own : Bool)
+        → cond own (f one ∷ picked sender (map sender_of handed) (map f handed)) (picked sender (map sender_of handed) (map f handed))
+        ≡ map f (cond own (one ∷ handed_by sender handed) (handed_by sender handed))
+    either rest true = ap (λ (t : List X). f one ∷ t) rest
+    either rest false = rest
+
+module _ (n : ℕ) where
+  -- the places that are kept are those of items
+  places-kept : (handed : List HandedIn) → kept_places (map sender_of handed) (map (gives_item n) handed) ≡ order_of n handed
+  places-kept [] = refl
+  places-kept (one ∷ handed) = either (places-kept handed) (gives_item n one)
+    where
+      either : kept_places (map sender_of handed) (map (gives_item n) handed) ≡ order_of n handed → (own : Bool)
+          → cond own (sender_of one ∷ kept_places (map sender_of handed) (map (gives_item n) handed)) (kept_places (map sender_of handed) (map (gives_item n) handed))
+          ≡ map sender_of (cond own (one ∷ filter (gives_item n) handed) (filter (gives_item n) handed))
+      either rest true = ap (λ (t : List ℕ). sender_of one ∷ t) rest
+      either rest false = rest
+
+  flags-came : (channel : ℕ) (answered : List AnsweredInput) → map (gives_item n) (map (came channel) answered) ≡ map (λ one. is_some (admitted_by one.answer)) answered
+  flags-came channel [] = refl
+  flags-came channel (one ∷ answered) =
+      ap (λ (b : Bool). b ∷ map (gives_item n) (map (came channel) answered)) (sym (admitted-item n channel one))
+      ∙ ap (λ (t : List Bool). is_some (admitted_by one.answer) ∷ t) (flags-came channel answered)
+
+  flag-decided : (decision : Decision) → gives_item n (handed_decision decision) ≡ names_a_flow n decision
+  flag-decided decision = ap is_some (item-decided n decision.flow decision.upto) ∙ either (names_a_flow n decision)
+    where
+      either : (names : Bool) → is_some (cond names (Some (event_of_decision decision)) None) ≡ names
+      either true = refl
+      either false = refl
+
+  flags-decided : (decisions : List Decision) → map (gives_item n) (map handed_decision decisions) ≡ map (names_a_flow n) decisions
+  flags-decided [] = refl
+  flags-decided (decision ∷ decisions) =
+      ap (λ (b : Bool). b ∷ map (gives_item n) (map handed_decision decisions)) (flag-decided decision)
+      ∙ ap (λ (t : List Bool). names_a_flow n decision ∷ t) (flags-decided decisions)
+
+  tags-named : (handed : List HandedIn) → All IsSent handed → All (λ tag. tag < senders) (map sender_of handed)
+  tags-named [] sent = All-nil (λ tag. tag < senders)
+  tags-named (one ∷ handed) sent =
+      All-cons (λ tag. tag < senders) (sender_of one) (map sender_of handed) (sent-named one (All-head IsSent one handed sent)) (tags-named handed (All-tail IsSent one handed sent))
+
 module _ (setup : Setup) (incoming : Incoming) (places : List ℕ) (handed : List HandedIn) (from : IsHandedFrom incoming places handed)
     (all : (sender : ℕ) → sender < senders → IsUsedUp incoming places sender) where
   -- the items of a channel, and those of decisions
@@ -95,6 +145,33 @@ module _ (setup : Setup) (incoming : Incoming) (places : List ℕ) (handed : Lis
     answers = answers channel below;
     inputs = whole-channel incoming places handed from channel below (all channel (omega (arith, below)));
   }
+
+  -- and the order of the items is the admitted order of the senders of all that was handed in
+  pub handed-admitted : ((channel : ℕ) → channel < channel_limit → AreAnswered (lane_setup setup channel) (answered_on channel handed))
+      → IsAdmittedOrder setup incoming (map sender_of handed) (order_of (length setup.flows.items) handed)
+  handed-admitted answers = record {
+    answered = λ channel. answered_on channel handed;
+    lanes = handed-lanes answers;
+    flags = map (gives_item (length setup.flows.items)) handed;
+    merged = record {
+      named = tags-named (length setup.flows.items) handed from.sent;
+      paired = length-map handed sender_of ∙ sym (length-map handed (gives_item (length setup.flows.items)));
+      lists_are = five
+          (λ sender. picked sender (map sender_of handed) (map (gives_item (length setup.flows.items)) handed) ≡ are_items setup incoming (λ channel. answered_on channel handed) sender)
+          (channel-flags 0 (omega arith)) (channel-flags 1 (omega arith)) (channel-flags 2 (omega arith)) (channel-flags 3 (omega arith))
+          (tags-picked (gives_item (length setup.flows.items)) channel_limit handed
+          ∙ ap (map (gives_item (length setup.flows.items))) (whole-decisions incoming places handed from (all channel_limit (omega arith)))
+          ∙ flags-decided (length setup.flows.items) incoming.decisions);
+    };
+    order_is = sym (places-kept (length setup.flows.items) handed);
+  }
+    where
+      channel-flags : (channel : ℕ) → channel < channel_limit
+          → picked channel (map sender_of handed) (map (gives_item (length setup.flows.items)) handed) ≡ map (λ one. is_some (admitted_by one.answer)) (answered_on channel handed)
+      channel-flags channel below =
+          tags-picked (gives_item (length setup.flows.items)) channel handed
+          ∙ ap (map (gives_item (length setup.flows.items))) (came-by channel below handed from.sent)
+          ∙ flags-came (length setup.flows.items) channel (answered_on channel handed)
 
   handed-lawful : IsLawfulOrder (lengths_of (items_of setup incoming (λ channel. answered_on channel handed))) (order_of (length setup.flows.items) handed)
   handed-lawful =
@@ -209,3 +286,29 @@ module _ {C : Type 0} (accepts : C → List ℕ → Bool) (rule : LossRule) (che
             (cases_lt found.tag senders))
             found.none);
       }
+
+-- how much each sender has
+pub counts-are : (incoming : Incoming) (sender : ℕ) → sender < senders → slice_index_or (input_counts incoming) sender 0 ≡ count_from incoming sender
+counts-are incoming = five (λ sender. slice_index_or (input_counts incoming) sender 0 ≡ count_from incoming sender) refl refl refl refl refl
+
+module _ {C : Type 0} (accepts : C → List ℕ → Bool) (rule : LossRule) (check : List ℕ → Bool) (setup : Setup) (incoming : Incoming) (first after : Playing C)
+    (plays : Plays accepts rule check setup first []) (from : IsHandedFrom incoming first.places []) (tags order : List ℕ)
+    (takes : PlaysTags accepts incoming first tags order after)
+    (all : (sender : ℕ) → sender < senders → IsUsedUp incoming after.places sender) where
+  -- all that was handed in by tags
+  pub tags-handed : (handed : List HandedIn) × Plays accepts rule check setup after handed
+  tags-handed = let one = takes rule check setup [] plays from in (one.0, one.1)
+
+  pub tags-admitted : IsAdmittedOrder setup incoming tags order
+  tags-admitted =
+      let one = takes rule check setup [] plays from in
+      subst (λ (t : List ℕ). IsAdmittedOrder setup incoming tags t) one.4
+      (subst (λ (t : List ℕ). IsAdmittedOrder setup incoming t (order_of (length setup.flows.items) one.0)) one.3
+      (handed-admitted setup incoming after.places one.0 one.2 all (all-answered accepts rule check setup after one.0 one.1)))
+
+  pub tags-replayed : (outcome : Outcome) → ((handed : List HandedIn) → Plays accepts rule check setup after handed → All IsSent handed → IsGiven rule check setup handed outcome)
+      → outcome.order.items ≡ order → IsOutcomeBy rule check setup incoming order outcome
+  tags-replayed outcome gives order_is =
+      let one = takes rule check setup [] plays from in
+      subst (λ (t : List ℕ). IsOutcomeBy rule check setup incoming t outcome) one.4
+      (handed-outcome setup incoming after.places one.0 one.2 all rule check outcome (gives one.0 one.1 one.2.sent) (order_is ∙ sym one.4))

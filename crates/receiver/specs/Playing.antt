@@ -1,5 +1,5 @@
 -- A replay under way: a receiver to which inputs and decisions of some lists were handed in, and what it gave.
-use Rattle.std.specs.Prelude.{◌≡◌, ℕ, ◌<◌, ◌≤◌, ◌⊎◌, Bool, Some, List, Vec, [], ◌∷◌, ◌++◌, is_some, length, slice_get}
+use Rattle.std.specs.Prelude.{◌≡◌, ℕ, ◌<◌, ◌≤◌, ◌⊎◌, Bool, Some, List, Vec, [], ◌∷◌, ◌++◌, is_some, length, map, slice_get}
 use Rattle.std.specs.declared.alloc.Global.{Global}
 use Rattle.flow_records.specs.declared.record.FlowRecord.{FlowRecord}
 use Rattle.flow_core.specs.declared.counts.FlowCounts.{FlowCounts}
@@ -21,7 +21,7 @@ use Rattle.receiver.specs.Items.{Incoming, lane_setup}
 use Rattle.receiver.specs.Outcome.{requests_on}
 use Rattle.receiver.specs.Ruled.{AreRuledOutcomes}
 use Rattle.receiver.specs.HandedIn.{HandedIn, came, made_of, answered_on}
-use Rattle.receiver.specs.HandedOrder.{order_of, items_in, IsHandedFrom, IsUsedUp}
+use Rattle.receiver.specs.HandedOrder.{sender_of, gives_item, order_of, items_in, IsHandedFrom, IsUsedUp}
 use Rattle.receiver.specs.Receiving.{StandsFor}
 
 module _ {C : Type 0} (accepts : C → List ℕ → Bool) where
@@ -56,6 +56,22 @@ module _ {C : Type 0} (accepts : C → List ℕ → Bool) where
     pub told : is_item ≡ is_some (admitted_by answer)
     pub plays : PlaysOne playing (came channel (record { input = input; answer = answer })) after
     pub places : after.places ≡ playing.places
+
+  -- Whatever was handed in of these lists, what comes next from this sender was handed in besides, and it is told whether it gave an item.
+  abbrev pub PlaysNext : Incoming → Playing C → ℕ → Bool → Playing C → Type 0
+  PlaysNext incoming playing sender is_item after =
+      (rule : LossRule) (check : List ℕ → Bool) (setup : Setup) (handed : List HandedIn)
+      → Plays rule check setup playing handed → IsHandedFrom incoming playing.places handed
+      → (one : HandedIn) × Plays rule check setup after (handed ++ one ∷ []) × IsHandedFrom incoming after.places (handed ++ one ∷ [])
+      × (sender_of one ≡ sender) × (is_item ≡ gives_item (length setup.flows.items) one)
+
+  -- Whatever was handed in of these lists, all of these senders was handed in besides, in this order, and these gave items.
+  abbrev pub PlaysTags : Incoming → Playing C → List ℕ → List ℕ → Playing C → Type 0
+  PlaysTags incoming playing tags order after =
+      (rule : LossRule) (check : List ℕ → Bool) (setup : Setup) (handed : List HandedIn)
+      → Plays rule check setup playing handed → IsHandedFrom incoming playing.places handed
+      → (more : List HandedIn) × Plays rule check setup after (handed ++ more) × IsHandedFrom incoming after.places (handed ++ more)
+      × (map sender_of more ≡ tags) × (order_of (length setup.flows.items) more ≡ order)
 
   -- whatever was handed in of these lists, more of them was handed in besides, and gave items of these senders in this order
   abbrev pub PlaysMore : Incoming → Playing C → List ℕ → Playing C → Type 0

@@ -37,7 +37,7 @@ pub use bonded_flows::{DecideFault, FlowDecision, NotReady, SegmentVerdict, Told
 pub use closing::{Closed, Closing};
 pub use flow_records::Decision;
 pub use flows::close_flow;
-pub use one_thread::{ReplayFault, admitted_order, replay, replay_by};
+pub use one_thread::{ReplayFault, admitted_order, replay, replay_by, replay_tags_by};
 pub use order::check_order;
 pub use outcome::{FlowOutcome, Outcome};
 pub use receiver::Receiver;

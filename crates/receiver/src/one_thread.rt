@@ -1,28 +1,21 @@
 //! A receiver on one thread, for inputs that were recorded.
-ghost use Rattle.std.specs.Prelude.{◌≡◌, ◌<◌, ℕ, Bool, List, IfOk, IfErr, Err, All, length, map, filter, ◌∷◌, []};
-ghost use Rattle.flow_records.specs.declared.event.Event.{Event};
-ghost use Rattle.flow_records.specs.Setup.{CanBeSetUp};
+ghost use Rattle.std.specs.Prelude.{◌≡◌, IfOk, IfErr, Err};
 ghost use Rattle.receiver.specs.declared.one_thread.ReplayFault.{ReplayFault};
-ghost use Rattle.receiver.specs.Items.{incoming_of, IsItem};
-ghost use Rattle.flow_records.specs.Decisions.{event_of_decision, names_a_flow};
-ghost use Rattle.receiver.specs.Order.{lengths_of, kept_places, IsLawfulOrder, IsMergeOf};
-ghost use Rattle.lane.specs.Limits.{senders};
+ghost use Rattle.receiver.specs.Items.{incoming_of};
+ghost use Rattle.receiver.specs.Order.{IsLawfulOrder};
 ghost use Rattle.receiver.specs.Outcome.{IsOutcome};
-ghost use Rattle.receiver.specs.Ruled.{IsOutcomeBy, AreRuledOutcomes};
+ghost use Rattle.receiver.specs.Ruled.{IsOutcomeBy};
 ghost use Rattle.receiver.specs.AdmittedOrder.{IsAdmittedOrder, input_counts};
 ghost use Rattle.receiver.specs.Faults.{CanReceive};
 ghost use Rattle.receiver.specs.Faults.{IsReplayFault, IsTagsFault};
-ghost use Rattle.receiver.specs.Inside.Received.{HaveReceived, AreFlagsOf, left_of};
 
-use crate::incoming::{FourReceived, receive};
 use crate::laws;
 use crate::order::check_order;
-use crate::order::merge::Merging;
-use crate::outcome::{FlowOutcome, Outcome};
+use crate::outcome::Outcome;
 use crate::playing::Playing;
 use crate::setup::{BadSetup, Lists, Setup};
-use docsis_wire::HeaderCheck;
-use flow_core::{Event, SetupFault};
+use docsis_wire::{HeaderCheck, NoCheck};
+use flow_core::SetupFault;
 use lane::LaneFault;
 use loss_rule::LossRule;
 use std::alloc::{AllocError, Global};
@@ -72,22 +65,9 @@ impl From<BadSetup> for ReplayFault {
     }
 }
 
-/// What the inputs of the channels 0 to 3 give.
-fn receive_all(alloc: Global, setup: &Setup, lists: &Lists) -> Result<FourReceived, AllocError>
-    requires { CanReceive setup.now }
-    ensures { IfOk result (HaveReceived setup.now (incoming_of lists.now)) }
-{
-    let [i0, i1, i2, i3] = &lists.inputs;
-    Ok(FourReceived {
-        r0: receive(alloc, setup, 0, i0)?,
-        r1: receive(alloc, setup, 1, i1)?,
-        r2: receive(alloc, setup, 2, i2)?,
-        r3: receive(alloc, setup, 3, i3)?,
-    })
-}
-
 /// The admitted order: of tags that name the sender of each input and decision, 0 to 3 for the
-/// channels and 4 for decisions, those of admitted bursts and of decisions that name a flow.
+/// channels and 4 for decisions, those of admitted bursts and of decisions that name a flow. It
+/// replays them; [`replay_tags_by`] gives the order with what a replay gives.
 ///
 /// `Setup` and `Lane`: the first fault of the setup. `BadOrder`: it has none, and this place of the
 /// tags is their fault, as [`check_order`](crate::check_order) says of the numbers of inputs and
@@ -105,12 +85,40 @@ pub fn admitted_order(
     ensures memory { result ≡ Err ReplayFault.OutOfMemory
         → IsLawfulOrder (input_counts (incoming_of lists.now)) tags.now }
 {
+    Ok(replay_tags_by(LossRule::Decided, alloc, setup, lists, tags, NoCheck)?.order)
+}
+
+/// Replays all inputs and decisions in the order of these tags, which name the sender of each, 0 to
+/// 3 for the channels and 4 for decisions: it gives what [`replay_by`] gives in the admitted order,
+/// in one pass.
+///
+/// `Setup` and `Lane`: the first fault of the setup. `BadOrder`: it has none, and this place of the
+/// tags is their fault, as [`check_order`](crate::check_order) says of the numbers of inputs and
+/// decisions. `OutOfMemory`: an allocation failed.
+pub fn replay_tags_by<C: HeaderCheck + Drop>(
+    rule: LossRule,
+    alloc: Global,
+    setup: &Setup,
+    lists: &Lists,
+    tags: &[u8],
+    check: C,
+) -> Result<Outcome, ReplayFault>
+    ensures order { IfOk result (λ outcome. IsAdmittedOrder setup.now (incoming_of lists.now)
+        tags.now outcome.order.items) }
+    ensures outcome { IfOk result (λ outcome. IsOutcomeBy rule (C.accepts check) setup.now
+        (incoming_of lists.now) outcome.order.items outcome) }
+    ensures can_receive { IfOk result (λ _. CanReceive setup.now) }
+    ensures fault { IfErr result (IsTagsFault setup.now (incoming_of lists.now) tags.now) }
+    ensures memory { result ≡ Err ReplayFault.OutOfMemory
+        → IsLawfulOrder (input_counts (incoming_of lists.now)) tags.now }
+{
     setup.check()?;
     if let Err(place) = check_order(input_counts(lists), tags) {
         return Err(ReplayFault::BadOrder(place));
     }
-    let flags = flags_of(alloc, setup, lists)?;
-    Ok(keep(alloc, flags, tags)?)
+    let mut playing = Playing::new(alloc, rule, setup, check)?;
+    let order = playing.take_by_tags(alloc, lists, tags)?;
+    Ok(playing.finish(alloc, setup, order)?)
 }
 
 /// How many inputs each channel has, and how many decisions there are.
@@ -125,53 +133,6 @@ fn input_counts(lists: &Lists) -> [usize; 5]
         i3.len(),
         lists.decisions.len(),
     ]
-}
-
-/// Of each input and decision, whether it gives an item.
-fn flags_of(alloc: Global, setup: &Setup, lists: &Lists) -> Result<Merging<bool>, AllocError>
-    requires { CanReceive setup.now }
-    ensures { IfOk result (AreFlagsOf setup.now (incoming_of lists.now)) }
-{
-    let FourReceived { r0, r1, r2, r3 } = receive_all(alloc, setup, lists)?;
-    let decided = decision_flags(alloc, setup, lists)?;
-    Ok(Merging::of(
-        r0.are_items,
-        r1.are_items,
-        r2.are_items,
-        r3.are_items,
-        decided,
-    ))
-}
-
-/// Of each decision, whether it names a flow.
-fn decision_flags(alloc: Global, setup: &Setup, lists: &Lists) -> Result<Vec<bool>, AllocError>
-    ensures { IfOk result (λ flags.
-        flags.items ≡ map (names_a_flow (length setup.now.flows.items)) lists.now.decisions.items) }
-{
-    let flow_count = setup.flows.len();
-    (lists.decisions.iter())
-        .map(|decision| decision.names_a_flow(flow_count))
-        .collect(alloc)
-}
-
-/// The tags whose flags are true, where each tag names the sender of its flag.
-fn keep(alloc: Global, flags: Merging<bool>, tags: &[u8]) -> Result<Vec<u8>, AllocError>
-    requires { IsLawfulOrder (lengths_of (left_of flags)) tags.now }
-    ensures { IfOk result (λ kept. (merged : List Bool)
-        × IsMergeOf (left_of flags) tags.now merged
-        × (kept.items ≡ kept_places tags.now merged)) }
-{
-    let mut flags = flags;
-    let mut kept = Vec::with_capacity(alloc, tags.len())?;
-    for tag in tags {
-        let Some(is_item) = flags.next(*tag) else {
-            unreachable!()
-        };
-        if is_item {
-            kept.push_reserved(*tag);
-        }
-    }
-    Ok(kept)
 }
 
 /// Replays the inputs of all channels and the decisions on the caller's thread: it takes the

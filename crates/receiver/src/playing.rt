@@ -1,14 +1,16 @@
 //! A receiver to which recorded inputs and decisions are handed in.
-ghost use Rattle.std.specs.Prelude.{◌≡◌, ◌≢◌, ◌<◌, ◌≤◌, ◌+◌, ◌∷◌, [], ◌⊎◌, nat_lt, ℕ, Bool, false, List, All, Some, IfOk, MatchOption, length, take, slice_get, slice_index_or, slice_set, if◌then◌else◌};
+ghost use Rattle.std.specs.Prelude.{◌≡◌, ◌≢◌, ◌<◌, ◌≤◌, ◌+◌, ◌∷◌, ◌++◌, [], ◌⊎◌, nat_lt, ℕ, Bool, false, List, All, Some, IfOk, MatchOption, length, take, slice_get, slice_index_or, slice_set, if◌then◌else◌};
 ghost use Rattle.lane.specs.Limits.{senders, channel_limit};
 ghost use Rattle.lane.specs.declared.report.LaneReport.{LaneReport};
 ghost use Rattle.loss_rule.specs.declared.rule.LossRule.{LossRule};
 ghost use Rattle.consumer.specs.Collecting.{AreEmpty};
 ghost use Rattle.receiver.specs.Faults.{CanReceive};
 ghost use Rattle.receiver.specs.Items.{incoming_of};
+ghost use Rattle.receiver.specs.Order.{IsLawfulOrder};
+ghost use Rattle.receiver.specs.AdmittedOrder.{input_counts};
 ghost use Rattle.receiver.specs.HandedIn.{HandedIn};
 ghost use Rattle.receiver.specs.HandedOrder.{IsSent, flow_decision, handed_decision, gives_item, count_from, IsUsedUp};
-ghost use Rattle.receiver.specs.Playing.{Plays, IsPlaying, PlaysOne, PlaysInput, PlaysMore, FindsNone, HaveGiven, IsReportWith, IsGiven};
+ghost use Rattle.receiver.specs.Playing.{Plays, IsPlaying, PlaysOne, PlaysInput, PlaysNext, PlaysMore, PlaysTags, FindsNone, HaveGiven, IsReportWith, IsGiven};
 
 use crate::outcome::{FlowOutcome, Outcome};
 use crate::receiver::Receiver;
@@ -78,8 +80,8 @@ impl<C: HeaderCheck + Drop> Playing<C> {
         requires sender { sender < senders }
         requires left { slice_index_or self.old.places sender 0
             < count_from (incoming_of lists.now) sender }
-        ensures takes { IfOk result (λ is_item. PlaysMore C.accepts (incoming_of lists.now)
-            self.old (if is_item then sender ∷ [] else []) self.new) }
+        ensures takes { IfOk result (λ is_item. PlaysNext C.accepts (incoming_of lists.now)
+            self.old sender is_item self.new) }
         ensures places { IfOk result (λ _. self.new.places
             ≡ slice_set self.old.places sender (slice_index_or self.old.places sender 0 + 1)) }
         ensures playing { IfOk result (λ _. IsPlaying C.accepts self.new) }
@@ -102,8 +104,8 @@ impl<C: HeaderCheck + Drop> Playing<C> {
         requires channel { channel < channel_limit }
         requires left { slice_index_or self.old.places channel 0
             < length ((incoming_of lists.now).inputs channel) }
-        ensures takes { IfOk result (λ is_item. PlaysMore C.accepts (incoming_of lists.now)
-            self.old (if is_item then channel ∷ [] else []) self.new) }
+        ensures takes { IfOk result (λ is_item. PlaysNext C.accepts (incoming_of lists.now)
+            self.old channel is_item self.new) }
         ensures places { IfOk result (λ _. self.new.places
             ≡ slice_set self.old.places channel (slice_index_or self.old.places channel 0 + 1)) }
         ensures playing { IfOk result (λ _. IsPlaying C.accepts self.new) }
@@ -120,8 +122,8 @@ impl<C: HeaderCheck + Drop> Playing<C> {
         requires playing { IsPlaying C.accepts self.old }
         requires left { slice_index_or self.old.places channel_limit 0
             < length lists.now.decisions.items }
-        ensures takes { IfOk result (λ is_item. PlaysMore C.accepts (incoming_of lists.now)
-            self.old (if is_item then channel_limit ∷ [] else []) self.new) }
+        ensures takes { IfOk result (λ is_item. PlaysNext C.accepts (incoming_of lists.now)
+            self.old channel_limit is_item self.new) }
         ensures places { IfOk result (λ _. self.new.places ≡ slice_set self.old.places
             channel_limit (slice_index_or self.old.places channel_limit 0 + 1)) }
         ensures playing { IfOk result (λ _. IsPlaying C.accepts self.new) }
@@ -216,6 +218,30 @@ impl<C: HeaderCheck + Drop> Playing<C> {
             }
         }
         Ok(None)
+    }
+
+    /// Hands in all inputs and decisions in the order of these tags, which name the sender of each,
+    /// and answers the tags of those that gave an item. Nothing was handed in before.
+    pub fn take_by_tags(
+        &mut self,
+        alloc: Global,
+        lists: &Lists,
+        tags: &[u8],
+    ) -> Result<Vec<u8>, AllocError>
+        requires playing { IsPlaying C.accepts self.old }
+        requires places { (sender : ℕ) → slice_index_or self.old.places sender 0 ≡ 0 }
+        requires lawful { IsLawfulOrder (input_counts (incoming_of lists.now)) tags.now }
+        ensures takes { IfOk result (λ order. PlaysTags C.accepts (incoming_of lists.now)
+            self.old tags.now order.items self.new) }
+        ensures used_up { IfOk result (λ _. (sender : ℕ) → sender < senders
+            → IsUsedUp (incoming_of lists.now) self.new.places sender) }
+    {
+        let mut order = Vec::with_capacity(alloc, tags.len())?;
+        for tag in tags {
+            let is_item = self.take_next(alloc, lists, usize::from(*tag))?;
+            append_if(&mut order, is_item, *tag)?;
+        }
+        Ok(order)
     }
 
     /// Hands in all that is left, and answers whether it gave an item.
@@ -321,6 +347,17 @@ fn copy_of(alloc: Global, input: &Input) -> Result<Input, AllocError>
             bytes: Bytes::from(Vec::from_slice(alloc, bytes.as_slice())?),
         },
     })
+}
+
+/// Appends the tag of something that gave an item.
+fn append_if(order: &mut Vec<u8>, is_item: bool, tag: u8) -> Result<(), AllocError>
+    ensures { IfOk result (λ _.
+        order.new.items ≡ order.old.items ++ (if is_item then tag ∷ [] else [])) }
+{
+    if is_item {
+        order.push(tag)?;
+    }
+    Ok(())
 }
 
 /// A decision about a flow, as decisions of lists are.

@@ -2,8 +2,8 @@
 use Rattle.std.proofs.Common.{◌≡◌, ℕ, ◌+◌, ◌<◌, Bool, true, false, List, [], ◌∷◌, length, slice_index_or, if◌then◌else◌, refl, ap, subst, sym, ◌∙◌, inr, arith}
 use Rattle.std.proofs.lemmas.List.{get_or-set_same}
 use Rattle.receiver.specs.Items.{incoming_of}
-use Rattle.receiver.specs.Playing.{PlaysMore}
-use Rattle.receiver.proofs.PlayingTurns.{plays-none, plays-on}
+use Rattle.receiver.specs.Playing.{PlaysNext}
+use Rattle.receiver.proofs.PlayingTurns.{next-more, plays-none, plays-on}
 use Rattle.receiver.proofs.playing.Playing.take_item.Goals as goal
 
 pub returns-then-sender-ge-SENDERS-clause-takes : goal.returns-then-sender-ge-SENDERS-clause-takes
@@ -22,8 +22,9 @@ loop-preserved g c =
     (let five = c.loop.invariant.playing.five in let named = c.if-sender-ge-SENDERS.false in omega arith) in
     record {
       plays = plays-on g.C.HeaderCheck.accepts (incoming_of c.args.lists.now) c.args.self.now c.loop.self c.take_next.new.self [] [] c.loop.invariant.plays
-          (subst (λ (is_item : Bool). PlaysMore g.C.HeaderCheck.accepts (incoming_of c.args.lists.now) c.loop.self (if is_item then c.args.sender ∷ [] else []) c.take_next.new.self)
-          c.if-branch.false c.in_ok-take_next.ensures.takes);
+          (next-more g.C.HeaderCheck.accepts (incoming_of c.args.lists.now) c.loop.self c.take_next.new.self c.args.sender _
+          (subst (λ (is_item : Bool). PlaysNext g.C.HeaderCheck.accepts (incoming_of c.args.lists.now) c.loop.self c.args.sender is_item c.take_next.new.self)
+          c.if-branch.false c.in_ok-take_next.ensures.takes));
       playing = c.in_ok-take_next.ensures.playing;
       place = ap (λ (places : List ℕ). slice_index_or places c.args.sender 0) c.in_ok-take_next.ensures.places ∙ next ∙ ap (λ (n : ℕ). n + 1) c.loop.invariant.place;
     }
@@ -34,5 +35,6 @@ returns-clause-used_up g c = λ none. inr (let count = c.count_of-count.ensures 
 pub returns-then-branch-clause-takes : goal.returns-then-branch-clause-takes
 returns-then-branch-clause-takes g c =
     plays-on g.C.HeaderCheck.accepts (incoming_of c.args.lists.now) c.args.self.now c.loop.self c.take_next.new.self [] (c.args.sender ∷ []) c.loop.invariant.plays
-    (subst (λ (is_item : Bool). PlaysMore g.C.HeaderCheck.accepts (incoming_of c.args.lists.now) c.loop.self (if is_item then c.args.sender ∷ [] else []) c.take_next.new.self)
-    c.if-branch.true c.in_ok-take_next.ensures.takes)
+    (next-more g.C.HeaderCheck.accepts (incoming_of c.args.lists.now) c.loop.self c.take_next.new.self c.args.sender _
+    (subst (λ (is_item : Bool). PlaysNext g.C.HeaderCheck.accepts (incoming_of c.args.lists.now) c.loop.self c.args.sender is_item c.take_next.new.self)
+    c.if-branch.true c.in_ok-take_next.ensures.takes))

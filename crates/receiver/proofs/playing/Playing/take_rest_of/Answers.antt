@@ -2,7 +2,7 @@
 use Rattle.std.proofs.Common.{◌≡◌, ℕ, ◌+◌, Bool, nat_lt, List, [], ◌∷◌, ◌++◌, length, slice_index_or, if◌then◌else◌, refl, ap, subst, sym, ◌∙◌, arith}
 use Rattle.std.proofs.lemmas.List.{get_or-set_same, get_or-set_other}
 use Rattle.receiver.specs.Items.{incoming_of}
-use Rattle.receiver.proofs.PlayingTurns.{plays-none, plays-on, any-more}
+use Rattle.receiver.proofs.PlayingTurns.{next-more, plays-none, plays-on, any-more}
 use Rattle.receiver.proofs.playing.Playing.take_rest_of.Goals as goal
 
 pub loop-init : goal.loop-init
@@ -22,7 +22,8 @@ loop-preserved g c =
     record {
       plays = (
         before.0 ++ (if is_item then c.args.sender ∷ [] else []),
-        plays-on g.C.HeaderCheck.accepts (incoming_of c.args.lists.now) c.args.self.now c.loop.self c.take_next.new.self before.0 (if is_item then c.args.sender ∷ [] else []) before.1 c.in_ok-any.ensures.takes,
+        plays-on g.C.HeaderCheck.accepts (incoming_of c.args.lists.now) c.args.self.now c.loop.self c.take_next.new.self before.0 (if is_item then c.args.sender ∷ [] else []) before.1
+            (next-more g.C.HeaderCheck.accepts (incoming_of c.args.lists.now) c.loop.self c.take_next.new.self c.args.sender is_item c.in_ok-any.ensures.takes),
         any-more c.loop.any is_item before.0 c.args.sender before.2,
       );
       playing = c.in_ok-any.ensures.playing;
