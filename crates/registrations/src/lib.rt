@@ -16,10 +16,12 @@
 //!    flow or the SID that a flow has on a channel.
 //!
 //! What matters most: a part is found exactly if the bytes of its packet spell one by the definition
-//! `part_of`, with both check sequences right; with each part the message that is under way for its
-//! modem grows as the definition `joined` says, and no other, so that a message whose parts come in
-//! turn is given with the last one ([`laws::parts_in_turn_are_joined`]); and what is told is what the
-//! definition `told_by` reads in all TLVs, in their order, or nothing where one is malformed.
+//! `part_of`, which is the grammar of a frame with both check sequences right and of its message
+//! ([`laws::frames_spell_their_message`], [`laws::messages_spell_their_parts`]). With each part the
+//! message that is under way for its modem grows as the definition `joined` says, and no other, so
+//! that a message whose parts come in turn is given with the last one
+//! ([`laws::parts_in_turn_are_joined`]). What is told is what the definition `told_by` reads in all
+//! TLVs, in their order, or nothing where one is malformed.
 #![tactic(auto)]
 
 mod joining;
