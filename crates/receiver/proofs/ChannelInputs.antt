@@ -1,10 +1,9 @@
--- What lists of inputs give one after the other, and what one more adds to what was received.
-use Rattle.std.proofs.Common.{◌≡◌, ℕ, ◌+◌, ◌<◌, Bool, true, false, Option, Some, None, Ok, Err, All, List, [], ◌∷◌, ◌++◌, length, get_or, slice_get, slice_index_or, map, take, filter_map, is_some, sym, ap, subst, ◌∙◌, refl, arith}
+-- What is admitted of the inputs of a channel.
+use Rattle.std.proofs.Common.{◌≡◌, ℕ, ◌<◌, Option, Some, None, Ok, Err, All, List, [], ◌∷◌, ◌++◌, length, slice_get, slice_index_or, map, take, filter_map, sym, ap, ◌∙◌, refl, arith}
 use Rattle.std.specs.List.{cons_option}
-use Rattle.std.proofs.lemmas.List.{map-append, append-nil, take_more}
+use Rattle.std.proofs.lemmas.List.{map-append}
 use Rattle.std.proofs.lemmas.List.Elements.{All-nil, All-cons, All-head, All-tail, All-same, All-append}
 use Rattle.std.proofs.lemmas.Option.{slice_get_within, slice_get-get_or}
-use Rattle.flow_records.specs.declared.record.FlowRecord.{FlowRecord}
 use Rattle.docsis_wire.specs.Limits.{sequence_modulus}
 use Rattle.lane.specs.Admission.{IsRequestIn}
 use Rattle.lane.specs.declared.admitted.Request.{Request}
@@ -12,27 +11,18 @@ use Rattle.lane.specs.declared.grant.SidFlow.{SidFlow}
 use Rattle.lane.specs.declared.admitted.Admitted.{Admitted}
 use Rattle.lane.specs.declared.input.Input.{Input}
 use Rattle.lane.specs.declared.input.Input.TheVariants.{Grant, Burst}
-use Rattle.lane.specs.declared.lane.Lane.{Lane}
-use Rattle.receiver.specs.declared.incoming.Received.{Received}
-use Rattle.lane.specs.declared.sids.SidRow.{SidRow}
-use Rattle.receiver.specs.declared.setup.Setup.{Setup}
-use Rattle.lane.specs.Inputs.{LaneSetup, Answer, AnsweredInput, IsFlowOf, IsAnswer, AreAnswered, inputs_of}
+use Rattle.lane.specs.Inputs.{LaneSetup, Answer, AnsweredInput, IsFlowOf, IsAnswer, AreAnswered}
 use Rattle.lane.specs.Report.{admitted_by, admitted_of, requests_of, IsLaneRequest}
-use Rattle.receiver.specs.Items.{IsItem, lane_setup}
+use Rattle.receiver.specs.Items.{IsItem}
 use Rattle.lane.specs.Report.{event_of_admitted}
 use Rattle.receiver.specs.Channels.{HasRow}
-use Rattle.lane.specs.Stands.{StandsFor, TakesInput}
-use Rattle.lane.specs.Report.{Reports}
-use Rattle.receiver.specs.Inside.Received.{HasReceived, AdmitsWithin, NotesAnswer}
-use Rattle.lane.proofs.LaneTaking.{answered-last}
 use Rattle.lane.proofs.LaneReports.{admitted_of-append, requests_of-append}
 
--- the lane and what was received are those of the first n inputs
-pub record IsReceiving (setup : Setup) (channel : ℕ) (inputs : List Input) (n : ℕ) (lane : Lane) (received : Received) : Type 0 where
-  pub answered : List AnsweredInput
-  pub inputs_are : inputs_of answered ≡ take n inputs
-  pub stands : StandsFor (lane_setup setup channel) lane answered
-  pub has_received : HasReceived (length setup.flows.items) answered received
+-- the flow of what is admitted has a record
+abbrev pub AdmitsWithin : ℕ → Answer → Type 0
+AdmitsWithin flow_count (Err refusal) = Unit {0}
+AdmitsWithin flow_count (Ok None) = Unit {0}
+AdmitsWithin flow_count (Ok (Some admitted)) = admitted.flow < flow_count
 
 -- what is admitted of an input is of a flow that has a record
 pub admits-within : (setup : LaneSetup) (taken : List AnsweredInput) (input : Input) (answer : Answer) → IsAnswer setup taken input answer
@@ -135,82 +125,3 @@ module _ (setup : LaneSetup) (taken : List AnsweredInput) (answered : AreAnswere
       given-by-each requests_of (IsLaneRequest setup) refl requests_of-append taken
       (of-each-answer (λ one. All (IsLaneRequest setup) (requests_of (one ∷ [])))
       (λ before one is. asks-within setup before one.input one.answer is))
-
--- what one more input gives is noted
-notes : (before after : Received) (answer : Answer)
-    → after.items.items ≡ before.items.items ++ map event_of_admitted (filter_map admitted_by (answer ∷ []))
-    → after.are_items.items ≡ before.are_items.items ++ is_some (admitted_by answer) ∷ []
-    → after.requests.items ≡ before.requests.items ++ filter_map (λ (one : Admitted). one.request) (filter_map admitted_by (answer ∷ []))
-    → Reports before.report answer after.report → NotesAnswer before answer after
-notes before after answer items are_items requests reports flow_count answered input within has =
-    let last : List AnsweredInput = record { input = input; answer = answer } ∷ [] in
-    let is_item : AnsweredInput → Bool = λ one. is_some (admitted_by one.answer) in
-    record {
-      items =
-          items ∙ ap (λ t. t ++ map event_of_admitted (admitted_of last)) has.items
-          ∙ sym (ap (map event_of_admitted) (admitted_of-append answered last)
-          ∙ map-append event_of_admitted (admitted_of answered) (admitted_of last));
-      are_items = are_items ∙ ap (λ t. t ++ map is_item last) has.are_items ∙ sym (map-append is_item answered last);
-      requests = requests ∙ ap (λ t. t ++ requests_of last) has.requests ∙ sym (requests_of-append answered last);
-      report = reports answered input has.report;
-      each = All-same (IsItem flow_count) after.items.items (before.items.items ++ map event_of_admitted (admitted_of last)) items
-          (All-append (IsItem flow_count) before.items.items (map event_of_admitted (admitted_of last)) has.each
-          (admits-items flow_count answer within));
-    }
-
-module _ (before after : Received) (answer : Answer) where
-  -- a segment is admitted
-  pub notes-admitted : (admitted : Admitted) → admitted_by answer ≡ Some admitted
-      → after.items.items ≡ before.items.items ++ event_of_admitted admitted ∷ []
-      → after.are_items.items ≡ before.are_items.items ++ true ∷ []
-      → after.requests.items ≡ before.requests.items ++ cons_option admitted.request []
-      → Reports before.report answer after.report → NotesAnswer before answer after
-  notes-admitted admitted is items are_items requests reports =
-      let one : filter_map admitted_by (answer ∷ []) ≡ admitted ∷ [] = ap (λ o. cons_option o []) is in
-      notes before after answer
-      (items ∙ sym (ap (λ l. before.items.items ++ map event_of_admitted l) one))
-      (are_items ∙ ap (λ o. before.are_items.items ++ is_some o ∷ []) (sym is))
-      (requests ∙ sym (ap (λ l. before.requests.items ++ filter_map (λ (one : Admitted). one.request) l) one))
-      reports
-
-  -- none is
-  pub notes-nothing : admitted_by answer ≡ None
-      → after.items.items ≡ before.items.items
-      → after.are_items.items ≡ before.are_items.items ++ false ∷ []
-      → after.requests.items ≡ before.requests.items
-      → Reports before.report answer after.report → NotesAnswer before answer after
-  notes-nothing none items are_items requests reports =
-      let nothing : filter_map admitted_by (answer ∷ []) ≡ [] = ap (λ o. cons_option o []) none in
-      notes before after answer
-      (items ∙ sym (ap (λ l. before.items.items ++ map event_of_admitted l) nothing ∙ append-nil before.items.items))
-      (are_items ∙ ap (λ o. before.are_items.items ++ is_some o ∷ []) (sym none))
-      (requests ∙ sym (ap (λ l. before.requests.items ++ filter_map (λ (one : Admitted). one.request) l) nothing ∙ append-nil before.requests.items))
-      reports
-
-module _ (setup : Setup) (channel : ℕ) where
-  -- a lane that was opened stands for no inputs
-  pub opened : (rows : List SidRow) (records : List FlowRecord) (lane : Lane) → rows ≡ setup.sids.items → records ≡ setup.flows.items
-      → StandsFor (record { channel = channel; rows = rows; records = records }) lane [] → StandsFor (lane_setup setup channel) lane []
-  opened rows records lane rows_are records_are stands =
-      subst (λ (r : List FlowRecord). StandsFor (record { channel = channel; rows = setup.sids.items; records = r }) lane []) records_are
-      (subst (λ (r : List SidRow). StandsFor (record { channel = channel; rows = r; records = records }) lane []) rows_are stands)
-
-  -- one more input is taken and noted
-  pub one-more : (inputs : List Input) (n : ℕ) (lane lane' : Lane) (received received' : Received) (input : Input) (answer : Answer)
-      → n < length inputs → input ≡ get_or inputs n input → TakesInput lane input answer lane' → NotesAnswer received answer received'
-      → IsReceiving setup channel inputs n lane received → IsReceiving setup channel inputs (n + 1) lane' received'
-  one-more inputs n lane lane' received received' input answer within at takes notes_it is =
-      let one : AnsweredInput = record { input = input; answer = answer } in
-      let stands = takes (lane_setup setup channel) is.answered is.stands in
-      record {
-        answered = is.answered ++ one ∷ [];
-        inputs_are =
-            map-append (λ (t : AnsweredInput). t.input) is.answered (one ∷ []) ∙ ap (λ t. t ++ input ∷ []) is.inputs_are
-            ∙ ap (λ i. take n inputs ++ i ∷ []) at ∙ sym (take_more inputs n input within);
-        stands = stands;
-        has_received =
-            notes_it (length setup.flows.items) is.answered input
-            (admits-within (lane_setup setup channel) is.answered input answer
-            (answered-last (lane_setup setup channel) is.answered one stands.answered))
-            is.has_received;
-      }

@@ -23,7 +23,7 @@ use Rattle.receiver.specs.Intake.{IsIntake}
 use Rattle.receiver.specs.Ruled.{carries, channels_of, ruled_flow, comings_at}
 use Rattle.receiver.specs.Channels.{HasRow, segments_on, events_handed_in, segments_of_flow}
 use Rattle.receiver.proofs.ChannelInputs.{rows-admitted}
-use Rattle.receiver.proofs.FourLanes.{four}
+use Rattle.receiver.proofs.Senders.{four}
 use Rattle.receiver.proofs.FlowComings.{IsSentBy, IsArrival, IsDecision, AreOfTheirSenders, comes-item, item-picked, come-admitted, handed-events, handed-item}
 
 -- a row that gives the flow an identifier there is found

@@ -1,5 +1,5 @@
 -- In what order things come that are handed in.
-use Rattle.std.proofs.Common.{◌≡◌, ◌≢◌, ℕ, zero, suc, ◌<◌, ⊎_elim, Bool, true, false, cond, Option, Some, None, All, List, [], ◌∷◌, ◌++◌, ◌==◌, ◌&&◌, nat_lt, length, map, filter, filter_map, is_some, eq-eqb, ne_eqb, refl, sym, ap, ◌∙◌, arith}
+use Rattle.std.proofs.Common.{◌≡◌, ◌≢◌, ℕ, suc, ◌<◌, ⊎_elim, Bool, true, false, cond, Option, Some, None, All, List, [], ◌∷◌, ◌++◌, ◌==◌, ◌&&◌, nat_lt, length, map, filter, is_some, eq-eqb, ne_eqb, refl, sym, ap, ◌∙◌, arith}
 use Rattle.std.specs.List.{cons_option}
 use Rattle.std.specs.Option.{option_map}
 use Rattle.std.proofs.lemmas.Bool.{cases_eq}
@@ -17,7 +17,7 @@ use Rattle.bonded_flows.specs.declared.decision.FlowDecision.TheVariants.{Gap, G
 use Rattle.bonded_flows.specs.ByRule.{is_in_range}
 use Rattle.bonded_flows.specs.Table.{TableInput}
 use Rattle.receiver.specs.Order.{picked}
-use Rattle.receiver.specs.HandedIn.{HandedIn, came, decided, restarted, answered_on, arrives_on, decides_of, flow_input_of, flow_inputs}
+use Rattle.receiver.specs.HandedIn.{HandedIn, came, decided, restarted, answered_on, arrives_on, decides_of, flow_inputs}
 use Rattle.receiver.specs.HandedOrder.{sender_of, IsSent, event_decided, item_in, gives_item, items_in, order_of, handed_by, flow_decision, handed_decision}
 use Rattle.receiver.specs.TakenInOrder.{table_input_of, table_inputs}
 

@@ -76,6 +76,12 @@ module _ {T : Type 0} where
         times-picked sender order items is.paired ∙ ap length (is.lists_are sender below) ∙ sym (length-of lists sender below);
   }
 
+  -- lists that are the same for each sender are merged in the same way
+  pub merge-same : (lists others : ℕ → List T) (order : List ℕ) (items : List T) → ((s : ℕ) → s < senders → lists s ≡ others s)
+      → IsMergeOf lists order items → IsMergeOf others order items
+  merge-same lists others order items same merged =
+      record { named = merged.named; paired = merged.paired; lists_are = λ s named. merged.lists_are s named ∙ same s named }
+
   -- what is picked of each sender, put in its places, is the list
   same-items : (order : List ℕ) (items others : List T) → length order ≡ length items → length order ≡ length others
       → All (λ tag. tag < senders) order

@@ -35,8 +35,8 @@ use Rattle.receiver.specs.AdmittedOrder.{input_counts}
 use Rattle.receiver.specs.SameOutcome.{GaveTheSame, ReportTheSame, IsSameOutcome}
 use Rattle.lane.proofs.RowFaults.{one_fault as one_lane_fault, fault-refused as lane-refused}
 use Rattle.receiver.proofs.OrderPlaces.{one-fault, lawful-faultless}
-use Rattle.receiver.proofs.MergedLists.{merge-lawful, one-merge, one-lane, same-lengths}
-use Rattle.receiver.proofs.Interleaving.{five, merge-same}
+use Rattle.receiver.proofs.MergedLists.{merge-lawful, one-merge, one-lane, same-lengths, merge-same}
+use Rattle.receiver.proofs.Senders.{five}
 
 -- what a flow gives by its close is one thing
 abbrev pub HasOneClose : (List ℕ → Bool) → Type 0

@@ -1,5 +1,5 @@
 -- What a replay gave, at its beginning and at its end.
-use Rattle.std.proofs.Common.{◌≡◌, ℕ, zero, suc, ◌<◌, ◌≤◌, inl, inr, ⊎_elim, Bool, IsTrue, Option, Some, None, All, List, Vec, Global, [], ◌∷◌, ◌++◌, length, map, get_or, slice_get, slice_index_or, refl, sym, ap, subst, ◌∙◌, arith, append-nil}
+use Rattle.std.proofs.Common.{◌≡◌, ℕ, zero, suc, ◌<◌, ◌≤◌, ⊎_elim, Bool, IsTrue, Some, All, List, Vec, Global, [], ◌∷◌, ◌++◌, length, map, drop, slice_get, slice_index_or, refl, sym, ap, subst, ◌∙◌, arith, append-nil}
 use Rattle.std.proofs.lemmas.List.{get_or-map}
 use Rattle.std.proofs.lemmas.Option.{same_Some, slice_get_within, slice_get_cases, slice_get-get_or, get_or_from_slice_get}
 use Rattle.flow_records.specs.declared.record.FlowRecord.{FlowRecord}
@@ -10,20 +10,18 @@ use Rattle.lane.specs.Limits.{channel_limit}
 use Rattle.lane.specs.Report.{refusal_numbers}
 use Rattle.lane.proofs.LaneTaking.{from-pushed}
 use Rattle.loss_rule.specs.declared.rule.LossRule.{LossRule}
-use Rattle.loss_rule.specs.Rule.{Coming}
 use Rattle.consumer.specs.declared.given.Given.{Given}
 use Rattle.consumer.specs.declared.collected.Collected.{Collected}
 use Rattle.consumer.specs.Given.{frames_of, requests_given}
-use Rattle.consumer.specs.Collecting.{AreEmpty, HasNothing, HasCollected, GrewBy, list_at}
+use Rattle.consumer.specs.Collecting.{AreEmpty, HasNothing, HasCollected, list_at}
 use Rattle.bonded_flows.specs.Parts.{FlowInput, comes}
-use Rattle.bonded_flows.specs.Table.{TableInput, flow_setup, inputs_at}
+use Rattle.bonded_flows.specs.Table.{flow_setup, inputs_at}
 use Rattle.receiver.specs.declared.setup.Setup.{Setup}
 use Rattle.receiver.specs.declared.tally.LaneTally.{LaneTally}
 use Rattle.receiver.specs.declared.closing.Closed.{Closed}
 use Rattle.receiver.specs.declared.outcome.FlowOutcome.{FlowOutcome}
 use Rattle.receiver.specs.declared.outcome.Outcome.{Outcome}
 use Rattle.receiver.specs.declared.playing.Playing.{Playing}
-use Rattle.receiver.specs.Outcome.{requests_on}
 use Rattle.receiver.specs.Ruled.{comings_at, IsRuledOutcome, ruled_flow}
 use Rattle.receiver.specs.HandedIn.{HandedIn, made_of, answered_on, flow_inputs}
 use Rattle.receiver.specs.HandedOrder.{IsSent, items_in, order_of}
@@ -60,6 +58,14 @@ pub list-there : {A : Type 0} (lists : List (Vec A Global)) (k : ℕ) (list : Ve
 list-there {A} lists k list there =
     get_or-map (λ (v : Vec A Global). v.items) lists k list [] (slice_get_within lists k list there)
     ∙ ap (λ (v : Vec A Global). v.items) (get_or_from_slice_get lists k list list there)
+
+-- the first of what is left of a list after its first k
+pub first_left : {X : Type 0} (xs : List X) (k : ℕ) (x : X) (rest : List X) → drop k xs ≡ x ∷ rest
+    → (slice_get xs k ≡ Some x) × (drop (suc k) xs ≡ rest)
+first_left [] zero x rest is = absurd (cc)
+first_left [] (suc k) x rest is = absurd (cc)
+first_left (y ∷ xs) zero x rest is = (cc, cc)
+first_left (y ∷ xs) (suc k) x rest is = first_left xs k x rest is
 
 -- one flow more has its outcome
 pub given-more : (records : List FlowRecord) (frames : List (Vec (List ℕ) Global)) (counts : List FlowCounts) (flows : List FlowOutcome) (flow_record : FlowRecord) (flow : FlowOutcome)

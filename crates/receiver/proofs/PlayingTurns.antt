@@ -1,5 +1,5 @@
 -- A replay under way, after something more was handed in.
-use Rattle.std.proofs.Common.{◌≡◌, ◌≢◌, ℕ, suc, ◌+◌, ◌<◌, ⊎_elim, Bool, true, false, ◌||◌, nat_lt, cond, Option, Some, None, All, List, Vec, Global, [], ◌∷◌, ◌++◌, ◌==◌, length, map, take, is_some, get_or, slice_index_or, slice_set, eq-eqb, ne_eqb, refl, sym, ap, subst, ◌∙◌, arith, append-nil, append_assoc}
+use Rattle.std.proofs.Common.{◌≡◌, ◌≢◌, ℕ, suc, ◌+◌, ◌<◌, ⊎_elim, Bool, true, false, ◌||◌, nat_lt, cond, Option, Some, None, List, Vec, Global, [], ◌∷◌, ◌++◌, ◌==◌, length, map, take, is_some, get_or, slice_index_or, slice_set, eq-eqb, ne_eqb, refl, sym, ap, subst, ◌∙◌, arith, append-nil, append_assoc}
 use Rattle.std.specs.List.{cons_option}
 use Rattle.std.specs.Option.{option_map}
 use Rattle.std.proofs.Math.Seq.{take-suc}

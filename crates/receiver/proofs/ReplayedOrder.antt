@@ -1,7 +1,7 @@
 -- A replay whose lists were handed in whole: its order is lawful, or at fault where an item was missing or left over.
-use Rattle.std.proofs.Common.{◌≡◌, ◌≢◌, ℕ, zero, suc, ◌+◌, ◌<◌, ◌≤◌, ◌⊎◌, inl, inr, ⊎_elim, Bool, true, false, ◌==◌, nat_lt, cond, Some, None, All, List, [], ◌∷◌, ◌++◌, is_some, length, map, filter, take, drop, slice_get, slice_index_or, refl, sym, ap, subst, ◌∙◌, arith, length-append, append-nil}
+use Rattle.std.proofs.Common.{◌≡◌, ℕ, ◌<◌, ◌≤◌, inl, inr, ⊎_elim, Bool, true, false, ◌==◌, nat_lt, cond, Some, None, All, List, [], ◌∷◌, ◌++◌, is_some, length, map, filter, take, slice_index_or, refl, sym, ap, subst, ◌∙◌, arith, length-append, append-nil}
 use Rattle.std.proofs.lemmas.Bool.{cases_lt, lt-ltb, ltb-true, true≢false}
-use Rattle.std.proofs.lemmas.List.{length-map, length-take-le, take_all, take-append-drop, nil_from_length}
+use Rattle.std.proofs.lemmas.List.{length-map, take_all, nil_from_length}
 use Rattle.std.proofs.lemmas.List.Elements.{All-nil, All-cons, All-head, All-tail, filter-append}
 use Rattle.std.proofs.lemmas.List.Sums.{sum_by-append}
 use Rattle.std.proofs.lemmas.Option.{slice_get_cases}
@@ -24,7 +24,7 @@ use Rattle.receiver.specs.Faults.{HasBadOrder}
 use Rattle.receiver.specs.HandedIn.{HandedIn, came, answered_on}
 use Rattle.receiver.specs.HandedOrder.{sender_of, IsSent, gives_item, items_in, order_of, handed_by, handed_decision, count_from, IsHandedFrom, IsUsedUp}
 use Rattle.receiver.specs.Playing.{Plays, PlaysMore, PlaysTags, FindsNone, IsGiven}
-use Rattle.receiver.proofs.Interleaving.{five}
+use Rattle.receiver.proofs.Senders.{five}
 use Rattle.receiver.proofs.MergedLists.{merge-lawful, times-picked}
 use Rattle.receiver.proofs.OrderPlaces.{fault-behind, fault-end}
 use Rattle.receiver.proofs.HandedOrder.{sent-named, picked-by, order-paired, order-named, order-append, items-came, item-decided, items-decided, came-by}

@@ -7,7 +7,6 @@ pub mod Faults
 pub mod Widths
 pub mod Tallies
 pub mod SameOutcome
-pub mod Inside
 pub mod Ruled
 pub mod TakenInOrder
 pub mod Channels

@@ -12,14 +12,11 @@
 //! 2. [`replay`] plays recorded inputs in such an order. Its contract is the one-thread answer of
 //!    the definitions. [`replay_by`] decides besides by a rule which segments are lost.
 //!
-//! [`RuledAssembler`] and [`close_flow`] are what each receiver does with an item and with a flow's
-//! close. [`laws`] says what follows from the definitions: a replay has one outcome, and by a loss
+//! [`laws`] says what follows from the definitions: a replay has one outcome, and by a loss
 //! rule a flow gives exactly the modem's frames all of whose segments came in.
 #![tactic(auto)]
 
 mod closing;
-mod flows;
-mod incoming;
 pub mod laws;
 mod one_thread;
 mod order;
@@ -27,7 +24,6 @@ mod outcome;
 mod playing;
 mod receiver;
 mod reply;
-mod ruled;
 mod setup;
 mod tallied_lane;
 mod tally;
@@ -36,13 +32,11 @@ mod width;
 pub use bonded_flows::{DecideFault, FlowDecision, NotReady, SegmentVerdict, Told};
 pub use closing::{Closed, Closing};
 pub use flow_records::Decision;
-pub use flows::close_flow;
 pub use one_thread::{ReplayFault, admitted_order, replay, replay_by, replay_tags_by};
 pub use order::check_order;
 pub use outcome::{FlowOutcome, Outcome};
 pub use receiver::Receiver;
 pub use reply::{DecisionReply, Reply, RestartError, TakeError};
-pub use ruled::RuledAssembler;
 pub use setup::{BadSetup, Lists, Setup, SetupError};
 pub use tally::LaneTally;
 pub use width::{Width, WidthFault};

@@ -2,8 +2,6 @@
 ghost use Rattle.std.specs.Prelude.{◌≡◌, ◌↔◌, ℕ, Ok, Err};
 ghost use Rattle.receiver.specs.Order.{IsLawfulOrder, IsOrderFault};
 
-pub mod merge;
-
 /// Looks for the first fault of an order of the items of five senders, 0 to 4, whose lists have
 /// these lengths: a place that names no sender or one whose list is used up, or the order's length
 /// if items are left over.

@@ -2,7 +2,7 @@
 ghost use Rattle.std.specs.Prelude.{IfOk, IfErr};
 ghost use Rattle.receiver.specs.Items.{incoming_of};
 ghost use Rattle.receiver.specs.Faults.{CanReceive};
-ghost use Rattle.receiver.specs.AdmittedOrder.{input_counts, IsAdmittedOrder};
+ghost use Rattle.receiver.specs.AdmittedOrder.{input_counts};
 ghost use Rattle.receiver.specs.Order.{IsLawfulOrder};
 ghost use Rattle.texts.specs.Replay.{IsPlayedBy, IsReplayed, IsReplayedBy, IsReplayFault};
 
@@ -11,23 +11,9 @@ use crate::report_lines::report;
 use crate::trace::{Trace, read_trace};
 use docsis_wire::NoCheck;
 use loss_rule::LossRule;
-use receiver::{Outcome, admitted_order, replay_by};
+use receiver::{Outcome, replay_tags_by};
 use std::alloc::{AllocError, Global};
 use text_lines::{Capacities, DEFAULT_CAPACITY, TextFault};
-
-/// The senders of what a trace's lines say that was admitted, in the order of the lines.
-fn order_of(alloc: Global, trace: &Trace) -> Result<Vec<u8>, AllocError>
-    requires can_receive { CanReceive trace.now.setup }
-    requires lawful { IsLawfulOrder (input_counts (incoming_of trace.now.lists))
-        trace.now.tags.items }
-    ensures { IfOk result (λ order. IsAdmittedOrder
-        trace.now.setup (incoming_of trace.now.lists) trace.now.tags.items order.items) }
-{
-    lane::laws::rows_have_one_first_fault();
-    receiver::laws::lawful_order_has_no_fault();
-    let order = admitted_order(alloc, &trace.setup, &trace.lists, &trace.tags);
-    unless_out_of_memory(order)
-}
 
 /// What a trace gives by this rule; the trace is freed.
 fn replay_trace(rule: LossRule, alloc: Global, trace: Trace) -> Result<Outcome, AllocError>
@@ -37,9 +23,9 @@ fn replay_trace(rule: LossRule, alloc: Global, trace: Trace) -> Result<Outcome, 
     ensures { IfOk result (IsPlayedBy rule trace) }
 {
     lane::laws::rows_have_one_first_fault();
-    receiver::laws::admitted_order_is_lawful();
-    let order = order_of(alloc, &trace)?;
-    let answer = replay_by(rule, alloc, &trace.setup, &trace.lists, &order, NoCheck);
+    receiver::laws::lawful_order_has_no_fault();
+    let (setup, lists) = (&trace.setup, &trace.lists);
+    let answer = replay_tags_by(rule, alloc, setup, lists, &trace.tags, NoCheck);
     unless_out_of_memory(answer)
 }
 

@@ -54,8 +54,8 @@ use Rattle.workers.specs.Inside.Carried.{carried}
 use Rattle.workers.specs.Inside.Working.{HasPosted, HasSent, HasServed, DidLane, kept_of}
 use Rattle.uplink.specs.Inside.Feeding.{offered_to}
 use Rattle.uplink.specs.Inside.Running.{IsOpened, HasEnded, CanSettle, HasConcluded, closed_arrivals, closed_requests, all_posted}
-use Rattle.receiver.proofs.Interleaving.{five}
-use Rattle.receiver.proofs.FourLanes.{four}
+use Rattle.receiver.proofs.Senders.{five}
+use Rattle.receiver.proofs.Senders.{four}
 use Rattle.uplink.proofs.FramesOffered.{offered-there}
 use Rattle.uplink.proofs.RuledOutcomes.{ruled-outcome}
 

@@ -1,4 +1,4 @@
-use Rattle.receiver.proofs.RuledItems.{decided-outcomes, outcomes-decided}
+use Rattle.receiver.proofs.DecidedOutcomes.{decided-outcomes, outcomes-decided}
 use Rattle.receiver.proofs.laws.replay_by_decisions_alone_is_a_replay.Goals as goal
 
 pub returns-clause-replay : goal.returns-clause-replay

@@ -1,14 +1,11 @@
 -- All is handed in, and the receiver is closed.
-use Rattle.std.proofs.Common.{◌≡◌, ℕ, None, Some, Option, MatchOption, List, ◌++◌, [], length, take, drop, refl, sym, ap, subst, ◌∙◌, arith}
+use Rattle.std.proofs.Common.{◌≡◌, ℕ, Option, MatchOption, List, ◌++◌, length, take, drop, refl, sym, subst, ◌∙◌, arith}
 use Rattle.std.proofs.lemmas.List.{length-take-le, take-append-drop}
 use Rattle.std.proofs.lemmas.Option.{slice_get_within}
-use Rattle.receiver.specs.declared.playing.Playing.{Playing}
 use Rattle.receiver.specs.Items.{incoming_of}
 use Rattle.receiver.specs.Faults.{HasBadOrder}
-use Rattle.receiver.specs.HandedOrder.{IsHandedFrom}
 use Rattle.receiver.specs.Playing.{PlaysMore, FindsNone}
 use Rattle.receiver.proofs.ReplayedOrder.{from-nothing, all-handed, replayed, left-over, none-there}
-use Rattle.receiver.proofs.one_thread.replay_by.Given.{Over}
 use Rattle.receiver.proofs.one_thread.replay_by.Goals as goal
 
 pub returns-in-Some-clause-fault : goal.returns-in-Some-clause-fault

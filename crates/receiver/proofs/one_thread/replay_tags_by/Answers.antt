@@ -1,5 +1,5 @@
 -- All is handed in in the order of the tags, and the receiver is closed.
-use Rattle.std.proofs.Common.{◌≡◌, ℕ, List, [], refl, sym, subst, ◌∙◌}
+use Rattle.std.proofs.Common.{ℕ, List, refl, sym, subst}
 use Rattle.receiver.specs.Items.{incoming_of}
 use Rattle.receiver.specs.Order.{IsOrderFault}
 use Rattle.receiver.specs.AdmittedOrder.{IsAdmittedOrder}

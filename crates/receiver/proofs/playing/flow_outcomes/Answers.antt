@@ -1,5 +1,5 @@
 -- The outcome of the next flow.
-use Rattle.std.proofs.Common.{◌≡◌, ◌≤◌, suc, [], ◌∷◌, ◌++◌, List, length, drop, slice_get, slice_index_or, Some, refl, sym, ap, subst, ◌∙◌, add-one, arith}
+use Rattle.std.proofs.Common.{◌≡◌, suc, [], ◌∷◌, ◌++◌, length, drop, slice_get, slice_index_or, refl, sym, ap, subst, ◌∙◌, add-one, arith}
 use Rattle.std.specs.Iterator.Adapters.{zip_first, zip_second}
 use Rattle.std.specs.Slice.Iter.{iter_rest}
 use Rattle.std.specs.Vec.Iter.{into_iter_items}
@@ -7,8 +7,7 @@ use Rattle.std.proofs.lemmas.List.{length_push}
 use Rattle.std.proofs.lemmas.Option.{slice_get-get_or, slice_get_within}
 use Rattle.receiver.specs.declared.outcome.FlowOutcome.{FlowOutcome}
 use Rattle.receiver.specs.Playing.{HaveGiven}
-use Rattle.receiver.proofs.FlowsClosed.{first_left}
-use Rattle.receiver.proofs.PlayedOut.{given-more}
+use Rattle.receiver.proofs.PlayedOut.{first_left, given-more}
 use Rattle.receiver.proofs.playing.flow_outcomes.Goals as goal
 
 pub loop-record-preserved : goal.loop-record-preserved

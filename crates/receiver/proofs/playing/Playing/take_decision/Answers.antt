@@ -1,8 +1,8 @@
 -- A decision is handed in.
-use Rattle.std.proofs.Common.{List, Vec, Global, [], ◌∷◌, ◌++◌, refl, sym, subst, append-nil}
+use Rattle.std.proofs.Common.{List, Vec, Global, [], ◌∷◌, refl, sym, subst, append-nil}
 use Rattle.bonded_flows.specs.declared.decision.FlowDecision.{FlowDecision}
 use Rattle.consumer.specs.Collecting.{HasCollected}
-use Rattle.receiver.specs.HandedIn.{HandedIn, decided}
+use Rattle.receiver.specs.HandedIn.{decided}
 use Rattle.receiver.specs.HandedOrder.{handed_decision}
 use Rattle.receiver.specs.Receiving.{TakesMore}
 use Rattle.receiver.proofs.PlayingTurns.{RefusalsGrow, plays-one}

@@ -1,8 +1,7 @@
 -- An input is handed in, and a refusal's number is kept.
-use Rattle.std.proofs.Common.{◌≡◌, ℕ, ◌<◌, ◌==◌, get_or, Bool, true, false, cond, None, Some, Ok, Err, List, Vec, Global, [], ◌∷◌, ◌++◌, length, is_some, refl, sym, ap, ◌∙◌, subst, arith, append-nil}
+use Rattle.std.proofs.Common.{◌≡◌, ℕ, ◌<◌, ◌==◌, get_or, true, false, None, Some, Ok, Err, List, Vec, Global, [], ◌∷◌, ◌++◌, length, is_some, refl, sym, ap, ◌∙◌, subst, arith, append-nil}
 use Rattle.lane.specs.Inputs.{Answer, AnsweredInput}
-use Rattle.lane.specs.Report.{refused_by, refusal_number}
-use Rattle.lane.specs.declared.refusal.Refusal.{Refusal}
+use Rattle.lane.specs.Report.{refused_by}
 use Rattle.consumer.specs.Collecting.{list_at}
 use Rattle.std.specs.Vec.{with_item}
 use Rattle.lane.specs.declared.input.Input.{Input}

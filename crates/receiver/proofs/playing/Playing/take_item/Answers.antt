@@ -1,5 +1,5 @@
 -- Inputs are handed in until one gives an item.
-use Rattle.std.proofs.Common.{◌≡◌, ℕ, ◌+◌, ◌<◌, Bool, true, false, List, [], ◌∷◌, length, slice_index_or, if◌then◌else◌, refl, ap, subst, sym, ◌∙◌, inr, arith}
+use Rattle.std.proofs.Common.{ℕ, ◌+◌, Bool, List, [], ◌∷◌, slice_index_or, refl, ap, subst, ◌∙◌, inr, arith}
 use Rattle.std.proofs.lemmas.List.{get_or-set_same}
 use Rattle.receiver.specs.Items.{incoming_of}
 use Rattle.receiver.specs.Playing.{PlaysNext}

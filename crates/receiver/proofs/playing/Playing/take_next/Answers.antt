@@ -1,5 +1,5 @@
 -- What isn't of a channel is a decision.
-use Rattle.std.proofs.Common.{◌≡◌, ℕ, Bool, Result, IfOk, ◌∷◌, [], if◌then◌else◌, subst, sym, arith}
+use Rattle.std.proofs.Common.{◌≡◌, ℕ, IfOk, subst, arith}
 use Rattle.lane.specs.Limits.{channel_limit}
 use Rattle.receiver.specs.Items.{incoming_of}
 use Rattle.receiver.specs.Playing.{PlaysNext}

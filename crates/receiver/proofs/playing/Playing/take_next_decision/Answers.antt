@@ -1,10 +1,9 @@
 -- The next decision is handed in.
-use Rattle.std.proofs.Common.{◌≡◌, ℕ, ◌+◌, List, ◌∷◌, [], ◌++◌, length, get_or, slice_index_or, slice_set, refl, sym, ap, subst, ◌∙◌}
+use Rattle.std.proofs.Common.{ℕ, ◌+◌, List, ◌∷◌, [], ◌++◌, length, slice_index_or, slice_set, refl, sym, ap, subst, ◌∙◌}
 use Rattle.std.proofs.lemmas.List.{length-set}
 use Rattle.lane.specs.Limits.{channel_limit}
 use Rattle.flow_records.specs.declared.decision.Decision.{Decision}
 use Rattle.receiver.specs.Items.{incoming_of}
-use Rattle.receiver.specs.HandedIn.{HandedIn}
 use Rattle.receiver.specs.HandedOrder.{gives_item, handed_decision, IsHandedFrom}
 use Rattle.receiver.proofs.PlayingTurns.{plays-placed, plays-next, still-playing, from-decision}
 use Rattle.receiver.proofs.playing.Playing.take_next_decision.Goals as goal

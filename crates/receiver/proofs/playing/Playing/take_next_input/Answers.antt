@@ -5,7 +5,7 @@ use Rattle.lane.specs.declared.input.Input.{Input}
 use Rattle.lane.specs.Inputs.{AnsweredInput}
 use Rattle.std.proofs.lemmas.Option.{slice_get_read, get_or_from_slice_get}
 use Rattle.receiver.specs.Items.{inputs_on, incoming_of}
-use Rattle.receiver.specs.HandedIn.{HandedIn, came}
+use Rattle.receiver.specs.HandedIn.{came}
 use Rattle.receiver.specs.HandedOrder.{IsHandedFrom}
 use Rattle.receiver.proofs.PlayingTurns.{plays-placed, plays-next, still-playing, from-input, admitted-item}
 use Rattle.receiver.proofs.PlayedOut.{list-there}

@@ -1,5 +1,5 @@
 -- All that is left is handed in, of one sender after another.
-use Rattle.std.proofs.Common.{◌≡◌, ◌≢◌, ℕ, ◌<◌, ◌≤◌, List, [], ◌++◌, ⊎_elim, slice_index_or, refl, subst, sym, arith}
+use Rattle.std.proofs.Common.{◌≡◌, ◌≢◌, ℕ, ◌≤◌, [], ◌++◌, ⊎_elim, refl, subst, sym, arith}
 use Rattle.std.proofs.lemmas.Bool.{cases_eq}
 use Rattle.receiver.specs.Items.{incoming_of}
 use Rattle.receiver.specs.HandedOrder.{count_from, IsUsedUp}
