@@ -18,7 +18,7 @@ use Rattle.uplink.specs.Inside.Feeding.{HasOffered}
 use Rattle.uplink.specs.Inside.Offering.{HasCollected, TakesItem, HasAssembledSoFar, ClosesFlows, HasAssembledAll}
 use Rattle.uplink.proofs.FramesOffered.{none-offered, offered-on}
 use Rattle.uplink.proofs.ItemsCollected.{none_collected, one_collected, same_collected}
-use Rattle.uplink.proofs.ItemsTaken.{inputs-push}
+use Rattle.receiver.proofs.TakenInOrder.{inputs-more}
 use Rattle.workers.specs.declared.item.Item.{Item}
 
 module _ {C : Type 0} (accepts : C → List ℕ → Bool) (flows0 : FlowTable C) (feeding0 : Feeding) (before : ℕ → List Item) where
@@ -65,7 +65,7 @@ module _ {C : Type 0} (accepts : C → List ℕ → Bool) (flows0 : FlowTable C)
               let inputs = table_inputs w.order.items made.items in
               subst (λ (order : List ℕ). StandsFor accepts n.flows check setup (history ++ table_inputs order (made.items ++ item.event ∷ [])) (given ++ (made.given ++ more))) (sym taken.2)
               (subst (λ (all : List TableInput). StandsFor accepts n.flows check setup (history ++ all) (given ++ (made.given ++ more)))
-              (sym (inputs-push w.order.items made.items from item.event made.has_collected.paired))
+              (sym (inputs-more w.order.items made.items from item.event made.has_collected.paired))
               (subst (λ h. StandsFor accepts n.flows check setup h (given ++ (made.given ++ more))) (append_assoc history inputs (table_input_of from item.event ∷ []))
               (subst (λ g. StandsFor accepts n.flows check setup ((history ++ inputs) ++ table_input_of from item.event ∷ []) g) (append_assoc given made.given more)
               (taken.3.1.stands check setup (history ++ inputs) (given ++ made.given) (made.stands check setup history given stands)))));

@@ -1,8 +1,7 @@
 -- What the flows take of the items, one after another.
-use Rattle.std.proofs.Common.{◌≡◌, ℕ, ◌≤◌, Bool, List, [], ◌∷◌, ◌++◌, length, map, refl, ap, sym, subst, ◌∙◌, append_assoc, append-nil, arith}
+use Rattle.std.proofs.Common.{◌≡◌, ℕ, ◌≤◌, Bool, List, [], ◌∷◌, ◌++◌, length, map, ap, sym, subst, ◌∙◌, append_assoc, append-nil, arith}
 use Rattle.std.proofs.lemmas.List.{map-append}
 use Rattle.std.proofs.lemmas.Option.{slice_get_within}
-use Rattle.flow_records.specs.declared.event.Event.{Event}
 use Rattle.consumer.specs.declared.given.Given.{Given}
 use Rattle.consumer.specs.declared.given.Given.TheVariants.{Frame}
 use Rattle.consumer.specs.Given.{frames_of}
@@ -11,7 +10,6 @@ use Rattle.bonded_flows.specs.Parts.{FlowInput}
 use Rattle.bonded_flows.specs.Slots.{SlotStands}
 use Rattle.bonded_flows.specs.Table.{TableInput, flow_setup, StandsFor, IsInUse, TakesMore}
 use Rattle.bonded_flows.proofs.TableTurns.{of_flow, inputs-others}
-use Rattle.receiver.specs.TakenInOrder.{table_input_of, table_inputs}
 
 module _ {C O : Type 0} (accepts : C → List ℕ → Bool) (after : O → List Given → O → Type 0) where
   -- whatever they take, there are as many flows
@@ -55,12 +53,3 @@ module _ {C O : Type 0} (accepts : C → List ℕ → Bool) (after : O → List 
           others = stands.others;
         });
   }
-
--- one item more, at the end
-pub inputs-push : (order : List ℕ) (items : List Event) (from : ℕ) (item : Event) → length order ≡ length items
-    → table_inputs (order ++ from ∷ []) (items ++ item ∷ []) ≡ table_inputs order items ++ table_input_of from item ∷ []
-inputs-push [] [] from item paired = refl
-inputs-push [] (other ∷ items) from item paired = absurd (omega arith)
-inputs-push (sender ∷ order) [] from item paired = absurd (omega arith)
-inputs-push (sender ∷ order) (other ∷ items) from item paired =
-    ap (λ rest. table_input_of sender other ∷ rest) (inputs-push order items from item (omega arith))

@@ -3,6 +3,5 @@ pub mod ItemsTaken
 pub mod FlowsClosed
 pub mod ItemsCollected
 pub mod AllAssembled
-pub mod RuledOutcomes
 pub mod RunOutcome
 pub mod AllSettled

@@ -57,7 +57,8 @@ use Rattle.uplink.specs.Inside.Running.{IsOpened, HasEnded, CanSettle, HasConclu
 use Rattle.receiver.proofs.Senders.{five}
 use Rattle.receiver.proofs.Senders.{four}
 use Rattle.uplink.proofs.FramesOffered.{offered-there}
-use Rattle.uplink.proofs.RuledOutcomes.{ruled-outcome}
+use Rattle.receiver.proofs.TakenInOrder.{inputs-come, one-part_gave, ruled-outcome}
+use Rattle.bonded_flows.specs.Parts.{comes}
 
 module _ {X : Type 0} (P : X → Type 0) where
   -- what holds of all holds of the one at this place
@@ -287,10 +288,15 @@ module _ {C : Type 0} (accepts : C → List ℕ → Bool) (accepted : List ℕ �
           let took : slice_get (map frames end.done.consumed.items) k ≡ Some (frames gave.one) =
           slice_get-map frames end.done.consumed.items k ∙ ap (option_map frames) gave.took in
           let says = concluded.flows.each k flow flow_record (frames gave.one) gave.count at of_flow took gave.counted in
-          let Gave : List (List ℕ) → FlowCounts → Type 0 =
-          GaveAllParts accepted (flow_setup (made_of rule channel_limit setup) k flow_record) (inputs_at k (table_inputs end.assembled.order.items has.items)) in
-          ruled-outcome rule accepted setup k flow_record end.assembled.order.items has.items flow
-          (subst (Gave flow.frames.items) (sym says.2) (subst (λ (given : Vec Bytes Global). Gave given.items gave.count) (sym says.1) gave.gave)) says.0
+          let made = made_of rule channel_limit setup in
+          let own = flow_setup made k flow_record in
+          let comings = comings_at k end.assembled.order.items has.items in
+          let Gave : List (List ℕ) → FlowCounts → Type 0 = GaveAllParts accepted own (map comes comings) in
+          let all : Gave gave.one.frames.items gave.count =
+          subst (λ inputs. GaveAllParts accepted own inputs gave.one.frames.items gave.count) (inputs-come k end.assembled.order.items has.items) gave.gave in
+          ruled-outcome accepted made k flow_record comings flow refl says.0
+          (one-part_gave accepted own comings flow.frames.items flow.counts
+          (subst (Gave flow.frames.items) (sym says.2) (subst (λ (given : Vec Bytes Global). Gave given.items gave.count) (sym says.1) all)))
 
       flows-are : AreRuledOutcomes rule accepted setup outcome.order.items has.items outcome.flows.items
       flows-are = record {

@@ -1,5 +1,5 @@
 -- What each flow gave of which one began in the midst.
-use Rattle.std.proofs.Common.{◌≡◌, ℕ, Bool, IsTrue, Some, List, [], ◌∷◌, ◌++◌, map, length, slice_get, Vec, Global, ap, sym, subst, ◌∙◌, arith}
+use Rattle.std.proofs.Common.{refl, ◌≡◌, ℕ, Bool, IsTrue, Some, List, [], ◌∷◌, ◌++◌, map, length, slice_get, Vec, Global, ap, sym, subst, ◌∙◌, arith}
 use Rattle.std.proofs.lemmas.List.{get_or-map}
 use Rattle.std.proofs.lemmas.Option.{slice_get_within, get_or_from_slice_get}
 use Rattle.docsis_wire.proofs.StreamPlaces.{element_at}
@@ -23,10 +23,10 @@ use Rattle.receiver.specs.declared.outcome.FlowOutcome.{FlowOutcome}
 use Rattle.receiver.specs.declared.setup.Setup.{Setup}
 use Rattle.receiver.specs.HandedIn.{made_of}
 use Rattle.receiver.specs.Received.{GaveAllParts}
-use Rattle.receiver.specs.Ruled.{AreRuledOutcomes}
+use Rattle.receiver.specs.Ruled.{comings_at, AreRuledOutcomes}
 use Rattle.receiver.specs.TakenInOrder.{table_inputs}
 use Rattle.uplink.specs.Inside.Running.{AreFlowsOf}
-use Rattle.uplink.proofs.RuledOutcomes.{ruled-outcome}
+use Rattle.receiver.proofs.TakenInOrder.{inputs-come, one-part_gave, ruled-outcome}
 use Rattle.uses.specs.declared.midstream.OnChannel.{OnChannel}
 use Rattle.uses.specs.Midstream.{arrival, TakesAll, ClosesAll}
 use Rattle.uses.proofs.TableTakes.{came-inputs, takes-of-one, takes-both}
@@ -103,13 +103,16 @@ ruled-outcomes rule check setup order items frames counts flows received are = r
       let own = element_at frames k (let many = received.many in omega arith) in
       let counted = element_at counts k (let count = received.count in omega arith) in
       let says = are.each k flow.0 flow_record own.0 counted.0 flow.1 of_record own.1 counted.1 in
-      let Gave : List (List ℕ) → FlowCounts → Type 0 =
-      GaveAllParts check (flow_setup (made_of rule channel_limit setup) k flow_record) (inputs_at k (table_inputs order items)) in (
+      let made = made_of rule channel_limit setup in
+      let whole = flow_setup made k flow_record in
+      let comings = comings_at k order items in
+      let Gave : List (List ℕ) → FlowCounts → Type 0 = GaveAllParts check whole (map comes comings) in
+      let all : Gave own.0.items counted.0 =
+      subst (λ inputs. GaveAllParts check whole inputs own.0.items counted.0) (inputs-come k order items) (received.gave k flow_record own.0 counted.0 of_record own.1 counted.1) in (
         flow.0,
         flow.1,
-        ruled-outcome rule check setup k flow_record order items flow.0
-            (subst (Gave flow.0.frames.items) (sym says.2)
-            (subst (λ (given : Vec (List ℕ) Global). Gave given.items counted.0) (sym says.1) (received.gave k flow_record own.0 counted.0 of_record own.1 counted.1)))
-            says.0,
+        ruled-outcome check made k flow_record comings flow.0 refl says.0
+            (one-part_gave check whole comings flow.0.frames.items flow.0.counts
+            (subst (Gave flow.0.frames.items) (sym says.2) (subst (λ (given : Vec (List ℕ) Global). Gave given.items counted.0) (sym says.1) all))),
       );
 }
