@@ -1,4 +1,6 @@
 //! Maps of captures, line by line.
+mod failed_allocations;
+
 use capture_map::{CaptureMap, MapChannel, MapFault, MapFlow, MapKind, MapSid, read_map};
 use std::alloc::Global;
 use std::test::Fail;
@@ -150,15 +152,5 @@ fn faults_in_words(rt: HostRuntime) -> Result<(), Fail> {
     assert_eq!(rt; words.as_str(), "line 2: channel given before");
     let words = MapFault::OutOfMemory.to_string(rt.alloc())?;
     assert_eq!(rt; words.as_str(), "out of memory");
-    Ok(())
-}
-
-#[test]
-fn a_failed_allocation_is_reported(rt: HostRuntime) -> Result<(), Fail> {
-    if let Err(fault) = read_map(rt.alloc(), GOOD) {
-        assert!(rt; fault == MapFault::OutOfMemory);
-    }
-    let map = read_map(rt.alloc(), GOOD)?;
-    assert!(rt; is_good(&map));
     Ok(())
 }

@@ -1,4 +1,5 @@
 //! Registrations, byte by byte. What they tell is what tshark 4.0.17 shows of these packets.
+mod failed_allocations;
 mod faults;
 mod found;
 mod joined;

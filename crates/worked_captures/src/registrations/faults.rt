@@ -1,5 +1,5 @@
-//! TLVs that tell nothing, and allocations that fail.
-use super::{told_by_response, whole};
+//! TLVs that tell nothing.
+use super::whole;
 use registrations::{ToldFault, read_part, told_by};
 use std::test::Fail;
 
@@ -76,16 +76,5 @@ fn a_prefix_of_a_message_tells_nothing_more(rt: HostRuntime) -> Result<(), Fail>
             assert!(rt; told.err() == Some(ToldFault::Malformed), "{end} bytes");
         }
     }
-    Ok(())
-}
-
-#[test]
-fn a_failed_allocation_is_reported(rt: HostRuntime) -> Result<(), Fail> {
-    let part = read_part(whole()).ok().ok_or("a part")?;
-    if let Err(fault) = told_by(rt.alloc(), part.tlvs) {
-        assert!(rt; fault == ToldFault::OutOfMemory);
-    }
-    let told = told_by(rt.alloc(), part.tlvs)?;
-    assert!(rt; told.as_slice() == told_by_response().as_slice());
     Ok(())
 }

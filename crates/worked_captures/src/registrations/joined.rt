@@ -8,7 +8,7 @@ use std::alloc::Global;
 use std::test::Fail;
 
 /// What comes of the part in a packet.
-fn take(
+pub(super) fn take(
     alloc: Global,
     unfinished: &mut Unfinished,
     packet: &[u8],
@@ -177,19 +177,4 @@ fn as_many_messages_as_may_be(rt: HostRuntime) {
     assert_eq!(rt; unfinished.count(), 0);
     let late = unfinished.take(rt.alloc(), part(1, 1, 2, 2, &[1]));
     assert!(rt; late.err() == Some(JoinFault::NoBeginning));
-}
-
-#[test]
-fn a_failed_allocation_is_reported(rt: HostRuntime) -> Result<(), Fail> {
-    let mut unfinished = Unfinished::new(rt.alloc());
-    for packet in [first(), second()] {
-        if let Err(fault) = take(rt.alloc(), &mut unfinished, packet) {
-            assert!(rt; fault == JoinFault::OutOfMemory || fault == JoinFault::NoBeginning);
-        }
-    }
-    let kept = take(rt.alloc(), &mut unfinished, first())?;
-    assert!(rt; kept.is_none());
-    let joined = take(rt.alloc(), &mut unfinished, second())?;
-    assert!(rt; joined.is_some());
-    Ok(())
 }
