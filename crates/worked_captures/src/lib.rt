@@ -10,6 +10,6 @@ mod captures;
 #[cfg(test)]
 mod maps;
 #[cfg(test)]
-mod pcapng;
+mod modem_messages;
 #[cfg(test)]
-mod registrations;
+mod pcapng;
