@@ -6,6 +6,10 @@
 #![tactic(auto)]
 
 #[cfg(test)]
+mod setups;
+#[cfg(test)]
 mod tables;
+#[cfg(test)]
+mod wide;
 #[cfg(test)]
 mod widths;

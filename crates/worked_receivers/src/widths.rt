@@ -1,10 +1,11 @@
 //! How wide a receiver can be, and which setups one of a width takes.
 mod failed_allocations;
 
-use flow_core::{FlowRecord, SetupFault};
-use lane::{LaneFault, SidRow};
-use receiver::{Setup, SetupError, Width, WidthFault};
-use std::alloc::{AllocError, Global};
+use crate::setups::{row, setup};
+use flow_core::SetupFault;
+use lane::LaneFault;
+use receiver::{SetupError, Width, WidthFault};
+use std::alloc::Global;
 use std::process::Abort;
 use std::test::Fail;
 
@@ -41,34 +42,6 @@ fn widths_say_what_they_were_made_of(rt: HostRuntime) -> Result<(), WidthFault> 
     }
     assert!(rt; said(Width::PROFILE) == (4, 64));
     Ok(())
-}
-
-const fn record(sfid: u32) -> FlowRecord {
-    FlowRecord {
-        sfid,
-        first: 0,
-        window: 1,
-        clusters: 1,
-        ring: 1,
-    }
-}
-
-const fn row(channel: u8, sid: u16, flow: usize) -> SidRow {
-    SidRow { channel, sid, flow }
-}
-
-/// A setup of so many flows with the identifiers 0 and on, and of these rows.
-fn setup(alloc: Global, flow_count: u32, rows: &[SidRow]) -> Result<Setup, AllocError> {
-    let mut flows = Vec::new(alloc);
-    for sfid in 0..flow_count {
-        flows.push(record(sfid))?;
-    }
-    let sids = Vec::from_slice(alloc, rows)?;
-    Ok(Setup {
-        flows,
-        sids,
-        mailbox: 1,
-    })
 }
 
 /// Channels and flows of a width, how many flows a setup has, the channel, identifier and flow of
