@@ -11,6 +11,7 @@ use Rattle.flow_core.proofs.Turns.{gaps-no_arrival}
 use Rattle.loss_rule.specs.Rule.{Coming, handed_in, no_lasts}
 use Rattle.bonded_flows.specs.declared.bonded_flow.BondedFlow.{BondedFlow}
 use Rattle.bonded_flows.specs.declared.decision.FlowDecision.{FlowDecision}
+use Rattle.bonded_flows.specs.declared.pending.Pending.TheVariants.{Close}
 use Rattle.bonded_flows.specs.declared.flow_slot.FlowSlot.{FlowSlot}
 use Rattle.bonded_flows.specs.FlowSetup.{FlowSetup, ruled_flow}
 use Rattle.bonded_flows.specs.ByRule.{decision_event, skips_any, IsToldLost, GaveByRule}
@@ -18,6 +19,7 @@ use Rattle.bonded_flows.specs.Stands.{HasCome, IsUnderWay}
 use Rattle.bonded_flows.specs.Taking.{WasGiven, Takes, Closes}
 use Rattle.bonded_flows.specs.Parts.{begun_at}
 use Rattle.bonded_flows.specs.Slots.{HasNotBegun, EntryStands, PartStands, IsInUse, SlotTakes, BeginsAnew}
+use Rattle.std.proofs.lemmas.Option.{same_Some}
 use Rattle.bonded_flows.proofs.SlotStates.{not-begun, begun, gave-nothing}
 use Rattle.bonded_flows.proofs.FlowTurns.{given-twice}
 use Rattle.bonded_flows.proofs.UnbegunDecisions.{nothing-there, still-not_begun, told-nothing}
@@ -166,3 +168,8 @@ module _ (check : List ℕ → Bool) (slot : FlowSlot) (again : ℕ) (small : ag
 pub is-none : {A : Type 0} (option : Option A) → is_some option ≡ false → option ≡ None
 is-none None not_some = refl
 is-none (Some it) not_some = absurd cc
+
+-- the flow of a slot, where this flow is being closed
+pub closing-of : (own : Option (Box BondedFlow)) (flow : Box BondedFlow) → own ≡ Some flow
+    → (other : Box BondedFlow) × (own ≡ Some other) × ((box_value other).pending ≡ Close) → (box_value flow).pending ≡ Close
+closing-of own flow is (other, is_other, closing) = subst (λ (b : Box BondedFlow). (box_value b).pending ≡ Close) (same_Some other flow (sym is_other ∙ is)) closing

@@ -18,7 +18,7 @@ use Rattle.bonded_flows.specs.FlowSetup.{FlowSetup}
 use Rattle.bonded_flows.specs.Parts.{FlowInput, comes, begins_anew, last_part, begun_at}
 use Rattle.bonded_flows.specs.declared.flow_slot.DecideFault.{DecideFault}
 use Rattle.bonded_flows.specs.declared.flow_slot.DecideFault.TheVariants.{NotTaken, Unfinished}
-use Rattle.bonded_flows.specs.Slots.{SlotStands, SlotTakes, BeginsAnew, LeavesOf}
+use Rattle.bonded_flows.specs.Slots.{IsClosing, SlotStands, SlotTakes, BeginsAnew, LeavesOf}
 use Rattle.bonded_flows.specs.Slots.{IsInUse as IsSlotInUse}
 use Rattle.bonded_flows.specs.Taking.{WasGiven}
 use Rattle.bonded_flows.specs.Table.{TableSetup, TableInput, flow_setup, inputs_at, StandsFor, IsInUse, TakesMore, BeginsAnewAt}
@@ -177,6 +177,19 @@ slot-here slots k slot inside read = slice_get_read slots (length slots) k slot 
 pub at-written : (P : FlowSlot → Type 0) (slots : List FlowSlot) (k : ℕ) (slot one : FlowSlot) → k < length slots → P slot
     → slice_get (slice_set slots k slot) k ≡ Some one → P one
 at-written P slots k slot one inside is there = subst P (same_Some slot one (sym (written slots k slot inside) ∙ there)) is
+
+-- where a slot is written that doesn't begin to be closed, none does
+pub none-closes : (slots : List FlowSlot) (k : ℕ) (slot slot' : FlowSlot) → slice_get slots k ≡ Some slot → (IsClosing slot' → IsClosing slot)
+    → (j : ℕ) → ((one : FlowSlot) → slice_get (slice_set slots k slot') j ≡ Some one → IsClosing one) → (one : FlowSlot) → slice_get slots j ≡ Some one → IsClosing one
+none-closes slots k slot slot' here open_still j closing one there =
+    elim (cases_eq k j) [
+      | inl same ↦
+          let own : slice_get slots k ≡ Some one = subst (λ (n : ℕ). slice_get slots n ≡ Some one) (sym same) there in
+          let now : slice_get (slice_set slots k slot') j ≡ Some slot' =
+              subst (λ (n : ℕ). slice_get (slice_set slots k slot') n ≡ Some slot') same (written slots k slot' (slice_get_within slots k slot here)) in
+          subst IsClosing (same_Some slot one (sym here ∙ own)) (open_still (closing slot' now))
+      | inr apart ↦ closing one (written_other slots k j slot' (λ same. apart (sym same)) ∙ there)
+    ]
 
 -- what follows of each bad result
 pub on-err : {T E : Type 0} {P Q : E → Type 0} (result : Result T E) → ((e : E) → P e → Q e) → IfErr result P → IfErr result Q

@@ -1,5 +1,5 @@
 -- What a table of flows stands for: all that was handed in of its flows, in order.
-use Rattle.std.specs.Prelude.{◌≡◌, ℕ, ◌≤◌, ◌==◌, Bool, Some, None, List, [], ◌∷◌, ◌++◌, length, map, filter_map, slice_get, if◌then◌else◌}
+use Rattle.std.specs.Prelude.{◌≡◌, ◌≢◌, ℕ, ◌≤◌, ◌==◌, Bool, Some, None, List, [], ◌∷◌, ◌++◌, length, map, filter_map, slice_get, if◌then◌else◌}
 use Rattle.flow_records.specs.declared.record.FlowRecord.{FlowRecord}
 use Rattle.lane.specs.declared.sids.SidRow.{SidRow}
 use Rattle.loss_rule.specs.declared.rule.LossRule.{LossRule}
@@ -70,6 +70,14 @@ module _ {C : Type 0} where
   -- flow k is being closed
   abbrev pub IsClosingAt : FlowTable C → ℕ → Type 0
   IsClosingAt table k = (slot : FlowSlot) → slice_get table.slots.items k ≡ Some slot → IsClosing slot
+
+  -- all flows but this one stay as they are
+  abbrev pub OthersStay : FlowTable C → ℕ → FlowTable C → Type 0
+  OthersStay table k table' = (other : ℕ) → other ≢ k → slice_get table'.slots.items other ≡ slice_get table.slots.items other
+
+  -- no flow begins to be closed
+  abbrev pub NoneBeginsToClose : FlowTable C → FlowTable C → Type 0
+  NoneBeginsToClose table table' = (k : ℕ) → IsClosingAt table' k → IsClosingAt table k
 
   -- **Whatever was handed in, this was handed in besides**, and the frames that flow k gave more were given to the consumer, in order.
   pub record TakesMore {O : Type 0} (after : O → List Given → O → Type 0) (accepts : C → List ℕ → Bool) (table : FlowTable C) (out : O) (k : ℕ) (inputs : List TableInput) (table' : FlowTable C) (out' : O) : Type 0 where

@@ -124,6 +124,7 @@ impl FlowSlot {
             self.new out.new }
         ensures prepared { IfOk result (λ _. IsPrepared self.new) }
         ensures closing { result ≡ Err NotReady.Closing → IsClosing self.new }
+        ensures open_still { IsClosing self.new → IsClosing self.old }
     {
         let Some(flow) = &mut self.flow else {
             return self.begin(alloc);
@@ -142,6 +143,7 @@ impl FlowSlot {
         ensures prepared { IfOk result (λ _. IsPrepared self.new) }
         ensures memory { result ≢ Err NotReady.Closing }
         ensures index { self.new.index ≡ self.old.index }
+        ensures unchanged { OnErr result (self.new ≡ self.old) }
     {
         let flow = self.new_flow(alloc)?;
         self.flow = Some(flow);
@@ -181,6 +183,7 @@ impl FlowSlot {
             → PartStands (C.accepts check.now) setup self.old comings given
             → IsTold setup comings channel segment told) }
         ensures at_rest { IfOk result (λ _. IsAtRest self.new) }
+        ensures open_still { ¬ IsClosing self.new }
     {
         let Some(flow) = &mut self.flow else {
             return Err(AllocError);
@@ -210,6 +213,7 @@ impl FlowSlot {
             (SlotTakes O.after (C.accepts check.now) self.old out.old [] self.new out.new)
             (SlotTakes O.after (C.accepts check.now) self.old out.old
             (handed_in (decision_event decision) ∷ []) self.new out.new)) }
+        ensures open_still { IsClosing self.new → IsClosing self.old }
     {
         if self.flow.is_none() && !decision.is_skip() {
             return Ok(false);
@@ -238,6 +242,7 @@ impl FlowSlot {
             (SlotTakes O.after (C.accepts check.now) self.old out.old [] self.new out.new)
             (SlotTakes O.after (C.accepts check.now) self.old out.old
             (handed_in (decision_event decision) ∷ []) self.new out.new)) }
+        ensures open_still { IsClosing self.new → IsClosing self.old }
     {
         self.prepare(alloc, check, out)?;
         match self.decide_prepared(alloc, check, decision, out) {
@@ -264,6 +269,7 @@ impl FlowSlot {
             → PartStands (C.accepts check.now) setup self.old comings given
             → IsToldLost setup comings (decision_event decision) lost) }
         ensures at_rest { IfOk result (λ _. IsAtRest self.new) }
+        ensures open_still { ¬ IsClosing self.new }
     {
         let Some(flow) = &mut self.flow else {
             return Err(AllocError);
@@ -283,6 +289,7 @@ impl FlowSlot {
             self.new out.new }
         ensures at_rest { IfOk result (λ _. IsAtRest self.new) }
         ensures closing { result ≡ Err NotReady.Closing → IsClosing self.new }
+        ensures open_still { IsClosing self.new → IsClosing self.old }
     {
         if self.flow.is_none() {
             return Ok(());
@@ -371,6 +378,7 @@ fn ready<C: HeaderCheck, O: Consumer>(
     ensures takes { Takes O.after (C.accepts check.now) flow.old out.old [] flow.new out.new }
     ensures settled { IfOk result (λ _. IsSettled flow.new) }
     ensures closing { result ≡ Err NotReady.Closing → flow.new.pending ≡ Pending.Close }
+    ensures open_still { flow.new.pending ≡ Pending.Close → flow.old.pending ≡ Pending.Close }
 {
     if flow.is_being_closed() {
         return Err(NotReady::Closing);

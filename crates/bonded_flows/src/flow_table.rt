@@ -16,6 +16,7 @@ ghost use Rattle.bonded_flows.specs.Parts.{comes};
 ghost use Rattle.bonded_flows.specs.Slots.{LeavesOf, AreNewSlots, held_in};
 ghost use Rattle.bonded_flows.specs.Table.{StandsFor, IsInUse};
 ghost use Rattle.bonded_flows.specs.Table.{IsPreparedAt, IsAtRestAt, IsClosingAt, PartStandsAt, TakesMore, BeginsAnewAt};
+ghost use Rattle.bonded_flows.specs.Table.{OthersStay, NoneBeginsToClose};
 ghost use Rattle.bonded_flows.specs.declared.flow_slot.NotReady.{NotReady};
 
 use crate::channel_sets::{ChannelSet, channel_sets};
@@ -80,6 +81,8 @@ impl<C: HeaderCheck + Drop> FlowTable<C> {
         ensures takes { TakesMore O.after C.accepts self.old out.old flow [] self.new out.new }
         ensures prepared { IfOk result (λ _. IsPreparedAt self.new flow) }
         ensures closing { result ≡ Err NotReady.Closing → IsClosingAt self.new flow }
+        ensures open_still { NoneBeginsToClose self.old self.new }
+        ensures others { OthersStay self.old flow self.new }
         ensures in_use { IsInUse C.accepts self.new }
     {
         self.slots[flow].prepare(alloc, &self.check, out)
@@ -107,6 +110,8 @@ impl<C: HeaderCheck + Drop> FlowTable<C> {
             → PartStandsAt (C.accepts self.old.check) setup self.old flow comings given
             → IsTold setup comings channel segment told) }
         ensures at_rest { IfOk result (λ _. IsAtRestAt self.new flow) }
+        ensures open_still { NoneBeginsToClose self.old self.new }
+        ensures others { OthersStay self.old flow self.new }
         ensures in_use { IsInUse C.accepts self.new }
     {
         self.slots[flow].take_segment(alloc, &self.check, channel, segment, out)
@@ -137,6 +142,8 @@ impl<C: HeaderCheck + Drop> FlowTable<C> {
             (TakesMore O.after C.accepts self.old out.old flow
             (record { flow = flow; input = comes (handed_in (decision_event decision)) } ∷ [])
             self.new out.new)) }
+        ensures open_still { NoneBeginsToClose self.old self.new }
+        ensures others { OthersStay self.old flow self.new }
         ensures in_use { IsInUse C.accepts self.new }
     {
         self.slots[flow].decide(alloc, &self.check, decision, out)
@@ -154,6 +161,8 @@ impl<C: HeaderCheck + Drop> FlowTable<C> {
         ensures takes { TakesMore O.after C.accepts self.old out.old flow [] self.new out.new }
         ensures at_rest { IfOk result (λ _. IsAtRestAt self.new flow) }
         ensures closing { result ≡ Err NotReady.Closing → IsClosingAt self.new flow }
+        ensures open_still { NoneBeginsToClose self.old self.new }
+        ensures others { OthersStay self.old flow self.new }
         ensures in_use { IsInUse C.accepts self.new }
     {
         self.slots[flow].go_on(alloc, &self.check, out)
@@ -178,6 +187,7 @@ impl<C: HeaderCheck + Drop> FlowTable<C> {
         ensures at_rest { IfOk result (λ _. IsAtRestAt self.new flow) }
         ensures not_taken { OnErr result
             (TakesMore O.after C.accepts self.old out.old flow [] self.new out.new) }
+        ensures others { OthersStay self.old flow self.new }
         ensures in_use { IsInUse C.accepts self.new }
     {
         self.slots[flow].restart(alloc, &self.check, first, out)

@@ -32,8 +32,6 @@ mod flow_slot;
 mod flow_table;
 pub mod laws;
 mod pending;
-#[cfg(test)]
-mod tests;
 mod told;
 
 pub use bonded_flow::BondedFlow;

@@ -1,9 +1,10 @@
 use Rattle.std.proofs.Common.{[], ◌∷◌, refl}
 use Rattle.loss_rule.specs.Rule.{handed_in}
+use Rattle.flow_core.proofs.OneFlow.{written_other}
 use Rattle.bonded_flows.specs.ByRule.{decision_event}
 use Rattle.bonded_flows.specs.Slots.{IsAtRest}
 use Rattle.bonded_flows.proofs.SlotTurns.{on-ok}
-use Rattle.bonded_flows.proofs.TableTurns.{slot-here, slot-in_use, table-comes, in_use-decided, at-written, on-err, leaves}
+use Rattle.bonded_flows.proofs.TableTurns.{slot-here, none-closes, slot-in_use, table-comes, in_use-decided, at-written, on-err, leaves}
 use Rattle.bonded_flows.proofs.flow_table.FlowTable.decide.Goals as goal
 
 pub decide-requires-clause-in_use : goal.decide-requires-clause-in_use
@@ -40,3 +41,11 @@ pub returns-clause-in_use : goal.returns-clause-in_use
 returns-clause-in_use g c =
     in_use-decided g.C.HeaderCheck.accepts g.O.Consumer.after c.args.self.now _ c.args.out.now c.decide.new.out c.requires.in_use c.args.flow _ c.decide.result (returns-clause-takes g c)
     (returns-clause-not_taken g c)
+
+pub returns-clause-others : goal.returns-clause-others
+returns-clause-others g c = λ other apart. written_other c.args.self.now.slots.items c.args.flow other c.decide.new.self apart
+
+pub returns-clause-open_still : goal.returns-clause-open_still
+returns-clause-open_still g c =
+    none-closes c.args.self.now.slots.items c.args.flow c.index_mut.result.now c.decide.new.self
+    (slot-here c.args.self.now.slots.items c.args.flow c.index_mut.result.now c.requires.exists c.index_mut.ensures.value) c.decide.ensures.open_still

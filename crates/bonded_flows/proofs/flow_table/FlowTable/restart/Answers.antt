@@ -1,4 +1,5 @@
 use Rattle.std.proofs.Common.{[], refl}
+use Rattle.flow_core.proofs.OneFlow.{written_other}
 use Rattle.bonded_flows.specs.Slots.{IsAtRest}
 use Rattle.bonded_flows.proofs.SlotTurns.{on-ok}
 use Rattle.bonded_flows.proofs.TableTurns.{slot-here, slot-in_use, table-comes, table-anew, in_use-restarted, at-written, on-any_err}
@@ -30,3 +31,6 @@ pub returns-clause-in_use : goal.returns-clause-in_use
 returns-clause-in_use g c =
     in_use-restarted g.C.HeaderCheck.accepts g.O.Consumer.after c.args.self.now _ c.args.out.now c.restart.new.out c.requires.in_use c.args.flow c.args.first c.restart.result (returns-clause-begins_anew g c)
     (returns-clause-not_taken g c)
+
+pub returns-clause-others : goal.returns-clause-others
+returns-clause-others g c = λ other apart. written_other c.args.self.now.slots.items c.args.flow other c.restart.new.self apart

@@ -1,8 +1,9 @@
 use Rattle.std.proofs.Common.{[], ◌∷◌, refl}
 use Rattle.loss_rule.specs.Rule.{on_channel}
+use Rattle.flow_core.proofs.OneFlow.{written_other}
 use Rattle.bonded_flows.specs.Slots.{IsAtRest}
 use Rattle.bonded_flows.proofs.SlotTurns.{on-ok}
-use Rattle.bonded_flows.proofs.TableTurns.{slot-here, slot-in_use, table-comes, still-in_use, at-written}
+use Rattle.bonded_flows.proofs.TableTurns.{slot-here, none-closes, slot-in_use, table-comes, still-in_use, at-written}
 use Rattle.bonded_flows.proofs.flow_table.FlowTable.take_segment.Goals as goal
 
 pub take_segment-requires-clause-in_use : goal.take_segment-requires-clause-in_use
@@ -31,3 +32,11 @@ returns-clause-at_rest g c =
 pub returns-clause-in_use : goal.returns-clause-in_use
 returns-clause-in_use g c =
     still-in_use g.C.HeaderCheck.accepts g.O.Consumer.after c.args.self.now _ c.args.out.now c.take_segment.new.out c.requires.in_use _ (returns-clause-takes g c)
+
+pub returns-clause-others : goal.returns-clause-others
+returns-clause-others g c = λ other apart. written_other c.args.self.now.slots.items c.args.flow other c.take_segment.new.self apart
+
+pub returns-clause-open_still : goal.returns-clause-open_still
+returns-clause-open_still g c =
+    none-closes c.args.self.now.slots.items c.args.flow c.index_mut.result.now c.take_segment.new.self
+    (slot-here c.args.self.now.slots.items c.args.flow c.index_mut.result.now c.requires.exists c.index_mut.ensures.value) (λ closing. absurd (c.take_segment.ensures.open_still closing))

@@ -2,9 +2,7 @@
 ghost use Rattle.std.specs.Prelude.{true, IfOk};
 ghost use Rattle.bonded_flows.specs.Stands.{IsUnderWay, IsSettled};
 
-use crate::bonded_flow::BondedFlow;
-use crate::decision::FlowDecision;
-use crate::told::{SegmentVerdict, Told};
+use bonded_flows::{BondedFlow, FlowDecision, SegmentVerdict, Told};
 use consumer::Collected;
 use docsis_wire::{NoCheck, Segment};
 use flow_core::FlowRecord;
