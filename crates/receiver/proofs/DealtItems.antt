@@ -8,8 +8,9 @@ use Rattle.loss_rule.specs.Rule.{on_channel}
 use Rattle.loss_rule.specs.Dealing.{dealt_from}
 use Rattle.receiver.specs.Channels.{HasRow}
 use Rattle.receiver.specs.Modem.{turns_from, all_arrive}
-use Rattle.receiver.specs.Ruled.{carries, channels_of, comings_at}
-use Rattle.receiver.proofs.FlowChannels.{row-carries}
+use Rattle.bonded_flows.specs.Channels.{has_row}
+use Rattle.receiver.specs.Ruled.{channels_of, comings_at}
+use Rattle.receiver.proofs.FlowChannels.{row-found}
 
 -- what comes of them is dealt in turn
 pub comings-dealt : (k i : ℕ) (segments : List Segment) → comings_at k (turns_from i (length segments)) (all_arrive k segments) ≡ dealt_from channel_limit i segments
@@ -32,8 +33,8 @@ turns-counted i (suc n) = ap suc (turns-counted (i + 1) n)
 -- a flow with a row on each channel has all channels
 pub all-channels : (rows : List SidRow) (k : ℕ) → ((channel : ℕ) → channel < channel_limit → HasRow rows k channel) → channels_of rows k ≡ replicate channel_limit true
 all-channels rows k has =
-    let on = λ (channel : ℕ) (below : channel < channel_limit). row-carries rows k channel (has channel below) in
-    ap (λ b. b ∷ carries rows k 1 ∷ carries rows k 2 ∷ carries rows k 3 ∷ []) (on 0 (omega arith))
-    ∙ ap (λ b. true ∷ b ∷ carries rows k 2 ∷ carries rows k 3 ∷ []) (on 1 (omega arith))
-    ∙ ap (λ b. true ∷ true ∷ b ∷ carries rows k 3 ∷ []) (on 2 (omega arith))
+    let on = λ (channel : ℕ) (below : channel < channel_limit). row-found rows k channel (has channel below) in
+    ap (λ b. b ∷ has_row rows k 1 ∷ has_row rows k 2 ∷ has_row rows k 3 ∷ []) (on 0 (omega arith))
+    ∙ ap (λ b. true ∷ b ∷ has_row rows k 2 ∷ has_row rows k 3 ∷ []) (on 1 (omega arith))
+    ∙ ap (λ b. true ∷ true ∷ b ∷ has_row rows k 3 ∷ []) (on 2 (omega arith))
     ∙ ap (λ b. true ∷ true ∷ true ∷ b ∷ []) (on 3 (omega arith))

@@ -20,15 +20,16 @@ use Rattle.receiver.specs.Items.{Incoming, lane_setup, items_of, events_at}
 use Rattle.flow_records.specs.Decisions.{gap_of, event_of_decision, names_a_flow}
 use Rattle.lane.specs.Report.{event_of_admitted}
 use Rattle.receiver.specs.Intake.{IsIntake}
-use Rattle.receiver.specs.Ruled.{carries, channels_of, ruled_flow, comings_at}
+use Rattle.bonded_flows.specs.Channels.{has_row}
+use Rattle.receiver.specs.Ruled.{channels_of, ruled_flow, comings_at}
 use Rattle.receiver.specs.Channels.{HasRow, segments_on, events_handed_in, segments_of_flow}
 use Rattle.receiver.proofs.ChannelInputs.{rows-admitted}
 use Rattle.receiver.proofs.Senders.{four}
 use Rattle.receiver.proofs.FlowComings.{IsSentBy, IsArrival, IsDecision, AreOfTheirSenders, comes-item, item-picked, come-admitted, handed-events, handed-item}
 
 -- a row that gives the flow an identifier there is found
-pub row-carries : (rows : List SidRow) (flow channel : ℕ) → HasRow rows flow channel → carries rows flow channel ≡ true
-row-carries rows flow channel has =
+pub row-found : (rows : List SidRow) (flow channel : ℕ) → HasRow rows flow channel → has_row rows flow channel ≡ true
+row-found rows flow channel has =
     let row = has.row in
     let there = get_or_from_slice_get rows has.place row row has.stands in
     list_any_at (λ (one : SidRow). (one.flow == flow) && (one.channel == channel)) rows has.place row (slice_get_within rows has.place row has.stands)
@@ -36,8 +37,8 @@ row-carries rows flow channel has =
     ∙ and_from (row.flow == flow) (row.channel == channel) (eq-eqb row.flow flow has.of_flow) (eq-eqb row.channel channel has.of_channel))
 
 -- and what is found is such a row
-pub carries-row : (rows : List SidRow) (flow channel : ℕ) → carries rows flow channel ≡ true → HasRow rows flow channel
-carries-row rows flow channel found =
+pub found-row : (rows : List SidRow) (flow channel : ℕ) → has_row rows flow channel ≡ true → HasRow rows flow channel
+found-row rows flow channel found =
     let any = Any-from_list_any (λ (one : SidRow). (one.flow == flow) && (one.channel == channel)) rows found in
     let row = any.1 in
     let both = and_parts (row.flow == flow) (row.channel == channel) any.4 in
@@ -51,15 +52,15 @@ carries-row rows flow channel found =
 
 module _ (rows : List SidRow) (k : ℕ) (flow_record : FlowRecord) where
   -- the flow has a channel exactly if there is such a row
-  channel-carried : (channel : ℕ) → channel < channel_limit → slice_get (channels_of rows k) channel ≡ Some (carries rows k channel)
-  channel-carried = four (λ channel. slice_get (channels_of rows k) channel ≡ Some (carries rows k channel)) refl refl refl refl
+  channel-carried : (channel : ℕ) → channel < channel_limit → slice_get (channels_of rows k) channel ≡ Some (has_row rows k channel)
+  channel-carried = four (λ channel. slice_get (channels_of rows k) channel ≡ Some (has_row rows k channel)) refl refl refl refl
 
   pub row-has_channel : (channel : ℕ) → channel < channel_limit → HasRow rows k channel → HasChannel (ruled_flow rows k flow_record) channel
-  row-has_channel channel below has = channel-carried channel below ∙ ap Some (row-carries rows k channel has)
+  row-has_channel channel below has = channel-carried channel below ∙ ap Some (row-found rows k channel has)
 
   pub channel-has_row : (channel : ℕ) → channel < channel_limit → HasChannel (ruled_flow rows k flow_record) channel → HasRow rows k channel
   channel-has_row channel below has =
-      carries-row rows k channel (same_Some (carries rows k channel) true (sym (channel-carried channel below) ∙ has))
+      found-row rows k channel (same_Some (has_row rows k channel) true (sym (channel-carried channel below) ∙ has))
 
 -- what a mapped list has at a place
 mapped-at : {X Y : Type 0} (f : X → Y) (xs : List X) (j : ℕ) (y : Y) → slice_get (map f xs) j ≡ Some y → (x : X) × (slice_get xs j ≡ Some x) × (f x ≡ y)

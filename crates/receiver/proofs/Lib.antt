@@ -20,3 +20,5 @@ pub mod HandedOrder
 pub mod PlayingTurns
 pub mod PlayedOut
 pub mod ReplayedOrder
+pub mod ReplayedEntries
+pub mod OtherFlows

@@ -40,7 +40,7 @@ from-nothing incoming places count none = record {
 }
 
 -- how much a channel has
-count-channel : (incoming : Incoming) (channel : ℕ) → channel < channel_limit → count_from incoming channel ≡ length (incoming.inputs channel)
+pub count-channel : (incoming : Incoming) (channel : ℕ) → channel < channel_limit → count_from incoming channel ≡ length (incoming.inputs channel)
 count-channel incoming channel below = ap (λ (b : Bool). cond b (length (incoming.inputs channel)) (length incoming.decisions)) (lt-ltb channel channel_limit below)
 
 module _ (incoming : Incoming) (places : List ℕ) (handed : List HandedIn) (from : IsHandedFrom incoming places handed) where

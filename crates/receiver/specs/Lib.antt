@@ -15,4 +15,6 @@ pub mod HandedIn
 pub mod Receiving
 pub mod Received
 pub mod HandedOrder
+pub mod Entries
 pub mod Playing
+pub mod Replaying

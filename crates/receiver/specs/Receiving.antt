@@ -1,5 +1,5 @@
 -- What a receiver stands for that takes one input at a time: all that was handed in, in order, and all that was given for it.
-use Rattle.std.specs.Prelude.{◌≡◌, ℕ, ◌<◌, ◌≤◌, Bool, Some, None, Ok, Err, List, [], ◌∷◌, ◌++◌, length, map, slice_get}
+use Rattle.std.specs.Prelude.{◌≡◌, ℕ, ◌<◌, ◌≤◌, Bool, Option, Some, None, Result, Ok, Err, MatchOption, List, [], ◌∷◌, ◌++◌, length, map, slice_get}
 use Rattle.flow_records.specs.declared.record.FlowRecord.{FlowRecord}
 use Rattle.flow_core.specs.declared.counts.FlowCounts.{FlowCounts}
 use Rattle.flow_core.specs.Fates.{Fates, number_of, IsExpected}
@@ -12,7 +12,7 @@ use Rattle.lane.specs.declared.lane.Lane.{Lane}
 use Rattle.lane.specs.Rows.{CanBeOpenedWithin}
 use Rattle.lane.specs.Inputs.{LaneSetup, Answer, AnsweredInput, IsAnswer}
 use Rattle.lane.specs.Report.{admitted_by, requests_of}
-use Rattle.lane.specs.Stands.{StandsFor as LaneStandsFor}
+use Rattle.lane.specs.Stands.{StandsFor as LaneStandsFor, WouldAdmit}
 use Rattle.consumer.specs.declared.given.Given.{Given}
 use Rattle.consumer.specs.declared.given.Given.TheVariants.{Frame}
 use Rattle.consumer.specs.Given.{frames_of, requests_given, asked_in}
@@ -21,7 +21,7 @@ use Rattle.bonded_flows.specs.declared.decision.FlowDecision.{FlowDecision}
 use Rattle.bonded_flows.specs.declared.flow_slot.NotReady.TheVariants as not_ready
 use Rattle.bonded_flows.specs.ByRule.{decision_event, IsTold, IsToldLost, GaveByRule, HasGivenByRule}
 use Rattle.bonded_flows.specs.Taking.{WasGiven}
-use Rattle.bonded_flows.specs.Table.{TableSetup, TableInput, IsPreparedAt, IsAtRestAt, IsClosingAt}
+use Rattle.bonded_flows.specs.Table.{TableSetup, TableInput, IsPreparedAt, IsAtRestAt, IsClosingAt, OthersStay}
 use Rattle.bonded_flows.specs.Table.{StandsFor as TableStandsFor}
 use Rattle.receiver.specs.declared.tallied_lane.TalliedLane.{TalliedLane}
 use Rattle.receiver.specs.declared.setup.Setup.{Setup}
@@ -129,6 +129,15 @@ module _ {C O : Type 0} (after : O → List Given → O → Type 0) (accepts : C
       × TakesMore after accepts receiver out [] receiver' out'
   Fails receiver out channel input (take_error.Unfinished flow) receiver' out' = IsLeftUnfinished receiver out channel input flow receiver' out'
 
+-- **An input changes one flow at most**: the one of which a segment is admitted, and none where a grant is taken or the input is refused.
+abbrev pub ChangesOneFlow : {C : Type 0} → FlowTable C → Result Reply TakeError → FlowTable C → Type 0
+ChangesOneFlow flows (Ok reply.Granted) flows' = flows' ≡ flows
+ChangesOneFlow flows (Ok (reply.Refused refusal)) flows' = flows' ≡ flows
+ChangesOneFlow flows (Ok (reply.Admitted flow sequence told)) flows' = OthersStay flows flow flows'
+ChangesOneFlow flows (Err (take_error.NoChannel back)) flows' = flows' ≡ flows
+ChangesOneFlow flows (Err (take_error.NotTaken back why)) flows' = (flow : ℕ) × OthersStay flows flow flows'
+ChangesOneFlow flows (Err (take_error.Unfinished flow)) flows' = OthersStay flows flow flows'
+
 -- ============ What is answered to the rest ============
 
 -- whether a segment is lost by a decision that was taken is told rightly, after all that came to its flow
@@ -200,6 +209,12 @@ IsReadyFor lane input flows =
     → CanBeOpenedWithin channels setup.rows (length setup.records) → LaneStandsFor setup lane taken → IsAnswer setup taken input answer
     → admitted_by answer ≡ Some admitted
     → IsPreparedAt flows admitted.flow
+
+-- before the lane answers this input, nothing changes but the flow of which it would admit a segment
+pub record ChangesItsFlow {C : Type 0} (lane : Lane) (input : Input) (flows flows' : FlowTable C) : Type 0 where
+  pub flow : Option ℕ
+  pub would : WouldAdmit lane input flow
+  pub changed : MatchOption flow (flows' ≡ flows) (λ k. OthersStay flows k flows')
 
 -- a lane that has answered some inputs, with as many records as there are flows
 pub record AnswersFor {C : Type 0} (flows : FlowTable C) (lane : Lane) : Type 0 where

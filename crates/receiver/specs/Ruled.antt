@@ -1,6 +1,5 @@
 -- The one-thread answer where a receiver decides by a rule which segments are lost.
-use Rattle.std.specs.Prelude.{◌≡◌, ℕ, ◌<◌, ◌==◌, ◌&&◌, Bool, Some, List, [], ◌∷◌, length, slice_get, if◌then◌else◌}
-use Rattle.std.specs.List.{list_any}
+use Rattle.std.specs.Prelude.{◌≡◌, ℕ, ◌<◌, ◌==◌, Bool, Some, List, [], ◌∷◌, length, slice_get, if◌then◌else◌}
 use Rattle.flow_records.specs.declared.record.FlowRecord.{FlowRecord}
 use Rattle.flow_records.specs.declared.event.Event.{Event}
 use Rattle.flow_records.specs.declared.event.Event.TheVariants.{Arrive, Gap, GapTo, SkipTo}
@@ -12,6 +11,7 @@ use Rattle.lane.specs.declared.report.LaneReport.{LaneReport}
 use Rattle.lane.specs.Limits.{channel_limit}
 use Rattle.lane.specs.Report.{requests_of, IsReportOf}
 use Rattle.loss_rule.specs.declared.rule.LossRule.{LossRule}
+use Rattle.bonded_flows.specs.Channels.{channels_within}
 use Rattle.loss_rule.specs.Rule.{Coming, on_channel, handed_in, RuledFlow, Lasts, AreRuled}
 use Rattle.receiver.specs.declared.outcome.FlowOutcome.{FlowOutcome}
 use Rattle.receiver.specs.declared.outcome.Outcome.{Outcome}
@@ -20,13 +20,9 @@ use Rattle.receiver.specs.Items.{Incoming}
 use Rattle.receiver.specs.Intake.{IsIntake}
 use Rattle.receiver.specs.Outcome.{IsOutcomeOfFlow, requests_on}
 
--- a row gives the flow a service identifier on this channel
-abbrev pub carries : List SidRow → ℕ → ℕ → Bool
-carries rows flow channel = list_any (λ row. (row.flow == flow) && (row.channel == channel)) rows
-
 -- of each channel, 0 to 3, whether it is the flow's
 abbrev pub channels_of : List SidRow → ℕ → List Bool
-channels_of rows flow = carries rows flow 0 ∷ carries rows flow 1 ∷ carries rows flow 2 ∷ carries rows flow 3 ∷ []
+channels_of rows flow = channels_within channel_limit rows flow
 
 -- what the rule has to know of a flow
 abbrev pub ruled_flow : List SidRow → ℕ → FlowRecord → RuledFlow

@@ -23,6 +23,7 @@ mod order;
 mod outcome;
 mod playing;
 mod receiver;
+mod replaying;
 mod reply;
 mod setup;
 mod tallied_lane;
@@ -36,6 +37,7 @@ pub use one_thread::{ReplayFault, admitted_order, replay, replay_by, replay_tags
 pub use order::check_order;
 pub use outcome::{FlowOutcome, Outcome};
 pub use receiver::Receiver;
+pub use replaying::Replaying;
 pub use reply::{DecisionReply, Reply, RestartError, TakeError};
 pub use setup::{BadSetup, Lists, Setup, SetupError};
 pub use tally::LaneTally;

@@ -29,6 +29,8 @@ use std::alloc::{AllocError, Global};
 
 /// How many senders there are: the channels, and the one of decisions behind them.
 const SENDERS: usize = CHANNELS + 1;
+/// The sender of decisions.
+pub const DECISIONS: u8 = CHANNELS as u8;
 
 /// A receiver to which the inputs and decisions of some lists are handed in, and what it gave.
 #[derive(Drop)]
@@ -112,7 +114,8 @@ impl<C: HeaderCheck + Drop> Playing<C> {
     {
         let place = self.places[channel];
         let inputs = lists.inputs[channel].as_slice();
-        let is_item = self.take_input(alloc, channel, &inputs[place])?;
+        let input = copy_of(alloc, &inputs[place])?;
+        let is_item = self.take_input(alloc, channel, input)?;
         self.places[channel] = place + 1;
         Ok(is_item)
     }
@@ -135,18 +138,17 @@ impl<C: HeaderCheck + Drop> Playing<C> {
     }
 
     /// Hands in an input of a channel, and answers whether a segment of it was admitted.
-    fn take_input(
+    pub fn take_input(
         &mut self,
         alloc: Global,
         channel: usize,
-        input: &Input,
+        input: Input,
     ) -> Result<bool, AllocError>
         requires playing { IsPlaying C.accepts self.old }
         requires channel { channel < channel_limit }
         ensures { IfOk result (λ is_item.
-            PlaysInput C.accepts self.old channel input.now is_item self.new) }
+            PlaysInput C.accepts self.old channel input is_item self.new) }
     {
-        let input = copy_of(alloc, input)?;
         let Ok(reply) = (self.receiver).take(alloc, channel, input, &mut self.collected) else {
             return Err(AllocError);
         };
@@ -161,7 +163,7 @@ impl<C: HeaderCheck + Drop> Playing<C> {
     }
 
     /// Hands in a decision, and answers whether it names a flow.
-    fn take_decision(&mut self, alloc: Global, decision: Decision) -> Result<bool, AllocError>
+    pub fn take_decision(&mut self, alloc: Global, decision: Decision) -> Result<bool, AllocError>
         requires playing { IsPlaying C.accepts self.old }
         ensures plays { IfOk result (λ _.
             PlaysOne C.accepts self.old (handed_decision decision) self.new) }
@@ -350,7 +352,7 @@ fn copy_of(alloc: Global, input: &Input) -> Result<Input, AllocError>
 }
 
 /// Appends the tag of something that gave an item.
-fn append_if(order: &mut Vec<u8>, is_item: bool, tag: u8) -> Result<(), AllocError>
+pub fn append_if(order: &mut Vec<u8>, is_item: bool, tag: u8) -> Result<(), AllocError>
     ensures { IfOk result (λ _.
         order.new.items ≡ order.old.items ++ (if is_item then tag ∷ [] else [])) }
 {

@@ -10,7 +10,7 @@ ghost use Rattle.bonded_flows.specs.ByRule.{is_in_range, IsTold};
 ghost use Rattle.bonded_flows.specs.Slots.{LeavesOf, held_in};
 ghost use Rattle.bonded_flows.specs.declared.flow_slot.FlowSlot.{FlowSlot};
 ghost use Rattle.bonded_flows.specs.Table.{TableSetup, PartStandsAt, IsPreparedAt, IsAtRestAt};
-ghost use Rattle.bonded_flows.specs.Table.{IsClosingAt};
+ghost use Rattle.bonded_flows.specs.Table.{IsClosingAt, OthersStay, NoneBeginsToClose};
 ghost use Rattle.bonded_flows.specs.declared.flow_slot.NotReady.{NotReady};
 ghost use Rattle.bonded_flows.specs.Table.{TakesMore as TableTakesMore, IsInUse as IsTableInUse};
 ghost use Rattle.receiver.specs.declared.reply.DecisionReply.{DecisionReply};
@@ -19,6 +19,7 @@ ghost use Rattle.receiver.specs.Tallies.{IsTallyOf};
 ghost use Rattle.receiver.specs.HandedIn.{HandedIn, decided, made_of, answered_on};
 ghost use Rattle.receiver.specs.Receiving.{StandsFor, IsReceiving, TakesMore, IsSettledAt};
 ghost use Rattle.receiver.specs.Receiving.{Replies, Fails, FlowIsSettled, Restarts, HasGivenSince};
+ghost use Rattle.receiver.specs.Receiving.{ChangesOneFlow, ChangesItsFlow};
 ghost use Rattle.receiver.specs.Receiving.{IsReadyFor, AnswersFor, TakesAdmitted, IsLossToldRightly, IsNumberExpected};
 ghost use Rattle.receiver.specs.Receiving.{IsSettledIfTaken, ClosesAFlow};
 ghost use Rattle.receiver.specs.Received.{Closes, BeginsToClose, IsBeingClosed};
@@ -87,6 +88,8 @@ impl<C: HeaderCheck + Drop> Receiver<C> {
         ensures settled { IfOk result (FlowIsSettled self.new) }
         ensures fails { IfErr result (λ error.
             Fails O.after C.accepts self.old out.old channel input error self.new out.new) }
+        ensures others { ChangesOneFlow self.old.flows result self.new.flows }
+        ensures open_still { NoneBeginsToClose self.old.flows self.new.flows }
         ensures receiving { IsReceiving C.accepts self.new }
     {
         if channel >= self.lanes.len() {
@@ -143,6 +146,8 @@ impl<C: HeaderCheck + Drop> Receiver<C> {
             (TakesMore O.after C.accepts self.old out.old [] self.new out.new)
             (TakesMore O.after C.accepts self.old out.old (decided flow decision ∷ [])
             self.new out.new)) }
+        ensures others { OthersStay self.old.flows flow self.new.flows }
+        ensures open_still { NoneBeginsToClose self.old.flows self.new.flows }
         ensures receiving { IsReceiving C.accepts self.new }
     {
         if flow >= self.flows.flow_count() || !decision.is_in_range() {
@@ -165,6 +170,8 @@ impl<C: HeaderCheck + Drop> Receiver<C> {
         ensures closing { result ≡ Err NotReady.Closing → IsClosingAt self.new.flows flow }
         ensures no_flow { length self.old.flows.slots.items ≤ flow
             → (result ≡ Ok tt) × (self.new ≡ self.old) × (out.new ≡ out.old) }
+        ensures others { OthersStay self.old.flows flow self.new.flows }
+        ensures open_still { NoneBeginsToClose self.old.flows self.new.flows }
         ensures receiving { IsReceiving C.accepts self.new }
     {
         if flow >= self.flows.flow_count() {
@@ -195,6 +202,7 @@ impl<C: HeaderCheck + Drop> Receiver<C> {
         ensures settled { IfOk result (λ _. IsSettledAt self.new flow) }
         ensures not_taken { OnErr result
             (TakesMore O.after C.accepts self.old out.old [] self.new out.new) }
+        ensures others { OthersStay self.old.flows flow self.new.flows }
         ensures receiving { IsReceiving C.accepts self.new }
     {
         if flow >= self.flows.flow_count() {
@@ -301,8 +309,10 @@ fn make_ready<C: HeaderCheck + Drop, O: Consumer>(
     requires lane { AnswersFor flows.old lane.now }
     ensures takes { (flow : ℕ)
         × TableTakesMore O.after C.accepts flows.old out.old flow [] flows.new out.new }
+    ensures others { ChangesItsFlow lane.now input.now flows.old flows.new }
     ensures ready { IfOk result (λ _. IsReadyFor lane.now input.now flows.new) }
     ensures closing { result ≡ Err NotReady.Closing → ClosesAFlow flows.new }
+    ensures open_still { NoneBeginsToClose flows.old flows.new }
     ensures in_use { IsTableInUse C.accepts flows.new }
 {
     let Some(flow) = lane.look(input) else {
@@ -329,6 +339,8 @@ fn take_admitted<C: HeaderCheck + Drop, O: Consumer>(
         → PartStandsAt (C.accepts flows.old.check) setup flows.old admitted.flow comings given
         → IsTold setup comings channel admitted.segment told) }
     ensures at_rest { IfOk result (λ _. IsAtRestAt flows.new admitted.flow) }
+    ensures others { OthersStay flows.old admitted.flow flows.new }
+    ensures open_still { NoneBeginsToClose flows.old flows.new }
     ensures in_use { IsTableInUse C.accepts flows.new }
 {
     give_request(out, admitted.request);

@@ -1,11 +1,13 @@
 -- Whatever is admitted of the input is of the flow that was looked up.
-use Rattle.std.proofs.Common.{◌≡◌, Some, sym, ap, subst, ◌∙◌, arith}
+use Rattle.std.proofs.Common.{◌≡◌, Some, refl, sym, ap, subst, ◌∙◌, arith}
 use Rattle.std.specs.Option.{option_map}
 use Rattle.std.proofs.lemmas.Option.{same_Some}
 use Rattle.lane.specs.declared.admitted.Admitted.{Admitted}
 use Rattle.lane.specs.Report.{admitted_by}
 use Rattle.bonded_flows.specs.Table.{IsPreparedAt}
+use Rattle.lane.specs.Stands.{WouldAdmit}
 use Rattle.bonded_flows.proofs.SlotTurns.{on-ok}
+use Rattle.receiver.proofs.OtherFlows.{where-none}
 use Rattle.receiver.proofs.receiver.make_ready.Goals as goal
 
 pub returns-in_default-clause-ready : goal.returns-in_default-clause-ready
@@ -32,3 +34,17 @@ returns-clause-closing g c is =
     let before = in_use.stands.flow_count in
     let after = (c.prepare.ensures.takes.stands in_use.check in_use.made in_use.history in_use.given in_use.stands).flow_count in
     (c.in-Some.flow, omega arith, c.prepare.ensures.closing is)
+
+pub returns-in_default-clause-others : goal.returns-in_default-clause-others
+returns-in_default-clause-others g c = record {
+  flow = c.look.result;
+  would = c.look.ensures.flow;
+  changed = where-none c.look.result _ _ c.in_default.not-Some refl;
+}
+
+pub returns-clause-others : goal.returns-clause-others
+returns-clause-others g c = record {
+  flow = Some c.in-Some.flow;
+  would = subst (WouldAdmit c.args.lane.now c.args.input.now) c.in-Some.is c.look.ensures.flow;
+  changed = c.prepare.ensures.others;
+}

@@ -4,12 +4,10 @@ use Rattle.lane.specs.Inputs.{Answer, AnsweredInput}
 use Rattle.lane.specs.Report.{refused_by}
 use Rattle.consumer.specs.Collecting.{list_at}
 use Rattle.std.specs.Vec.{with_item}
-use Rattle.lane.specs.declared.input.Input.{Input}
 use Rattle.lane.specs.Report.{admitted_by}
 use Rattle.receiver.specs.declared.reply.Reply.{Reply}
 use Rattle.receiver.specs.HandedIn.{came}
 use Rattle.receiver.specs.Receiving.{Says}
-use Rattle.receiver.specs.Playing.{PlaysInput}
 use Rattle.receiver.proofs.PlayingTurns.{RefusalsGrow, refusals-none, refusals-one, input-taken}
 use Rattle.std.proofs.Math.ListN.{set}
 use Rattle.consumer.proofs.Lists.{appends-at}
@@ -36,21 +34,17 @@ pub returns-in-Granted : goal.returns-in-Granted
 returns-in-Granted g c =
     let replies = c.in-Ok.ensures.replies in
     let says : replies.answer ≡ Ok None = subst (λ (reply : Reply). Says reply replies.answer) c.in-Granted.is replies.says in
-    subst (λ (input : Input). PlaysInput g.C.HeaderCheck.accepts c.args.self.now c.args.channel input false (record { receiver = c.take.new.self; collected = c.take.new.out; refused = c.args.self.now.refused; places = c.args.self.now.places }))
-    c.in_ok-input.ensures
-    (input-taken g.C.HeaderCheck.accepts c.args.self.now c.take.new.self c.take.new.out c.args.self.now.refused c.args.channel c.in_ok-input.input replies.answer replies.takes
+    input-taken g.C.HeaderCheck.accepts c.args.self.now c.take.new.self c.take.new.out c.args.self.now.refused c.args.channel c.args.input replies.answer replies.takes
     false (sym (ap (λ (answer : Answer). is_some (admitted_by answer)) says))
-    (unrefused c.args.self.now.refused.items c.args.channel (record { input = c.in_ok-input.input; answer = replies.answer }) (ap refused_by says)))
+    (unrefused c.args.self.now.refused.items c.args.channel (record { input = c.args.input; answer = replies.answer }) (ap refused_by says))
 
 pub returns-in-Admitted : goal.returns-in-Admitted
 returns-in-Admitted g c =
     let replies = c.in-Ok.ensures.replies in
     let says = subst (λ (reply : Reply). Says reply replies.answer) c.in-Admitted.is replies.says in
-    subst (λ (input : Input). PlaysInput g.C.HeaderCheck.accepts c.args.self.now c.args.channel input true (record { receiver = c.take.new.self; collected = c.take.new.out; refused = c.args.self.now.refused; places = c.args.self.now.places }))
-    c.in_ok-input.ensures
-    (input-taken g.C.HeaderCheck.accepts c.args.self.now c.take.new.self c.take.new.out c.args.self.now.refused c.args.channel c.in_ok-input.input replies.answer replies.takes
+    input-taken g.C.HeaderCheck.accepts c.args.self.now c.take.new.self c.take.new.out c.args.self.now.refused c.args.channel c.args.input replies.answer replies.takes
     true (sym (ap (λ (answer : Answer). is_some (admitted_by answer)) says.1))
-    (unrefused c.args.self.now.refused.items c.args.channel (record { input = c.in_ok-input.input; answer = replies.answer }) (ap refused_by says.1)))
+    (unrefused c.args.self.now.refused.items c.args.channel (record { input = c.args.input; answer = replies.answer }) (ap refused_by says.1))
 
 pub returns-in_ok-push-in-Refused : goal.returns-in_ok-push-in-Refused
 returns-in_ok-push-in-Refused g c =
@@ -58,9 +52,7 @@ returns-in_ok-push-in-Refused g c =
     let playing = c.args.self.now in
     let says : replies.answer ≡ Err c.in-Refused.refusal = subst (λ (reply : Reply). Says reply replies.answer) c.in-Refused.is replies.says in
     let within : c.args.channel < length playing.refused.items = let many = c.requires.playing.plays.many in let below = c.requires.channel in omega arith in
-    subst (λ (input : Input). PlaysInput g.C.HeaderCheck.accepts playing c.args.channel input false (record { receiver = c.take.new.self; collected = c.take.new.out; refused = with_item playing.refused c.args.channel c.push.new.self; places = playing.places }))
-    c.in_ok-input.ensures
-    (input-taken g.C.HeaderCheck.accepts playing c.take.new.self c.take.new.out (with_item playing.refused c.args.channel c.push.new.self) c.args.channel c.in_ok-input.input replies.answer replies.takes
+    input-taken g.C.HeaderCheck.accepts playing c.take.new.self c.take.new.out (with_item playing.refused c.args.channel c.push.new.self) c.args.channel c.args.input replies.answer replies.takes
     false (sym (ap (λ (answer : Answer). is_some (admitted_by answer)) says))
-    (refused-one playing.refused.items c.args.channel (record { input = c.in_ok-input.input; answer = replies.answer }) c.number.result c.push.new.self c.index_mut.result.now
-    (ap refused_by says ∙ ap Some (sym c.number.ensures)) within c.index_mut.ensures.value c.in_ok-push-in-Refused.ensures.items))
+    (refused-one playing.refused.items c.args.channel (record { input = c.args.input; answer = replies.answer }) c.number.result c.push.new.self c.index_mut.result.now
+    (ap refused_by says ∙ ap Some (sym c.number.ensures)) within c.index_mut.ensures.value c.in_ok-push-in-Refused.ensures.items)

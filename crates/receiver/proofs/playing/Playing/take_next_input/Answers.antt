@@ -33,13 +33,14 @@ returns-clause-takes g c =
     let accepts = g.C.HeaderCheck.accepts in
     let playing = c.args.self.now in
     let taken = c.in_ok-is_item.ensures in
-    let one : AnsweredInput = record { input = c.index-inputs-place.result; answer = taken.answer } in
+    let one : AnsweredInput = record { input = c.in_ok-input.input; answer = taken.answer } in
     let incoming = incoming_of c.args.lists.now in
     let next = slice_index_or playing.places c.args.channel 0 + 1 in
     plays-next accepts playing _ (came c.args.channel one) incoming c.args.channel c.in_ok-is_item.is_item
     (plays-placed accepts playing c.take_input.new.self (came c.args.channel one) (slice_set c.take_input.new.self.places c.args.channel next) taken.plays)
     (λ handed from. subst (λ (places : List ℕ). IsHandedFrom incoming (slice_set places c.args.channel next) (handed ++ came c.args.channel one ∷ [])) (sym taken.places)
-    (from-input incoming playing.places handed from c.args.channel one c.requires.channel c.requires.left (next-input g c)))
+    (from-input incoming playing.places handed from c.args.channel one c.requires.channel c.requires.left
+    (subst (λ (x : Input). x ≡ get_or (inputs_on c.args.lists.now c.args.channel) (slice_index_or playing.places c.args.channel 0) x) (sym c.in_ok-input.ensures) (next-input g c))))
     (λ rule check setup handed plays. taken.told ∙ admitted-item (length setup.flows.items) c.args.channel one)
     refl
 
@@ -48,7 +49,7 @@ returns-clause-playing g c =
     let accepts = g.C.HeaderCheck.accepts in
     let playing = c.args.self.now in
     let taken = c.in_ok-is_item.ensures in
-    let one : AnsweredInput = record { input = c.index-inputs-place.result; answer = taken.answer } in
+    let one : AnsweredInput = record { input = c.in_ok-input.input; answer = taken.answer } in
     let next = slice_index_or playing.places c.args.channel 0 + 1 in
     still-playing accepts playing _ (came c.args.channel one) c.requires.playing
     (plays-placed accepts playing c.take_input.new.self (came c.args.channel one) (slice_set c.take_input.new.self.places c.args.channel next) taken.plays)

@@ -8,6 +8,7 @@ use Rattle.receiver.specs.declared.tallied_lane.TalliedLane.{TalliedLane}
 use Rattle.receiver.specs.HandedIn.{came}
 use Rattle.receiver.specs.Receiving.{TakesMore, IsReadyFor}
 use Rattle.receiver.proofs.InputsTaken.{takes-flows, still-receiving}
+use Rattle.receiver.proofs.OtherFlows.{one-changes, changes-of, no-flow-changes, others-stay}
 use Rattle.receiver.proofs.OneInput.{lane-here, answers-for, takes-back, takes-none, takes-some, flow-exists, flow-prepared, told-rightly}
 use Rattle.receiver.proofs.receiver.Receiver.take.Goals as goal
 
@@ -123,3 +124,51 @@ returns-in-Err-take_admitted-clause-fails g c = record {
 pub returns-in-Err-take_admitted-clause-receiving : goal.returns-in-Err-take_admitted-clause-receiving
 returns-in-Err-take_admitted-clause-receiving g c =
     still-receiving g.C.HeaderCheck.accepts g.O.Consumer.after c.args.self.now _ c.args.out.now c.take_admitted.new.out _ c.requires.receiving (returns-in-Err-take_admitted-clause-fails g c).takes
+
+pub returns-in-Err-clause-others : goal.returns-in-Err-clause-others
+returns-in-Err-clause-others g c =
+    one-changes c.args.self.now.flows c.make_ready.new.flows c.make_ready.ensures.others.flow c.make_ready.ensures.others.changed
+
+pub returns-in-Err-take-clause-others : goal.returns-in-Err-take-clause-others
+returns-in-Err-take-clause-others g c =
+    one-changes c.args.self.now.flows c.make_ready.new.flows c.make_ready.ensures.others.flow c.make_ready.ensures.others.changed
+
+pub returns-in-Err-answer-clause-others : goal.returns-in-Err-answer-clause-others
+returns-in-Err-answer-clause-others g c =
+    let inside : c.args.channel < length c.args.self.now.lanes.items = omega (arith, c.if-channel-len.false, c.len.ensures) in
+    let here = lane-here c.args.self.now.lanes.items c.args.channel c.index_mut.result.now inside c.index_mut.ensures.value in
+    let looked = lane-here c.args.self.now.lanes.items c.args.channel c.index.result.now inside c.index.ensures in
+    let changes = changes-of c.args.self.now.flows c.make_ready.new.flows c.args.self.now.lanes.items c.args.channel c.index.result.now c.index_mut.result.now looked here c.args.input c.make_ready.ensures.others in
+    no-flow-changes g.C.HeaderCheck.accepts c.args.self.now c.make_ready.new.flows c.args.channel c.index_mut.result.now c.take.new.self here c.args.input changes c.requires.receiving c.in-Ok.answer c.in-Ok.ensures.answers (ap admitted_by c.in-Err-answer.is)
+
+pub returns-in-Ok-None-clause-others : goal.returns-in-Ok-None-clause-others
+returns-in-Ok-None-clause-others g c =
+    let inside : c.args.channel < length c.args.self.now.lanes.items = omega (arith, c.if-channel-len.false, c.len.ensures) in
+    let here = lane-here c.args.self.now.lanes.items c.args.channel c.index_mut.result.now inside c.index_mut.ensures.value in
+    let looked = lane-here c.args.self.now.lanes.items c.args.channel c.index.result.now inside c.index.ensures in
+    let changes = changes-of c.args.self.now.flows c.make_ready.new.flows c.args.self.now.lanes.items c.args.channel c.index.result.now c.index_mut.result.now looked here c.args.input c.make_ready.ensures.others in
+    no-flow-changes g.C.HeaderCheck.accepts c.args.self.now c.make_ready.new.flows c.args.channel c.index_mut.result.now c.take.new.self here c.args.input changes c.requires.receiving c.in-Ok.answer c.in-Ok.ensures.answers (ap admitted_by (c.in-Ok-None.is ∙ ap Ok c.in-Ok-None.field-0-is))
+
+pub returns-in-Ok-take_admitted-clause-others : goal.returns-in-Ok-take_admitted-clause-others
+returns-in-Ok-take_admitted-clause-others g c =
+    let inside : c.args.channel < length c.args.self.now.lanes.items = omega (arith, c.if-channel-len.false, c.len.ensures) in
+    let here = lane-here c.args.self.now.lanes.items c.args.channel c.index_mut.result.now inside c.index_mut.ensures.value in
+    let looked = lane-here c.args.self.now.lanes.items c.args.channel c.index.result.now inside c.index.ensures in
+    let changes = changes-of c.args.self.now.flows c.make_ready.new.flows c.args.self.now.lanes.items c.args.channel c.index.result.now c.index_mut.result.now looked here c.args.input c.make_ready.ensures.others in
+    others-stay g.C.HeaderCheck.accepts c.args.self.now c.make_ready.new.flows c.args.channel c.index_mut.result.now c.take.new.self here c.args.input changes c.requires.receiving c.in-Ok.answer c.in-Ok.ensures.answers
+    c.in-Ok-Some.admitted (ap admitted_by (c.in-Ok-Some.is ∙ ap Ok c.in-Ok-Some.field-0-is)) c.take_admitted.new.flows c.take_admitted.ensures.others
+
+pub returns-in-Err-take_admitted-clause-others : goal.returns-in-Err-take_admitted-clause-others
+returns-in-Err-take_admitted-clause-others g c =
+    let inside : c.args.channel < length c.args.self.now.lanes.items = omega (arith, c.if-channel-len.false, c.len.ensures) in
+    let here = lane-here c.args.self.now.lanes.items c.args.channel c.index_mut.result.now inside c.index_mut.ensures.value in
+    let looked = lane-here c.args.self.now.lanes.items c.args.channel c.index.result.now inside c.index.ensures in
+    let changes = changes-of c.args.self.now.flows c.make_ready.new.flows c.args.self.now.lanes.items c.args.channel c.index.result.now c.index_mut.result.now looked here c.args.input c.make_ready.ensures.others in
+    others-stay g.C.HeaderCheck.accepts c.args.self.now c.make_ready.new.flows c.args.channel c.index_mut.result.now c.take.new.self here c.args.input changes c.requires.receiving c.in-Ok.answer c.in-Ok.ensures.answers
+    c.in-Ok-Some.admitted (ap admitted_by (c.in-Ok-Some.is ∙ ap Ok c.in-Ok-Some.field-0-is)) c.take_admitted.new.flows c.take_admitted.ensures.others
+
+pub returns-in-Ok-take_admitted-clause-open_still : goal.returns-in-Ok-take_admitted-clause-open_still
+returns-in-Ok-take_admitted-clause-open_still g c = λ k closing. c.make_ready.ensures.open_still k (c.take_admitted.ensures.open_still k closing)
+
+pub returns-in-Err-take_admitted-clause-open_still : goal.returns-in-Err-take_admitted-clause-open_still
+returns-in-Err-take_admitted-clause-open_still g c = λ k closing. c.make_ready.ensures.open_still k (c.take_admitted.ensures.open_still k closing)
