@@ -57,17 +57,8 @@ def guarded():
             signal.signal(ending, handler)
 
 
-def yield_to_others(child, niceness):
-    """Lets others have the processors first. Linux weighs sessions against one another, where it groups them at all, and the
-    processes of a session by their own niceness."""
-    with contextlib.suppress(OSError):
-        os.setpriority(os.PRIO_PGRP, child.pid, niceness)
-    with contextlib.suppress(OSError), open(f"/proc/{child.pid}/autogroup", "w") as group:
-        group.write(str(niceness))
-
-
 @contextlib.contextmanager
-def started(words, niceness=0, **how):
+def started(words, **how):
     """A program that runs, with what it prints as text, standard error among it. It is killed, with all that it started,
     where the block is left before it has ended."""
     how = {"stdout": subprocess.PIPE, "stderr": subprocess.STDOUT, "text": True, "errors": "replace", **how}
@@ -76,8 +67,6 @@ def started(words, niceness=0, **how):
             raise Ended
         child = subprocess.Popen(words, stdin=subprocess.DEVNULL, start_new_session=True, **how)
         running.add(child)
-    if niceness > 0:
-        yield_to_others(child, niceness)
     try:
         yield child
     finally:

@@ -8,15 +8,15 @@ import sys
 from shared import arguments
 
 
-def read_arguments(head, count, jobs):
+def read_arguments(head, count, jobs, what="trace"):
     parser = arguments.parser(head)
-    arguments.add_count(parser, count, "how many traces are generated")
+    arguments.add_count(parser, count, f"how many {what}s are generated")
     arguments.add_seed(parser, 1)
-    arguments.add_jobs(parser, jobs, "how many traces are compared at once")
+    arguments.add_jobs(parser, jobs, f"how many {what}s are compared at once")
     return parser.parse_args()
 
 
-def compare_all(label, given, compare_fixed, fixed, compare_generated, generated):
+def compare_all(label, given, compare_fixed, fixed, compare_generated, generated, what="trace"):
     """Compares fixed and generated inputs, each by such a function, which returns the input's name and either what is wrong
     or what the input shows. Returns the sum of what they show."""
     seen = collections.Counter()
@@ -24,7 +24,7 @@ def compare_all(label, given, compare_fixed, fixed, compare_generated, generated
         of_fixed, of_generated = pool.imap(compare_fixed, fixed), pool.imap(compare_generated, generated, 20)
         for name, shown in itertools.chain(of_fixed, of_generated):
             if isinstance(shown, str):
-                sys.exit(f"{label}: trace {name} of seed {given.seed}: {shown}")
+                sys.exit(f"{label}: {what} {name} of seed {given.seed}: {shown}")
             seen += shown
     return seen
 

@@ -56,11 +56,11 @@ SENT = "docsis_wire flow_core"
 
 
 def prove_and_build(room, runner, uses, layers):
-    """The program of a bench, whose sources are beside its runner, proved and built over copies of these crates, of which
-    it uses these, libraries of the toolchain and `sent` where it names that."""
+    """The program of a bench, whose sources are beside its runner, proved and built over copies of these crates, over
+    what earlier checks of them kept. Of these it uses some, libraries of the toolchain and `sent` where it names that."""
     folder = os.path.dirname(os.path.abspath(runner))
     name = f"{os.path.basename(folder)}_bench"
-    scratch.copy_crates(room, layers)
+    scratch.copy_crates(room, layers, with_kept=True)
     if "sent" in uses.split():
         scratch.add_crate(room, "sent", SENT, path("bench", "sent"))
     crate = scratch.add_crate(room, name, uses, folder)

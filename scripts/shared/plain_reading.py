@@ -1,10 +1,11 @@
 """A plain, slow reading of frames, of how segments are joined, of what becomes of a flow's segments and of the rule by
 which a receiver decides itself what is lost, and a modem's cut, for the scripts that compare them with the code.
 
-A frame is known only by its grammar: every length is tried for a whole frame in front of some bytes. A segment is its
-bytes, of which the first eight are its header.
+A frame is known only by its grammar: every length is tried for a whole frame in front of some bytes. Of its header, from FC
+to the end of HCS, a check may be asked too. A segment is its bytes, of which the first eight are its header.
 """
 
+import bisect
 import collections
 import itertools
 
@@ -20,36 +21,47 @@ def header(segment):
     return Header(words[0] // 32768, words[0] % 16384, words[1] // 8, words[1] % 8, words[2])
 
 
+def any_header(_header):
+    """The check of a frame's header that each passes."""
+    return True
 
-def is_frame(text):
+
+def header_end(text):
+    """Where the header ends of a frame that begins with these bytes."""
+    return 6 + (text[1] if text[0] % 2 == 1 else 0)
+
+
+def is_frame(text, check=any_header):
     if len(text) < 6 or text[0] in (0xC4, 0xC5, 0xC8, 0xC9, 0xFF) or not any(text[:4]):
         return False
-    length = text[2] * 256 + text[3]
-    extended = text[1] if text[0] % 2 == 1 else 0
-    return len(text) == 6 + length and extended <= 240 and extended <= length
+    length, extended = text[2] * 256 + text[3], header_end(text) - 6
+    has_its_length = len(text) == 6 + length and extended <= 240 and extended <= length
+    return has_its_length and check(text[: header_end(text)])
 
 
-def whole_frame(text):
+def whole_frame(text, check=any_header):
     """The whole frame in front of the bytes, or None. No frame is the front of another, so the first is the only."""
-    return next((text[:n] for n in range(6, len(text) + 1) if is_frame(text[:n])), None)
+    return next((text[:n] for n in range(6, len(text) + 1) if is_frame(text[:n], check)), None)
 
 
-def waits(text):
-    """Whether bytes without a whole frame in front wait for more: they are the front of some frame."""
+def waits(text, check=any_header):
+    """Whether bytes without a whole frame in front wait for more: they are the front of some frame, whose header passes the
+    check if all of it is there."""
     if len(text) < 4:
         return text[:1] != b"\xff"
-    return any(is_frame(text[:4] + bytes(n)) for n in (2 + text[2] * 256 + text[3],))
+    is_front = is_frame(text[:4] + bytes(2 + text[2] * 256 + text[3]))
+    return is_front and (len(text) < header_end(text) or check(text[: header_end(text)]))
 
 
-def walk(text):
+def walk(text, check=any_header):
     frames = []
-    while (frame := whole_frame(text)) is not None:
+    while (frame := whole_frame(text, check)) is not None:
         frames.append(frame)
         text = text[len(frame) :]
-    return frames, text if waits(text) else b""
+    return frames, text if waits(text, check) else b""
 
 
-def feed(unfinished, segment):
+def feed(unfinished, segment, check=any_header):
     """The frames that a segment completes, and what is unfinished then."""
     pfi, pointer, *_ = header(segment)
     payload = segment[8:]
@@ -57,13 +69,13 @@ def feed(unfinished, segment):
         return [], b""
     if pfi == 0:
         text = unfinished + payload
-        frame = whole_frame(text)
+        frame = whole_frame(text, check)
         if frame is not None:
             return [frame], b""
-        return [], text if waits(text) else b""
+        return [], text if waits(text, check) else b""
     ended = unfinished + payload[:pointer]
-    done = [ended] if unfinished and is_frame(ended) else []
-    frames, rest = walk(payload[pointer:])
+    done = [ended] if unfinished and is_frame(ended, check) else []
+    frames, rest = walk(payload[pointer:], check)
     return done + frames, rest
 
 
@@ -152,45 +164,112 @@ class RuledFlow(Flow):
 
     def lose(self, is_lost):
         """Declares all that is missing from the expected index on, up to the first index that isn't lost."""
-        lost = set(itertools.takewhile(is_lost, itertools.count(self.expected))) - self.kept.keys()
-        self.declared |= lost
-        self.lost_by_rule |= lost
+        lost = {index for index in itertools.takewhile(is_lost, itertools.count(self.expected)) if index not in self.kept}
+        if lost:
+            self.declared |= lost
+            self.lost_by_rule |= lost
         self.pass_settled()
+
+
+class LiveFlow(RuledFlow):
+    """A flow whose settled segments are joined once, with what it gave and counted since it was begun or began anew."""
+
+    def __init__(self, first, window, rule, channels, check=any_header):
+        super().__init__(first, window, rule, channels)
+        self.check = check
+        self.verdicts = dict(kept=0, late=0, repeat=0, beyond=0)
+        self.skipped_to = None
+        self.joined_to, self.unfinished, self.ready = 0, b"", []
+        self.frame_count, self.joined_bytes, self.frame_bytes = 0, 0, 0
+
+    def number(self, index):
+        return (self.first + index) % MODULUS
+
+    def lose(self, is_lost):
+        end = next(index for index in itertools.count(self.expected) if not is_lost(index))
+        if end > self.expected:
+            self.skipped_to = self.number(end)
+        super().lose(is_lost)
+
+    def told(self, channel, segment):
+        """What is told of a segment that comes: the verdict, and up to which number the rule skipped before it."""
+        self.skipped_to = None
+        verdict = self.come(channel, segment)
+        self.verdicts[verdict] += 1
+        return verdict, self.skipped_to
+
+    def join(self):
+        """Joins what was settled since it was joined last."""
+        for index in range(self.joined_to, self.expected):
+            frames, self.unfinished = feed(self.unfinished, self.kept[index], self.check) if index in self.kept else ([], b"")
+            self.joined_bytes += len(self.kept[index]) - 8 if index in self.kept else 0
+            self.frame_bytes += sum(map(len, frames))
+            self.frame_count += len(frames)
+            self.ready += frames
+        self.joined_to = self.expected
+
+    def gives(self):
+        """The frames that it gives now."""
+        self.join()
+        frames, self.ready = self.ready, []
+        return frames
+
+    def held(self):
+        """How many segments are kept and not joined yet."""
+        return sum(index >= self.expected for index in self.kept)
+
+    def counts(self):
+        self.join()
+        skipped = self.joined_bytes - self.frame_bytes - len(self.unfinished)
+        return {**self.verdicts, "lost": len(self.declared), "frames": self.frame_count, "skipped": skipped}
+
+    def close(self):
+        while self.gap():
+            pass
 
 
 class Cut:
     """A modem's frames, cut into segments. Each segment has the places of its chunk in the stream of frames."""
 
-    def __init__(self, rng, first, count):
+    def __init__(self, rng, first, count, new_frame=None, sizes=(0, 0, 1, 2, 3, 5, 8, 13, 21)):
         self.frames, self.chunks, self.segments = [], [], []
-        fill, stream, ends, place = rng.choice([b"\x00", b"\xff"]), b"", {0}, 0
+        new_frame = new_frame or some_frame
+        fill, stream, ends, place = rng.choice([b"\x00", b"\xff"]), bytearray(), [0], 0
         for index in range(count):
-            size = rng.choice([0, 0, 1, 2, 3, 5, 8, 13, 21])
+            size = rng.choice(sizes)
             while len(stream) < place + size:
-                self.frames.append(some_frame(rng))
+                self.frames.append(new_frame(rng))
                 stream += self.frames[-1]
-                ends.add(len(stream))
+                ends.append(len(stream))
+            begun = ends[bisect.bisect_left(ends, place)] - place  # so far from here a frame ends and the next one begins
             if rng.random() < 0.3:
-                size = min((end - place for end in ends if end >= place), default=size)
-            chunk = stream[place : place + size]
-            begun = [p for p in range(size) if place + p in ends]
+                size = begun
+            chunk = bytes(stream[place : place + size])
             self.chunks.append((place, place + size))
             place += size
-            filled = fill * rng.choice([0, 0, 1, 2, 4, 7]) if place in ends else b""
-            pointer = 0x8000 | begun[0] if begun else rng.choice([0, 0x3FFF])
+            filled = fill * rng.choice([0, 0, 1, 2, 4, 7]) if ends[bisect.bisect_left(ends, place)] == place else b""
+            pointer = 0x8000 | begun if begun < size else rng.choice([0, 0x3FFF])
             self.segments.append((pointer, (first + index) % MODULUS, chunk + filled))
+
+    def frames_over(self, is_there):
+        """The frames that lie wholly in the cut and of which each segment is there."""
+        low, start = 0, 0
+        for frame in self.frames:
+            end = start + len(frame)
+            if end > self.chunks[-1][1]:
+                return
+            while self.chunks[low][1] <= start:
+                low += 1
+            high = low
+            while self.chunks[high][1] < end:
+                high += 1
+            if all(map(is_there, range(low, high + 1))):
+                yield frame
+            low, start = high, end
 
     def delivered(self, flow):
         """The frames that lie wholly in the cut and of which each segment was kept, below the expected index."""
-        end = 0
-        for frame in self.frames:
-            start, end = end, end + len(frame)
-            shares = [i for i, (low, high) in enumerate(self.chunks) if max(low, start) < min(high, end)]
-            if end > self.chunks[-1][1]:
-                return
-            span = range(shares[0], shares[-1] + 1)
-            if all(i in flow.kept and i < flow.expected for i in span):
-                yield frame
+        return self.frames_over(lambda index: index in flow.kept and index < flow.expected)
 
 
 def some_frame(rng):

@@ -116,16 +116,22 @@ def read_line(trace, kind, words):
     return values, late | (wrong or set(faults_in_setup(trace, kind, values)))
 
 
-def read_trace(text):
-    """The trace that a text is. The first faulty line is raised."""
-    trace = Trace()
+def worded_lines(text):
+    """The lines of a text that aren't skipped, each with its number, its first word and those that follow."""
     for place, line in enumerate(text.split(b"\n"), 1):
         words = [word for word in re.split(rb"[ \t\r]", line) if word]
         if words and not words[0].startswith(b"#"):
-            values, faults = read_line(trace, words[0], words[1:])
-            if faults:
-                raise LineFault(place, faults)
-            trace.add(words[0], values)
+            yield place, words[0], words[1:]
+
+
+def read_trace(text):
+    """The trace that a text is. The first faulty line is raised."""
+    trace = Trace()
+    for place, kind, words in worded_lines(text):
+        values, faults = read_line(trace, kind, words)
+        if faults:
+            raise LineFault(place, faults)
+        trace.add(kind, values)
     return trace
 
 
@@ -143,9 +149,14 @@ class Lane:
         # The same by the number of the grant, since nothing is said of a number by the inputs of others.
         self.inputs_of = collections.defaultdict(list)
         for one in trace.inputs[channel]:
-            answer = self.answer_to_grant(one) if isinstance(one, Grant) else self.answer_to_burst(one)
-            self.answers.append((one, answer, self.outstanding(one.number)))  # the grant before this input
-            self.inputs_of[one.number].append((one, answer))
+            self.take(one)
+
+    def take(self, one):
+        """The answer to an input more, which is noted."""
+        answer = self.answer_to_grant(one) if isinstance(one, Grant) else self.answer_to_burst(one)
+        self.answers.append((one, answer, self.outstanding(one.number)))  # the grant before this input
+        self.inputs_of[one.number].append((one, answer))
+        return answer
 
     def outstanding(self, number):
         """The grant of this number that was accepted and behind which no burst on it was admitted or refused, but for

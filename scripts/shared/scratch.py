@@ -47,8 +47,8 @@ def with_those_below(crates):
     return list(dict.fromkeys(name for crate in crates for name in [*below(crate), crate]))
 
 
-def copy_crates(room, crates, parts=PARTS):
-    """Makes a repository of these crates and those that they stand on. What earlier checks kept isn't copied."""
+def copy_crates(room, crates, parts=PARTS, with_kept=False):
+    """Makes a repository of these crates and those that they stand on. What earlier checks kept is copied only on demand."""
     lines = crate_lines()
     shutil.copy(path("HANDLES"), room)
     with open(os.path.join(room, "crates.txt"), "w") as to:
@@ -57,6 +57,15 @@ def copy_crates(room, crates, parts=PARTS):
             for part in parts:
                 if os.path.isdir(path("crates", crate, part)):
                     shutil.copytree(path("crates", crate, part), os.path.join(room, "crates", crate, part))
+            if with_kept:
+                copy_kept(room, crate)
+
+
+def copy_kept(room, crate):
+    """Copies what earlier checks of a crate kept, if they did."""
+    kept = path("crates", crate, "out")
+    if os.path.isdir(kept):
+        shutil.copytree(kept, os.path.join(room, shown(kept)), symlinks=True)
 
 
 def add_crate(room, name, uses, sources):
@@ -88,6 +97,4 @@ def copy_tree(room, crates):
             os.makedirs(os.path.dirname(to), exist_ok=True)
             shutil.copy2(path(name), to)
     for crate in with_those_below(crates):
-        kept = path("crates", crate, "out")
-        if os.path.isdir(kept):
-            shutil.copytree(kept, os.path.join(room, shown(kept)), symlinks=True)
+        copy_kept(room, crate)

@@ -1,0 +1,101 @@
+"""What `segrx capture` writes: a pcap file of frames, the report of its summary, and requests as CSV. A time for which a pcap
+file has no place, in the year 2106 or later, is written as the greatest one.
+
+The report has the lines of replay's report but for those of frames and requests, and more:
+
+    flow <index> <sfid> kept <n> late <n> repeat <n> beyond <n> lost <n> frames <n> skipped <n>
+    joined <index> right <n> wrong <n> encrypted <n> restarts <n> requests <n> units <n>
+    lane <channel> admitted <n> refused <list>
+    bursts <channel> <id> <n> above <n>
+    passed <n> <why>
+    records <n> earlier <n>
+
+In the list of refusals stands behind each number, after an `x`, how often it came, since a list of all would grow. CSV begins
+with a line of names, and its times are seconds with nine decimals.
+"""
+
+import collections
+
+from shared.plain_capture import DOCSIS, ENCRYPTED, RIGHT, UPSTREAM_FRAME, WRONG
+from shared.plain_packets import BURST_INFO_TLV, CHANNEL_TLV, SID_TLV, XRA, Record, last_value, packet_in, records_of
+from shared.written_captures import GREATEST_PCAP_TIME, NANOSECONDS, number, pcap_file, short_number, tlv, xra_packet
+
+LINKS = {"docsis": DOCSIS, "xra": XRA}
+REQUEST_NAMES = "time,channel,sid,flow,cluster,units"
+BURST_REFERENCE_TLV = 1  # in a TLV with burst info
+
+# A frame as a file has it. Channel and SID are those of its last burst, where a link type has them.
+WrittenFrame = collections.namedtuple("WrittenFrame", "time frame channel_id sid")
+
+
+def frame_as_packet(burst, frame):
+    """A packet of a frame that this burst completed."""
+    address = tlv(CHANNEL_TLV, short_number(burst.channel)) + tlv(SID_TLV, number(burst.sid, 2))
+    reference = b"" if burst.burst_id is None else tlv(BURST_REFERENCE_TLV, number(burst.burst_id, 8))
+    return xra_packet(UPSTREAM_FRAME, address + tlv(BURST_INFO_TLV, reference + address), frame)
+
+
+def written_file(reading, link):
+    """The file of the frames of a reading."""
+    records = []
+    for given in reading.frames:
+        data = frame_as_packet(given.coming.burst, given.frame) if link == "xra" else given.frame
+        records.append(Record(LINKS[link], given.time, len(data), data))
+    return pcap_file(NANOSECONDS, LINKS[link], records)
+
+
+def wanted_frames(reading, link):
+    """The frames of a reading as a file of this link type has them."""
+    for given in reading.frames:
+        burst = given.coming.burst
+        address = (burst.channel, burst.sid) if link == "xra" else (None, None)
+        yield WrittenFrame(min(given.time, GREATEST_PCAP_TIME), given.frame, *address)
+
+
+def read_frame(record, link):
+    """The frame in a record of a file that was written, or None where there is none as there should be."""
+    if record.link_type != LINKS[link] or record.original != len(record.bytes):
+        return None
+    if link == "docsis":
+        return WrittenFrame(record.nanoseconds, record.bytes, None, None)
+    packet = packet_in(record.bytes)
+    if packet is None or packet.kind != UPSTREAM_FRAME:
+        return None
+    address = (last_value(packet.tlvs, kind) or b"" for kind in (CHANNEL_TLV, SID_TLV))
+    return WrittenFrame(record.nanoseconds, packet.payload, *(int.from_bytes(value, "big") for value in address))
+
+
+def read_frames(data, link):
+    """The frames in a file that was written. One without a frame may have no bytes."""
+    return [read_frame(record, link) for record in records_of(data)] if data else []
+
+
+def line_of(*words, **counts):
+    return " ".join(map(str, [*words, *(word for pair in counts.items() for word in pair)]))
+
+
+def report_of(reading):
+    """The lines of the report of a reading."""
+    for index, flow in enumerate(reading.captured):
+        yield line_of("flow", index, flow.setup.sfid, **flow.counts())
+        known = {name: reading.sequences[index, name] for name in (RIGHT, WRONG, ENCRYPTED)}
+        requests = [request.units for request in reading.requests if request.flow == index]
+        yield line_of("joined", index, **known, restarts=flow.restarts, requests=len(requests), units=sum(requests))
+    for channel, lane in sorted(reading.lanes.items()):
+        refused = collections.Counter(lane.refused())
+        counted = [f"{refusal}x{count}" for refusal, count in sorted(refused.items())] or ["-"]
+        admitted = sum(answer == lane.ADMITTED for _, answer, _ in lane.answers)
+        yield line_of("lane", channel, "admitted", admitted, "refused", *counted)
+        above = reading.above_grant[channel]
+        yield line_of("bursts", channel, reading.map.channels[channel], reading.bursts[channel], above=above)
+    for why, count in sorted(reading.passed.items()):
+        yield line_of("passed", count, why)
+    yield line_of("records", reading.records, earlier=reading.earlier_times)
+
+
+def requests_of(reading):
+    """The lines of CSV of the requests of a reading."""
+    yield REQUEST_NAMES
+    for request in reading.requests:
+        time = f"{request.time // 10**9}.{request.time % 10**9:09}"
+        yield ",".join(map(str, [time, *request[1:]]))
