@@ -47,14 +47,14 @@ def with_those_below(crates):
     return list(dict.fromkeys(name for crate in crates for name in [*below(crate), crate]))
 
 
-def copy_crates(room, crates, parts=PARTS, with_kept=False):
+def copy_crates(room, crates, with_kept=False):
     """Makes a repository of these crates and those that they stand on. What earlier checks kept is copied only on demand."""
     lines = crate_lines()
     shutil.copy(path("HANDLES"), room)
     with open(os.path.join(room, "crates.txt"), "w") as to:
         for crate in with_those_below(crates):
             to.write(lines[crate] + "\n")
-            for part in parts:
+            for part in PARTS:
                 if os.path.isdir(path("crates", crate, part)):
                     shutil.copytree(path("crates", crate, part), os.path.join(room, "crates", crate, part))
             if with_kept:

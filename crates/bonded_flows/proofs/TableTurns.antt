@@ -186,7 +186,7 @@ none-closes slots k slot slot' here open_still j closing one there =
       | inl same ↦
           let own : slice_get slots k ≡ Some one = subst (λ (n : ℕ). slice_get slots n ≡ Some one) (sym same) there in
           let now : slice_get (slice_set slots k slot') j ≡ Some slot' =
-              subst (λ (n : ℕ). slice_get (slice_set slots k slot') n ≡ Some slot') same (written slots k slot' (slice_get_within slots k slot here)) in
+          subst (λ (n : ℕ). slice_get (slice_set slots k slot') n ≡ Some slot') same (written slots k slot' (slice_get_within slots k slot here)) in
           subst IsClosing (same_Some slot one (sym here ∙ own)) (open_still (closing slot' now))
       | inr apart ↦ closing one (written_other slots k j slot' (λ same. apart (sym same)) ∙ there)
     ]

@@ -17,7 +17,9 @@ pub returns-clause-closing : goal.returns-clause-closing
 returns-clause-closing g c = λ is. (with_value c.in-Some.flow c.ready.new.flow, refl, c.ready.ensures.closing is)
 
 pub returns-clause-open_still : goal.returns-clause-open_still
-returns-clause-open_still g c = λ closing.
-    (c.in-Some.flow, c.in-Some.is,
-    subst (λ (flow : BondedFlow). flow.pending ≡ Close) c.deref_mut.ensures.value
-    (c.ready.ensures.open_still (closing-of _ (with_value c.in-Some.flow c.ready.new.flow) refl closing)))
+returns-clause-open_still g c = λ closing. (
+  c.in-Some.flow,
+  c.in-Some.is,
+  subst (λ (flow : BondedFlow). flow.pending ≡ Close) c.deref_mut.ensures.value
+      (c.ready.ensures.open_still (closing-of _ (with_value c.in-Some.flow c.ready.new.flow) refl closing)),
+)
