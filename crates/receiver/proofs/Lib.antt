@@ -22,3 +22,4 @@ pub mod PlayedOut
 pub mod ReplayedOrder
 pub mod ReplayedEntries
 pub mod OtherFlows
+pub mod PartsInTurn

@@ -14,6 +14,7 @@ pub mod Modem
 pub mod HandedIn
 pub mod Receiving
 pub mod Received
+pub mod SentParts
 pub mod HandedOrder
 pub mod Entries
 pub mod Playing

@@ -28,6 +28,13 @@ ghost use Rattle.receiver.specs.Ruled.{ruled_flow, comings_at, IsOutcomeBy};
 ghost use Rattle.receiver.specs.Channels.{HasRow, segments_on, segments_of_flow};
 ghost use Rattle.receiver.specs.Channels.{segment_count, events_handed_in};
 ghost use Rattle.receiver.specs.Modem.{ComeFromAModem, turns_from, all_arrive};
+ghost use Rattle.reorder.specs.Limits.{width_max};
+ghost use Rattle.flow_core.specs.declared.counts.FlowCounts.{FlowCounts};
+ghost use Rattle.bonded_flows.specs.FlowSetup.{FlowSetup};
+ghost use Rattle.bonded_flows.specs.Parts.{FlowInput};
+ghost use Rattle.receiver.specs.Received.{GaveAllParts};
+ghost use Rattle.receiver.specs.SentParts.{SentPart, NearPart, all_parts, GiveInTurn};
+ghost use Rattle.receiver.specs.SentParts.{GivesAllThatCame, GivesItsSequence};
 ghost use Rattle.loss_rule.specs.declared.rule.LossRule.{LossRule};
 ghost use Rattle.loss_rule.specs.Rule.{HasChannel};
 ghost use Rattle.loss_rule.specs.InOrder.{Comes, HaveNoDecision, HandInDecisions, DecideSafely};
@@ -205,6 +212,27 @@ pub fn flows_give_the_frames_that_all_came()
 {
     loss_rule::laws::all_that_comes_is_kept();
     loss_rule::laws::closed_flow_gives_the_frames_that_all_came();
+}
+
+/// **What a flow gives that begins anew** is what its parts give, one after another: by a loss rule
+/// of each part exactly the modem's frames all of whose segments came to it, and by any rule, where
+/// what comes is near, the part's delivery sequence.
+pub fn parts_of_a_flow_give_their_frames_in_turn()
+    ensures all_came { (check : List ℕ → Bool) (setup : FlowSetup) (inputs : List FlowInput)
+        (sent : List (SentPart check setup)) (gave : List (List ℕ)) (counts : FlowCounts)
+        → setup.rule ≢ LossRule.Decided → setup.flow_record.window ≤ width_max
+        → map (λ one. one.part) sent ≡ all_parts setup inputs
+        → GaveAllParts check setup inputs gave counts
+        → GiveInTurn (GivesAllThatCame check setup) sent gave }
+    ensures delivered { (check : List ℕ → Bool) (setup : FlowSetup) (inputs : List FlowInput)
+        (near : List (NearPart check setup)) (gave : List (List ℕ)) (counts : FlowCounts)
+        → map (λ one. one.part) near ≡ all_parts setup inputs
+        → GaveAllParts check setup inputs gave counts
+        → GiveInTurn (GivesItsSequence check setup) near gave }
+{
+    bonded_flows::laws::bonded_flow_gives_the_frames_that_all_came();
+    flow_core::laws::gaps_after_keep_events_near();
+    flow_core::laws::outcome_of_near_events_is_the_delivery_sequence();
 }
 
 /// The premises of [`flows_give_the_frames_that_all_came`] can be met, by every lawful cut: where a
