@@ -14,4 +14,5 @@ pub mod midstream;
 pub mod one_at_a_time;
 pub mod one_flow;
 pub mod run_caller;
+pub mod two_receivers;
 pub mod window;

@@ -1,7 +1,8 @@
 //! A list of inputs that a receiver takes one at a time, with a consumer that collects and with one
 //! that counts.
-ghost use Rattle.std.specs.Prelude.{IfOk, []};
+ghost use Rattle.std.specs.Prelude.{IfOk, [], ◌∷◌};
 ghost use Rattle.receiver.specs.HandedIn.{made_of};
+ghost use Rattle.receiver.specs.Received.{Closes};
 ghost use Rattle.receiver.specs.Receiving.{IsReceiving};
 ghost use Rattle.uses.specs.OneAtATime.{TakesInputs, ReceivesInputs};
 ghost use Rattle.uses.specs.OneAtATime.{HasCollectedAnswer, HasCountedAnswer};
@@ -35,6 +36,42 @@ impl From<SetupError> for ListFault {
     }
 }
 
+/// Takes an input that came on this channel.
+pub(crate) fn take_one<C: HeaderCheck + Drop, O: Consumer>(
+    alloc: Global,
+    receiver: &mut Receiver<C>,
+    channel: usize,
+    input: Input,
+    out: &mut O,
+) -> Result<(), ListFault>
+    requires { IsReceiving C.accepts receiver.old }
+    ensures takes { IfOk result (λ _. TakesInputs O.after C.accepts receiver.old out.old
+        ((channel, input) ∷ []) receiver.new out.new) }
+    ensures receiving { IsReceiving C.accepts receiver.new }
+{
+    match receiver.take(alloc, channel, input, out) {
+        Ok(_) => Ok(()),
+        Err(TakeError::NoChannel(_)) => Err(ListFault::NoChannel),
+        Err(_) => Err(ListFault::OutOfMemory),
+    }
+}
+
+/// Closes a receiver.
+pub(crate) fn close_one<C: HeaderCheck + Drop, O: Consumer>(
+    alloc: Global,
+    receiver: Receiver<C>,
+    out: &mut O,
+) -> Result<Closed, ListFault>
+    requires { IsReceiving C.accepts receiver }
+    ensures { IfOk result (λ closed.
+        Closes O.after C.accepts receiver out.old closed out.new) }
+{
+    match receiver.close(alloc, out) {
+        Ok(closed) => Ok(closed),
+        Err(_) => Err(ListFault::OutOfMemory),
+    }
+}
+
 /// Takes these inputs one after another, each with its channel.
 fn take_all<C: HeaderCheck + Drop, O: Consumer>(
     alloc: Global,
@@ -48,11 +85,7 @@ fn take_all<C: HeaderCheck + Drop, O: Consumer>(
     ensures receiving { IsReceiving C.accepts receiver.new }
 {
     for (channel, input) in inputs {
-        match receiver.take(alloc, channel, input, out) {
-            Ok(_) => {}
-            Err(TakeError::NoChannel(_)) => return Err(ListFault::NoChannel),
-            Err(_) => return Err(ListFault::OutOfMemory),
-        }
+        take_one(alloc, receiver, channel, input, out)?;
     }
     Ok(())
 }
@@ -69,10 +102,7 @@ pub fn receive_all<C: HeaderCheck + Drop, O: Consumer>(
         ReceivesInputs O.after C.accepts receiver out.old inputs.items closed out.new) }
 {
     take_all(alloc, &mut receiver, inputs, out)?;
-    match receiver.close(alloc, out) {
-        Ok(closed) => Ok(closed),
-        Err(_) => Err(ListFault::OutOfMemory),
-    }
+    close_one(alloc, receiver, out)
 }
 
 /// Collects what the inputs give.
