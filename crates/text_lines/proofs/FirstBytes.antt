@@ -1,9 +1,29 @@
--- The first place of a byte, as a search of bytes finds it.
-use Rattle.std.proofs.Common.{◌≡◌, ℕ, ◌<◌, Bool, true, false, List, length, get_or, Option, Some, None, refl, sym, ap, ◌∙◌, arith}
-use Rattle.std.specs.Prelude.{position}
+-- The first place of a byte that passes a test, and how a search of bytes finds it.
+use Rattle.std.proofs.Common.{◌≡◌, ℕ, ◌<◌, ◌≤◌, Bool, true, false, cond, List, length, get_or, Option, Some, None, refl, sym, ap, ◌∙◌, arith, nat_lt}
+use Rattle.std.specs.Prelude.{position, All}
+use Rattle.std.specs.List.{position_or_len}
+use Rattle.std.proofs.lemmas.Bool.Decides.{nat_tests}
 use Rattle.std.proofs.lemmas.List.Quantifiers.{position-Some}
+use Rattle.std.proofs.lemmas.List.Sums.{position_or_len_is, fails_before_first}
 use Rattle.memchr.specs.Find.{IsFirstByte}
-use Rattle.text_lines.proofs.LinesAndWords.{position-none}
+
+-- a place that was found is the first one
+pub position-found : (p : ℕ → Bool) (xs : List ℕ) (i : ℕ) → position p xs ≡ Some i → (position_or_len p xs ≡ i) × (i < length xs)
+position-found p xs i h =
+    let found = position-Some p xs i 0 h in (
+      position_or_len_is p xs i 0 (omega (arith, found.0)) found.2 (λ _. found.1),
+      found.0,
+    )
+
+-- a place that was not found lies past the end
+past_the_end : (n len : ℕ) → cond (nat_lt n len) (Some n) None ≡ None → len ≤ n
+past_the_end n len h = grind (arith, nat_tests)
+
+-- where no place was found no element passes
+pub position-none : (p : ℕ → Bool) (xs : List ℕ) → position p xs ≡ None → All (λ x. p x ≡ false) xs
+position-none p xs h k d within =
+    let past = past_the_end (position_or_len p xs) (length xs) h in
+    fails_before_first p xs k d (omega arith)
 
 -- a byte passes or it does not
 not_both : (b : Bool) → b ≡ true → b ≡ false → ⊥

@@ -1,7 +1,11 @@
-pub mod LinesAndWords
-pub mod ReadSoFar
+pub mod FirstBytes
+pub mod WordsOfLines
+pub mod CutAtLineFeeds
+pub mod LinesTaken
+pub mod PiecesTaken
+pub mod BytesTaken
 pub mod LinesReadOneWay
 pub mod KeptByEachLine
 pub mod NumberFields
-pub mod FirstBytes
 pub mod DigitValues
+pub mod SpelledBytes

@@ -1,3 +1,4 @@
 -- What only the contracts of calls between these crates cite.
 pub mod LineFault
+pub mod LineFeeds
 pub mod Digits

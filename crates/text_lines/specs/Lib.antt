@@ -4,5 +4,7 @@ pub mod Field
 pub mod Number
 pub mod Fault
 pub mod Format
+pub mod LineReading
 pub mod Capacities
 pub mod Inside
+pub mod Putting

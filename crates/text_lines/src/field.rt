@@ -1,13 +1,12 @@
-//! Hexadecimal fields, read and written.
-ghost use Rattle.std.specs.Prelude.{◌≡◌, ◌++◌, IfOk, IfErr, OnOk};
-ghost use Rattle.hex.specs.Hex.{encode_lower};
+//! Hexadecimal fields.
+ghost use Rattle.std.specs.Prelude.{IfOk, IfErr};
 ghost use Rattle.text_lines.specs.Inside.LineFault.{IsLineFault};
 ghost use Rattle.text_lines.specs.Field.{SpellsBytes};
 ghost use Rattle.text_lines.specs.Inside.LineFault.{HasHexFault};
 
 use crate::digits::append_spelled;
 use crate::fault::{LineFault, TraceKind};
-use std::alloc::{AllocError, Global};
+use std::alloc::Global;
 
 /// The bytes that a hexadecimal field spells: two digits for each, in either case, or `-` for none.
 ///
@@ -28,12 +27,4 @@ pub fn read_hex(alloc: Global, field: &[u8]) -> Result<Vec<u8>, LineFault>
     } else {
         Err(LineFault::Kind(TraceKind::NotHex))
     }
-}
-
-/// Appends the lower-case digits of some bytes to a text.
-pub fn append_hex(alloc: Global, text: &mut Vec<u8>, bytes: &[u8]) -> Result<(), AllocError>
-    ensures { OnOk result (text.new.items ≡ text.old.items ++ encode_lower bytes.now) }
-{
-    let digits = hex::encode(alloc, bytes)?;
-    text.extend_from_slice(digits.as_bytes())
 }

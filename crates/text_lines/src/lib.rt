@@ -8,10 +8,14 @@
 //!   an input that have fields, one after another, and reports the first faulty line by its number
 //!   ([`ParseFault`]). A format with faults of its own walks over its lines itself, by [`split_line`]
 //!   and [`split_field`].
+//! - [`LineReader`] does so where the input comes in pieces: [`LineReader::take_piece`] takes the
+//!   lines that end in a piece, [`LineReader::finish`] the last one. It holds the bytes of one
+//!   line, and what was taken is what is taken of all pieces end to end. [`LineInput`] is one with
+//!   what is made of its lines, for an input that is read to its end even where a line is faulty.
 //! - [`no_word`], [`only_word`], [`only_two_words`], [`only_three_words`] and [`only_four_words`]
 //!   split what follows the first field of a line, where it has just so many words.
-//! - [`read_number`], [`read_number_in`] and [`read_hex`] read a field, and [`append_hex`] writes
-//!   one.
+//! - [`read_number`], [`read_number_in`] and [`read_hex`] read a field; [`put_number`] and
+//!   [`put_hex`] write one to whatever takes a text, [`PutText`]: [`TextBuffer`] keeps it.
 //! - What is wrong with a line is a [`LineFault`], its kind a [`TraceKind`]; a failed allocation,
 //!   the fault of a segment and that of a cut become faults of lines and of texts by `?`.
 //! - [`Capacities`] says how much room a receiver of a trace has, [`DEFAULT_CAPACITY`] where no
@@ -25,15 +29,23 @@ mod capacities;
 mod digits;
 mod fault;
 mod field;
+mod line_input;
+mod line_reader;
 mod lines;
 mod number;
+mod put_text;
+mod text_buffer;
 mod words;
 
 pub use capacities::{Capacities, DEFAULT_CAPACITY};
 pub use fault::{LineFault, ParseFault, TextFault, TraceFault, TraceKind};
-pub use field::{append_hex, read_hex};
+pub use field::read_hex;
+pub use line_input::LineInput;
+pub use line_reader::LineReader;
 pub use lines::{TakeLine, split_line, take_lines};
 pub use number::{read_number, read_number_in};
+pub use put_text::{PutText, put_hex, put_number};
+pub use text_buffer::TextBuffer;
 pub use words::{
     no_word, only_four_words, only_three_words, only_two_words, only_word, split_field,
 };

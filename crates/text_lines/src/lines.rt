@@ -1,7 +1,9 @@
 //! The lines of an input, numbered from 1, and the one walk over them.
-ghost use Rattle.std.specs.Prelude.{◌≡◌, ◌<◌, [], ◌∷◌, length, position, OnOk, IfErr};
-ghost use Rattle.text_lines.specs.Inside.LineFault.{IsLineFault};
+ghost use Rattle.std.specs.Prelude.{◌≡◌, ℕ, ◌+◌, ◌-◌, ◌^◌, ◌<◌, min, List, [], ◌∷◌, ◌++◌, length, position, OnOk, IfOk, IfErr, MatchOption};
+ghost use Rattle.text_lines.specs.Inside.LineFault.{IsLineFault, IsFaultAt};
+ghost use Rattle.text_lines.specs.Inside.LineFeeds.{HasNoLineFeed, BeginsWithLine};
 ghost use Rattle.text_lines.specs.Format.{Format, IsRead, IsReadingFault};
+ghost use Rattle.text_lines.specs.LineReading.{AreTaken, IsSettledFault};
 ghost use Rattle.text_lines.specs.Lines.{lines_of, words_of, fields_of, is_line_feed};
 
 use crate::fault::{LineFault, ParseFault};
@@ -36,30 +38,90 @@ fn line_end(text: &[u8]) -> Option<usize>
     memchr(b'\n', text)
 }
 
+/// The first line that a line feed ends, without that, and what follows it.
+pub(crate) fn split_whole_line(text: &[u8]) -> Option<(&[u8], &[u8])>
+    ensures { MatchOption result (HasNoLineFeed text.now)
+        (λ r. BeginsWithLine text.now r.0.now r.1.now) }
+{
+    let end = line_end(text)?;
+    Some((&text[..end], &text[end + 1..]))
+}
+
 /// The first line of a text, without its line feed, and what follows that.
 pub fn split_line(text: &[u8]) -> (&[u8], &[u8])
     requires { 0 < length text.now }
     ensures lines { lines_of text.now ≡ result.0.now ∷ lines_of result.1.now }
     ensures shorter { length result.1.now < length text.now }
 {
-    match line_end(text) {
-        Some(end) => (&text[..end], &text[end + 1..]),
-        None => (text, &[]),
-    }
+    split_whole_line(text).unwrap_or((text, &[]))
 }
 
-/// Takes a line, or skips it where it has no fields.
-fn take_or_skip<T: TakeLine>(alloc: Global, line: &[u8], taker: &mut T) -> Result<(), LineFault>
+/// Counts a line, and takes it, or skips it where it has no fields.
+pub(crate) fn take_or_skip<T: TakeLine>(
+    alloc: Global,
+    line: &[u8],
+    count: &mut u64,
+    taker: &mut T,
+) -> Result<(), ParseFault>
+    ensures counted { count.new ≡ min (count.old + 1) (2 ^ 64 - 1) }
     ensures taken { (before : T.State) → T.stands_for before taker.old
         → OnOk result ((after : T.State)
         × IsRead T.format before (line.now ∷ []) after × T.stands_for after taker.new) }
     ensures fault { (before : T.State) → T.stands_for before taker.old
-        → IfErr result (IsLineFault (T.format.HasFault before (fields_of line.now))) }
+        → IfErr result (IsFaultAt count.new (T.format.HasFault before (fields_of line.now))) }
 {
-    match split_field(line) {
-        Some((field, rest)) => taker.take_line(alloc, field, rest),
-        None => Ok(()),
+    *count = count.saturating_add(1);
+    let Some((field, rest)) = split_field(line) else {
+        return Ok(());
+    };
+    taker
+        .take_line(alloc, field, rest)
+        .map_err(|fault| fault.at(*count))
+}
+
+/// Takes each line that a line feed ends, and gives what follows the last of them.
+pub(crate) fn take_whole_lines<'a, T: TakeLine>(
+    alloc: Global,
+    text: &'a [u8],
+    count: &mut u64,
+    taker: &mut T,
+) -> Result<&'a [u8], ParseFault>
+    ensures taken { (start : T.State) (bytes : List ℕ)
+        → AreTaken T.format start T.stands_for taker.old count.old [] bytes
+        → IfOk result (λ rest. AreTaken T.format start T.stands_for taker.new count.new
+        rest.now (bytes ++ text.now)) }
+    ensures fault { (start : T.State) (bytes : List ℕ)
+        → AreTaken T.format start T.stands_for taker.old count.old [] bytes
+        → length bytes + length text.now < 2 ^ 64
+        → IfErr result (IsSettledFault T.format start (bytes ++ text.now)) }
+{
+    let mut rest = text;
+    while let Some((line, below)) = split_whole_line(rest) {
+        take_or_skip(alloc, line, count, taker)?;
+        rest = below;
     }
+    Ok(rest)
+}
+
+/// Takes the last line, which no line feed ends, if there is something in it.
+pub(crate) fn take_last_line<T: TakeLine>(
+    alloc: Global,
+    rest: &[u8],
+    mut count: u64,
+    taker: &mut T,
+) -> Result<(), ParseFault>
+    ensures read { (start : T.State) (bytes : List ℕ)
+        → AreTaken T.format start T.stands_for taker.old count rest.now bytes
+        → OnOk result ((end : T.State)
+        × IsRead T.format start (lines_of bytes) end × T.stands_for end taker.new) }
+    ensures fault { (start : T.State) (bytes : List ℕ)
+        → AreTaken T.format start T.stands_for taker.old count rest.now bytes
+        → length bytes < 2 ^ 64 → IfErr result (IsReadingFault T.format start (lines_of bytes)) }
+{
+    if rest.is_empty() {
+        return Ok(());
+    }
+    take_or_skip(alloc, rest, &mut count, taker)
 }
 
 /// Takes the lines of an input in order, and reports the first faulty one. A line without fields is
@@ -71,15 +133,7 @@ pub fn take_lines<T: TakeLine>(alloc: Global, input: &[u8], taker: &mut T) -> Re
     ensures fault { (start : T.State) → T.stands_for start taker.old
         → IfErr result (IsReadingFault T.format start (lines_of input.now)) }
 {
-    let mut rest = input;
-    let mut above = 0u64;
-    while !rest.is_empty() {
-        let (line, below) = split_line(rest);
-        if let Err(fault) = take_or_skip(alloc, line, taker) {
-            return Err(fault.at(above + 1));
-        }
-        rest = below;
-        above += 1;
-    }
-    Ok(())
+    let mut count = 0;
+    let rest = take_whole_lines(alloc, input, &mut count, taker)?;
+    take_last_line(alloc, rest, count, taker)
 }

@@ -7,7 +7,6 @@ pub mod OneJoinFault
 pub mod OneCutFault
 pub mod TextLengths
 pub mod PrintedSoFar
-pub mod HexText
 pub mod NumberedLines
 pub mod OutOfMemoryAlone
 pub mod TraceFields
@@ -21,3 +20,4 @@ pub mod OneTrace
 pub mod TraceSoFar
 pub mod OneReport
 pub mod OneReplay
+pub mod PutLines

@@ -26,8 +26,8 @@ counts_text counts =
     ++ named (codes "skipped") counts.skipped
 
 -- `flow <index> <sfid> kept <n> late <n> repeat <n> beyond <n> lost <n> frames <n> skipped <n>`
-abbrev pub flow_line : ℕ → FlowOutcome → List ℕ
-flow_line k flow = codes "flow" ++ spaced k ++ spaced flow.sfid ++ counts_text flow.counts ++ line_feed ∷ []
+abbrev pub flow_line : ℕ → ℕ → FlowCounts → List ℕ
+flow_line k sfid counts = codes "flow" ++ spaced k ++ spaced sfid ++ counts_text counts ++ line_feed ∷ []
 
 -- `frame <index> <hex>`
 abbrev pub frame_line : ℕ → List ℕ → List ℕ
@@ -35,7 +35,7 @@ frame_line k frame = codes "frame" ++ spaced k ++ codes " " ++ encode_lower fram
 
 -- the line of a flow with this index, and one for each of its frames
 abbrev pub flow_lines : ℕ → FlowOutcome → List ℕ
-flow_lines k flow = flow_line k flow ++ flat_map (frame_line k) flow.frames.items
+flow_lines k flow = flow_line k flow.sfid flow.counts ++ flat_map (frame_line k) flow.frames.items
 
 -- `request <channel> <flow> <cluster> <units> <sequence>`
 abbrev pub request_line : Request → List ℕ

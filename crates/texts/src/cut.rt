@@ -5,6 +5,7 @@ ghost use Rattle.docsis_wire.specs.Limits.{sequence_modulus};
 ghost use Rattle.hex.specs.Hex.{encode_lower};
 ghost use Rattle.docsis_wire.specs.Pieces.{IsCuttable};
 ghost use Rattle.text_lines.specs.Lines.{lines_of};
+ghost use Rattle.text_lines.specs.Putting.{Puts};
 ghost use Rattle.text_lines.specs.Format.{IsRead, IsReadingFault};
 ghost use Rattle.texts.specs.AnyHeader.{any_header};
 ghost use Rattle.texts.specs.Cut.Line.{nothing, cut_format};
@@ -13,10 +14,12 @@ ghost use Rattle.texts.specs.Inside.Cut.{IsPrinted};
 
 mod line;
 
-use docsis_wire::{Bytes, Cutter, FillByte, NoCheck, Piece, Segment, SegmentHeader, write_segment};
+use docsis_wire::{Bytes, Cutter, FillByte, NoCheck, Piece, Segment, write_segment};
 use line::{CutLine, read_cut_line};
 use std::alloc::{AllocError, Global};
-use text_lines::{LineFault, ParseFault, TakeLine, TextFault, append_hex, take_lines};
+use text_lines::{
+    LineFault, ParseFault, PutText, TakeLine, TextBuffer, TextFault, put_hex, take_lines,
+};
 
 /// How many bytes of a segment its header takes.
 const HEADER_BYTES: usize = 8;
@@ -84,22 +87,13 @@ fn text_length(read: &CutInput) -> usize
     bytes.saturating_mul(2).saturating_add(read.pieces.len())
 }
 
-/// Appends the digits of a segment's header to a text.
-fn append_header(alloc: Global, text: &mut Vec<u8>, head: &SegmentHeader) -> Result<(), AllocError>
-    ensures { OnOk result (text.new.items
-        ≡ text.old.items ++ encode_lower (header_bytes head.now)) }
+/// Puts a segment's line.
+fn put_segment<O: PutText>(out: &mut O, segment: &Segment)
+    ensures { Puts O.after out.old (segment_line segment.now) out.new }
 {
-    append_hex(alloc, text, &write_segment(head))
-}
-
-/// Appends a segment's line to a text.
-fn append_segment(alloc: Global, text: &mut Vec<u8>, segment: &Segment) -> Result<(), AllocError>
-    ensures { OnOk result (text.new.items ≡ text.old.items ++ segment_line segment.now) }
-{
-    append_header(alloc, text, &segment.head)?;
-    append_hex(alloc, text, segment.payload.as_slice())?;
-    text.push(b'\n')?;
-    Ok(())
+    put_hex(out, &write_segment(&segment.head));
+    put_hex(out, segment.payload.as_slice());
+    out.put(b"\n");
 }
 
 /// A line for each segment of a cut, in a text that begins with so much room. Each segment is freed
@@ -114,11 +108,11 @@ fn segment_lines(alloc: Global, cutter: Cutter<'_>, room: usize) -> Result<Vec<u
 {
     docsis_wire::laws::segments_made_one_by_one_are_the_cut();
     let mut cutter = cutter;
-    let mut text = Vec::with_capacity(alloc, room)?;
+    let mut text = TextBuffer::with_capacity(alloc, room)?;
     while let Some(segment) = cutter.next(alloc)? {
-        append_segment(alloc, &mut text, &segment)?;
+        put_segment(&mut text, &segment);
     }
-    Ok(text)
+    text.finish()
 }
 
 /// The text that stands for an input of `cut`: the segments that its frames are cut into, one a

@@ -1,5 +1,6 @@
 //! The text of `join`: the frames that an input's segments join to, one a line.
-ghost use Rattle.std.specs.Prelude.{◌≡◌, ◌++◌, flat_map, IfOk, IfErr, OnOk};
+ghost use Rattle.std.specs.Prelude.{◌≡◌, ◌↔◌, flat_map, IsTrue, IfOk, IfErr};
+ghost use Rattle.text_lines.specs.Putting.{Puts};
 ghost use Rattle.texts.specs.Join.{IsJoined, IsJoinFault, frame_line};
 
 mod line;
@@ -7,46 +8,59 @@ mod line;
 use ccf::Joiner;
 use docsis_wire::{Bytes, NoCheck};
 use line::read_segment;
-use std::alloc::{AllocError, Global};
-use text_lines::{LineFault, TakeLine, TextFault, append_hex, take_lines};
+use std::alloc::Global;
+use text_lines::{LineFault, PutText, TakeLine, TextBuffer, TextFault, put_hex, take_lines};
 
-/// Appends a line for each frame to a text.
-fn append_joined_frames(
-    alloc: Global,
-    text: &mut Vec<u8>,
-    frames: &[Bytes],
-) -> Result<(), AllocError>
-    ensures { OnOk result (text.new.items ≡ text.old.items ++ flat_map frame_line frames.now) }
-{
-    for frame in frames {
-        append_hex(alloc, text, frame.as_slice())?;
-        text.push(b'\n')?;
-    }
-    Ok(())
-}
-
-/// The segments of the lines so far, joined, and the lines of their frames.
+/// The segments of the lines so far of an input of `join`, joined: their frames.
 #[derive(Drop)]
-struct Joining {
+pub struct JoinInput {
     joiner: Joiner,
-    text: Vec<u8>,
+    frames: Vec<Bytes>,
 }
 
-impl Joining {
+impl JoinInput {
     ghost use Rattle.std.specs.Prelude.{[]};
     ghost use Rattle.texts.specs.Inside.Join.{IsJoinedSoFar};
 
     /// No segments yet, and no frames.
-    fn new(alloc: Global) -> Joining
-        ensures { IsJoinedSoFar [] result.joiner result.text.items }
+    pub fn new(alloc: Global) -> JoinInput
+        ensures { IsJoinedSoFar [] result.joiner result.frames.items }
     {
-        let joiner = Joiner::new(alloc);
-        let text = Vec::new(alloc);
-        Joining { joiner, text }
+        JoinInput {
+            joiner: Joiner::new(alloc),
+            frames: Vec::new(alloc),
+        }
+    }
+
+    /// Whether no frame came of the segments.
+    pub fn is_empty(&self) -> bool
+        ensures { IsTrue result ↔ (self.now.frames.items ≡ []) }
+    {
+        self.frames.is_empty()
+    }
+
+    /// Puts a line for each frame.
+    pub fn put_lines<O: PutText>(&self, out: &mut O)
+        ensures { Puts O.after out.old (flat_map frame_line self.now.frames.items) out.new }
+    {
+        for frame in &self.frames {
+            if out.is_closed() {
+                return;
+            }
+            put_frame(out, frame.as_slice());
+        }
     }
 }
 
-impl TakeLine for Joining {
+/// Puts the line of a frame.
+fn put_frame<O: PutText>(out: &mut O, frame: &[u8])
+    ensures { Puts O.after out.old (frame_line frame.now) out.new }
+{
+    put_hex(out, frame);
+    out.put(b"\n");
+}
+
+impl TakeLine for JoinInput {
     ghost use Rattle.std.specs.Prelude.{List};
     ghost use Rattle.docsis_wire.specs.declared.segment.Segment.{Segment};
     ghost use Rattle.texts.specs.Join.Line.{join_format};
@@ -56,13 +70,14 @@ impl TakeLine for Joining {
 
     ghost format = { join_format };
 
-    ghost stands_for = { λ segments joining.
-        IsJoinedSoFar segments joining.joiner joining.text.items };
+    ghost stands_for = { λ segments input.
+        IsJoinedSoFar segments input.joiner input.frames.items };
 
     fn take_line(&mut self, alloc: Global, field: &[u8], rest: &[u8]) -> Result<(), LineFault> {
         let segment = read_segment(alloc, field, rest)?;
         let fed = self.joiner.feed(alloc, &segment, &NoCheck)?;
-        append_joined_frames(alloc, &mut self.text, &fed.frames)?;
+        let mut frames = fed.frames;
+        self.frames.append(&mut frames)?;
         Ok(())
     }
 }
@@ -80,7 +95,9 @@ pub fn join_lines(alloc: Global, input: &[u8]) -> Result<Vec<u8>, TextFault>
     ensures text { IfOk result (λ text. IsJoined input.now text.items) }
     ensures fault { IfErr result (IsJoinFault input.now) }
 {
-    let mut joining = Joining::new(alloc);
-    take_lines(alloc, input, &mut joining)?;
-    Ok(joining.text)
+    let mut read = JoinInput::new(alloc);
+    take_lines(alloc, input, &mut read)?;
+    let mut text = TextBuffer::new(alloc);
+    read.put_lines(&mut text);
+    Ok(text.finish()?)
 }

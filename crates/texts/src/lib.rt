@@ -30,12 +30,14 @@ pub mod laws;
 mod receiver_fault;
 mod replay;
 mod report_lines;
+mod report_text;
 mod trace;
 
 pub use cut::cut_lines;
-pub use join::join_lines;
+pub use join::{JoinInput, join_lines};
 pub use replay::{replay_lines, replay_lines_by};
-pub use report_lines::report;
+pub use report_lines::{put_flow_line, put_frame_line, put_lane_line, put_request_line};
+pub use report_text::{put_report, report};
 pub use text_lines::{
     Capacities, DEFAULT_CAPACITY, ParseFault, TextFault, TraceFault, TraceKind, read_number,
 };

@@ -7,7 +7,7 @@ ghost use Rattle.receiver.specs.Order.{IsLawfulOrder};
 ghost use Rattle.texts.specs.Replay.{IsPlayedBy, IsReplayed, IsReplayedBy, IsReplayFault};
 
 use crate::receiver_fault::unless_out_of_memory;
-use crate::report_lines::report;
+use crate::report_text::report;
 use crate::trace::{Trace, read_trace};
 use docsis_wire::NoCheck;
 use loss_rule::LossRule;

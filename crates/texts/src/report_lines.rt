@@ -1,185 +1,105 @@
-//! The report of an outcome.
-ghost use Rattle.std.specs.Prelude.{◌≡◌, ◌++◌, flat_map, IfOk, OnOk};
-ghost use Rattle.texts.specs.Report.{spaced, named, counts_text, frame_line, flow_line, flow_lines};
-ghost use Rattle.texts.specs.Report.{request_line, refused_text, lane_line, numbered_lines};
-ghost use Rattle.texts.specs.Report.{report_text};
+//! The lines of a report.
+ghost use Rattle.std.specs.Prelude.{flat_map};
+ghost use Rattle.text_lines.specs.Putting.{Puts};
+ghost use Rattle.texts.specs.Report.{spaced, named, counts_text, frame_line, flow_line};
+ghost use Rattle.texts.specs.Report.{request_line, refused_text, lane_line};
 
-use docsis_wire::Bytes;
 use flow_core::FlowCounts;
-use itoa::Buffer;
 use lane::{LaneReport, Request};
-use receiver::{FlowOutcome, Outcome};
-use std::alloc::{AllocError, Global};
-use text_lines::append_hex;
+use text_lines::{PutText, put_hex, put_number};
 
-/// Appends a word to a text.
-fn append_word(text: &mut Vec<u8>, word: &str) -> Result<(), AllocError>
-    ensures { OnOk result (text.new.items ≡ text.old.items ++ word.now) }
+/// Puts a word.
+fn put_word<O: PutText>(out: &mut O, word: &str)
+    ensures { Puts O.after out.old word.now out.new }
 {
-    text.extend_from_slice(word.as_bytes())
+    out.put(word.as_bytes());
 }
 
-/// Appends a space and a number to a text.
-fn append_number(text: &mut Vec<u8>, number: u64) -> Result<(), AllocError>
-    ensures { OnOk result (text.new.items ≡ text.old.items ++ spaced number) }
+/// Puts a space and a number.
+fn put_spaced<O: PutText>(out: &mut O, number: u64)
+    ensures { Puts O.after out.old (spaced number) out.new }
 {
-    let mut buffer = Buffer::new();
-    append_word(text, " ")?;
-    append_word(text, buffer.format(number))
+    put_word(out, " ");
+    put_number(out, number);
 }
 
-/// Appends a space, a word, a space and a number to a text.
-fn append_named(text: &mut Vec<u8>, word: &str, number: u64) -> Result<(), AllocError>
-    ensures { OnOk result (text.new.items ≡ text.old.items ++ named word.now number) }
+/// Puts a space, a word, a space and a number.
+fn put_named<O: PutText>(out: &mut O, word: &str, number: u64)
+    ensures { Puts O.after out.old (named word.now number) out.new }
 {
-    append_word(text, " ")?;
-    append_word(text, word)?;
-    append_number(text, number)
+    put_word(out, " ");
+    put_word(out, word);
+    put_spaced(out, number);
 }
 
-/// Appends what was counted of a flow to a text.
-fn append_counts(text: &mut Vec<u8>, counts: &FlowCounts) -> Result<(), AllocError>
-    ensures { OnOk result (text.new.items ≡ text.old.items ++ counts_text counts.now) }
+/// Puts what was counted of a flow.
+fn put_counts<O: PutText>(out: &mut O, counts: &FlowCounts)
+    ensures { Puts O.after out.old (counts_text counts.now) out.new }
 {
-    append_named(text, "kept", counts.kept)?;
-    append_named(text, "late", counts.late)?;
-    append_named(text, "repeat", counts.repeat)?;
-    append_named(text, "beyond", counts.beyond)?;
-    append_named(text, "lost", counts.lost)?;
-    append_named(text, "frames", counts.frames)?;
-    append_named(text, "skipped", counts.skipped)
+    put_named(out, "kept", counts.kept);
+    put_named(out, "late", counts.late);
+    put_named(out, "repeat", counts.repeat);
+    put_named(out, "beyond", counts.beyond);
+    put_named(out, "lost", counts.lost);
+    put_named(out, "frames", counts.frames);
+    put_named(out, "skipped", counts.skipped);
 }
 
-/// Appends the line of a frame of the flow with this index.
-fn append_frame(
-    alloc: Global,
-    text: &mut Vec<u8>,
-    k: usize,
-    frame: &Bytes,
-) -> Result<(), AllocError>
-    ensures { OnOk result (text.new.items ≡ text.old.items ++ frame_line k frame.now) }
+/// Puts the line of a frame of the flow with this index.
+pub fn put_frame_line<O: PutText>(out: &mut O, k: usize, frame: &[u8])
+    ensures { Puts O.after out.old (frame_line k frame.now) out.new }
 {
-    append_word(text, "frame")?;
-    append_number(text, k as u64)?;
-    append_word(text, " ")?;
-    append_hex(alloc, text, frame.as_slice())?;
-    Ok(text.push(b'\n')?)
+    put_word(out, "frame");
+    put_spaced(out, k as u64);
+    put_word(out, " ");
+    put_hex(out, frame);
+    put_word(out, "\n");
 }
 
-/// Appends the lines of the frames of the flow with this index.
-fn append_flow_frames(
-    alloc: Global,
-    text: &mut Vec<u8>,
-    k: usize,
-    frames: &[Bytes],
-) -> Result<(), AllocError>
-    ensures { OnOk result (text.new.items ≡ text.old.items ++ flat_map (frame_line k) frames.now) }
+/// Puts the line of the flow with this index, its service flow identifier and its counts.
+pub fn put_flow_line<O: PutText>(out: &mut O, k: usize, sfid: u32, counts: &FlowCounts)
+    ensures { Puts O.after out.old (flow_line k sfid counts.now) out.new }
 {
-    for frame in frames {
-        append_frame(alloc, text, k, frame)?;
-    }
-    Ok(())
+    put_word(out, "flow");
+    put_spaced(out, k as u64);
+    put_spaced(out, u64::from(sfid));
+    put_counts(out, counts);
+    put_word(out, "\n");
 }
 
-/// Appends the line of the flow with this index.
-fn append_flow(text: &mut Vec<u8>, k: usize, flow: &FlowOutcome) -> Result<(), AllocError>
-    ensures { OnOk result (text.new.items ≡ text.old.items ++ flow_line k flow.now) }
+/// Puts the line of a request.
+pub fn put_request_line<O: PutText>(out: &mut O, request: &Request)
+    ensures { Puts O.after out.old (request_line request.now) out.new }
 {
-    append_word(text, "flow")?;
-    append_number(text, k as u64)?;
-    append_number(text, u64::from(flow.sfid))?;
-    append_counts(text, &flow.counts)?;
-    Ok(text.push(b'\n')?)
+    put_word(out, "request");
+    put_spaced(out, u64::from(request.channel));
+    put_spaced(out, request.flow as u64);
+    put_spaced(out, u64::from(request.cluster));
+    put_spaced(out, u64::from(request.units));
+    put_spaced(out, u64::from(request.sequence));
+    put_word(out, "\n");
 }
 
-/// Appends the line of a request.
-fn append_request(text: &mut Vec<u8>, request: &Request) -> Result<(), AllocError>
-    ensures { OnOk result (text.new.items ≡ text.old.items ++ request_line request.now) }
-{
-    append_word(text, "request")?;
-    append_number(text, u64::from(request.channel))?;
-    append_number(text, request.flow as u64)?;
-    append_number(text, u64::from(request.cluster))?;
-    append_number(text, u64::from(request.units))?;
-    append_number(text, u64::from(request.sequence))?;
-    Ok(text.push(b'\n')?)
-}
-
-/// Appends the numbers of refusals, or `-` if there is none.
-fn append_refused(text: &mut Vec<u8>, refused: &[u8]) -> Result<(), AllocError>
-    ensures { OnOk result (text.new.items ≡ text.old.items ++ refused_text refused.now) }
+/// Puts the numbers of refusals, or `-` if there is none.
+fn put_refused<O: PutText>(out: &mut O, refused: &[u8])
+    ensures { Puts O.after out.old (refused_text refused.now) out.new }
 {
     if refused.is_empty() {
-        return append_word(text, " -");
+        return put_word(out, " -");
     }
     for number in refused {
-        append_number(text, u64::from(*number))?;
+        put_spaced(out, u64::from(*number));
     }
-    Ok(())
 }
 
-/// Appends the line of this channel's lane.
-fn append_lane(text: &mut Vec<u8>, channel: usize, lane: &LaneReport) -> Result<(), AllocError>
-    ensures { OnOk result (text.new.items ≡ text.old.items ++ lane_line channel lane.now) }
+/// Puts the line of this channel's lane.
+pub fn put_lane_line<O: PutText>(out: &mut O, channel: usize, lane: &LaneReport)
+    ensures { Puts O.after out.old (lane_line channel lane.now) out.new }
 {
-    append_word(text, "lane")?;
-    append_number(text, channel as u64)?;
-    append_named(text, "admitted", lane.admitted)?;
-    append_word(text, " refused")?;
-    append_refused(text, &lane.refused)?;
-    Ok(text.push(b'\n')?)
-}
-
-/// Appends the lines of flows and of their frames.
-fn append_flows(alloc: Global, text: &mut Vec<u8>, flows: &[FlowOutcome]) -> Result<(), AllocError>
-    ensures { OnOk result (text.new.items ≡ text.old.items ++ numbered_lines flow_lines flows.now) }
-{
-    for (k, flow) in flows.iter().enumerate() {
-        append_flow(text, k, flow)?;
-        append_flow_frames(alloc, text, k, &flow.frames)?;
-    }
-    Ok(())
-}
-
-/// Appends the lines of the requests that came on a channel.
-fn append_requests(text: &mut Vec<u8>, requests: &[Request]) -> Result<(), AllocError>
-    ensures { OnOk result (text.new.items ≡ text.old.items ++ flat_map request_line requests.now) }
-{
-    for request in requests {
-        append_request(text, request)?;
-    }
-    Ok(())
-}
-
-/// Appends the lines of the requests that came on these channels.
-fn append_channels(text: &mut Vec<u8>, channels: &[Vec<Request>]) -> Result<(), AllocError>
-    ensures { OnOk result (text.new.items ≡ text.old.items
-        ++ flat_map (λ requests. flat_map request_line requests.items) channels.now) }
-{
-    for requests in channels {
-        append_requests(text, requests)?;
-    }
-    Ok(())
-}
-
-/// Appends the lines of lanes.
-fn append_lanes(text: &mut Vec<u8>, lanes: &[LaneReport]) -> Result<(), AllocError>
-    ensures { OnOk result (text.new.items ≡ text.old.items ++ numbered_lines lane_line lanes.now) }
-{
-    for (channel, lane) in lanes.iter().enumerate() {
-        append_lane(text, channel, lane)?;
-    }
-    Ok(())
-}
-
-/// The report of an outcome: a line for each flow and each of its frames, in order; one for each
-/// request, by channels; and one for each lane. The order of the outcome is not told.
-pub fn report(alloc: Global, outcome: &Outcome) -> Result<Vec<u8>, AllocError>
-    ensures { IfOk result (λ text. text.items ≡ report_text outcome.now) }
-{
-    let mut text = Vec::new(alloc);
-    append_flows(alloc, &mut text, &outcome.flows)?;
-    append_channels(&mut text, &outcome.requests)?;
-    append_lanes(&mut text, &outcome.lanes)?;
-    Ok(text)
+    put_word(out, "lane");
+    put_spaced(out, channel as u64);
+    put_named(out, "admitted", lane.admitted);
+    put_word(out, " refused");
+    put_refused(out, &lane.refused);
+    put_word(out, "\n");
 }

@@ -1,16 +1,19 @@
-//! The calls of the crate `texts` where an allocation fails at one place of each call. Each test
-//! takes out of memory as lawful there, says so by the word `refused`, and calls again; where
-//! nothing failed it says nothing.
+//! The calls of the crates `texts` and `text_lines` where an allocation fails at one place of each
+//! call. Each test takes out of memory as lawful there, says so by the word `refused`, and calls
+//! again; where nothing failed it says nothing.
 use crate::samples::{
     FRAMES, FRAMES_AND_PIECES, REPORT, RULED_TRACE, SEGMENTS, SLID_REPORT, TRACE,
 };
+use crate::taken_lines::TakenLines;
 use docsis_wire::{Bytes, FillByte};
 use flow_core::FlowCounts;
 use lane::{LaneReport, Request};
 use loss_rule::LossRule;
 use receiver::{FlowOutcome, Outcome};
 use std::alloc::{AllocError, Global};
+use std::process::Abort;
 use std::test::Fail;
+use text_lines::LineReader;
 use texts::{
     ParseFault, TextFault, Trace, cut_lines, join_lines, parse_trace, replay_lines,
     replay_lines_by, report,
@@ -41,6 +44,34 @@ fn cut_lines_is_refused(rt: HostRuntime) -> Result<(), Fail> {
         text = cut_copy(rt.alloc());
     }
     assert_eq!(rt; text?.as_slice(), SEGMENTS.as_bytes());
+    Ok(())
+}
+
+/// What an input comes to in pieces that cut each of its lines. A refused call is refused again.
+fn take_cut_lines(rt: &impl Abort, alloc: Global) -> Result<Vec<u8>, ParseFault> {
+    let mut taken = TakenLines::new(alloc);
+    let mut reader = LineReader::new(alloc);
+    for piece in b"one two\nthree four\nfive six".chunks(5) {
+        if let Err(fault) = reader.take_piece(alloc, piece, &mut taken) {
+            assert_eq!(rt; reader.take_piece(alloc, b"", &mut taken), Err(fault));
+            return Err(fault);
+        }
+    }
+    reader.finish(alloc, &mut taken)?;
+    Ok(taken.text)
+}
+
+#[test]
+fn line_reader_is_refused(rt: HostRuntime) -> Result<(), Fail> {
+    let mut text = take_cut_lines(&rt, rt.alloc());
+    if let Err(ParseFault::OutOfMemory) = text {
+        println!(rt; "refused")?;
+        text = take_cut_lines(&rt, rt.alloc());
+    }
+    assert_eq!(rt;
+        text?.as_slice(),
+        b"one two|three four|five six|".as_slice()
+    );
     Ok(())
 }
 

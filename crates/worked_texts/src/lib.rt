@@ -27,10 +27,14 @@ mod join_texts;
 #[cfg(test)]
 mod line_fields;
 #[cfg(test)]
+mod lines_in_pieces;
+#[cfg(test)]
 mod number_fields;
 #[cfg(test)]
 mod ruled_texts;
 pub mod samples;
+#[cfg(test)]
+mod taken_lines;
 #[cfg(test)]
 mod trace_lines;
 #[cfg(test)]

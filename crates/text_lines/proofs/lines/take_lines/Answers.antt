@@ -1,32 +1,22 @@
-use Rattle.std.proofs.Common.{◌≡◌, [], arith, rules}
-use Rattle.std.proofs.lemmas.List.{nil_from_length}
-use Rattle.text_lines.proofs.ReadSoFar.{ReadSoFar-none, ReadSoFar-more, ReadSoFar-all, ReadSoFar-fault}
+use Rattle.std.proofs.Common.{◌+◌, ◌<◌, ◌^◌, [], length, append-nil, arith}
+use Rattle.std.proofs.lemmas.Result.{err_from_is_err_and}
+use Rattle.text_lines.proofs.LinesTaken.{AreTaken-none}
 use Rattle.text_lines.proofs.lines.take_lines.Goals as goal
 
-pub loop-rest-init : goal.loop-rest-init
-loop-rest-init g c = record {
-  so_far = λ start stands. ReadSoFar-none g.T.TakeLine.format start (λ state. g.T.TakeLine.stands_for state c.args.taker.now) c.args.input.now c.args.input.now stands;
-  within = omega arith;
-}
-
-pub loop-rest-preserved : goal.loop-rest-preserved
-loop-rest-preserved g c = record {
-  so_far = λ start stands.
-      let so_far = c.loop-rest.invariant.so_far start stands in
-      ReadSoFar-more g.T.TakeLine.format start (λ state. g.T.TakeLine.stands_for state c.loop-rest.taker) c.args.input.now c.loop-rest.rest.now c.loop-rest.above
-      c.split_line.result.0.now c.split_line.result.1.now (λ state. g.T.TakeLine.stands_for state c.take_or_skip.new.taker) so_far c.split_line.ensures.lines (c.in_default.ensures.taken so_far.state so_far.stands);
-  within = omega arith;
-}
+pub returns-in_err-rest-clause-fault : goal.returns-in_err-rest-clause-fault
+returns-in_err-rest-clause-fault g c = λ start stands.
+    let p = err_from_is_err_and c.from_residual.result c.from_residual.ensures.1 in
+    let none = AreTaken-none g.T.TakeLine.format start g.T.TakeLine.stands_for c.args.taker.now stands in
+    let few : 0 + length c.args.input.now < 2 ^ 64 = omega arith in
+    let fault = c.in_err-rest.ensures.fault start [] none few [] in
+    rw (p.1, p.2) (rw append-nil at fault)
 
 pub returns-clause-read : goal.returns-clause-read
 returns-clause-read g c = λ start stands.
-    let done : c.loop-rest.rest.now ≡ [] = nil_from_length c.loop-rest.rest.now (search rules) in
-    ReadSoFar-all g.T.TakeLine.format start (λ state. g.T.TakeLine.stands_for state c.loop-rest.taker) c.args.input.now c.loop-rest.rest.now c.loop-rest.above
-    (c.loop-rest.invariant.so_far start stands) done
+    let none = AreTaken-none g.T.TakeLine.format start g.T.TakeLine.stands_for c.args.taker.now stands in
+    c.take_last_line.ensures.read start c.args.input.now (c.in_ok-rest.ensures.taken start [] none)
 
-pub returns-in-Err-clause-fault : goal.returns-in-Err-clause-fault
-returns-in-Err-clause-fault g c = λ start stands.
-    let so_far = c.loop-rest.invariant.so_far start stands in
-    let fault = ReadSoFar-fault g.T.TakeLine.format start (λ state. g.T.TakeLine.stands_for state c.loop-rest.taker) c.args.input.now c.loop-rest.rest.now c.loop-rest.above
-    c.split_line.result.0.now c.split_line.result.1.now c.in-Err.fault so_far c.split_line.ensures.lines (c.in-Err.ensures.fault so_far.state so_far.stands) in
-    rw c.at.ensures fault
+pub returns-clause-fault : goal.returns-clause-fault
+returns-clause-fault g c = λ start stands.
+    let none = AreTaken-none g.T.TakeLine.format start g.T.TakeLine.stands_for c.args.taker.now stands in
+    c.take_last_line.ensures.fault start c.args.input.now (c.in_ok-rest.ensures.taken start [] none) (omega arith)

@@ -1,5 +1,5 @@
 use Rattle.std.proofs.Common.{◌∙◌, sym}
-use Rattle.text_lines.proofs.LinesAndWords.{BeginsWord-at, words_of-none, words_of-word, words_of-last}
+use Rattle.text_lines.proofs.WordsOfLines.{BeginsWord-at, words_of-none, words_of-word, words_of-last}
 use Rattle.text_lines.proofs.words.split_word.Goals as goal
 
 pub returns-in_err-start : goal.returns-in_err-start

@@ -6,7 +6,7 @@ use Rattle.texts.proofs.cut.segment_lines.Given as goal
 abbrev pub invariant-loop-text : goal.invariant-loop-text
 invariant-loop-text l = record {
   same : IsSameCut l.fn.cutter l.cutter;
-  so_far : PrintedSoFar l.cutter l.text.items;
+  so_far : PrintedSoFar l.cutter l.text;
 }
 
 abbrev pub decreases-loop-text : goal.decreases-loop-text

@@ -1,8 +1,8 @@
 -- A trace is replayed by the tags of its lines.
-use Rattle.std.proofs.Common.{List, ℕ, sym, subst}
+use Rattle.std.proofs.Common.{sym, subst}
 use Rattle.receiver.specs.Items.{incoming_of}
 use Rattle.receiver.specs.Order.{IsLawfulOrder, IsOrderFault}
-use Rattle.receiver.specs.AdmittedOrder.{input_counts, IsAdmittedOrder}
+use Rattle.receiver.specs.AdmittedOrder.{input_counts}
 use Rattle.texts.proofs.OutOfMemoryAlone.{unless_out_of_memory}
 use Rattle.texts.proofs.replay.replay_trace.Goals as goal
 

@@ -1,0 +1,15 @@
+-- What is put to a text.
+use Rattle.std.specs.Prelude.{◌≡◌, ℕ, IsTrue, List, ◌++◌}
+use Rattle.text_lines.specs.declared.text_buffer.TextBuffer.{TextBuffer}
+
+-- Whatever had been put, now this was put besides: by the relation that what takes the text keeps.
+abbrev pub Puts : {T : Type 0} → (T → List ℕ → T → Type 0) → T → List ℕ → T → Type 0
+Puts {T} after old more new = (start : T) (text : List ℕ) → after start text old → after start (text ++ more) new
+
+-- whatever had been put, it makes no difference if something is put besides
+abbrev pub IsClosed : {T : Type 0} → (T → List ℕ → T → Type 0) → T → Type 0
+IsClosed {T} after now = (more : List ℕ) → Puts after now more now
+
+-- a text in memory that is whole was whole before, and grew by just what was put
+abbrev pub HasGrown : TextBuffer → List ℕ → TextBuffer → Type 0
+HasGrown start text end = IsTrue end.whole → IsTrue start.whole × (end.text.items ≡ start.text.items ++ text)

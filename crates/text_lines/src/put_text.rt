@@ -1,0 +1,56 @@
+//! Where a text goes that is made piece by piece.
+ghost use Rattle.std.specs.Prelude.{◌*◌, ◌/◌, ◌++◌, ◌≤◌, IsTrue, List, ℕ, length};
+ghost use Rattle.std.specs.Fmt.{decimal};
+ghost use Rattle.hex.specs.Hex.{encode_lower};
+ghost use Rattle.text_lines.specs.Putting.{Puts, IsClosed};
+
+use itoa::Buffer;
+
+/// How many bytes are spelled at once.
+const SPELLED_BYTES: usize = 256;
+
+/// Takes a text, piece by piece. It can't refuse: one that can't take what it is given says so
+/// itself, as [`TextBuffer`](crate::TextBuffer) does.
+pub trait PutText {
+    // The first became the second by being given this text.
+    ghost after: { Self → List ℕ → Self → Type 0 };
+
+    /// Takes the next bytes of the text.
+    fn put(&mut self, bytes: &[u8])
+        ensures { Puts after self.old bytes.now self.new };
+
+    /// Whether what follows makes no difference any more, so that it may be left out.
+    fn is_closed(&self) -> bool
+        ensures { IsTrue result → IsClosed after self.now };
+}
+
+/// Puts the decimal digits of a number.
+pub fn put_number<O: PutText>(out: &mut O, number: u64)
+    ensures { Puts O.after out.old (decimal number) out.new }
+{
+    out.put(Buffer::new().format(number).as_bytes());
+}
+
+/// Puts the lower-case digits of some bytes, two for each.
+pub fn put_hex<O: PutText>(out: &mut O, bytes: &[u8])
+    ensures { Puts O.after out.old (encode_lower bytes.now) out.new }
+{
+    let mut digits = [0u8; 2 * SPELLED_BYTES];
+    let mut rest = bytes;
+    while !rest.is_empty() {
+        let (chunk, more) = rest.split_at(rest.len().min(SPELLED_BYTES));
+        put_spelled(out, chunk, &mut digits);
+        rest = more;
+    }
+}
+
+/// Puts the digits of at most 256 bytes.
+fn put_spelled<O: PutText>(out: &mut O, bytes: &[u8], digits: &mut [u8])
+    requires { 2 * length bytes.now ≤ length digits.old }
+    ensures put { Puts O.after out.old (encode_lower bytes.now) out.new }
+{
+    let spelled = &mut digits[..2 * bytes.len()];
+    if hex::encode_to_slice(bytes, spelled).is_ok() {
+        out.put(spelled);
+    }
+}

@@ -1,0 +1,8 @@
+use Rattle.docsis_wire.specs.Header.{header_bytes}
+use Rattle.texts.proofs.PutLines.{puts-hex-line}
+use Rattle.texts.proofs.cut.put_segment.Goals as goal
+
+pub returns : goal.returns
+returns g c =
+    puts-hex-line g.O.PutText.after c.args.out.now c.put_hex.new.out c.put_hex-2.new.out c.put.new.self (header_bytes c.args.segment.now.head) c.args.segment.now.payload
+    (rw c.write_segment.ensures at c.put_hex.ensures) (rw c.as_slice.ensures at c.put_hex-2.ensures) c.put.ensures

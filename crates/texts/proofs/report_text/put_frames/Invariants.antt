@@ -1,0 +1,8 @@
+use Rattle.std.proofs.Common.{take}
+use Rattle.std.specs.Prelude.{flat_map}
+use Rattle.text_lines.specs.Putting.{Puts}
+use Rattle.texts.specs.Report.{frame_line}
+use Rattle.texts.proofs.report_text.put_frames.Given as goal
+
+abbrev pub invariant-loop-frame : goal.invariant-loop-frame
+invariant-loop-frame g l = Puts g.O.PutText.after l.fn.out (flat_map (frame_line l.k) (take l.frame-index l.frames)) l.out

@@ -1,0 +1,81 @@
+//! The report of an outcome.
+ghost use Rattle.std.specs.Prelude.{◌≡◌, flat_map, IfOk};
+ghost use Rattle.text_lines.specs.Putting.{Puts};
+ghost use Rattle.texts.specs.Report.{frame_line, flow_lines, request_line, lane_line};
+ghost use Rattle.texts.specs.Report.{numbered_lines, report_text};
+
+use crate::report_lines::{put_flow_line, put_frame_line, put_lane_line, put_request_line};
+use docsis_wire::Bytes;
+use lane::{LaneReport, Request};
+use receiver::{FlowOutcome, Outcome};
+use std::alloc::{AllocError, Global};
+use text_lines::{PutText, TextBuffer};
+
+/// Puts the lines of the frames of the flow with this index.
+fn put_frames<O: PutText>(out: &mut O, k: usize, frames: &[Bytes])
+    ensures { Puts O.after out.old (flat_map (frame_line k) frames.now) out.new }
+{
+    for frame in frames {
+        if out.is_closed() {
+            return;
+        }
+        put_frame_line(out, k, frame.as_slice());
+    }
+}
+
+/// Puts the lines of flows and of their frames.
+fn put_flows<O: PutText>(out: &mut O, flows: &[FlowOutcome])
+    ensures { Puts O.after out.old (numbered_lines flow_lines flows.now) out.new }
+{
+    for (k, flow) in flows.iter().enumerate() {
+        put_flow_line(out, k, flow.sfid, &flow.counts);
+        put_frames(out, k, &flow.frames);
+    }
+}
+
+/// Puts the lines of the requests that came on a channel.
+fn put_requests<O: PutText>(out: &mut O, requests: &[Request])
+    ensures { Puts O.after out.old (flat_map request_line requests.now) out.new }
+{
+    for request in requests {
+        put_request_line(out, request);
+    }
+}
+
+/// Puts the lines of the requests that came on these channels.
+fn put_channels<O: PutText>(out: &mut O, channels: &[Vec<Request>])
+    ensures { Puts O.after out.old
+        (flat_map (λ requests. flat_map request_line requests.items) channels.now) out.new }
+{
+    for requests in channels {
+        put_requests(out, requests);
+    }
+}
+
+/// Puts the lines of lanes.
+fn put_lanes<O: PutText>(out: &mut O, lanes: &[LaneReport])
+    ensures { Puts O.after out.old (numbered_lines lane_line lanes.now) out.new }
+{
+    for (channel, lane) in lanes.iter().enumerate() {
+        put_lane_line(out, channel, lane);
+    }
+}
+
+/// Puts the report of an outcome: a line for each flow and each of its frames, in order; one for
+/// each request, by channels; and one for each lane. The order of the outcome is not told.
+pub fn put_report<O: PutText>(out: &mut O, outcome: &Outcome)
+    ensures { Puts O.after out.old (report_text outcome.now) out.new }
+{
+    put_flows(out, &outcome.flows);
+    put_channels(out, &outcome.requests);
+    put_lanes(out, &outcome.lanes);
+}
+
+/// The report of an outcome, as [`put_report`] puts it.
+pub fn report(alloc: Global, outcome: &Outcome) -> Result<Vec<u8>, AllocError>
+    ensures { IfOk result (λ text. text.items ≡ report_text outcome.now) }
+{
+    let mut text = TextBuffer::new(alloc);
+    put_report(&mut text, outcome);
+    text.finish()
+}
