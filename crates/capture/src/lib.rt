@@ -77,6 +77,3 @@ pub use pcapng_section::MOST_INTERFACES;
 pub use record::{Record, Taken};
 pub use record_burst::{burst_in_capture, burst_in_record};
 pub use tlv::{Tlv, are_tlvs, last_value, split_tlv};
-
-#[cfg(test)]
-mod tests;

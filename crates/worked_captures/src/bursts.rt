@@ -1,6 +1,6 @@
 //! Packets of link type 273, and the bursts in them. That the smallest packets are read so was seen
 //! in tshark 4.0.17.
-use crate::{Burst, BurstKind, Passed, last_value, read_burst, read_packet, split_tlv};
+use capture::{Burst, BurstKind, Passed, last_value, read_burst, read_packet, split_tlv};
 use std::test::Fail;
 
 /// A segment header with PFI, number 1234, cluster 2 and request 9, and no payload.

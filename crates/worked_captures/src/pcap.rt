@@ -1,10 +1,12 @@
 //! Files of the format pcap, whole and in pieces of every size.
-use crate::{Endian, PcapFault, PcapHeader, PcapReader, Record, RecordHead, Resolution};
+mod failed_allocations;
+
+use capture::{Endian, PcapFault, PcapHeader, PcapReader, Record, RecordHead, Resolution};
 use std::alloc::Global;
 use std::test::Fail;
 
 /// Microseconds, most significant byte first, link type 273; records of 3, 0 and 2 bytes.
-pub(super) fn three_records() -> &'static [u8] {
+pub(crate) fn three_records() -> &'static [u8] {
     &[
         0xa1, 0xb2, 0xc3, 0xd4, 0, 2, 0, 4, 0, 0, 0, 0, 0, 0, 0, 0, 0, 4, 0, 0, 0, 0, 1, 0x11, //
         0, 0, 0, 7, 0, 0, 0, 9, 0, 0, 0, 3, 0, 0, 0, 3, 0xaa, 0xbb, 0xcc, //
@@ -14,7 +16,7 @@ pub(super) fn three_records() -> &'static [u8] {
 }
 
 /// Seconds, fraction, captured and original length, and the bytes, of each.
-pub(super) fn wanted() -> &'static [([u32; 4], &'static [u8])] {
+pub(crate) fn wanted() -> &'static [([u32; 4], &'static [u8])] {
     &[
         ([7, 9, 3, 3], &[0xaa, 0xbb, 0xcc]),
         ([8, 1, 0, 5], &[]),
@@ -23,7 +25,7 @@ pub(super) fn wanted() -> &'static [([u32; 4], &'static [u8])] {
 }
 
 /// Nanoseconds, least significant byte first, link type 1; one record of one byte.
-pub(super) fn one_record() -> &'static [u8] {
+pub(crate) fn one_record() -> &'static [u8] {
     &[
         0x4d, 0x3c, 0xb2, 0xa1, 2, 0, 4, 0, 1, 0, 0, 0, 2, 0, 0, 0, 0xff, 0xff, 0, 0, 1, 0, 0, 0, //
         4, 3, 2, 1, 0xff, 0xc9, 0x9a, 0x3b, 1, 0, 0, 0, 0x40, 0, 0, 0, 0x5a,
@@ -46,7 +48,7 @@ fn too_long() -> &'static [u8] {
 }
 
 /// The records that a piece completes.
-pub(super) fn records_of(
+pub(crate) fn records_of(
     alloc: Global,
     reader: &mut PcapReader,
     piece: &[u8],
@@ -69,7 +71,7 @@ fn is(record: &Record, wanted: &([u32; 4], &[u8])) -> bool {
         && record.bytes.as_slice() == wanted.1
 }
 
-pub(super) fn are(records: &[Record], wanted: &[([u32; 4], &[u8])]) -> bool {
+pub(crate) fn are(records: &[Record], wanted: &[([u32; 4], &[u8])]) -> bool {
     records.len() == wanted.len()
         && records
             .iter()
@@ -78,7 +80,7 @@ pub(super) fn are(records: &[Record], wanted: &[([u32; 4], &[u8])]) -> bool {
 }
 
 #[test]
-pub(super) fn three_records_in_pieces_of_every_size(rt: HostRuntime) -> Result<(), Fail> {
+pub(crate) fn three_records_in_pieces_of_every_size(rt: HostRuntime) -> Result<(), Fail> {
     for size in 1..80 {
         let mut reader = PcapReader::new(rt.alloc());
         let mut records = Vec::new(rt.alloc());

@@ -1,7 +1,7 @@
 //! Each allocation of a reader and of a writer is refused once: it is reported, a reader reports it
 //! again, and what is begun anew gives what a first call gives.
-use super::pcap::{are, records_of, three_records, wanted};
-use crate::{Endian, PcapFault, PcapReader, Record, write_record};
+use super::{are, records_of, three_records, wanted};
+use capture::{Endian, PcapFault, PcapReader, Record, write_record};
 use std::alloc::Global;
 use std::process::Abort;
 

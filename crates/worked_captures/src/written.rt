@@ -1,6 +1,6 @@
 //! Pcap files that are written, and bursts in their records.
-use super::pcap::{one_record, records_of, three_records};
-use crate::{
+use crate::pcap::{one_record, records_of, three_records};
+use capture::{
     BurstKind, Passed, PcapFault, PcapReader, Record, RecordHead, burst_in_record,
     write_pcap_header, write_record,
 };
