@@ -1,2 +1,6 @@
 pub mod WrittenFront
 pub mod WeakerTexts
+pub mod WrittenText
+pub mod ReadLines
+pub mod EngineRan
+pub mod JoinedText

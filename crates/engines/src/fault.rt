@@ -2,13 +2,14 @@
 ghost use Rattle.std.specs.Prelude.{◌≡◌};
 ghost use Rattle.engines.specs.declared.fault.EngineFault.TheVariants.{OutOfMemory, Write};
 ghost use Rattle.engines.specs.Fault.{status_of, exit_status_of, usage_fault};
+ghost use Rattle.text_lines.specs.Fault.{text_fault_of_parse};
 ghost use Rattle.engines.specs.Engine.{engine_fault};
 
 use command_line::UsageFault;
 use docsis_wire::CutFault;
 use std::alloc::AllocError;
 use std::io;
-use texts::TextFault;
+use texts::{ParseFault, TextFault};
 pub use texts::{TraceFault, TraceKind};
 use thiserror::Error;
 
@@ -40,6 +41,14 @@ impl From<AllocError> for EngineFault {
 
     fn from(_error: AllocError) -> EngineFault {
         EngineFault::OutOfMemory
+    }
+}
+
+impl From<ParseFault> for EngineFault {
+    ghost from_gives = { λ fault reported. reported ≡ engine_fault (text_fault_of_parse fault) };
+
+    fn from(fault: ParseFault) -> EngineFault {
+        EngineFault::from(TextFault::from(fault))
     }
 }
 

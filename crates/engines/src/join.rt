@@ -1,32 +1,36 @@
 //! The command `join`: segments, one a line, become their frames, one a line.
+ghost use Rattle.std.specs.Prelude.{◌≡◌, [], flat_map};
 ghost use Rattle.engines.specs.Device.{IsFresh};
 ghost use Rattle.engines.specs.Engine.{RunsEngine};
-ghost use Rattle.texts.specs.Join.{IsJoined, IsJoinFault};
+ghost use Rattle.engines.specs.Inside.Writing.{IsWritten};
+ghost use Rattle.texts.specs.Join.{IsJoined, IsJoinFault, frame_line};
 
 use crate::device::Device;
-use crate::engine::{Engine, run_engine};
-use crate::fault::EngineFault;
+use crate::fault::{EngineFault, WriteFault};
+use crate::lines_read::read_lines;
+use crate::text_writer::{TextWriter, held_room};
 use std::alloc::Global;
 use std::io::{Read, Write};
-use texts::{TextFault, join_lines};
+use texts::JoinInput;
 
-/// The engine of `join`.
-#[derive(Drop)]
-pub struct JoinEngine;
-
-impl Engine for JoinEngine {
-    ghost is_text = { λ _. IsJoined };
-
-    ghost is_fault = { λ _. IsJoinFault };
-
-    fn make_text(self, alloc: Global, input: Vec<u8>) -> Result<Vec<u8>, TextFault> {
-        join_lines(alloc, &input)
-    }
+/// Writes a line for each frame as it makes it. The room is empty, and no other memory is taken.
+fn write_frames<W: Write>(
+    joined: &JoinInput,
+    room: &mut Vec<u8>,
+    writer: &mut Device<W>,
+) -> Result<(), WriteFault>
+    requires { room.old.items ≡ [] }
+    ensures { IsWritten W.contents (flat_map frame_line joined.now.frames.items)
+        writer.old writer.new result }
+{
+    let mut text = TextWriter::new(writer, room);
+    joined.put_lines(&mut text);
+    text.finish()
 }
 
 /// Joins the segments that a reader gives and writes their frames, each a line of hexadecimal. It
-/// reads all, at most 268,435,456 bytes, then makes the whole text, and then writes it; an empty
-/// one is not written.
+/// reads all, at most 268,435,456 bytes, piece by piece, of which it keeps the frames alone; then it
+/// writes the text as it makes it. An empty one is not written.
 ///
 /// `Read`: the reader failed or gave more. `Trace`: the first faulty line, `FieldCount`, `NotHex`,
 /// `TooShort` or `PointerPast`. `OutOfMemory`: an allocation failed. Up to here nothing was
@@ -41,5 +45,8 @@ pub fn join_text<R: Read, W: Write>(
     ensures { RunsEngine R.remaining W.contents IsJoined IsJoinFault
         reader.old reader.new writer.old writer.new result }
 {
-    run_engine(alloc, JoinEngine, reader, writer)
+    let joined = read_lines(alloc, JoinInput::new(alloc), reader)?;
+    let mut room = held_room(alloc)?;
+    write_frames(&joined, &mut room, writer)?;
+    Ok(())
 }

@@ -24,7 +24,9 @@ mod engine;
 mod fault;
 mod fault_line;
 mod join;
+mod lines_read;
 mod replay;
+mod text_writer;
 mod transfer;
 
 pub use command_line::{Command, UsageFault, read_words};

@@ -5,9 +5,9 @@ use Rattle.engines.specs.declared.device.Device.{Device}
 use Rattle.engines.specs.Device.{has_failed, given_of}
 use Rattle.engines.specs.Limits.{input_limit}
 
--- a reader did not fail, and gave just these bytes as far as can be counted, no more than an engine reads
-abbrev pub IsCounted : {T : Type 0} → Device T → List ℕ → Type 0
-IsCounted device input = (has_failed device ≡ false) × (given_of device ≡ length input) × (length input ≤ input_limit)
+-- a reader did not fail, and gave just so many bytes, no more than an engine reads
+abbrev pub IsCounted : {T : Type 0} → Device T → ℕ → Type 0
+IsCounted device count = (has_failed device ≡ false) × (given_of device ≡ count) × (count ≤ input_limit)
 
 -- an input grew by what a read took from known bytes, and it took none only at their end
 pub record ReadsMore (old new : Option (List ℕ)) (input input' : List ℕ) (count : ℕ) : Type 0 where

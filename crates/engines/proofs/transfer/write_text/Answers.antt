@@ -1,12 +1,10 @@
 use Rattle.std.proofs.Common.{rules}
-use Rattle.engines.proofs.WrittenFront.{AppendsBefore-more}
-use Rattle.std.proofs.lemmas.List.{take_rest}
+use Rattle.engines.proofs.WrittenText.{AppendsFront-all}
+use Rattle.engines.specs.Device.{inner_of}
 use Rattle.engines.proofs.transfer.write_text.Goals as goal
 
-pub loop-rest-preserved : goal.loop-rest-preserved
-loop-rest-preserved g c = record {
-  went =
-      AppendsBefore-more (g.W.Write.contents c.args.writer.now.inner) (g.W.Write.contents c.loop-rest.writer.inner) (g.W.Write.contents c.write.new.self.inner)
-      c.args.text.now c.loop-rest.rest.now _ c.in_ok-count.count c.loop-rest.invariant.went c.in_ok-count.ensures.bytes (take_rest c.loop-rest.rest.now c.in_ok-count.count);
-  sound = search rules;
-}
+pub returns-in_err-flush-clause-front : goal.returns-in_err-flush-clause-front
+returns-in_err-flush-clause-front g c =
+    let front = AppendsFront-all (g.W.Write.contents (inner_of c.args.writer.now)) (g.W.Write.contents (inner_of c.write_bytes.new.writer))
+    (g.W.Write.contents (inner_of c.flush.new.self)) c.args.text.now c.in_ok-write_bytes.ensures.written c.in_err-flush.ensures.bytes in
+    search (rules, front)
