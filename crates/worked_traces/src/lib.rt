@@ -1,26 +1,18 @@
-//! Traces that were worked out by hand, replayed and run: the tests of the receivers.
+//! Traces that were worked out by hand, replayed: the tests of a replay in `receiver`.
 //!
-//! They stand apart from the crates `receiver` and `uplink`, so that those are proved once and not
-//! a second time with their tests. There is nothing here for a caller.
+//! They stand apart from that crate, so that it is proved once and not a second time with its
+//! tests. There is nothing here for a caller, but [`traces`], [`outcomes`] and [`cases`] are for the
+//! tests of other parts too.
 #![tactic(auto)]
 
+pub mod cases;
 #[cfg(test)]
 mod expect;
 #[cfg(test)]
 mod orders;
-#[cfg(test)]
-mod outcomes;
-#[cfg(test)]
-mod received;
+pub mod outcomes;
 #[cfg(test)]
 mod replayed;
 #[cfg(test)]
 mod ruled_replays;
-#[cfg(test)]
-mod run;
-#[cfg(test)]
-mod sources;
-#[cfg(test)]
-mod taps;
-#[cfg(test)]
-mod traces;
+pub mod traces;

@@ -1,7 +1,7 @@
 //! Orders of short lists that were worked out by hand.
+use receiver::check_order;
 use std::process::Abort;
 use std::test::Fail;
-use uplink::check_order;
 
 const LAWFUL: [(&str, [usize; 5], &[u8]); 4] = [
     ("five empty lists", [0; 5], &[]),

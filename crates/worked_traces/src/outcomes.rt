@@ -1,9 +1,9 @@
 //! What comes of traces, and whether an outcome is that.
-use crate::traces::{EXTENDED, FLOW, PLAIN};
-use docsis_wire::Bytes;
+use crate::traces::FLOW;
 use flow_core::FlowCounts;
-use std::process::Abort;
-use uplink::{FlowOutcome, LaneReport, Outcome, Request};
+use lane::{LaneReport, Request};
+use receiver::{FlowOutcome, Outcome};
+use worked_frames::samples::{EXTENDED, PLAIN, same_bytes};
 
 pub const NO_COUNTS: FlowCounts = FlowCounts {
     kept: 0,
@@ -84,14 +84,6 @@ pub const BOTH_FRAMES: Expected = Expected {
     ..NO_FLOW
 };
 
-fn same_bytes(frames: &[Bytes], wanted: &[&[u8]]) -> bool {
-    frames.len() == wanted.len()
-        && frames
-            .iter()
-            .zip(wanted)
-            .all(|(frame, want)| frame.as_slice() == *want)
-}
-
 fn gave(flow: &FlowOutcome, want: &Gives) -> bool {
     flow.sfid == want.sfid && flow.counts == want.counts && same_bytes(&flow.frames, want.frames)
 }
@@ -131,43 +123,40 @@ pub fn senders_of(order: &[u8]) -> [usize; 5] {
     counts
 }
 
-/// Ends the test if a part of a case isn't as expected.
-pub fn expect_part(rt: &impl Abort, name: &str, part: &str, is_as_expected: bool) {
-    assert!(rt; is_as_expected, "{name}: {part}");
+fn part_amiss_but_order(outcome: &Outcome, expected: &Expected) -> Option<&'static str> {
+    if !all_gave(&outcome.flows, expected.flows) {
+        return Some("flows");
+    }
+    if !same_requests(&outcome.requests, &expected.requests) {
+        return Some("requests");
+    }
+    if !same_lanes(&outcome.lanes, &expected.lanes) {
+        return Some("lanes");
+    }
+    None
 }
 
-fn expect_all_but_order(rt: &impl Abort, name: &str, outcome: &Outcome, expected: &Expected) {
-    let flows = all_gave(&outcome.flows, expected.flows);
-    expect_part(rt, name, "flows", flows);
-    let requests = same_requests(&outcome.requests, &expected.requests);
-    expect_part(rt, name, "requests", requests);
-    let lanes = same_lanes(&outcome.lanes, &expected.lanes);
-    expect_part(rt, name, "lanes", lanes);
+/// What part of an outcome isn't as expected, if its items are to come in this order.
+pub fn part_amiss(outcome: &Outcome, expected: &Expected, order: &[u8]) -> Option<&'static str> {
+    let other = part_amiss_but_order(outcome, expected);
+    if other.is_none() && outcome.order.as_slice() != order {
+        return Some("order");
+    }
+    other
 }
 
-/// Compares what came of a trace.
-pub fn expect_outcome(rt: &impl Abort, name: &str, outcome: &Outcome, expected: &Expected) {
-    expect_in_order(rt, name, outcome, expected, expected.order);
-}
-
-/// Compares what came of a trace whose items come in this order.
-pub fn expect_in_order(
-    rt: &impl Abort,
-    name: &str,
-    outcome: &Outcome,
-    expected: &Expected,
-    order: &[u8],
-) {
-    expect_all_but_order(rt, name, outcome, expected);
-    expect_part(rt, name, "order", outcome.order.as_slice() == order);
-}
-
-/// Compares what came of a trace whose items may come in any order.
-pub fn expect_in_any_order(rt: &impl Abort, name: &str, outcome: &Outcome, expected: &Expected) {
-    expect_all_but_order(rt, name, outcome, expected);
+/// What part of an outcome isn't as expected, if its items may come in any order.
+pub fn part_amiss_in_any_order(outcome: &Outcome, expected: &Expected) -> Option<&'static str> {
+    let other = part_amiss_but_order(outcome, expected);
+    if other.is_some() {
+        return other;
+    }
     let order = outcome.order.as_slice();
-    let length = order.len() == expected.order.len();
-    expect_part(rt, name, "length of the order", length);
-    let senders = senders_of(order) == senders_of(expected.order);
-    expect_part(rt, name, "senders of the order", senders);
+    if order.len() != expected.order.len() {
+        return Some("length of the order");
+    }
+    if senders_of(order) != senders_of(expected.order) {
+        return Some("senders of the order");
+    }
+    None
 }

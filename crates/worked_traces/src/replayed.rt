@@ -1,28 +1,27 @@
 //! Traces whose one-thread answers were worked out by hand.
-pub(crate) mod cases;
 mod failed_allocations;
 
+use crate::cases::{CASES, Case};
+use crate::expect::expect_same;
 use crate::outcomes::*;
 use crate::traces::*;
-use cases::{CASES, Case};
 use docsis_wire::NoCheck;
 use flow_core::{FlowCounts, FlowRecord, SetupFault};
+use lane::{Input, LaneFault, SidRow};
+use receiver::{Decision, Lists, ReplayFault, Setup, admitted_order, replay};
 use std::alloc::{AllocError, Global};
 use std::process::Abort;
 use std::test::Fail;
-use uplink::{
-    Decision, Input, LaneFault, Lists, ReplayFault, Setup, SidRow, admitted_order, replay,
-};
 
 /// Replays a case in the order that is admitted of its lines.
 fn expect_case(rt: &impl Abort, alloc: Global, case: &Case) -> Result<(), ReplayFault> {
     let Trace { setup, lists } = trace_of(alloc, &[FLOW], &ROWS, case.lines)?;
     let tags = tags_of(alloc, case.lines)?;
     let order = admitted_order(alloc, &setup, &lists, &tags)?;
-    let is_admitted = order.as_slice() == case.expected.order;
-    expect_part(rt, case.name, "admitted order", is_admitted);
+    expect_same(rt, case.name, order.as_slice(), case.expected.order);
     let outcome = replay(alloc, &setup, &lists, &order, NoCheck)?;
-    expect_outcome(rt, case.name, &outcome, &case.expected);
+    let amiss = part_amiss(&outcome, &case.expected, case.expected.order);
+    expect_same(rt, case.name, amiss, None);
     Ok(())
 }
 

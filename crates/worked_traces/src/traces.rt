@@ -1,10 +1,12 @@
-//! Traces that tests replay and run.
+//! Traces that tests replay, hand in and run.
 ghost use Rattle.std.specs.Prelude.{◌<◌, length};
 
 use docsis_wire::Bytes;
 use flow_core::FlowRecord;
+use lane::{Input, SidRow};
+use receiver::{Decision, Lists, Setup};
 use std::alloc::{AllocError, Global};
-use uplink::{Decision, Input, Lists, Setup, SidRow};
+use worked_frames::samples::{FIRST, SECOND, THIRD};
 
 /// A line of a trace.
 #[derive(Clone, Copy)]
@@ -16,18 +18,6 @@ pub enum Line {
     /// A decision on this flow, and the number up to which its segments are lost.
     Gap(usize, Option<u16>),
 }
-
-/// A frame of eight bytes without an extended header.
-pub const PLAIN: &[u8] = &[0, 0, 0, 2, 0x11, 0x11, 0xaa, 0xbb];
-/// A frame of nine bytes with an extended header of one byte.
-pub const EXTENDED: &[u8] = &[1, 1, 0, 3, 0xe0, 0x22, 0x22, 0xcc, 0xdd];
-
-/// The segments of the two frames, cut inside both of their headers.
-pub const FIRST: &[u8] = &[0x80, 0, 0, 0, 0, 0, 0, 0, 0, 0, 0, 2, 0x11];
-
-pub const SECOND: &[u8] = &[0x80, 3, 0, 8, 0, 0, 0, 0, 0x11, 0xaa, 0xbb, 1, 1, 0, 3];
-
-pub const THIRD: &[u8] = &[0, 0, 0, 0x10, 0, 0, 0, 0, 0xe0, 0x22, 0x22, 0xcc, 0xdd];
 
 /// The flow of all traces.
 pub const FLOW: FlowRecord = FlowRecord {

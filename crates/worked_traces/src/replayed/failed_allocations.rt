@@ -1,14 +1,17 @@
 //! Tests to be run with the Nth request for memory refused, and those whose names end in
 //! `without_memory` with all later ones refused too. Each says `refused` when a call was.
 use super::{CLOSED, REPEATED, expect_fault};
-use crate::outcomes::{BOTH_FRAMES, expect_outcome};
+use crate::expect::expect_same;
+use crate::outcomes::{BOTH_FRAMES, part_amiss};
 use crate::traces::*;
 use docsis_wire::NoCheck;
 use flow_core::SetupFault;
+use lane::LaneFault;
+use receiver::{Lists, Outcome, ReplayFault, Setup, admitted_order, replay};
 use std::alloc::{AllocError, Global};
 use std::test::Fail;
-use uplink::{LaneFault, Lists, Outcome, ReplayFault, Setup, admitted_order, replay};
 use worked_frames::refused::{expect_refused, say_refused, say_whether_refused};
+use worked_frames::samples::{FIRST, SECOND, THIRD};
 
 /// The second of three segments comes first, and a decision names no flow.
 const LINES: [Line; 7] = [
@@ -45,7 +48,8 @@ fn replay_refused(rt: HostRuntime) -> Result<(), Fail> {
             try_replay(rt.alloc(), &trace)?
         }
     };
-    expect_outcome(&rt, "a replay", &outcome, &BOTH_FRAMES);
+    let amiss = part_amiss(&outcome, &BOTH_FRAMES, BOTH_FRAMES.order);
+    expect_same(&rt, "a replay", amiss, None);
     Ok(())
 }
 

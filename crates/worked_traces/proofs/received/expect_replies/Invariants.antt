@@ -1,6 +1,0 @@
--- The receiver goes on receiving.
-use Rattle.receiver.specs.Receiving.{IsReceiving}
-use Rattle.worked_traces.proofs.received.expect_replies.Given as goal
-
-abbrev pub invariant-loop-line : goal.invariant-loop-line
-invariant-loop-line g l = IsReceiving g.C.HeaderCheck.accepts l.receiver

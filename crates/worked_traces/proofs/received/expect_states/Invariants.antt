@@ -1,6 +1,0 @@
--- The receiver goes on receiving.
-use Rattle.receiver.specs.Receiving.{IsReceiving}
-use Rattle.worked_traces.proofs.received.expect_states.Given as goal
-
-abbrev pub invariant-loop-place : goal.invariant-loop-place
-invariant-loop-place g l = IsReceiving g.C.HeaderCheck.accepts l.receiver
