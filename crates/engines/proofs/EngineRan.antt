@@ -4,13 +4,14 @@ use Rattle.std.specs.Prelude.{IfSome}
 use Rattle.std.specs.Io.KnownBytes.{Appends}
 use Rattle.std.proofs.KnownBytes.{Keeps-refl}
 use Rattle.text_lines.specs.declared.fault.TextFault.{TextFault}
+use Rattle.text_lines.specs.declared.fault.TextFault.TheVariants as text_fault
 use Rattle.text_lines.specs.Format.{Format}
 use Rattle.engines.specs.declared.device.Device.{Device}
 use Rattle.engines.specs.declared.fault.WriteFault.{WriteFault}
 use Rattle.engines.specs.declared.fault.EngineFault.{EngineFault}
 use Rattle.engines.specs.declared.fault.EngineFault.TheVariants.{Trace, Cut, OutOfMemory, Read, Write, Usage}
 use Rattle.engines.specs.Device.{inner_of, has_failed}
-use Rattle.engines.specs.Engine.{WritesText, WritesFront, IsReadBefore, HasCause, RunsEngine}
+use Rattle.engines.specs.Engine.{engine_fault, WritesText, WritesFront, IsReadBefore, HasCause, RunsEngine}
 use Rattle.engines.specs.Transfer.{AppendsFront, IsReadToEnd}
 use Rattle.engines.specs.Inside.LinesRead.{IsLinesFault, HasLinesCause}
 use Rattle.engines.specs.Inside.Writing.{IsWritten}
@@ -88,6 +89,30 @@ module _ {R W : Type 0} (remaining : R → Option (List ℕ)) (contents : W → 
       nothing_written = λ other. absurd (other refl);
       flushed = tt;
       cause = wrote.failed;
+      no_cause = tt;
+      read_first = λ other. (end.0, λ more. end.1);
+    }
+
+  -- an input that was read to its end has a fault: nothing was written
+  module _ (reader reader' : Device R) (writer : Device W) (input : List ℕ) (is : IfSome (remaining (inner_of reader)) (λ bytes. input ≡ bytes))
+      (end : IsReadToEnd reader' (remaining (inner_of reader'))) where
+    cause_of_fault : (fault : TextFault) → IsFaultOf input fault → HasCause IsFaultOf (remaining (inner_of reader)) reader' writer (engine_fault fault)
+    cause_of_fault (text_fault.Trace fault) faulty = (input, is, faulty)
+    cause_of_fault (text_fault.Cut fault) faulty = (input, is, faulty)
+    cause_of_fault text_fault.OutOfMemory faulty = tt
+
+    no_write_fault : (fault : TextFault) → engine_fault fault ≢ Write
+    no_write_fault (text_fault.Trace fault) same = cc
+    no_write_fault (text_fault.Cut fault) same = cc
+    no_write_fault text_fault.OutOfMemory same = cc
+
+    pub ran-faulty : (fault : TextFault) → IsFaultOf input fault → RunsEngine remaining contents IsTextOf IsFaultOf reader reader' writer writer (Err (engine_fault fault))
+    ran-faulty fault faulty = record {
+      written = tt;
+      write_fault = λ same. absurd (no_write_fault fault cc);
+      nothing_written = λ other. Keeps-refl (contents (inner_of writer));
+      flushed = tt;
+      cause = cause_of_fault fault faulty;
       no_cause = tt;
       read_first = λ other. (end.0, λ more. end.1);
     }

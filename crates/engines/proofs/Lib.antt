@@ -4,3 +4,5 @@ pub mod WrittenText
 pub mod ReadLines
 pub mod EngineRan
 pub mod JoinedText
+pub mod CutText
+pub mod TraceText

@@ -6,37 +6,19 @@ ghost use Rattle.engines.specs.Engine.{RunsEngine};
 ghost use Rattle.texts.specs.Cut.{IsCutText, IsCutFault};
 
 use crate::device::Device;
-use crate::engine::{Engine, run_engine};
 use crate::fault::EngineFault;
+use crate::lines_read::read_lines;
+use crate::transfer::write_text;
 use docsis_wire::FillByte;
 use std::alloc::Global;
 use std::io::{Read, Write};
-use texts::{TextFault, cut_lines};
-
-/// The engine of `cut`.
-#[derive(Drop)]
-pub struct CutEngine {
-    /// The first segment's number, 0 to 8191.
-    first: u16,
-    /// What pieces are filled with.
-    fill: FillByte,
-    ghost in_range: { first < sequence_modulus },
-}
-
-impl Engine for CutEngine {
-    ghost is_text = { λ engine. IsCutText engine.first engine.fill };
-
-    ghost is_fault = { λ _. IsCutFault };
-
-    fn make_text(self, alloc: Global, input: Vec<u8>) -> Result<Vec<u8>, TextFault> {
-        cut_lines(alloc, input, self.first, self.fill)
-    }
-}
+use texts::CutInput;
 
 /// Cuts the frames that a reader gives into the pieces that it gives, and writes the segments, each
 /// a line of hexadecimal. The first one has the number `first`, 0 to 8191, and what a piece has of
-/// fill is this byte. It reads all, at most 268,435,456 bytes, then makes the whole text, and then
-/// writes it; an empty one is not written.
+/// fill is this byte. It reads all, at most 268,435,456 bytes, piece by piece, of which it keeps the
+/// frames and the pieces alone; then it makes the whole text, and then writes it. An empty one is
+/// not written.
 ///
 /// `Read`: the reader failed or gave more. `Trace`: the first faulty line, `UnknownLine`,
 /// `FieldCount`, `BadNumber` or `NotHex`. `Cut`: no line is at fault, and this is the first fault
@@ -55,5 +37,8 @@ pub fn cut_text<R: Read, W: Write>(
     ensures { RunsEngine R.remaining W.contents (IsCutText first fill) IsCutFault
         reader.old reader.new writer.old writer.new result }
 {
-    run_engine(alloc, CutEngine { first, fill }, reader, writer)
+    let read = read_lines(alloc, CutInput::new(alloc), reader)?;
+    let text = read.lines(alloc, first, fill)?;
+    write_text(writer, &text)?;
+    Ok(())
 }

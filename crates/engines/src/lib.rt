@@ -5,9 +5,11 @@
 //! order of use:
 //!
 //! - [`read_words`] reads what the arguments of the program ask for.
-//! - [`join_text`], [`cut_text`] and [`replay_text`] are the engines. Each reads its whole input
-//!   ([`read_input`]), makes the whole text by the call of the crate `texts`, and then writes it
-//!   ([`write_text`]). [`replay_text_by`] decides besides by a rule which segments are lost.
+//! - [`join_text`], [`cut_text`] and [`replay_text`] are the engines. Each reads its input to the
+//!   end, piece by piece, and only then writes: frames and reports as their lines are made, a cut
+//!   at once. [`replay_text_by`] decides besides by a rule which segments are lost.
+//! - [`read_input`] reads a whole input, and [`write_text`] writes a whole text, for the engine of
+//!   `run`.
 //! - [`write_fault`] writes the line of a fault, and [`status`] is its exit status.
 //!
 //! What matters most: they write exactly the text that stands for the lines they read; or they
@@ -20,7 +22,6 @@
 
 mod cut;
 mod device;
-mod engine;
 mod fault;
 mod fault_line;
 mod join;

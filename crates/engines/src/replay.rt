@@ -1,35 +1,38 @@
 //! The command `replay`: a trace becomes the report of what a receiver gives for it.
+ghost use Rattle.std.specs.Prelude.{◌≡◌, []};
 ghost use Rattle.engines.specs.Device.{IsFresh};
 ghost use Rattle.engines.specs.Engine.{RunsEngine};
+ghost use Rattle.engines.specs.Inside.Writing.{IsWritten};
+ghost use Rattle.texts.specs.Report.{report_text};
 ghost use Rattle.texts.specs.Replay.{IsReplayed, IsReplayedBy, IsReplayFault};
 
 use crate::device::Device;
-use crate::engine::{Engine, run_engine};
-use crate::fault::EngineFault;
+use crate::fault::{EngineFault, WriteFault};
+use crate::lines_read::read_lines;
+use crate::text_writer::{TextWriter, held_room};
 use loss_rule::LossRule;
+use receiver::Outcome;
 use std::alloc::Global;
 use std::io::{Read, Write};
-use texts::{TextFault, laws, replay_lines_by};
+use texts::{DEFAULT_CAPACITY, Reading, laws, put_report, replay_trace};
 
-/// The engine of `replay`.
-#[derive(Drop)]
-pub struct ReplayEngine {
-    /// By what losses are decided.
-    rule: LossRule,
-}
-
-impl Engine for ReplayEngine {
-    ghost is_text = { λ engine. IsReplayedBy engine.rule };
-
-    ghost is_fault = { λ _. IsReplayFault };
-
-    fn make_text(self, alloc: Global, input: Vec<u8>) -> Result<Vec<u8>, TextFault> {
-        replay_lines_by(self.rule, alloc, input)
-    }
+/// Writes the report of an outcome as it makes it. The room is empty, and no other memory is taken.
+fn write_report<W: Write>(
+    outcome: &Outcome,
+    room: &mut Vec<u8>,
+    writer: &mut Device<W>,
+) -> Result<(), WriteFault>
+    requires { room.old.items ≡ [] }
+    ensures { IsWritten W.contents (report_text outcome.now) writer.old writer.new result }
+{
+    let mut text = TextWriter::new(writer, room);
+    put_report(&mut text, outcome);
+    text.finish()
 }
 
 /// Replays the trace that a reader gives, in the order of its lines, and writes the report of it.
-/// It reads all, at most 268,435,456 bytes, then makes the whole text, and then writes it.
+/// It reads all, at most 268,435,456 bytes, piece by piece, of which it keeps the trace alone; then
+/// it plays the trace, and then it writes the report as it makes it.
 ///
 /// `Read`: the reader failed or gave more. `Trace`: the first faulty line, any kind but `TooShort`
 /// and `PointerPast`. `OutOfMemory`: an allocation failed. Up to here nothing was written. `Write`:
@@ -61,5 +64,12 @@ pub fn replay_text_by<R: Read, W: Write>(
     ensures { RunsEngine R.remaining W.contents (IsReplayedBy rule) IsReplayFault
         reader.old reader.new writer.old writer.new result }
 {
-    run_engine(alloc, ReplayEngine { rule }, reader, writer)
+    laws::trace_passes_the_checks();
+    laws::tags_of_a_trace_are_lawful();
+    let reading = read_lines(alloc, Reading::new(alloc, DEFAULT_CAPACITY), reader)?;
+    let trace = reading.into_trace(DEFAULT_CAPACITY);
+    let outcome = replay_trace(rule, alloc, trace)?;
+    let mut room = held_room(alloc)?;
+    write_report(&outcome, &mut room, writer)?;
+    Ok(())
 }

@@ -7,6 +7,7 @@ pub mod OneJoinFault
 pub mod OneCutFault
 pub mod TextLengths
 pub mod PrintedSoFar
+pub mod CutOfLines
 pub mod NumberedLines
 pub mod OutOfMemoryAlone
 pub mod TraceFields

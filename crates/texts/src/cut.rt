@@ -24,11 +24,41 @@ use text_lines::{
 /// How many bytes of a segment its header takes.
 const HEADER_BYTES: usize = 8;
 
-/// The frames and the pieces of the lines so far, each in their order.
+/// The frames and the pieces of the lines so far of an input of `cut`, each in their order.
 #[derive(Drop)]
-struct CutInput {
+pub struct CutInput {
     frames: Vec<Bytes>,
     pieces: Vec<Piece>,
+}
+
+impl CutInput {
+    ghost use Rattle.std.specs.Prelude.{[]};
+    ghost use Rattle.texts.specs.Inside.Cut.{IsPrinted, HasPieceFault};
+
+    /// No frames yet, and no pieces.
+    pub fn new(alloc: Global) -> CutInput
+        ensures frames { result.frames.items ≡ [] }
+        ensures pieces { result.pieces.items ≡ [] }
+    {
+        CutInput {
+            frames: Vec::new(alloc),
+            pieces: Vec::new(alloc),
+        }
+    }
+
+    /// A line for each segment that the frames are cut into. The first one has the number `first`,
+    /// 0 to 8191. Otherwise it reports the first fault of the frames and pieces, or that an
+    /// allocation failed.
+    pub fn lines(&self, alloc: Global, first: u16, fill: FillByte) -> Result<Vec<u8>, TextFault>
+        requires { first < sequence_modulus }
+        ensures text { IfOk result (λ text.
+            IsPrinted first fill self.now.frames.items self.now.pieces.items text.items) }
+        ensures fault { IfErr result
+            (HasPieceFault self.now.frames.items self.now.pieces.items) }
+    {
+        let cutter = Cutter::new(&self.frames, &self.pieces, first, fill, &NoCheck)?;
+        Ok(segment_lines(alloc, cutter, text_length(self))?)
+    }
 }
 
 impl TakeLine for CutInput {
@@ -57,10 +87,7 @@ fn read_cut_input(alloc: Global, input: Vec<u8>) -> Result<CutInput, ParseFault>
         (record { frames = read.frames.items; pieces = read.pieces.items })) }
     ensures fault { IfErr result (IsReadingFault cut_format nothing (lines_of input.items)) }
 {
-    let mut read = CutInput {
-        frames: Vec::new(alloc),
-        pieces: Vec::new(alloc),
-    };
+    let mut read = CutInput::new(alloc);
     take_lines(alloc, &input, &mut read)?;
     Ok(read)
 }
@@ -135,6 +162,5 @@ pub fn cut_lines(
     ensures fault { IfErr result (IsCutFault input.items) }
 {
     let read = read_cut_input(alloc, input)?;
-    let cutter = Cutter::new(&read.frames, &read.pieces, first, fill, &NoCheck)?;
-    Ok(segment_lines(alloc, cutter, text_length(&read))?)
+    read.lines(alloc, first, fill)
 }

@@ -14,6 +14,10 @@
 //!   tags that `receiver` and `uplink` take, and [`report`] prints its outcome; [`read_trace`]
 //!   also frees what it has read. So the crate `commands` receives a trace on threads.
 //!
+//! - Where an input comes in pieces, [`CutInput`], [`JoinInput`] and [`Reading`] are what its lines
+//!   are to be taken by, of a cut, of a join and of a trace; [`replay_trace`] plays a trace, and
+//!   [`put_report`] puts its report.
+//!
 //! The lines and fields of all these formats, and the faults of a line, are those of `text_lines`;
 //! those of its names that a caller needs are exported here too.
 //!
@@ -33,12 +37,12 @@ mod report_lines;
 mod report_text;
 mod trace;
 
-pub use cut::cut_lines;
+pub use cut::{CutInput, cut_lines};
 pub use join::{JoinInput, join_lines};
-pub use replay::{replay_lines, replay_lines_by};
+pub use replay::{replay_lines, replay_lines_by, replay_trace};
 pub use report_lines::{put_flow_line, put_frame_line, put_lane_line, put_request_line};
 pub use report_text::{put_report, report};
 pub use text_lines::{
     Capacities, DEFAULT_CAPACITY, ParseFault, TextFault, TraceFault, TraceKind, read_number,
 };
-pub use trace::{Trace, parse_trace, read_trace};
+pub use trace::{Reading, Trace, parse_trace, read_trace};

@@ -16,7 +16,7 @@ use std::alloc::{AllocError, Global};
 use text_lines::{Capacities, DEFAULT_CAPACITY, TextFault};
 
 /// What a trace gives by this rule; the trace is freed.
-fn replay_trace(rule: LossRule, alloc: Global, trace: Trace) -> Result<Outcome, AllocError>
+pub fn replay_trace(rule: LossRule, alloc: Global, trace: Trace) -> Result<Outcome, AllocError>
     requires can_receive { CanReceive trace.setup }
     requires lawful { IsLawfulOrder (input_counts (incoming_of trace.lists))
         trace.tags.items }

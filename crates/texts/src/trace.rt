@@ -9,7 +9,7 @@ use text_lines::{Capacities, ParseFault};
 mod line;
 mod reading;
 
-pub use reading::parse_trace;
+pub use reading::{Reading, parse_trace};
 
 /// What a trace gives.
 #[derive(Debug, Drop)]

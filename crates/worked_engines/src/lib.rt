@@ -17,6 +17,8 @@ mod fitful;
 #[cfg(test)]
 mod limits;
 #[cfg(test)]
+mod long_texts;
+#[cfg(test)]
 mod running;
 #[cfg(test)]
 mod words;

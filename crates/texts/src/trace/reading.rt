@@ -24,9 +24,9 @@ fn push_tag(tags: &mut Vec<u8>, sender: u8) -> Result<(), AllocError>
     Ok(tags.push(sender)?)
 }
 
-/// What the lines so far give.
+/// What the lines so far of a trace give.
 #[derive(Drop)]
-struct Reading {
+pub struct Reading {
     ring: u16,
     flows: Vec<FlowRecord>,
     sids: Vec<SidRow>,
@@ -36,11 +36,12 @@ struct Reading {
 }
 
 impl Reading {
-    ghost use Rattle.texts.specs.Trace.Place.{nothing_said};
+    ghost use Rattle.texts.specs.Trace.{IsGivenBy};
+    ghost use Rattle.texts.specs.Trace.Place.{Said, nothing_said};
     ghost use Rattle.texts.specs.Inside.Reading.{HasRead, IsInRange, ReadsLine};
 
     /// What no lines give, where each flow is to have a ring of this capacity.
-    fn new(alloc: Global, ring: u16) -> Reading
+    pub fn new(alloc: Global, ring: u16) -> Reading
         ensures { HasRead (nothing_said ring) result }
     {
         let lists = Lists {
@@ -60,6 +61,25 @@ impl Reading {
             tags: Vec::new(alloc),
             seen: SeenSids::new(),
         }
+    }
+
+    /// The trace that the lines give, with mailboxes of this capacity.
+    pub fn into_trace(self, mailbox: u16) -> Trace
+        ensures { (said : Said) → HasRead said self → IsGivenBy mailbox said result }
+    {
+        let Reading {
+            flows,
+            sids,
+            lists,
+            tags,
+            ..
+        } = self;
+        let setup = Setup {
+            flows,
+            sids,
+            mailbox,
+        };
+        Trace { setup, lists, tags }
     }
 
     /// Whether a line that begins with this word is late: it sets up a flow or a service
@@ -183,17 +203,5 @@ pub fn parse_trace(
 {
     let mut reading = Reading::new(alloc, ring);
     take_lines(alloc, input, &mut reading)?;
-    let Reading {
-        flows,
-        sids,
-        lists,
-        tags,
-        ..
-    } = reading;
-    let setup = Setup {
-        flows,
-        sids,
-        mailbox,
-    };
-    Ok(Trace { setup, lists, tags })
+    Ok(reading.into_trace(mailbox))
 }

@@ -11,9 +11,9 @@ loop-count-preserved g c =
     let front = c.read_piece-in-loop-count.new.room in
     let count = c.in_ok-count-2.count in
     let long : length front ≡ c.loop-count.room.len = search rules in
-    let front_is = of_room count c.loop-count.room.len front _ c.in_ok-count-2.ensures.within long in
     let piece : c.deref.result.now ≡ old = c.deref.ensures.value in
     let within : c.loop-count.count ≤ length old = search rules in
+    let front_is = of_room count c.loop-count.room.len front _ c.in_ok-count-2.ensures.within long in
     record {
       so_far =
           so_far-more remaining c.args.reader.now g.T.TakeLine.format g.T.TakeLine.stands_for c.args.taker c.loop-count.reader c.read_piece-in-loop-count.new.reader

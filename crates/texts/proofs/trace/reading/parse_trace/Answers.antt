@@ -1,4 +1,3 @@
-use Rattle.std.proofs.Common.{refl}
 use Rattle.std.proofs.lemmas.Result.{err_from_is_err_and}
 use Rattle.texts.specs.Trace.Place.{nothing_said}
 use Rattle.texts.proofs.trace.reading.parse_trace.Goals as goal
@@ -14,5 +13,5 @@ returns-clause-trace c =
     record {
       said = read.0;
       read = read.1;
-      given = record { flows = read.2.flows; sids = read.2.sids; mailbox_is = refl; lists = read.2.lists; tags = read.2.tags };
+      given = c.into_trace.ensures read.0 read.2;
     }
