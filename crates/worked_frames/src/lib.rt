@@ -1,5 +1,5 @@
-//! Frames, segments, cuts, windows and joiners that were worked out by hand: the tests of
-//! `docsis_wire`, `reorder` and `ccf`.
+//! Frames, segments, windows and joiners that were worked out by hand: the tests of `docsis_wire`
+//! but for its cut, of `reorder` and of `ccf`.
 //!
 //! They stand apart from these crates, so that those are proved once and not a second time with
 //! their tests. There is nothing here for a caller, but [`samples`] and [`refused`] are for the
@@ -8,8 +8,6 @@
 
 #[cfg(test)]
 mod checks;
-#[cfg(test)]
-mod cuts;
 #[cfg(test)]
 mod expect;
 #[cfg(test)]

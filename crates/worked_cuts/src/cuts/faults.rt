@@ -1,11 +1,11 @@
 //! What can be at fault with frames and pieces.
 use super::{named, owned};
 use crate::expect::expect_same;
-use crate::samples::{EXTENDED, NotEndingIn12, PLAIN, SPOILED};
 use docsis_wire::{Bytes, CutFault, FillByte, NoCheck, cut};
 use std::alloc::{AllocError, Global};
 use std::process::Abort;
 use std::test::Fail;
+use worked_frames::samples::{EXTENDED, NotEndingIn12, PLAIN, SPOILED};
 
 pub(super) struct Fault {
     pub(super) name: &'static str,

@@ -1,11 +1,11 @@
 //! Worked examples, at once and a segment at a time.
 use super::{expect_segment, expect_segments, named, owned};
 use crate::expect::{expect_same, expect_true};
-use crate::samples::{EXTENDED, FIRST, PLAIN, SECOND, THIRD};
 use docsis_wire::{Bytes, CutFault, Cutter, FillByte, NoCheck, Segment, cut};
 use std::alloc::Global;
 use std::process::Abort;
 use std::test::Fail;
+use worked_frames::samples::{EXTENDED, FIRST, PLAIN, SECOND, THIRD};
 
 pub struct Cutting {
     pub name: &'static str,

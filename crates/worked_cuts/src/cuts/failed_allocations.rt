@@ -4,12 +4,12 @@ use super::faults::{FAULTS, Fault, long_and_plain};
 use super::worked::{INSIDE_PIECES, INSIDE_SEGMENTS};
 use super::{expect_segment, expect_segments, named, owned};
 use crate::expect::{expect_same, expect_true};
-use crate::refused::{expect_refused, say_refused, say_whether_refused};
-use crate::samples::{EXTENDED, PLAIN};
 use docsis_wire::{Bytes, CutFault, Cutter, FillByte, NoCheck, Piece, Segment, cut};
 use std::alloc::{AllocError, Global};
 use std::process::Abort;
 use std::test::Fail;
+use worked_frames::refused::{expect_refused, say_refused, say_whether_refused};
+use worked_frames::samples::{EXTENDED, PLAIN};
 
 /// Makes the two frames, and once more where the first call was refused memory.
 fn frames(rt: &impl Print, alloc: Global) -> Result<Vec<Bytes>, Fail> {

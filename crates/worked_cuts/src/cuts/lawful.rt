@@ -2,11 +2,11 @@
 use super::worked::{CUTTINGS, Cutting};
 use super::{named, owned};
 use crate::expect::expect_same;
-use crate::samples::{EXTENDED, PLAIN};
 use docsis_wire::{Bytes, CutFault, FillByte, NoCheck, Segment, cut, well_formed};
 use std::alloc::{AllocError, Global};
 use std::process::Abort;
 use std::test::Fail;
+use worked_frames::samples::{EXTENDED, PLAIN};
 
 /// The frames end to end, where each starts, and where there may be fill.
 #[derive(Drop)]
