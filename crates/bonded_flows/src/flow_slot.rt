@@ -14,6 +14,7 @@ ghost use Rattle.bonded_flows.specs.Taking.{Takes, Closes};
 ghost use Rattle.bonded_flows.specs.ByRule.{decision_event, IsTakable, IsTold, IsToldLost, HasGivenByRule};
 ghost use Rattle.bonded_flows.specs.Slots.{PartStands, IsInUse, IsPrepared, IsAtRest, IsClosing};
 ghost use Rattle.bonded_flows.specs.Slots.{SlotTakes, BeginsAnew, LeavesOf, held_in, setup_in};
+ghost use Rattle.bonded_flows.specs.declared.flow_slot.DecideFault.{DecideFault};
 ghost use Rattle.bonded_flows.specs.declared.flow_slot.NotReady.{NotReady};
 
 use crate::bonded_flow::BondedFlow;
@@ -124,6 +125,7 @@ impl FlowSlot {
             self.new out.new }
         ensures prepared { IfOk result (λ _. IsPrepared self.new) }
         ensures closing { result ≡ Err NotReady.Closing → IsClosing self.new }
+        ensures refused { IsClosing self.old → result ≡ Err NotReady.Closing }
         ensures open_still { IsClosing self.new → IsClosing self.old }
     {
         let Some(flow) = &mut self.flow else {
@@ -213,6 +215,10 @@ impl FlowSlot {
             (SlotTakes O.after (C.accepts check.now) self.old out.old [] self.new out.new)
             (SlotTakes O.after (C.accepts check.now) self.old out.old
             (handed_in (decision_event decision) ∷ []) self.new out.new)) }
+        ensures closing { result ≡ Err (DecideFault.NotTaken NotReady.Closing)
+            → IsClosing self.new }
+        ensures refused { IsClosing self.old
+            → result ≡ Err (DecideFault.NotTaken NotReady.Closing) }
         ensures open_still { IsClosing self.new → IsClosing self.old }
     {
         if self.flow.is_none() && !decision.is_skip() {
@@ -242,6 +248,10 @@ impl FlowSlot {
             (SlotTakes O.after (C.accepts check.now) self.old out.old [] self.new out.new)
             (SlotTakes O.after (C.accepts check.now) self.old out.old
             (handed_in (decision_event decision) ∷ []) self.new out.new)) }
+        ensures closing { result ≡ Err (DecideFault.NotTaken NotReady.Closing)
+            → IsClosing self.new }
+        ensures refused { IsClosing self.old
+            → result ≡ Err (DecideFault.NotTaken NotReady.Closing) }
         ensures open_still { IsClosing self.new → IsClosing self.old }
     {
         self.prepare(alloc, check, out)?;
@@ -289,6 +299,7 @@ impl FlowSlot {
             self.new out.new }
         ensures at_rest { IfOk result (λ _. IsAtRest self.new) }
         ensures closing { result ≡ Err NotReady.Closing → IsClosing self.new }
+        ensures refused { IsClosing self.old → result ≡ Err NotReady.Closing }
         ensures open_still { IsClosing self.new → IsClosing self.old }
     {
         if self.flow.is_none() {
@@ -378,6 +389,7 @@ fn ready<C: HeaderCheck, O: Consumer>(
     ensures takes { Takes O.after (C.accepts check.now) flow.old out.old [] flow.new out.new }
     ensures settled { IfOk result (λ _. IsSettled flow.new) }
     ensures closing { result ≡ Err NotReady.Closing → flow.new.pending ≡ Pending.Close }
+    ensures refused { flow.old.pending ≡ Pending.Close → result ≡ Err NotReady.Closing }
     ensures open_still { flow.new.pending ≡ Pending.Close → flow.old.pending ≡ Pending.Close }
 {
     if flow.is_being_closed() {

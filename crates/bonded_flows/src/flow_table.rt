@@ -17,6 +17,7 @@ ghost use Rattle.bonded_flows.specs.Slots.{LeavesOf, AreNewSlots, held_in};
 ghost use Rattle.bonded_flows.specs.Table.{StandsFor, IsInUse};
 ghost use Rattle.bonded_flows.specs.Table.{IsPreparedAt, IsAtRestAt, IsClosingAt, PartStandsAt, TakesMore, BeginsAnewAt};
 ghost use Rattle.bonded_flows.specs.Table.{OthersStay, NoneBeginsToClose};
+ghost use Rattle.bonded_flows.specs.declared.flow_slot.DecideFault.{DecideFault};
 ghost use Rattle.bonded_flows.specs.declared.flow_slot.NotReady.{NotReady};
 
 use crate::channel_sets::{ChannelSet, channel_sets};
@@ -54,6 +55,7 @@ impl<C: HeaderCheck + Drop> FlowTable<C> {
         ensures stands { IfOk result (λ table. StandsFor C.accepts table (C.accepts check)
             (record { rule = rule; records = records.now; channels = channels; rows = rows.now })
             [] []) }
+        ensures at_rest { IfOk result (λ table. (k : ℕ) → IsAtRestAt table k) }
         ensures in_use { IfOk result (λ table. IsInUse C.accepts table) }
     {
         let sets = channel_sets(alloc, channels, rows, records.len())?;
@@ -81,6 +83,7 @@ impl<C: HeaderCheck + Drop> FlowTable<C> {
         ensures takes { TakesMore O.after C.accepts self.old out.old flow [] self.new out.new }
         ensures prepared { IfOk result (λ _. IsPreparedAt self.new flow) }
         ensures closing { result ≡ Err NotReady.Closing → IsClosingAt self.new flow }
+        ensures refused { IsClosingAt self.old flow → result ≡ Err NotReady.Closing }
         ensures open_still { NoneBeginsToClose self.old self.new }
         ensures others { OthersStay self.old flow self.new }
         ensures in_use { IsInUse C.accepts self.new }
@@ -142,6 +145,10 @@ impl<C: HeaderCheck + Drop> FlowTable<C> {
             (TakesMore O.after C.accepts self.old out.old flow
             (record { flow = flow; input = comes (handed_in (decision_event decision)) } ∷ [])
             self.new out.new)) }
+        ensures closing { result ≡ Err (DecideFault.NotTaken NotReady.Closing)
+            → IsClosingAt self.new flow }
+        ensures refused { IsClosingAt self.old flow
+            → result ≡ Err (DecideFault.NotTaken NotReady.Closing) }
         ensures open_still { NoneBeginsToClose self.old self.new }
         ensures others { OthersStay self.old flow self.new }
         ensures in_use { IsInUse C.accepts self.new }
@@ -161,6 +168,7 @@ impl<C: HeaderCheck + Drop> FlowTable<C> {
         ensures takes { TakesMore O.after C.accepts self.old out.old flow [] self.new out.new }
         ensures at_rest { IfOk result (λ _. IsAtRestAt self.new flow) }
         ensures closing { result ≡ Err NotReady.Closing → IsClosingAt self.new flow }
+        ensures refused { IsClosingAt self.old flow → result ≡ Err NotReady.Closing }
         ensures open_still { NoneBeginsToClose self.old self.new }
         ensures others { OthersStay self.old flow self.new }
         ensures in_use { IsInUse C.accepts self.new }

@@ -1,4 +1,4 @@
-use Rattle.std.proofs.Common.{◌≡◌, refl, subst}
+use Rattle.std.proofs.Common.{◌≡◌, refl, sym, subst}
 use Rattle.std.specs.Box.{with_value}
 use Rattle.bonded_flows.specs.declared.bonded_flow.BondedFlow.{BondedFlow}
 use Rattle.bonded_flows.specs.declared.pending.Pending.TheVariants.{Close}
@@ -23,3 +23,7 @@ returns-clause-open_still g c = λ closing. (
   subst (λ (flow : BondedFlow). flow.pending ≡ Close) c.deref_mut.ensures.value
       (c.ready.ensures.open_still (closing-of _ (with_value c.in-Some.flow c.ready.new.flow) refl closing)),
 )
+
+pub returns-clause-refused : goal.returns-clause-refused
+returns-clause-refused g c = λ closing.
+    c.ready.ensures.refused (subst (λ (flow : BondedFlow). flow.pending ≡ Close) (sym c.deref_mut.ensures.value) (closing-of _ c.in-Some.flow c.in-Some.is closing))

@@ -1,6 +1,8 @@
-use Rattle.std.proofs.Common.{ℕ, Bool, Result, IfOk, List, ◌++◌, subst}
+use Rattle.std.proofs.Common.{◌≡◌, ℕ, Bool, Result, IfOk, List, ◌++◌, subst}
 use Rattle.std.specs.declared.alloc.AllocError.{AllocError}
 use Rattle.loss_rule.specs.Rule.{Coming}
+use Rattle.bonded_flows.specs.declared.flow_slot.DecideFault.TheVariants.{NotTaken}
+use Rattle.bonded_flows.specs.declared.flow_slot.NotReady.TheVariants.{Closing}
 use Rattle.bonded_flows.specs.FlowSetup.{FlowSetup}
 use Rattle.bonded_flows.specs.ByRule.{decision_event, IsToldLost}
 use Rattle.bonded_flows.specs.Slots.{PartStands}
@@ -29,3 +31,8 @@ returns-in-Ok-clause-told g c = λ setup comings given stands.
     → IsToldLost setup comings (decision_event c.args.decision) lost)) c.in-Ok.is c.decide_prepared.ensures.told in
     told setup comings (given ++ c.prepare.ensures.takes.more)
     (same g.O.Consumer.after check c.args.self.now c.prepare.new.self c.args.out.now c.prepare.new.out c.requires.in_use c.prepare.ensures.takes setup comings given stands)
+
+pub returns-in_err-prepare-clause-closing : goal.returns-in_err-prepare-clause-closing
+returns-in_err-prepare-clause-closing g c = λ is.
+    let same : NotTaken Closing ≡ NotTaken c.in_err-prepare.field-0.0 = rw is at c.from_residual.ensures.1 in
+    c.in_err-prepare.ensures.closing cc

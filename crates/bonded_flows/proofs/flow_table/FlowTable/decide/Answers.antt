@@ -2,7 +2,7 @@ use Rattle.std.proofs.Common.{[], ◌∷◌, refl}
 use Rattle.loss_rule.specs.Rule.{handed_in}
 use Rattle.flow_core.proofs.OneFlow.{written_other}
 use Rattle.bonded_flows.specs.ByRule.{decision_event}
-use Rattle.bonded_flows.specs.Slots.{IsAtRest}
+use Rattle.bonded_flows.specs.Slots.{IsAtRest, IsClosing}
 use Rattle.bonded_flows.proofs.SlotTurns.{on-ok}
 use Rattle.bonded_flows.proofs.TableTurns.{slot-here, none-closes, slot-in_use, table-comes, in_use-decided, at-written, on-err, leaves}
 use Rattle.bonded_flows.proofs.flow_table.FlowTable.decide.Goals as goal
@@ -49,3 +49,11 @@ pub returns-clause-open_still : goal.returns-clause-open_still
 returns-clause-open_still g c =
     none-closes c.args.self.now.slots.items c.args.flow c.index_mut.result.now c.decide.new.self
     (slot-here c.args.self.now.slots.items c.args.flow c.index_mut.result.now c.requires.exists c.index_mut.ensures.value) c.decide.ensures.open_still
+
+pub returns-clause-refused : goal.returns-clause-refused
+returns-clause-refused g c = λ closing.
+    c.decide.ensures.refused (closing c.index_mut.result.now (slot-here c.args.self.now.slots.items c.args.flow c.index_mut.result.now c.requires.exists c.index_mut.ensures.value))
+
+pub returns-clause-closing : goal.returns-clause-closing
+returns-clause-closing g c = λ is slot there.
+    at-written IsClosing c.args.self.now.slots.items c.args.flow c.decide.new.self slot c.requires.exists (c.decide.ensures.closing is) there

@@ -35,3 +35,7 @@ pub returns-clause-open_still : goal.returns-clause-open_still
 returns-clause-open_still g c =
     none-closes c.args.self.now.slots.items c.args.flow c.index_mut.result.now c.go_on.new.self
     (slot-here c.args.self.now.slots.items c.args.flow c.index_mut.result.now c.requires.exists c.index_mut.ensures.value) c.go_on.ensures.open_still
+
+pub returns-clause-refused : goal.returns-clause-refused
+returns-clause-refused g c = λ closing.
+    c.go_on.ensures.refused (closing c.index_mut.result.now (slot-here c.args.self.now.slots.items c.args.flow c.index_mut.result.now c.requires.exists c.index_mut.ensures.value))

@@ -25,3 +25,18 @@ returns-clause-stands g c = record {
 
 pub returns-clause-in_use : goal.returns-clause-in_use
 returns-clause-in_use g c = record { check = _; made = _; history = []; given = []; stands = returns-clause-stands g c }
+
+pub returns-clause-at_rest : goal.returns-clause-at_rest
+returns-clause-at_rest g c = λ k slot there.
+    let inside = slice_get_within c.in_ok-slots.slots.items k slot there in
+    let as_many = c.in_ok-slots.ensures.count in
+    let many : length c.in_ok-sets.sets.items ≡ length c.args.records.now = c.in_ok-sets.ensures.count in
+    elim (slice_get_cases c.args.records.now k).1 [
+      | inl of_record ↦ elim (slice_get_cases c.in_ok-sets.sets.items k).1 [
+        | inl found ↦
+            let new = c.in_ok-slots.ensures.each k of_record.0 found.0 slot of_record.2 (subst (λ sets. slice_get sets k ≡ Some found.0) (sym c.deref.ensures.value) found.2) there in
+            λ flow some. let none = new.none in absurd cc
+        | inr past ↦ let beyond = past.0 in absurd (omega arith)
+      ]
+      | inr past ↦ let beyond = past.0 in absurd (omega arith)
+    ]
