@@ -1,19 +1,18 @@
 -- What was handed in of recorded entries: all of them, and nothing else.
-use Rattle.std.proofs.Common.{◌≡◌, ℕ, ◌<◌, ◌≤◌, ◌==◌, inl, inr, ⊎_elim, Bool, true, false, cond, Option, Some, None, Result, Ok, Err, IfOk, All, List, [], ◌∷◌, ◌++◌, length, map, filter, filter_map, take, slice_index_or, eq-eqb, ne_eqb, refl, sym, ap, subst, ◌∙◌, arith, append-nil}
+use Rattle.std.proofs.Common.{◌≡◌, ℕ, ◌<◌, ◌≤◌, ◌==◌, Bool, true, false, cond, Option, Some, None, Result, Ok, Err, IfOk, All, List, [], ◌∷◌, ◌++◌, length, map, filter_map, slice_index_or, ne_eqb, refl, sym, ap, subst, ◌∙◌, arith}
 use Rattle.std.specs.List.{cons_option}
 use Rattle.std.proofs.lemmas.List.{take_all}
 use Rattle.std.proofs.lemmas.List.Elements.{All-nil, All-cons, All-head, All-tail, All-append, filter_map-append}
 use Rattle.flow_records.specs.declared.decision.Decision.{Decision}
 use Rattle.lane.specs.declared.input.Input.{Input}
 use Rattle.lane.specs.Limits.{channel_limit, senders}
-use Rattle.lane.specs.Inputs.{Answer, AnsweredInput, inputs_of}
-use Rattle.bonded_flows.specs.declared.decision.FlowDecision.{FlowDecision}
+use Rattle.lane.specs.Inputs.{inputs_of}
 use Rattle.bonded_flows.specs.declared.decision.FlowDecision.TheVariants.{Gap, GapTo, SkipTo}
 use Rattle.receiver.specs.HandedIn.{HandedIn, answered_on}
 use Rattle.receiver.specs.HandedIn as handed_in
-use Rattle.receiver.specs.HandedOrder.{sender_of, IsSent, handed_by, flow_decision, handed_decision, IsHandedFrom, IsUsedUp, count_from}
+use Rattle.receiver.specs.HandedOrder.{sender_of, IsSent, handed_by, flow_decision, handed_decision, IsHandedFrom, IsUsedUp}
 use Rattle.receiver.specs.AdmittedOrder.{input_counts}
-use Rattle.receiver.specs.Entries.{Entry, came, decided, came_on, decision_in, tag_of, incoming_in}
+use Rattle.receiver.specs.Entries.{Entry, decided, came_on, decision_in, tag_of, incoming_in}
 use Rattle.loss_rule.specs.declared.rule.LossRule.{LossRule}
 use Rattle.lane.specs.Inputs.{AreAnswered}
 use Rattle.receiver.specs.declared.setup.Setup.{Setup}

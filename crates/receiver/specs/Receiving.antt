@@ -1,5 +1,5 @@
 -- What a receiver stands for that takes one input at a time: all that was handed in, in order, and all that was given for it.
-use Rattle.std.specs.Prelude.{◌≡◌, ℕ, ◌<◌, ◌≤◌, Bool, Option, Some, None, Result, Ok, Err, MatchOption, List, [], ◌∷◌, ◌++◌, length, map, slice_get}
+use Rattle.std.specs.Prelude.{◌≡◌, ℕ, ◌<◌, ◌≤◌, Bool, Option, Some, None, Result, Ok, Err, MatchOption, IfSome, List, [], ◌∷◌, ◌++◌, length, map, slice_get}
 use Rattle.flow_records.specs.declared.record.FlowRecord.{FlowRecord}
 use Rattle.flow_core.specs.declared.counts.FlowCounts.{FlowCounts}
 use Rattle.flow_core.specs.Fates.{Fates, number_of, IsExpected}
@@ -18,6 +18,7 @@ use Rattle.consumer.specs.declared.given.Given.TheVariants.{Frame}
 use Rattle.consumer.specs.Given.{frames_of, requests_given, asked_in}
 use Rattle.bonded_flows.specs.declared.flow_table.FlowTable.{FlowTable}
 use Rattle.bonded_flows.specs.declared.decision.FlowDecision.{FlowDecision}
+use Rattle.bonded_flows.specs.declared.flow_slot.NotReady.{NotReady}
 use Rattle.bonded_flows.specs.declared.flow_slot.NotReady.TheVariants as not_ready
 use Rattle.bonded_flows.specs.ByRule.{decision_event, IsTold, IsToldLost, GaveByRule, HasGivenByRule}
 use Rattle.bonded_flows.specs.Taking.{WasGiven}
@@ -138,6 +139,16 @@ ChangesOneFlow flows (Err (take_error.NoChannel back)) flows' = flows' ≡ flows
 ChangesOneFlow flows (Err (take_error.NotTaken back why)) flows' = (flow : ℕ) × OthersStay flows flow flows'
 ChangesOneFlow flows (Err (take_error.Unfinished flow)) flows' = OthersStay flows flow flows'
 
+-- **Of an input one flow alone counts**: that of which its lane would admit a segment. Where that one is being closed, the input is refused as that, and
+-- only then. Where an input isn't taken no other flow changes.
+pub record KeepsToItsFlow {C : Type 0} (receiver : Receiver C) (channel : ℕ) (input : Input) (result : Result Reply TakeError) (receiver' : Receiver C) : Type 0 where
+  pub flow : Option ℕ
+  pub would : (one : TalliedLane) → slice_get receiver.lanes.items channel ≡ Some one → WouldAdmit one.lane input flow
+  pub refused : IfSome flow (λ k. IsClosingAt receiver.flows k → result ≡ Err (take_error.NotTaken input not_ready.Closing))
+  pub closing : result ≡ Err (take_error.NotTaken input not_ready.Closing) → MatchOption flow ⊥ (IsClosingAt receiver'.flows)
+  pub changed : (back : Input) (why : NotReady) → result ≡ Err (take_error.NotTaken back why)
+      → MatchOption flow (receiver'.flows ≡ receiver.flows) (λ k. OthersStay receiver.flows k receiver'.flows)
+
 -- ============ What is answered to the rest ============
 
 -- whether a segment is lost by a decision that was taken is told rightly, after all that came to its flow
@@ -210,11 +221,13 @@ IsReadyFor lane input flows =
     → admitted_by answer ≡ Some admitted
     → IsPreparedAt flows admitted.flow
 
--- before the lane answers this input, nothing changes but the flow of which it would admit a segment
-pub record ChangesItsFlow {C : Type 0} (lane : Lane) (input : Input) (flows flows' : FlowTable C) : Type 0 where
+-- Before the lane answers this input, nothing changes but the flow of which it would admit a segment, and it is told exactly of that one if it is being closed.
+pub record ChangesItsFlow {C : Type 0} (lane : Lane) (input : Input) (flows : FlowTable C) (ready : Result (Unit {0}) NotReady) (flows' : FlowTable C) : Type 0 where
   pub flow : Option ℕ
   pub would : WouldAdmit lane input flow
   pub changed : MatchOption flow (flows' ≡ flows) (λ k. OthersStay flows k flows')
+  pub refused : IfSome flow (λ k. IsClosingAt flows k → ready ≡ Err not_ready.Closing)
+  pub closing : ready ≡ Err not_ready.Closing → MatchOption flow ⊥ (IsClosingAt flows')
 
 -- a lane that has answered some inputs, with as many records as there are flows
 pub record AnswersFor {C : Type 0} (flows : FlowTable C) (lane : Lane) : Type 0 where

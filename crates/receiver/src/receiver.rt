@@ -1,5 +1,5 @@
 //! A receiver that takes one input at a time.
-ghost use Rattle.std.specs.Prelude.{◌≡◌, ◌≢◌, ◌↔◌, ◌<◌, ◌≤◌, ◌∷◌, [], ◌&&◌, nat_lt, false, ℕ, Bool, List, Some, None, Ok, Err, IfOk, IfErr, OnErr, IfSome, length, slice_get};
+ghost use Rattle.std.specs.Prelude.{◌≡◌, ◌≢◌, ◌↔◌, ◌<◌, ◌≤◌, ◌∷◌, [], ◌&&◌, nat_lt, true, false, ℕ, Bool, List, Some, None, Ok, Err, IfOk, IfErr, OnErr, IfSome, length, slice_get};
 ghost use Rattle.docsis_wire.specs.Limits.{sequence_modulus};
 ghost use Rattle.flow_records.specs.declared.record.FlowRecord.{FlowRecord};
 ghost use Rattle.lane.specs.Inputs.{outstanding_count};
@@ -11,6 +11,7 @@ ghost use Rattle.bonded_flows.specs.Slots.{LeavesOf, held_in};
 ghost use Rattle.bonded_flows.specs.declared.flow_slot.FlowSlot.{FlowSlot};
 ghost use Rattle.bonded_flows.specs.Table.{TableSetup, PartStandsAt, IsPreparedAt, IsAtRestAt};
 ghost use Rattle.bonded_flows.specs.Table.{IsClosingAt, OthersStay, NoneBeginsToClose};
+ghost use Rattle.bonded_flows.specs.declared.flow_slot.DecideFault.{DecideFault};
 ghost use Rattle.bonded_flows.specs.declared.flow_slot.NotReady.{NotReady};
 ghost use Rattle.bonded_flows.specs.Table.{TakesMore as TableTakesMore, IsInUse as IsTableInUse};
 ghost use Rattle.receiver.specs.declared.reply.DecisionReply.{DecisionReply};
@@ -19,7 +20,7 @@ ghost use Rattle.receiver.specs.Tallies.{IsTallyOf};
 ghost use Rattle.receiver.specs.HandedIn.{HandedIn, decided, made_of, answered_on};
 ghost use Rattle.receiver.specs.Receiving.{StandsFor, IsReceiving, TakesMore, IsSettledAt};
 ghost use Rattle.receiver.specs.Receiving.{Replies, Fails, FlowIsSettled, Restarts, HasGivenSince};
-ghost use Rattle.receiver.specs.Receiving.{ChangesOneFlow, ChangesItsFlow};
+ghost use Rattle.receiver.specs.Receiving.{ChangesOneFlow, ChangesItsFlow, KeepsToItsFlow};
 ghost use Rattle.receiver.specs.Receiving.{IsReadyFor, AnswersFor, TakesAdmitted, IsLossToldRightly, IsNumberExpected};
 ghost use Rattle.receiver.specs.Receiving.{IsSettledIfTaken, ClosesAFlow};
 ghost use Rattle.receiver.specs.Received.{Closes, BeginsToClose, IsBeingClosed};
@@ -42,7 +43,7 @@ use std::alloc::{AllocError, Global};
 /// A receiver for the channels and flows of a setup. It takes inputs and decisions one after
 /// another, and gives each frame and each request to a [`Consumer`] at once. Its memory doesn't grow
 /// with what went through it: a flow holds what lies in its window and what isn't whole yet, and
-/// takes memory of its own once its first segment comes.
+/// takes memory of its own once its first segment comes, or a skip is decided.
 #[derive(Drop)]
 pub struct Receiver<C> {
     lanes: Vec<TalliedLane>,
@@ -64,6 +65,7 @@ impl<C: HeaderCheck + Drop> Receiver<C> {
             (λ _. CanReceiveWithin width.channels width.flows setup.now) }
         ensures fault { IfErr result
             (IsSetupErrorWithin width.channels width.flows setup.now) }
+        ensures settled { IfOk result (λ receiver. (k : ℕ) → IsSettledAt receiver k) }
         ensures receiving { IfOk result (λ receiver. IsReceiving C.accepts receiver) }
     {
         setup.check_within(alloc, width)?;
@@ -89,6 +91,8 @@ impl<C: HeaderCheck + Drop> Receiver<C> {
         ensures fails { IfErr result (λ error.
             Fails O.after C.accepts self.old out.old channel input error self.new out.new) }
         ensures others { ChangesOneFlow self.old.flows result self.new.flows }
+        ensures its_flow { channel < length self.old.lanes.items
+            → KeepsToItsFlow self.old channel input result self.new }
         ensures open_still { NoneBeginsToClose self.old.flows self.new.flows }
         ensures receiving { IsReceiving C.accepts self.new }
     {
@@ -146,6 +150,11 @@ impl<C: HeaderCheck + Drop> Receiver<C> {
             (TakesMore O.after C.accepts self.old out.old [] self.new out.new)
             (TakesMore O.after C.accepts self.old out.old (decided flow decision ∷ [])
             self.new out.new)) }
+        ensures closing { result ≡ Err (DecideFault.NotTaken NotReady.Closing)
+            → IsClosingAt self.new.flows flow }
+        ensures refused { flow < length self.old.flows.slots.items
+            → is_in_range decision ≡ true → IsClosingAt self.old.flows flow
+            → result ≡ Err (DecideFault.NotTaken NotReady.Closing) }
         ensures others { OthersStay self.old.flows flow self.new.flows }
         ensures open_still { NoneBeginsToClose self.old.flows self.new.flows }
         ensures receiving { IsReceiving C.accepts self.new }
@@ -168,6 +177,8 @@ impl<C: HeaderCheck + Drop> Receiver<C> {
         ensures takes { TakesMore O.after C.accepts self.old out.old [] self.new out.new }
         ensures settled { IfOk result (λ _. IsSettledAt self.new flow) }
         ensures closing { result ≡ Err NotReady.Closing → IsClosingAt self.new.flows flow }
+        ensures refused { flow < length self.old.flows.slots.items
+            → IsClosingAt self.old.flows flow → result ≡ Err NotReady.Closing }
         ensures no_flow { length self.old.flows.slots.items ≤ flow
             → (result ≡ Ok tt) × (self.new ≡ self.old) × (out.new ≡ out.old) }
         ensures others { OthersStay self.old.flows flow self.new.flows }
@@ -309,7 +320,7 @@ fn make_ready<C: HeaderCheck + Drop, O: Consumer>(
     requires lane { AnswersFor flows.old lane.now }
     ensures takes { (flow : ℕ)
         × TableTakesMore O.after C.accepts flows.old out.old flow [] flows.new out.new }
-    ensures others { ChangesItsFlow lane.now input.now flows.old flows.new }
+    ensures others { ChangesItsFlow lane.now input.now flows.old result flows.new }
     ensures ready { IfOk result (λ _. IsReadyFor lane.now input.now flows.new) }
     ensures closing { result ≡ Err NotReady.Closing → ClosesAFlow flows.new }
     ensures open_still { NoneBeginsToClose flows.old flows.new }

@@ -32,8 +32,9 @@ pub enum TakeError {
     /// was; of its flow no more was done than an earlier call had left to be done.
     #[error("the input is not taken: {1}")]
     NotTaken(Input, NotReady),
-    /// The input is taken, and an allocation failed before all was given that is whole. The next
-    /// call that concerns the flow gives it.
+    /// The input is taken, and an allocation failed before all was given that is whole.
+    /// [`Receiver::go_on`](crate::Receiver::go_on) gives what is left, and so does whatever comes
+    /// to the flow next, before it is taken.
     #[error("the input is taken, and out of memory for flow {flow}")]
     Unfinished {
         /// The index of the flow's record.

@@ -7,7 +7,7 @@ use Rattle.lane.specs.Report.{admitted_by}
 use Rattle.bonded_flows.specs.Table.{IsPreparedAt}
 use Rattle.lane.specs.Stands.{WouldAdmit}
 use Rattle.bonded_flows.proofs.SlotTurns.{on-ok}
-use Rattle.receiver.proofs.OtherFlows.{where-none}
+use Rattle.receiver.proofs.OtherFlows.{where-none, none-some}
 use Rattle.receiver.proofs.receiver.make_ready.Goals as goal
 
 pub returns-in_default-clause-ready : goal.returns-in_default-clause-ready
@@ -40,6 +40,8 @@ returns-in_default-clause-others g c = record {
   flow = c.look.result;
   would = c.look.ensures.flow;
   changed = where-none c.look.result _ _ c.in_default.not-Some refl;
+  refused = none-some c.look.result _ c.in_default.not-Some;
+  closing = λ told. absurd cc;
 }
 
 pub returns-clause-others : goal.returns-clause-others
@@ -47,4 +49,6 @@ returns-clause-others g c = record {
   flow = Some c.in-Some.flow;
   would = subst (WouldAdmit c.args.lane.now c.args.input.now) c.in-Some.is c.look.ensures.flow;
   changed = c.prepare.ensures.others;
+  refused = c.prepare.ensures.refused;
+  closing = c.prepare.ensures.closing;
 }

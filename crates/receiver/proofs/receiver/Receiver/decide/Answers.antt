@@ -1,7 +1,9 @@
 -- A decision is passed over, or comes to its flow.
-use Rattle.std.proofs.Common.{◌≡◌, ◌≤◌, ◌⊎◌, inl, inr, true, false, IfErr, [], ◌∷◌, length, refl, sym, subst, ◌∙◌, arith}
+use Rattle.std.proofs.Common.{◌≡◌, ◌≤◌, ◌⊎◌, inl, inr, true, false, Err, IfErr, [], ◌∷◌, length, refl, sym, ap, subst, ◌∙◌, arith}
 use Rattle.std.proofs.lemmas.Result.{err_from_is_err_and}
 use Rattle.bonded_flows.specs.declared.flow_slot.DecideFault.{DecideFault}
+use Rattle.bonded_flows.specs.declared.flow_slot.DecideFault.TheVariants.{NotTaken}
+use Rattle.bonded_flows.specs.declared.flow_slot.NotReady.TheVariants.{Closing}
 use Rattle.bonded_flows.specs.ByRule.{is_in_range}
 use Rattle.bonded_flows.specs.Slots.{LeavesOf}
 use Rattle.bonded_flows.proofs.TableTurns.{leaves}
@@ -61,3 +63,10 @@ returns-clause-told g c check made handed given stands flow_record of_record =
 pub returns-clause-receiving : goal.returns-clause-receiving
 returns-clause-receiving g c =
     still-receiving g.C.HeaderCheck.accepts g.O.Consumer.after c.args.self.now _ c.args.out.now c.decide.new.out _ c.requires.receiving (returns-clause-takes g c)
+
+pub returns-in_err-lost-clause-closing : goal.returns-in_err-lost-clause-closing
+returns-in_err-lost-clause-closing g c = λ is.
+    let p = err_from_is_err_and c.from_residual.result c.from_residual.ensures.1 in
+    let own = sym p.1 ∙ is in
+    let told : p.0 ≡ NotTaken Closing = cc in
+    c.in_err-lost.ensures.closing (ap Err (sym p.2 ∙ told))

@@ -138,24 +138,24 @@ returns-in-Err-answer-clause-others g c =
     let inside : c.args.channel < length c.args.self.now.lanes.items = omega (arith, c.if-channel-len.false, c.len.ensures) in
     let here = lane-here c.args.self.now.lanes.items c.args.channel c.index_mut.result.now inside c.index_mut.ensures.value in
     let looked = lane-here c.args.self.now.lanes.items c.args.channel c.index.result.now inside c.index.ensures in
-    let changes = changes-of c.args.self.now.flows c.make_ready.new.flows c.args.self.now.lanes.items c.args.channel c.index.result.now c.index_mut.result.now looked here c.args.input c.make_ready.ensures.others in
-    no-flow-changes g.C.HeaderCheck.accepts c.args.self.now c.make_ready.new.flows c.args.channel c.index_mut.result.now c.take.new.self here c.args.input changes c.requires.receiving c.in-Ok.answer c.in-Ok.ensures.answers (ap admitted_by c.in-Err-answer.is)
+    let changes = changes-of c.args.self.now.flows c.make_ready.new.flows c.make_ready.result c.args.self.now.lanes.items c.args.channel c.index.result.now c.index_mut.result.now looked here c.args.input c.make_ready.ensures.others in
+    no-flow-changes g.C.HeaderCheck.accepts c.args.self.now c.make_ready.new.flows c.args.channel c.index_mut.result.now c.take.new.self here c.args.input c.make_ready.result changes c.requires.receiving c.in-Ok.answer c.in-Ok.ensures.answers (ap admitted_by c.in-Err-answer.is)
 
 pub returns-in-Ok-None-clause-others : goal.returns-in-Ok-None-clause-others
 returns-in-Ok-None-clause-others g c =
     let inside : c.args.channel < length c.args.self.now.lanes.items = omega (arith, c.if-channel-len.false, c.len.ensures) in
     let here = lane-here c.args.self.now.lanes.items c.args.channel c.index_mut.result.now inside c.index_mut.ensures.value in
     let looked = lane-here c.args.self.now.lanes.items c.args.channel c.index.result.now inside c.index.ensures in
-    let changes = changes-of c.args.self.now.flows c.make_ready.new.flows c.args.self.now.lanes.items c.args.channel c.index.result.now c.index_mut.result.now looked here c.args.input c.make_ready.ensures.others in
-    no-flow-changes g.C.HeaderCheck.accepts c.args.self.now c.make_ready.new.flows c.args.channel c.index_mut.result.now c.take.new.self here c.args.input changes c.requires.receiving c.in-Ok.answer c.in-Ok.ensures.answers (ap admitted_by (c.in-Ok-None.is ∙ ap Ok c.in-Ok-None.field-0-is))
+    let changes = changes-of c.args.self.now.flows c.make_ready.new.flows c.make_ready.result c.args.self.now.lanes.items c.args.channel c.index.result.now c.index_mut.result.now looked here c.args.input c.make_ready.ensures.others in
+    no-flow-changes g.C.HeaderCheck.accepts c.args.self.now c.make_ready.new.flows c.args.channel c.index_mut.result.now c.take.new.self here c.args.input c.make_ready.result changes c.requires.receiving c.in-Ok.answer c.in-Ok.ensures.answers (ap admitted_by (c.in-Ok-None.is ∙ ap Ok c.in-Ok-None.field-0-is))
 
 pub returns-in-Ok-take_admitted-clause-others : goal.returns-in-Ok-take_admitted-clause-others
 returns-in-Ok-take_admitted-clause-others g c =
     let inside : c.args.channel < length c.args.self.now.lanes.items = omega (arith, c.if-channel-len.false, c.len.ensures) in
     let here = lane-here c.args.self.now.lanes.items c.args.channel c.index_mut.result.now inside c.index_mut.ensures.value in
     let looked = lane-here c.args.self.now.lanes.items c.args.channel c.index.result.now inside c.index.ensures in
-    let changes = changes-of c.args.self.now.flows c.make_ready.new.flows c.args.self.now.lanes.items c.args.channel c.index.result.now c.index_mut.result.now looked here c.args.input c.make_ready.ensures.others in
-    others-stay g.C.HeaderCheck.accepts c.args.self.now c.make_ready.new.flows c.args.channel c.index_mut.result.now c.take.new.self here c.args.input changes c.requires.receiving c.in-Ok.answer c.in-Ok.ensures.answers
+    let changes = changes-of c.args.self.now.flows c.make_ready.new.flows c.make_ready.result c.args.self.now.lanes.items c.args.channel c.index.result.now c.index_mut.result.now looked here c.args.input c.make_ready.ensures.others in
+    others-stay g.C.HeaderCheck.accepts c.args.self.now c.make_ready.new.flows c.args.channel c.index_mut.result.now c.take.new.self here c.args.input c.make_ready.result changes c.requires.receiving c.in-Ok.answer c.in-Ok.ensures.answers
     c.in-Ok-Some.admitted (ap admitted_by (c.in-Ok-Some.is ∙ ap Ok c.in-Ok-Some.field-0-is)) c.take_admitted.new.flows c.take_admitted.ensures.others
 
 pub returns-in-Err-take_admitted-clause-others : goal.returns-in-Err-take_admitted-clause-others
@@ -163,8 +163,8 @@ returns-in-Err-take_admitted-clause-others g c =
     let inside : c.args.channel < length c.args.self.now.lanes.items = omega (arith, c.if-channel-len.false, c.len.ensures) in
     let here = lane-here c.args.self.now.lanes.items c.args.channel c.index_mut.result.now inside c.index_mut.ensures.value in
     let looked = lane-here c.args.self.now.lanes.items c.args.channel c.index.result.now inside c.index.ensures in
-    let changes = changes-of c.args.self.now.flows c.make_ready.new.flows c.args.self.now.lanes.items c.args.channel c.index.result.now c.index_mut.result.now looked here c.args.input c.make_ready.ensures.others in
-    others-stay g.C.HeaderCheck.accepts c.args.self.now c.make_ready.new.flows c.args.channel c.index_mut.result.now c.take.new.self here c.args.input changes c.requires.receiving c.in-Ok.answer c.in-Ok.ensures.answers
+    let changes = changes-of c.args.self.now.flows c.make_ready.new.flows c.make_ready.result c.args.self.now.lanes.items c.args.channel c.index.result.now c.index_mut.result.now looked here c.args.input c.make_ready.ensures.others in
+    others-stay g.C.HeaderCheck.accepts c.args.self.now c.make_ready.new.flows c.args.channel c.index_mut.result.now c.take.new.self here c.args.input c.make_ready.result changes c.requires.receiving c.in-Ok.answer c.in-Ok.ensures.answers
     c.in-Ok-Some.admitted (ap admitted_by (c.in-Ok-Some.is ∙ ap Ok c.in-Ok-Some.field-0-is)) c.take_admitted.new.flows c.take_admitted.ensures.others
 
 pub returns-in-Ok-take_admitted-clause-open_still : goal.returns-in-Ok-take_admitted-clause-open_still
