@@ -1,10 +1,12 @@
 -- A cursor moves over the frames' stream.
-use Rattle.std.proofs.Common.{◌≡◌, ℕ, suc, ◌+◌, ◌-◌, ◌<◌, ◌≤◌, inl, inr, Some, List, length, ◌++◌, get_or, take, drop, slice_get, refl, sym, ap, ◌∙◌, arith}
+use Rattle.std.proofs.Common.{◌≡◌, ℕ, zero, suc, ◌+◌, ◌-◌, ◌<◌, ◌≤◌, inl, inr, Some, List, [], length, ◌++◌, get_or, take, drop, slice_get, refl, sym, ap, ◌∙◌, arith}
 use Rattle.std.specs.List.{concat, AllByRecursion}
-use Rattle.std.proofs.lemmas.List.{append_assoc, drop-drop, take_at, take_rest, length-drop}
+use Rattle.std.proofs.lemmas.Bool.{cases_lt}
+use Rattle.std.proofs.lemmas.List.{drop-drop, drop_all, take_all, take_at, take_rest, length-drop}
 use Rattle.std.proofs.lemmas.Option.{slice_get_read, slice_get_cases}
 use Rattle.docsis_wire.specs.declared.cursor.Cursor.{Cursor}
 use Rattle.docsis_wire.specs.Frame.{IsGenericFrame}
+use Rattle.docsis_wire.specs.Stream.{place_of}
 use Rattle.docsis_wire.specs.Inside.Cursor.{place_at, IsPlaced, chunk_at}
 use Rattle.docsis_wire.proofs.FrameHeads.{length-frame}
 use Rattle.docsis_wire.proofs.StreamPlaces.{place_of-next}
@@ -58,9 +60,26 @@ chunk_at-split frames at to n left within moved =
     ap (λ m. take m rest) (sym whole) ∙ take-split rest n (left - n)
     ∙ ap (λ t. take n rest ++ take (left - n) t) (drop-drop n (place_at frames at) (concat frames) ∙ ap (λ p. drop p (concat frames)) (sym moved))
 
--- bytes that are appended to others are taken off what has to come
-pub copied_further : (frames : List (List ℕ)) (at to : Cursor) (n left : ℕ) (payload after part all : List ℕ) → n ≤ left → place_at frames to ≡ place_at frames at + n
-    → after ≡ payload ++ part → part ≡ chunk_at frames at n → payload ++ chunk_at frames at left ≡ all → after ++ chunk_at frames to (left - n) ≡ all
-copied_further frames at to n left payload after part all within moved after_is part_is whole =
-    ap (λ t. t ++ chunk_at frames to (left - n)) (after_is ∙ ap (λ t. payload ++ t) part_is) ∙ append_assoc payload (chunk_at frames at n) (chunk_at frames to (left - n))
-    ∙ ap (λ t. payload ++ t) (sym (chunk_at-split frames at to n left within moved)) ∙ whole
+-- the part that comes next is taken off what has to come
+pub chunk_at-after : (frames : List (List ℕ)) (at to : Cursor) (bytes : ℕ) (part : List ℕ) → length part ≤ bytes → place_at frames to ≡ place_at frames at + length part
+    → part ≡ chunk_at frames at (length part) → chunk_at frames at bytes ≡ part ++ chunk_at frames to (bytes - length part)
+chunk_at-after frames at to bytes part within moved part_is =
+    chunk_at-split frames at to (length part) bytes within moved ∙ ap (λ t. t ++ chunk_at frames to (bytes - length part)) (sym part_is)
+
+-- behind the last frame nothing comes
+chunk_at-end : (frames : List (List ℕ)) (at : Cursor) (bytes : ℕ) → IsPlaced frames at → length frames ≤ at.frame → chunk_at frames at bytes ≡ []
+chunk_at-end frames at bytes placed past =
+    let last : at.frame ≡ length frames = omega (arith, placed.within, past) in
+    let end : length (concat frames) ≤ place_at frames at =
+    omega (arith, placed.at_end last, ap (λ k. place_of frames k) last, ap (λ t. length (concat t)) (take_all (length frames) frames (omega arith))) in
+    ap (take bytes) (drop_all (place_at frames at) (concat frames) end) ∙ take_all bytes [] (omega arith)
+
+-- where no part comes nothing is left
+pub chunk_at-none : (frames : List (List ℕ)) (at : Cursor) (bytes n : ℕ) → IsPlaced frames at → n ≡ 0 → (0 < bytes → at.frame < length frames → 0 < n)
+    → chunk_at frames at bytes ≡ []
+chunk_at-none frames at zero n placed none some = refl
+chunk_at-none frames at (suc bytes) n placed none some =
+    elim (cases_lt at.frame (length frames)) [
+      | inl within ↦ absurd (omega (arith, none, some (omega arith) within))
+      | inr past ↦ chunk_at-end frames at (suc bytes) placed (omega (arith, past))
+    ]

@@ -11,6 +11,7 @@ pub mod LawfulPieces
 pub mod Made
 pub mod OneByOne
 pub mod OneFault
+pub mod Parts
 pub mod OneCut
 pub mod NoFault
 pub mod Spans

@@ -1,13 +1,11 @@
 //! A place in the byte stream that frames make end to end.
-ghost use Rattle.std.specs.Prelude.{◌≡◌, ◌+◌, ◌<◌, ◌≤◌, ◌++◌, length, min};
-ghost use Rattle.std.specs.Prelude.{OnOk, is_some, unwrap_or};
+ghost use Rattle.std.specs.Prelude.{◌≡◌, ◌+◌, ◌<◌, ◌≤◌, length, min, is_some, unwrap_or};
 ghost use Rattle.std.specs.List.{concat, AllByRecursion};
 ghost use Rattle.docsis_wire.specs.Frame.{IsGenericFrame};
 ghost use Rattle.docsis_wire.specs.Cut.{Points};
 ghost use Rattle.docsis_wire.specs.Inside.Cursor.{place_at, IsPlaced, chunk_at};
 
 use crate::buffer::Bytes;
-use std::alloc::AllocError;
 
 /// A place in the stream that some frames make end to end: so many bytes after the start of a
 /// frame, or after the last frame.
@@ -25,7 +23,7 @@ pub const START: Cursor = Cursor {
 
 /// The bytes that come next, at most `most` of them and all in one frame. The cursor moves past
 /// them.
-fn next_part<'a>(frames: &'a [Bytes], at: &mut Cursor, most: usize) -> &'a [u8]
+pub fn next_part<'a>(frames: &'a [Bytes], at: &mut Cursor, most: usize) -> &'a [u8]
     requires placed { IsPlaced frames.now at.old }
     requires each { AllByRecursion IsGenericFrame frames.now }
     ensures placed { IsPlaced frames.now at.new }
@@ -65,35 +63,6 @@ pub fn advance(frames: &[Bytes], at: &mut Cursor, bytes: usize)
         }
         left -= part.len();
     }
-}
-
-/// Appends so many of the next bytes to `payload`, or those that remain, and moves the cursor past
-/// them.
-pub fn copy(
-    frames: &[Bytes],
-    at: &mut Cursor,
-    bytes: usize,
-    payload: &mut Vec<u8>,
-) -> Result<(), AllocError>
-    requires placed { IsPlaced frames.now at.old }
-    requires each { AllByRecursion IsGenericFrame frames.now }
-    ensures placed { OnOk result (IsPlaced frames.now at.new) }
-    ensures moved { OnOk result
-        (place_at frames.now at.new
-        ≡ min (place_at frames.now at.old + bytes) (length (concat frames.now))) }
-    ensures copied { OnOk result
-        (payload.new.items ≡ payload.old.items ++ chunk_at frames.now at.old bytes) }
-{
-    let mut left = bytes;
-    while left > 0 {
-        let part = next_part(frames, at, left);
-        if part.is_empty() {
-            break;
-        }
-        payload.extend_from_slice(part)?;
-        left -= part.len();
-    }
-    Ok(())
 }
 
 /// How many of the next `bytes` bytes come before the first frame that starts in them, if one does.

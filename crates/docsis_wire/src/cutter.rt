@@ -11,11 +11,12 @@ ghost use Rattle.docsis_wire.specs.Limits.{sequence_modulus};
 ghost use Rattle.docsis_wire.specs.CutUnderWay.{GivesNext};
 
 use crate::buffer::Bytes;
-use crate::cursor::{Cursor, START, copy, first_start};
+use crate::cursor::{Cursor, START, advance, first_start};
 use crate::header::{SEQUENCE_MODULUS, SegmentHeader};
 use crate::header_check::HeaderCheck;
 use crate::pieces::{CutFault, FillByte, Piece, check};
 use crate::segment::Segment;
+use crate::segment_parts::SegmentParts;
 use std::alloc::{AllocError, Global};
 use std::marker::Model;
 
@@ -44,32 +45,6 @@ fn header_at(frames: &[Bytes], at: Cursor, bytes: usize, sequence: u16) -> Segme
         request: 0,
         hcs: 0,
     }
-}
-
-/// The payload that the piece names: the next bytes of the frames and then fill. The cursor moves
-/// past the bytes.
-fn payload_at(
-    alloc: Global,
-    frames: &[Bytes],
-    at: &mut Cursor,
-    piece: Piece,
-    fill: FillByte,
-) -> Result<Bytes, AllocError>
-    requires placed { IsPlaced frames.now at.old }
-    requires each { AllByRecursion IsGenericFrame frames.now }
-    ensures placed { OnOk result (IsPlaced frames.now at.new) }
-    ensures moved { OnOk result
-        (place_at frames.now at.new
-        ≡ min (place_at frames.now at.old + piece.bytes) (length (concat frames.now))) }
-    ensures payload { IfOk result
-        (λ payload. payload
-        ≡ chunk_at frames.now at.old piece.bytes ++ replicate piece.fill (fill_byte fill)) }
-{
-    let mut payload = Vec::new(alloc);
-    copy(frames, at, usize::from(piece.bytes), &mut payload)?;
-    let length = payload.len() + usize::from(piece.fill);
-    payload.resize(length, fill.byte())?;
-    Ok(Bytes::from(payload))
 }
 
 /// A cut of frames into pieces that is being made, a segment at a time. Contracts see what is cut
@@ -136,26 +111,24 @@ impl<'a> Cutter<'a> {
         })
     }
 
-    /// Makes the next piece's segment, or answers `None` once all were made, however often it is
-    /// called. Where an allocation fails nothing changes.
+    /// The next piece's segment, or `None` once all were given, however often it is called. It takes
+    /// no memory.
     ///
-    /// The segments that it makes one after another are the cut that it began with:
+    /// The segments that it gives one after another are the cut that it began with:
     /// `laws::segments_made_one_by_one_are_the_cut`.
-    pub fn next(&mut self, alloc: Global) -> Result<Option<Segment>, AllocError>
-        ensures next { IfOk result (GivesNext self.old self.new) }
-        ensures refused { OnErr result (self.new ≡ self.old) }
+    pub fn next(&mut self) -> Option<SegmentParts<'a>>
+        ensures { GivesNext self.old self.new result }
     {
         let Some(piece) = self.pieces.get(self.made) else {
-            return Ok(None);
+            return None;
         };
         let sequence = (self.first + (self.made % usize::from(SEQUENCE_MODULUS)) as u16)
             % SEQUENCE_MODULUS;
         let head = header_at(self.frames, self.at, usize::from(piece.bytes), sequence);
-        let mut at = self.at;
-        let payload = payload_at(alloc, self.frames, &mut at, *piece, self.fill)?;
-        self.at = at;
+        let parts = SegmentParts::new(head, self.frames, self.at, *piece, self.fill);
+        advance(self.frames, &mut self.at, usize::from(piece.bytes));
         self.made += 1;
-        Ok(Some(Segment { head, payload }))
+        Some(parts)
     }
 }
 
@@ -174,8 +147,8 @@ fn make(alloc: Global, cutter: Cutter<'_>, count: usize) -> Result<Vec<Segment>,
 {
     let mut cutter = cutter;
     let mut segments = Vec::with_capacity(alloc, count)?;
-    while let Some(segment) = cutter.next(alloc)? {
-        segments.push(segment)?;
+    while let Some(parts) = cutter.next() {
+        segments.push(parts.to_segment(alloc)?)?;
     }
     Ok(segments)
 }

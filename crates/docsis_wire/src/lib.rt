@@ -19,8 +19,8 @@
 //! 3. [`check_sequence`] is the header check sequence of headers of either kind, [`segment_check`]
 //!    asks a segment header for it, and [`frame_check_sequence`] is that of an Ethernet frame.
 //! 4. [`cut`] is the sending side: of frames and [`Piece`]s it makes the segments, or reports the
-//!    first fault. [`Cutter`] makes the same segments one at a time, so that they need not all be
-//!    held.
+//!    first fault. [`Cutter`] gives the same segments one at a time, and [`SegmentParts`] the
+//!    payload of one part by part, so that they need not all be held.
 //!
 //! What matters most: `read_segment` reads exactly the header that eight bytes spell; `well_formed`
 //! says yes to exactly the frames of the grammar `IsFrame`; a check sequence is what the division
@@ -44,6 +44,7 @@ mod header_sequence;
 pub mod laws;
 mod pieces;
 mod segment;
+mod segment_parts;
 
 pub use buffer::Bytes;
 pub use cutter::{Cutter, cut};
@@ -57,3 +58,4 @@ pub use segment::{
     HEADER_BYTES, ReadySegment, RefusedBurst, Segment, SegmentFault, read_segment, ready,
     write_segment,
 };
+pub use segment_parts::SegmentParts;

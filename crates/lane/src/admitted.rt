@@ -6,7 +6,7 @@ use docsis_wire::Segment;
 /// A request for grants, from the header of a segment.
 #[derive(Clone, Copy, Debug, PartialEq, Eq)]
 pub struct Request {
-    /// The channel on which the segment came, 0 to 3.
+    /// The channel on which the segment came, 0 to 15.
     pub channel: u8,
     /// The index of the flow's record.
     pub flow: usize,

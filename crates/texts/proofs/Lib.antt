@@ -6,7 +6,7 @@ pub mod OneCutLine
 pub mod OneJoinFault
 pub mod OneCutFault
 pub mod TextLengths
-pub mod PrintedSoFar
+pub mod PutSoFar
 pub mod CutOfLines
 pub mod NumberedLines
 pub mod OutOfMemoryAlone

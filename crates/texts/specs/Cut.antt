@@ -9,11 +9,13 @@ use Rattle.docsis_wire.specs.declared.pieces.CutFault.TheVariants as cut_fault
 use Rattle.docsis_wire.specs.Cut.{IsLawfulCut}
 use Rattle.docsis_wire.specs.Limits.{header_length}
 use Rattle.docsis_wire.specs.SegmentBytes.{segment_bytes}
+use Rattle.docsis_wire.specs.CutUnderWay.{CutUnderWay}
 use Rattle.docsis_wire.specs.Pieces.{fill_byte, chunks_of, ArePieceSegments, IsFirstBadFrame, IsFirstFillInsideFrame, IsFirstPointerTooFar}
 use Rattle.hex.specs.Hex.{encode_lower}
 use Rattle.text_lines.specs.declared.fault.TextFault.{TextFault}
 use Rattle.text_lines.specs.declared.fault.TextFault.TheVariants.{Trace, Cut, OutOfMemory}
 use Rattle.text_lines.specs.Lines.{lines_of, line_feed}
+use Rattle.text_lines.specs.Putting.{Puts}
 use Rattle.text_lines.specs.Format.{IsRead, IsFirstFaultyLine}
 use Rattle.texts.specs.Cut.Line.{nothing, cut_format}
 use Rattle.texts.specs.AnyHeader.{any_header}
@@ -26,6 +28,12 @@ pub record IsCutInto (first : ℕ) (fill : FillByte) (frames : List (List ℕ)) 
 -- a segment's line: its header and its payload as lower-case digits, and a line feed
 abbrev pub segment_line : Segment → List ℕ
 segment_line segment = encode_lower (segment_bytes segment) ++ line_feed ∷ []
+
+-- a line for each segment of the cut was put, one after another
+pub record PutsCut {T : Type 0} (after : T → List ℕ → T → Type 0) (cut : CutUnderWay) (old new : T) : Type 0 where
+  pub segments : List Segment
+  pub made : IsCutInto cut.first cut.fill cut.frames cut.pieces segments
+  pub put : Puts after old (flat_map segment_line segments) new
 
 -- How long the lines of a cut's segments are: two digits for each byte of a header, of what the pieces take of the frames, and of fill, and a
 -- line feed for each segment.
@@ -48,6 +56,12 @@ IsPieceFault frames pieces (cut_fault.BadFrame k) = IsFirstBadFrame any_header f
 IsPieceFault frames pieces (cut_fault.FillInsideFrame k) = IsFirstFillInsideFrame any_header frames pieces k
 IsPieceFault frames pieces (cut_fault.PointerTooFar k) = IsFirstPointerTooFar any_header frames pieces k
 IsPieceFault frames pieces cut_fault.OutOfMemory = ⊥
+
+-- why frames and pieces are not cut: their first fault, or a failed allocation
+abbrev pub HasPieceFault : List (List ℕ) → List Piece → TextFault → Type 0
+HasPieceFault frames pieces (Trace fault) = ⊥
+HasPieceFault frames pieces (Cut fault) = IsPieceFault frames pieces fault
+HasPieceFault frames pieces OutOfMemory = Unit {0}
 
 -- no line of an input has a fault, and this is the first fault of its frames and pieces
 pub record IsFirstPieceFault (input : List ℕ) (fault : CutFault) : Type 0 where

@@ -9,14 +9,13 @@ ghost use Rattle.text_lines.specs.Putting.{Puts};
 ghost use Rattle.text_lines.specs.Format.{IsRead, IsReadingFault};
 ghost use Rattle.texts.specs.AnyHeader.{any_header};
 ghost use Rattle.texts.specs.Cut.Line.{nothing, cut_format};
-ghost use Rattle.texts.specs.Cut.{IsCutText, IsCutFault, segment_line, cut_text_length};
-ghost use Rattle.texts.specs.Inside.Cut.{IsPrinted};
+ghost use Rattle.texts.specs.Cut.{IsCutText, IsCutFault, HasPieceFault, PutsCut, segment_line, cut_text_length};
 
 mod line;
 
-use docsis_wire::{Bytes, Cutter, FillByte, NoCheck, Piece, Segment, write_segment};
+use docsis_wire::{Bytes, Cutter, FillByte, NoCheck, Piece, SegmentParts, write_segment};
 use line::{CutLine, read_cut_line};
-use std::alloc::{AllocError, Global};
+use std::alloc::Global;
 use text_lines::{
     LineFault, ParseFault, PutText, TakeLine, TextBuffer, TextFault, put_hex, take_lines,
 };
@@ -33,7 +32,6 @@ pub struct CutInput {
 
 impl CutInput {
     ghost use Rattle.std.specs.Prelude.{[]};
-    ghost use Rattle.texts.specs.Inside.Cut.{IsPrinted, HasPieceFault};
 
     /// No frames yet, and no pieces.
     pub fn new(alloc: Global) -> CutInput
@@ -46,18 +44,24 @@ impl CutInput {
         }
     }
 
-    /// A line for each segment that the frames are cut into. The first one has the number `first`,
-    /// 0 to 8191. Otherwise it reports the first fault of the frames and pieces, or that an
-    /// allocation failed.
-    pub fn lines(&self, alloc: Global, first: u16, fill: FillByte) -> Result<Vec<u8>, TextFault>
+    /// The cut of the frames into the pieces, of which no segment was given yet, or their first
+    /// fault. The first segment has the number `first`, 0 to 8191. It takes no memory.
+    pub fn cutter(&self, first: u16, fill: FillByte) -> Result<Cutter<'_>, TextFault>
         requires { first < sequence_modulus }
-        ensures text { IfOk result (λ text.
-            IsPrinted first fill self.now.frames.items self.now.pieces.items text.items) }
+        ensures begins { IfOk result (λ cutter. cutter ≡ record {
+          frames = self.now.frames.items;
+          pieces = self.now.pieces.items;
+          first = first;
+          fill = fill;
+          made = 0;
+        }) }
+        ensures cuttable { OnOk result
+            (IsCuttable any_header self.now.frames.items self.now.pieces.items) }
         ensures fault { IfErr result
             (HasPieceFault self.now.frames.items self.now.pieces.items) }
     {
         let cutter = Cutter::new(&self.frames, &self.pieces, first, fill, &NoCheck)?;
-        Ok(segment_lines(alloc, cutter, text_length(self))?)
+        Ok(cutter)
     }
 }
 
@@ -114,32 +118,40 @@ fn text_length(read: &CutInput) -> usize
     bytes.saturating_mul(2).saturating_add(read.pieces.len())
 }
 
-/// Puts a segment's line.
-fn put_segment<O: PutText>(out: &mut O, segment: &Segment)
-    ensures { Puts O.after out.old (segment_line segment.now) out.new }
+/// Puts the digits of a segment's payload.
+fn put_payload<O: PutText>(out: &mut O, segment: SegmentParts<'_>)
+    ensures { Puts O.after out.old (encode_lower segment.entry.payload) out.new }
 {
-    put_hex(out, &write_segment(&segment.head));
-    put_hex(out, segment.payload.as_slice());
+    let mut parts = segment;
+    while let Some(part) = parts.next_part() {
+        put_hex(out, part);
+    }
+}
+
+/// Puts a segment's line, where that makes a difference.
+fn put_segment<O: PutText>(out: &mut O, segment: SegmentParts<'_>)
+    ensures { Puts O.after out.old (segment_line segment.entry) out.new }
+{
+    if out.is_closed() {
+        return;
+    }
+    put_hex(out, &write_segment(&segment.head()));
+    put_payload(out, segment);
     out.put(b"\n");
 }
 
-/// A line for each segment of a cut, in a text that begins with so much room. Each segment is freed
-/// once its line is there.
-fn segment_lines(alloc: Global, cutter: Cutter<'_>, room: usize) -> Result<Vec<u8>, AllocError>
+/// Puts a line for each segment of a cut, of which none was given yet. It takes no memory of its
+/// own.
+pub fn put_segments<O: PutText>(out: &mut O, cutter: Cutter<'_>)
     requires cuttable { IsCuttable any_header cutter.frames cutter.pieces }
     requires none_made { cutter.made ≡ 0 }
-    requires room { room ≡ min (cut_text_length cutter.frames cutter.pieces) usize.MAX }
-    ensures { IfOk result
-        (λ text. IsPrinted cutter.entry.first cutter.entry.fill
-        cutter.entry.frames cutter.entry.pieces text.items) }
+    ensures { PutsCut O.after cutter.entry out.old out.new }
 {
     docsis_wire::laws::segments_made_one_by_one_are_the_cut();
     let mut cutter = cutter;
-    let mut text = TextBuffer::with_capacity(alloc, room)?;
-    while let Some(segment) = cutter.next(alloc)? {
-        put_segment(&mut text, &segment);
+    while let Some(segment) = cutter.next() {
+        put_segment(out, segment);
     }
-    text.finish()
 }
 
 /// The text that stands for an input of `cut`: the segments that its frames are cut into, one a
@@ -162,5 +174,8 @@ pub fn cut_lines(
     ensures fault { IfErr result (IsCutFault input.items) }
 {
     let read = read_cut_input(alloc, input)?;
-    read.lines(alloc, first, fill)
+    let cutter = read.cutter(first, fill)?;
+    let mut text = TextBuffer::with_capacity(alloc, text_length(&read))?;
+    put_segments(&mut text, cutter);
+    Ok(text.finish()?)
 }

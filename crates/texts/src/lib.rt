@@ -37,7 +37,7 @@ mod report_lines;
 mod report_text;
 mod trace;
 
-pub use cut::{CutInput, cut_lines};
+pub use cut::{CutInput, cut_lines, put_segments};
 pub use join::{JoinInput, join_lines};
 pub use replay::{replay_lines, replay_lines_by, replay_trace};
 pub use report_lines::{put_flow_line, put_frame_line, put_lane_line, put_request_line};

@@ -6,13 +6,17 @@ use crate::expect::expect_same;
 use crate::handing_in::{input, made};
 use consumer::Collected;
 use docsis_wire::{HeaderCheck, NoCheck};
+use flow_core::FlowCounts;
 use lane::Input;
-use receiver::{Closed, Receiver, TakeError};
+use receiver::{
+    Closed, DecideFault, FlowDecision, NotReady, Receiver, RestartError, TakeError,
+};
 use std::alloc::Global;
 use std::process::Abort;
 use std::test::Fail;
 use worked_frames::refused::say_refused;
-use worked_traces::traces::{Line, SECOND_FIRST};
+use worked_frames::samples::FIRST;
+use worked_traces::traces::{FIRST_LOST, Line, SECOND_FIRST};
 
 /// Makes the setup, a consumer and a receiver, and once more where memory was refused.
 fn made_again(rt: &impl Print, alloc: Global) -> Result<(Receiver<NoCheck>, Collected), Fail>
@@ -80,12 +84,13 @@ fn take_all_again<C: HeaderCheck + Drop>(
     rt: &(impl Abort + Print),
     alloc: Global,
     receiver: &mut Receiver<C>,
+    lines: &[Line],
     out: &mut Collected,
 ) -> Result<(), Fail>
     requires { IsReceiving C.accepts receiver.old }
     ensures { IsReceiving C.accepts receiver.new }
 {
-    for line in &SECOND_FIRST {
+    for line in lines {
         if let Some(at) = input_again(rt, alloc, line)? {
             take_again(rt, alloc, receiver, at, out)?;
         }
@@ -116,7 +121,7 @@ fn close_again<C: HeaderCheck + Drop>(
 #[test]
 fn receiver_refused(rt: HostRuntime) -> Result<(), Fail> {
     let (mut receiver, mut out) = made_again(&rt, rt.alloc())?;
-    take_all_again(&rt, rt.alloc(), &mut receiver, &mut out)?;
+    take_all_again(&rt, rt.alloc(), &mut receiver, &SECOND_FIRST, &mut out)?;
     let closed = close_again(&rt, rt.alloc(), receiver, &mut out)?;
     let counts = closed
         .flows
@@ -128,5 +133,71 @@ fn receiver_refused(rt: HostRuntime) -> Result<(), Fail> {
     }
     let frames = out.frames.first().map(|frames| frames.len());
     expect_same(&rt, "frames that were kept", frames, Some(2));
+    Ok(())
+}
+
+/// A grant for the first segment, and its burst.
+const FIRST_COMES: [Line; 2] = [Line::Grant(0, 7, 1, 13), Line::Burst(0, 7, FIRST)];
+
+/// Looks that the flow is being closed: it is ready for nothing, and what isn't taken comes back.
+fn expect_closing<C: HeaderCheck + Drop>(
+    rt: &impl Abort,
+    alloc: Global,
+    receiver: &mut Receiver<C>,
+    out: &mut Collected,
+) -> Result<(), Fail>
+    requires { IsReceiving C.accepts receiver.old }
+    ensures { IsReceiving C.accepts receiver.new }
+{
+    let gone_on = receiver.go_on(alloc, 0, out);
+    expect_same(rt, "going on", gone_on, Err(NotReady::Closing));
+    let decided = receiver.decide(alloc, 0, FlowDecision::Gap, out);
+    let closing = Err(DecideFault::NotTaken(NotReady::Closing));
+    expect_same(rt, "a decision", decided.map(|_| ()), closing);
+    for line in &FIRST_COMES {
+        if let Some((channel, input)) = input(alloc, line)? {
+            let is_grant = matches!(input, Input::Grant { .. });
+            let taken = match receiver.take(alloc, channel, input, out) {
+                Ok(_) => true,
+                Err(TakeError::NotTaken(_, NotReady::Closing)) => false,
+                Err(_) => return Err(Fail::new(format_args!("another fault"))),
+            };
+            expect_same(rt, "only the grant is taken", taken, is_grant);
+        }
+    }
+    expect_same(rt, "outstanding", receiver.outstanding(0), Some(1));
+    Ok(())
+}
+
+/// Restarts the flow at 5, and once more where memory was refused.
+fn restart_again<C: HeaderCheck + Drop>(
+    rt: &(impl Abort + Print),
+    alloc: Global,
+    receiver: &mut Receiver<C>,
+    out: &mut Collected,
+) -> Result<FlowCounts, Fail>
+    requires { IsReceiving C.accepts receiver.old }
+    ensures { IsReceiving C.accepts receiver.new }
+{
+    match receiver.restart(alloc, 0, 5, out) {
+        Ok(counts) => return Ok(counts),
+        Err(RestartError::OutOfMemory) => {}
+        Err(_) => return Err(Fail::new(format_args!("another fault"))),
+    }
+    say_refused(rt)?;
+    expect_closing(rt, alloc, receiver, out)?;
+    Ok(receiver.restart(alloc, 0, 5, out)?)
+}
+
+#[test]
+fn restart_refused(rt: HostRuntime) -> Result<(), Fail> {
+    let (mut receiver, mut out) = made_again(&rt, rt.alloc())?;
+    take_all_again(&rt, rt.alloc(), &mut receiver, &FIRST_LOST, &mut out)?;
+    expect_same(&rt, "held", receiver.held(0), Some(2));
+    let counts = restart_again(&rt, rt.alloc(), &mut receiver, &mut out)?;
+    expect_same(&rt, "kept", counts.kept, 2);
+    expect_same(&rt, "lost", counts.lost, 1);
+    expect_same(&rt, "expected", receiver.expected(0), Some(5));
+    expect_same(&rt, "held", receiver.held(0), Some(0));
     Ok(())
 }

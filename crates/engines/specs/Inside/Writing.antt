@@ -1,6 +1,9 @@
 -- A text that is written to a device as it is put.
-use Rattle.std.specs.Prelude.{◌≡◌, ◌≢◌, ℕ, List, [], ◌++◌, Option, true, Result, OnOk, OnErr}
+use Rattle.std.specs.Prelude.{◌≡◌, ◌≢◌, ℕ, List, [], ◌++◌, Option, true, Result, OnOk, OnErr, flat_map}
 use Rattle.std.specs.Io.KnownBytes.{Appends}
+use Rattle.docsis_wire.specs.CutUnderWay.{CutUnderWay}
+use Rattle.docsis_wire.specs.declared.segment.Segment.{Segment}
+use Rattle.texts.specs.Cut.{IsCutInto, segment_line}
 use Rattle.engines.specs.declared.device.Device.{Device}
 use Rattle.engines.specs.declared.fault.WriteFault.{WriteFault}
 use Rattle.engines.specs.declared.text_writer.TextWriter.{TextWriter}
@@ -40,3 +43,9 @@ module _ {W : Type 0} (contents : W → Option (List ℕ)) where
     pub some : OnErr result (text ≢ [])
     pub front : OnErr result (AppendsFront (contents (inner_of writer)) (contents (inner_of writer')) text)
     pub failed : OnErr result (has_failed writer' ≡ true)
+
+  -- the lines of all segments of a cut were written, or a front of them
+  pub record IsWrittenCut (cut : CutUnderWay) (writer writer' : Device W) (result : Result (Unit {0}) WriteFault) : Type 0 where
+    pub segments : List Segment
+    pub made : IsCutInto cut.first cut.fill cut.frames cut.pieces segments
+    pub written : IsWritten (flat_map segment_line segments) writer writer' result

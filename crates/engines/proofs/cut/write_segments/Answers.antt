@@ -1,0 +1,15 @@
+use Rattle.std.proofs.Common.{[], ◌∙◌, rules}
+use Rattle.std.specs.Prelude.{flat_map}
+use Rattle.texts.specs.Cut.{segment_line}
+use Rattle.engines.specs.Inside.Writing.{IsWritten}
+use Rattle.engines.proofs.cut.write_segments.Goals as goal
+
+pub returns : goal.returns
+returns g c =
+    let put = c.put_segments.ensures in
+    let text = flat_map segment_line put.segments in
+    let wrote = put.put c.new-text.result [] c.new-text.ensures.unused in
+    let written = c.finish.ensures.written c.new-text.result text wrote in
+    let name = c.finish.ensures.same_reference ∙ wrote.same in
+    let all : IsWritten g.W.Write.contents text c.args.writer.now c.finish.new.self.writer.now c.finish.result = search (rules, c.new-text.ensures.same_writer) in
+    record { segments = put.segments; made = put.made; written = all }
