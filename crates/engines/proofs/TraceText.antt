@@ -9,7 +9,7 @@ use Rattle.texts.specs.Trace.{IsGivenBy, IsTrace}
 use Rattle.texts.specs.Trace.Place.{Said, nothing_said, trace_format}
 use Rattle.texts.specs.declared.trace.Trace.{Trace as TraceValue}
 use Rattle.texts.specs.declared.trace.reading.Reading.{Reading}
-use Rattle.engines.specs.Inside.LinesRead.{HasReadLines, IsLinesFault}
+use Rattle.engines.specs.LinesRead.{HasReadLines, IsLinesFault}
 
 -- the trace that the lines give
 pub is_trace : (known : Option (List ℕ)) (reading : Reading)

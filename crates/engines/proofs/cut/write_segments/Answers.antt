@@ -1,7 +1,7 @@
 use Rattle.std.proofs.Common.{[], ◌∙◌, rules}
 use Rattle.std.specs.Prelude.{flat_map}
 use Rattle.texts.specs.Cut.{segment_line}
-use Rattle.engines.specs.Inside.Writing.{IsWritten}
+use Rattle.engines.specs.Writing.{IsWritten}
 use Rattle.engines.proofs.cut.write_segments.Goals as goal
 
 pub returns : goal.returns
