@@ -1,4 +1,4 @@
-use Rattle.std.proofs.Common.{refl}
+use Rattle.std.proofs.Common.{refl, rules}
 use Rattle.std.proofs.lemmas.Result.{err_from_is_err_and}
 use Rattle.texts.specs.Replay.{IsReportFault}
 use Rattle.texts.specs.Report.{report_text}
@@ -17,7 +17,12 @@ returns-in_err-reading g c =
     c.in_err-reading.ensures.read_first)
 
 pub run_trace-requires : goal.run_trace-requires
-run_trace-requires g c = ?
+run_trace-requires g c =
+    let ring = c.args.ring in
+    let read = c.in_ok-reading.ensures.read (nothing_said ring) c.new.ensures in
+    let is = trace_read ring c.args.mailbox _ c.in_ok-reading.reading read c.into_trace-trace.result c.into_trace-trace.ensures in
+    let can = c.trace_passes_the_checks.ensures ring c.args.mailbox read.input c.into_trace-trace.result c.requires.ring is in
+    search rules
 
 pub returns-in_err-write_report : goal.returns-in_err-write_report
 returns-in_err-write_report g c =
