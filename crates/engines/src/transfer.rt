@@ -1,9 +1,9 @@
-//! Reads a device to its end, and writes a whole text to one.
-ghost use Rattle.std.specs.Prelude.{◌≡◌, ◌≢◌, ◌<◌, ◌≤◌, ◌+◌, [], length, take, IsOk, true, IfOk, IfErr, IfSome, OnOk, OnErr, vec_len};
+//! Reads from a device piece by piece, and writes a whole text to one.
+ghost use Rattle.std.specs.Prelude.{◌≡◌, ◌≢◌, ◌<◌, ◌≤◌, ◌+◌, [], length, take, IsOk, true, IfOk, IfErr, OnOk, OnErr, vec_len};
 ghost use Rattle.std.specs.Io.KnownBytes.{Appends, Consumes, IsAtEnd};
 ghost use Rattle.engines.specs.Device.{inner_of, has_failed, is_flushed, IsFresh};
-ghost use Rattle.engines.specs.Transfer.{AppendsFront, IsLeftFlushed, IsRead, IsReadToEnd, IsReadFault};
-ghost use Rattle.engines.specs.Inside.Transfer.{IsCounted, ReadsMore};
+ghost use Rattle.engines.specs.Transfer.{AppendsFront, IsLeftFlushed, IsReadFault};
+ghost use Rattle.engines.specs.Inside.Transfer.{IsCounted};
 
 use crate::device::Device;
 use crate::fault::{EngineFault, WriteFault};
@@ -12,9 +12,6 @@ use std::io::{Read, Write};
 
 /// The longest input that an engine reads, in bytes.
 pub const INPUT_MAX: usize = 268_435_456;
-
-/// How many bytes are asked of the reader at once.
-const CHUNK_BYTES: usize = 65_536;
 
 /// Room for a read.
 pub(crate) fn zeros(alloc: Global, count: usize) -> Result<Vec<u8>, AllocError>
@@ -47,46 +44,6 @@ pub(crate) fn read_piece<R: Read>(
         return Err(EngineFault::Read);
     }
     Ok(count)
-}
-
-/// Makes one read and appends what it gave to the input. It answers how many bytes that were.
-fn read_more<R: Read>(
-    reader: &mut Device<R>,
-    room: &mut [u8],
-    input: &mut Vec<u8>,
-) -> Result<usize, EngineFault>
-    requires room { 0 < length room.old }
-    requires counted { IsCounted reader.old (vec_len input.old) }
-    ensures more { IfOk result (ReadsMore (R.remaining (inner_of reader.old))
-        (R.remaining (inner_of reader.new)) input.old.items input.new.items) }
-    ensures counted { OnOk result (IsCounted reader.new (vec_len input.new)) }
-    ensures failed { result ≡ Err EngineFault.Read → IsReadFault reader.new }
-    ensures sound { IfErr result (λ fault. fault ≢ EngineFault.Read → IsRead reader.new) }
-    ensures only { IfErr result
-        (λ fault. fault ≢ EngineFault.OutOfMemory → fault ≡ EngineFault.Read) }
-{
-    let count = read_piece(reader, room, input.len())?;
-    input.extend_from_slice(&room[..count])?;
-    Ok(count)
-}
-
-/// Reads all that a reader gives, if it is at most 268,435,456 bytes.
-///
-/// `Read`: the reader failed or gave more. `OutOfMemory`: an allocation failed.
-pub fn read_input<R: Read>(alloc: Global, reader: &mut Device<R>) -> Result<Vec<u8>, EngineFault>
-    requires { IsFresh reader.old }
-    ensures whole { IfOk result
-        (λ input. IfSome (R.remaining (inner_of reader.old)) (λ xs. input.items ≡ xs)) }
-    ensures read { OnOk result (IsReadToEnd reader.new (R.remaining (inner_of reader.new))) }
-    ensures failed { result ≡ Err EngineFault.Read → IsReadFault reader.new }
-    ensures sound { IfErr result (λ fault. fault ≢ EngineFault.Read → IsRead reader.new) }
-    ensures only { IfErr result
-        (λ fault. fault ≢ EngineFault.OutOfMemory → fault ≡ EngineFault.Read) }
-{
-    let mut input = Vec::new(alloc);
-    let mut room = zeros(alloc, CHUNK_BYTES)?;
-    while read_more(reader, &mut room, &mut input)? > 0 {}
-    Ok(input)
 }
 
 /// Writes all of some bytes. Where the writer fails, a front of them may have gone out.

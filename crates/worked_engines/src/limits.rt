@@ -1,11 +1,12 @@
-//! The longest input. It is read by `read_input` alone, which looks at no byte of it, from a reader
-//! that only counts: what is left are the copies of 268,435,456 bytes.
-use engines::{Device, EngineFault, INPUT_MAX, read_input};
+//! The longest input, from a reader that only counts: its second line is faulty, and what follows a
+//! faulty line is read and looked at no more.
+use engines::{Device, EngineFault, INPUT_MAX, join_text};
 use std::alloc::Global;
 use std::io;
 use std::io::Read;
+use texts::{TraceFault, TraceKind};
 
-/// A reader that gives so many bytes, whatever they are.
+/// A reader that gives so many bytes, each time a line feed and then what isn't hexadecimal.
 #[derive(Drop)]
 struct Counted {
     left: usize,
@@ -14,37 +15,41 @@ struct Counted {
 impl Read for Counted {
     fn read(&mut self, buf: &mut [u8]) -> io::Result<usize> {
         let count = buf.len().min(self.left);
+        if let Some(first) = buf.first_mut() {
+            *first = b'\n';
+        }
         self.left -= count;
         Ok(count)
     }
 }
 
-/// How many bytes are read of so many, and how many the reader gave.
-fn read_so_many(alloc: Global, bytes: usize) -> (Result<usize, EngineFault>, u64) {
+/// What becomes of an input of so many bytes, and how many the reader gave.
+fn join_so_many(alloc: Global, bytes: usize) -> (Result<(), EngineFault>, u64) {
     let mut reader = Device::new(Counted { left: bytes });
-    let read = match read_input(alloc, &mut reader) {
-        Ok(input) => Ok(input.len()),
-        Err(fault) => Err(fault),
-    };
+    let mut writer = Device::new(Vec::<u8>::new(alloc));
+    let joined = join_text(alloc, &mut reader, &mut writer);
     let given = reader.given();
     reader.into_inner();
-    (read, given)
+    writer.into_inner();
+    (joined, given)
 }
 
 #[test]
 fn reads_the_longest_input(rt: HostRuntime) {
     let most = 268_435_456;
-    assert_eq!(rt;
-        read_so_many(rt.alloc(), most),
-        (Ok(INPUT_MAX), most as u64)
-    );
+    assert_eq!(rt; INPUT_MAX, most);
+    let fault = EngineFault::Trace(TraceFault {
+        line: 2,
+        kind: TraceKind::NotHex,
+    });
+    assert_eq!(rt; join_so_many(rt.alloc(), most), (Err(fault), most as u64));
 }
 
 #[test]
 fn reads_no_longer_input(rt: HostRuntime) {
     let more = 268_435_457;
     assert_eq!(rt;
-        read_so_many(rt.alloc(), more),
+        join_so_many(rt.alloc(), more),
         (Err(EngineFault::Read), more as u64)
     );
 }
