@@ -115,11 +115,11 @@ impl<'a> SegmentParts<'a> {
     }
 
     /// The segment, with a copy of what was not given yet of its payload.
-    pub fn to_segment(self, alloc: Global) -> Result<Segment, AllocError>
-        ensures { IfOk result (λ segment. segment ≡ self.entry) }
+    pub fn to_segment(&self, alloc: Global) -> Result<Segment, AllocError>
+        ensures { IfOk result (λ segment. segment ≡ self.now) }
     {
-        let mut parts = self;
-        let head = parts.head();
+        let head = self.head;
+        let mut parts = SegmentParts { ..*self };
         let mut payload = Vec::new(alloc);
         while let Some(part) = parts.next_part() {
             payload.extend_from_slice(part)?;

@@ -4,7 +4,7 @@ use super::faults::{FAULTS, Fault, long_and_plain};
 use super::worked::{INSIDE_PIECES, INSIDE_SEGMENTS};
 use super::{expect_segment, expect_segments, named, owned};
 use crate::expect::{expect_same, expect_true};
-use docsis_wire::{Bytes, CutFault, Cutter, FillByte, NoCheck, Piece, Segment, cut};
+use docsis_wire::{Bytes, CutFault, Cutter, FillByte, NoCheck, Piece, Segment, SegmentParts, cut};
 use std::alloc::{AllocError, Global};
 use std::process::Abort;
 use std::test::Fail;
@@ -42,26 +42,23 @@ fn cut_again(rt: HostRuntime) -> Result<(), Fail> {
     Ok(())
 }
 
-/// Makes the next segment, and once more where the first call was refused memory.
-fn next_of(
-    rt: &impl Print,
-    alloc: Global,
-    cutter: &mut Cutter<'_>,
-) -> Result<Option<Segment>, Fail> {
-    if let Ok(segment) = cutter.next(alloc) {
+/// The segment of these parts, made once more where the first call was refused memory.
+fn segment_of(rt: &impl Print, alloc: Global, parts: SegmentParts<'_>) -> Result<Segment, Fail> {
+    if let Ok(segment) = parts.to_segment(alloc) {
         return Ok(segment);
     }
     say_refused(rt)?;
-    Ok(cutter.next(alloc)?)
+    Ok(parts.to_segment(alloc)?)
 }
 
 #[test]
-fn next_again(rt: HostRuntime) -> Result<(), Fail> {
+fn segment_of_parts_again(rt: HostRuntime) -> Result<(), Fail> {
     let frames = frames(&rt, rt.alloc())?;
     let pieces = pieces(&rt, rt.alloc())?;
     let mut cutter = Cutter::new(&frames, &pieces, 0, FillByte::Zero, &NoCheck)?;
     for wanted in INSIDE_SEGMENTS {
-        let segment = next_of(&rt, rt.alloc(), &mut cutter)?.ok_or("too few")?;
+        let parts = cutter.next().ok_or("too few")?;
+        let segment = segment_of(&rt, rt.alloc(), parts)?;
         expect_segment(&rt, &segment, wanted);
     }
     Ok(())
@@ -113,8 +110,21 @@ fn expect_fault(rt: &impl Abort, alloc: Global, faulty: &Faulty) {
     expect_same(rt, faulty.name, cutter.err(), Some(faulty.fault));
 }
 
-/// Faults are looked for before any memory is taken, and a cutter takes none when it is made. In
-/// the end the test asks for memory itself, so that a run is known in which nothing else did.
+/// How many bytes of payload a cut has, given part by part.
+fn payload_bytes(frames: &[Bytes], pieces: &[Piece]) -> Result<usize, CutFault> {
+    let mut cutter = Cutter::new(frames, pieces, 0, FillByte::Zero, &NoCheck)?;
+    let mut bytes = 0usize;
+    while let Some(parts) = cutter.next() {
+        let mut parts = parts;
+        while let Some(part) = parts.next_part() {
+            bytes = bytes.saturating_add(part.len());
+        }
+    }
+    Ok(bytes)
+}
+
+/// Faults are looked for before any memory is taken, and a cutter takes none, nor do the parts of
+/// its segments. In the end the test asks for memory itself, so that a run is known in which nothing else did.
 #[test]
 fn faults_without_memory(rt: HostRuntime) -> Result<(), Fail> {
     let cuts = faulty_cuts(rt.alloc());
@@ -126,7 +136,7 @@ fn faults_without_memory(rt: HostRuntime) -> Result<(), Fail> {
     for faulty in &cuts {
         expect_fault(&rt, rt.alloc(), faulty);
     }
-    let cutter = Cutter::new(&frames, &pieces, 0, FillByte::Zero, &NoCheck);
-    expect_true(&rt, "a cutter", cutter.is_ok());
+    let bytes = payload_bytes(&frames, &pieces);
+    expect_same(&rt, "bytes of payload", bytes, Ok(17));
     say_whether_refused(&rt, rt.alloc())
 }

@@ -1,9 +1,11 @@
 //! Cuts of great sizes.
+use super::{named, owned};
 use crate::expect::{expect_same, expect_same_at, expect_true};
 use docsis_wire::{Bytes, Cutter, FillByte, NoCheck, Piece, Segment, cut};
 use std::alloc::{AllocError, Global};
 use std::process::Abort;
 use std::test::Fail;
+use worked_frames::samples::PLAIN;
 
 /// Frames without payload end to end.
 fn many_frames(alloc: Global) -> Result<Vec<Bytes>, AllocError> {
@@ -48,10 +50,11 @@ fn expect_one_by_one(
     segments: &[Segment],
 ) -> Result<(), Fail> {
     for (place, segment) in segments.iter().enumerate() {
-        let made = cutter.next(alloc)?.ok_or("too few")?;
+        let parts = cutter.next().ok_or("too few")?;
+        let made = parts.to_segment(alloc)?;
         expect_same_segment(rt, place, &made, segment);
     }
-    expect_true(rt, "no more", cutter.next(alloc)?.is_none());
+    expect_true(rt, "no more", cutter.next().is_none());
     Ok(())
 }
 
@@ -68,4 +71,23 @@ fn cuts_into_many_pieces(rt: HostRuntime) -> Result<(), Fail> {
     }
     let mut cutter = Cutter::new(&frames, &pieces, 8000, FillByte::Ones, &NoCheck)?;
     expect_one_by_one(&rt, rt.alloc(), &mut cutter, &segments)
+}
+
+/// Fill is given 64 bytes at a time, and what is left of it.
+#[test]
+fn fill_comes_in_parts(rt: HostRuntime) -> Result<(), Fail> {
+    let frames = owned(rt.alloc(), &[PLAIN])?;
+    let pieces = named(rt.alloc(), &[(8, 150)])?;
+    let mut cutter = Cutter::new(&frames, &pieces, 0, FillByte::Ones, &NoCheck)?;
+    let mut parts = cutter.next().ok_or("too few")?;
+    expect_same(&rt, "the frame", parts.next_part(), Some(PLAIN));
+    for (place, length) in [64, 64, 22].iter().enumerate() {
+        let part = parts.next_part().ok_or("too few parts")?;
+        expect_same_at(&rt, "length", place, part.len(), *length);
+        let is_fill = part.iter().all(|byte| *byte == 0xFF);
+        expect_same_at(&rt, "fill", place, is_fill, true);
+    }
+    expect_same(&rt, "no more", parts.next_part(), None);
+    expect_same(&rt, "no more again", parts.next_part(), None);
+    Ok(())
 }

@@ -170,11 +170,12 @@ fn cuts_one_by_one(rt: HostRuntime) -> Result<(), Fail> {
     let pieces = named(rt.alloc(), INSIDE_PIECES)?;
     let mut cutter = Cutter::new(&frames, &pieces, 0, FillByte::Zero, &NoCheck)?;
     for wanted in INSIDE_SEGMENTS {
-        let segment = cutter.next(rt.alloc())?.ok_or("too few")?;
+        let parts = cutter.next().ok_or("too few")?;
+        let segment = parts.to_segment(rt.alloc())?;
         expect_segment(&rt, &segment, wanted);
     }
-    expect_true(&rt, "no more", cutter.next(rt.alloc())?.is_none());
-    expect_true(&rt, "no more again", cutter.next(rt.alloc())?.is_none());
+    expect_true(&rt, "no more", cutter.next().is_none());
+    expect_true(&rt, "no more again", cutter.next().is_none());
     Ok(())
 }
 
