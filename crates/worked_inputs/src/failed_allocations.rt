@@ -8,9 +8,7 @@ use consumer::Collected;
 use docsis_wire::{HeaderCheck, NoCheck};
 use flow_core::FlowCounts;
 use lane::Input;
-use receiver::{
-    Closed, DecideFault, FlowDecision, NotReady, Receiver, RestartError, TakeError,
-};
+use receiver::{Closed, DecideFault, FlowDecision, NotReady, Receiver, RestartError, TakeError};
 use std::alloc::Global;
 use std::process::Abort;
 use std::test::Fail;
