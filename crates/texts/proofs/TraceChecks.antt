@@ -150,7 +150,7 @@ sid_passes said fields row carries faultless passes =
     faultless SameSid (record { k = k; row = earlier; above = at; channel_is = same.0; sid_is = same.1 }) in
     record { ring = passes.ring; flows = passes.flows; sids = CanBeOpened-pushed said.sids (length said.flows) row passes.sids fits new }
 
-passes_with : (said : Said) (fields : List (List ℕ)) (line : TraceLine) → Carries said.ring fields line
+pub passes_with : (said : Said) (fields : List (List ℕ)) (line : TraceLine) → Carries said.ring fields line
     → ((kind : TraceKind) → ¬ (HasFaultAmong said line kind))
     → PassesChecks said → PassesChecks (with_line said line)
 passes_with said fields (line.Flow flow_record) carries faultless passes = flow_passes said fields flow_record carries faultless passes
@@ -164,7 +164,7 @@ line_passes before fields after takes passes =
     (passes_with before fields takes.0.line takes.0.carries (none_among before fields takes.0.line takes.0.carries takes.1) passes)
 
 -- no lines say anything that fails the checks
-nothing_passes : (ring : ℕ) → 1 ≤ ring → PassesChecks (nothing_said ring)
+pub nothing_passes : (ring : ℕ) → 1 ≤ ring → PassesChecks (nothing_said ring)
 nothing_passes ring positive = record {
   ring = positive;
   flows = can_be_set_up [] (omega arith) (λ k x at. absurd cc) (λ j k earlier x before at_j at_k same. absurd cc);
