@@ -2,6 +2,7 @@
 
 import collections
 import os
+import re
 import statistics
 import subprocess
 import sys
@@ -32,23 +33,42 @@ def once(program, words, file, cores=None):
 
 
 def measure(program, command, file, runs):
-    """The median of the seconds, and the greatest memory."""
+    """The median of the seconds, the greatest memory, and the median of the page faults."""
     made = [once(program, [command], file) for _ in range(runs)]
-    return statistics.median(seconds for seconds, _ in made), max(usage.ru_maxrss * 1024 for _, usage in made)
+    memory = max(usage.ru_maxrss * 1024 for _, usage in made)
+    return statistics.median(seconds for seconds, _ in made), memory, statistics.median(usage.ru_minflt for _, usage in made)
+
+
+# Of how large a front of a text instructions are counted, which takes some fifty times as long as a run.
+COUNTED = 4 * MIB
+
+
+def instructions(program, words, file):
+    """How many instructions the program takes with these words, which other load of the machine doesn't change."""
+    counting = ["valgrind", "--tool=callgrind", "--callgrind-out-file=/dev/null", program, *words]
+    with open(file, "rb") as given:
+        ran = subprocess.run(counting, stdin=given, stdout=subprocess.DEVNULL, stderr=subprocess.PIPE, text=True)
+    found = re.search(r"Collected : (\d+)", ran.stderr)
+    if ran.returncode or not found:
+        sys.exit(f"{' '.join(counting)}: {ran.stderr[-500:]}")
+    return int(found[1])
 
 
 def show(name, program, command, lines, size, runs):
-    """Prints the speed and memory of a command on a text of that size, and how the time grows with twice as much."""
+    """Prints the speed and memory of a command on a text of that size, how the time grows with twice as much, and the
+    instructions of a front of it."""
     with tempfile.TemporaryDirectory() as folder:
         file = os.path.join(folder, "input")
+        write_up_to(COUNTED, file, lines)
+        counted = instructions(program, [command], file) / os.path.getsize(file)
         write_up_to(size, file, lines)
-        seconds, memory = measure(program, command, file, runs)
+        seconds, memory, faults = measure(program, command, file, runs)
         write_up_to(2 * size, file, lines)
-        twice, _ = measure(program, command, file, runs)
+        twice, _, _ = measure(program, command, file, runs)
     print(name)
     print(f"  {size / MIB:.0f} MiB in {seconds:.3f} s: {size / MIB / seconds:.0f} MiB of text a second")
-    print(f"  greatest resident memory {memory / MIB:.0f} MiB, {memory / size:.2f} times the input")
-    print(f"  time at {2 * size / MIB:.0f} MiB is {twice / seconds:.2f} times that", flush=True)
+    print(f"  greatest resident memory {memory / MIB:.0f} MiB, {memory / size:.2f} times the input; {faults:,.0f} page faults")
+    print(f"  time at {2 * size / MIB:.0f} MiB is {twice / seconds:.2f} times that; {counted:.1f} instructions a byte", flush=True)
 
 
 # What `bench/sent`, a library that benches share, uses.

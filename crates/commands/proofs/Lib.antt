@@ -1,4 +1,4 @@
 pub mod TraceFromSources
 pub mod ExitStatuses
-pub mod FailedWriter
 pub mod ObeyedWords
+pub mod TraceRead

@@ -5,22 +5,22 @@ ghost use Rattle.engines.specs.Engine.{RunsEngine};
 ghost use Rattle.texts.specs.Replay.{IsReportFault};
 ghost use Rattle.texts.specs.Run.{IsRunText, IsRunTextBy};
 
-use crate::run_lines::run_lines;
+use crate::run_lines::run_trace;
 use docsis_wire::Bytes;
-use engines::{Device, EngineFault, read_input, write_text};
+use engines::{Device, EngineFault, held_room, read_lines, write_report};
 use loss_rule::LossRule;
 use std::alloc::Global;
 use std::io::{Read, Write};
 use std::sync::Wait;
 use std::thread::Threads;
-use texts::{Capacities, laws};
+use texts::{Reading, laws};
 use uplink::{Request, Tap, Taps};
 
 /// Receives the trace that a reader gives, each channel's inputs and the decisions on a thread of
 /// their own, and writes the report of it. Items of different channels are taken in the order in
 /// which they happen to come. `mailbox` and `ring` are the capacities of the two mailboxes and of
-/// each flow's ring, at least 1. It reads all, at most 268,435,456 bytes, then makes the whole
-/// text, and then writes it.
+/// each flow's ring, at least 1. It reads all, at most 268,435,456 bytes, piece by piece, of which it
+/// keeps the trace alone; then it receives, and then it writes the report as it makes it.
 ///
 /// `Read`: the reader failed or gave more. `Trace`: the first faulty line, any kind but `TooShort`
 /// and `PointerPast`. `OutOfMemory`: an allocation failed, or a thread could not be started. Up to
@@ -81,9 +81,11 @@ where
     ensures { RunsEngine R.remaining W.contents (IsRunTextBy rule ring mailbox) (IsReportFault ring)
         reader.old reader.new writer.old writer.new result }
 {
-    let input = read_input(alloc, reader)?;
-    let capacities = Capacities { mailbox, ring };
-    let text = run_lines(rule, alloc, rt, input, capacities, taps)?;
-    write_text(writer, &text)?;
+    laws::trace_passes_the_checks();
+    let reading = read_lines(alloc, Reading::new(alloc, ring), reader)?;
+    let trace = reading.into_trace(mailbox);
+    let outcome = run_trace(rule, alloc, rt, trace, taps)?;
+    let mut room = held_room(alloc)?;
+    write_report(&outcome, &mut room, writer)?;
     Ok(())
 }

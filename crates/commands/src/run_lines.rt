@@ -39,7 +39,7 @@ fn sources_of(lists: Lists) -> (ListSources, ListDecisions)
 }
 
 /// What a trace gives by this rule when its inputs come from four sources at once.
-fn run_trace<F, Q, R>(
+pub(crate) fn run_trace<F, Q, R>(
     rule: LossRule,
     alloc: Global,
     rt: R,

@@ -8,7 +8,7 @@ use Rattle.text_lines.specs.Lines.{lines_of}
 use Rattle.texts.specs.Cut.{IsCutFault}
 use Rattle.texts.specs.Cut.Line.{FramesAndPieces, nothing, cut_format}
 use Rattle.texts.specs.declared.cut.CutInput.{CutInput}
-use Rattle.engines.specs.Inside.LinesRead.{HasReadLines, IsLinesFault}
+use Rattle.engines.specs.LinesRead.{HasReadLines, IsLinesFault}
 
 -- no lines carry nothing
 pub carries_nothing : (frames : List (List ℕ)) (pieces : List Piece) → frames ≡ [] → pieces ≡ [] → nothing ≡ record { frames = frames; pieces = pieces }

@@ -13,8 +13,8 @@ use Rattle.engines.specs.declared.fault.EngineFault.TheVariants.{Trace, Cut, Out
 use Rattle.engines.specs.Device.{inner_of, has_failed}
 use Rattle.engines.specs.Engine.{engine_fault, WritesText, WritesFront, IsReadBefore, HasCause, RunsEngine}
 use Rattle.engines.specs.Transfer.{AppendsFront, IsReadToEnd}
-use Rattle.engines.specs.Inside.LinesRead.{IsLinesFault, HasLinesCause}
-use Rattle.engines.specs.Inside.Writing.{IsWritten}
+use Rattle.engines.specs.LinesRead.{IsLinesFault, HasLinesCause}
+use Rattle.engines.specs.Writing.{IsWritten}
 
 module _ {R W : Type 0} (remaining : R → Option (List ℕ)) (contents : W → Option (List ℕ)) (IsTextOf : List ℕ → List ℕ → Type 0)
     (IsFaultOf : List ℕ → TextFault → Type 0) where

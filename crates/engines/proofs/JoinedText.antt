@@ -8,7 +8,7 @@ use Rattle.texts.specs.Join.{IsJoined, IsJoinFault, frame_line}
 use Rattle.texts.specs.Join.Line.{join_format}
 use Rattle.texts.specs.Inside.Join.{IsJoinedSoFar}
 use Rattle.texts.specs.declared.join.JoinInput.{JoinInput}
-use Rattle.engines.specs.Inside.LinesRead.{HasReadLines, IsLinesFault}
+use Rattle.engines.specs.LinesRead.{HasReadLines, IsLinesFault}
 
 -- the frames' lines
 pub joined_text : (known : Option (List ℕ)) (joined : JoinInput)

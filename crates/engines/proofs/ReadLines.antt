@@ -13,7 +13,7 @@ use Rattle.text_lines.specs.declared.fault.ParseFault.TheVariants.{Line, OutOfMe
 use Rattle.engines.specs.declared.device.Device.{Device}
 use Rattle.engines.specs.Device.{inner_of}
 use Rattle.engines.specs.Engine.{engine_fault}
-use Rattle.engines.specs.Inside.LinesRead.{HasLinesCause}
+use Rattle.engines.specs.LinesRead.{HasLinesCause}
 
 -- the bytes that were taken, line by line, and those that were read besides and stand at the front of the room
 pub record HasReadSoFar {R Taker State : Type 0} (remaining : R → Option (List ℕ)) (first now : Device R) (format : Format State)

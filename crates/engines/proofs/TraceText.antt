@@ -12,7 +12,7 @@ use Rattle.texts.specs.Report.{report_text}
 use Rattle.texts.specs.Trace.Place.{Said, nothing_said}
 use Rattle.texts.specs.declared.replay.input.ReplayInput.{ReplayInput}
 use Rattle.texts.proofs.ReplayedLines.{read_by_rule, faulty_by_rule}
-use Rattle.engines.specs.Inside.LinesRead.{HasReadLines, IsLinesFault}
+use Rattle.engines.specs.LinesRead.{HasReadLines, IsLinesFault}
 
 -- what the lines give by the rule, which no line changed
 pub is_replayed : (rule : LossRule) (known : Option (List ℕ)) (lines : ReplayInput) (outcome : Outcome)

@@ -4,7 +4,7 @@ ghost use Rattle.docsis_wire.specs.Limits.{sequence_modulus};
 ghost use Rattle.docsis_wire.specs.Pieces.{IsCuttable};
 ghost use Rattle.engines.specs.Device.{IsFresh};
 ghost use Rattle.engines.specs.Engine.{RunsEngine};
-ghost use Rattle.engines.specs.Inside.Writing.{IsWrittenCut};
+ghost use Rattle.engines.specs.Writing.{IsWrittenCut};
 ghost use Rattle.texts.specs.AnyHeader.{any_header};
 ghost use Rattle.texts.specs.Cut.{IsCutText, IsCutFault};
 

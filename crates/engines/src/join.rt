@@ -2,7 +2,7 @@
 ghost use Rattle.std.specs.Prelude.{◌≡◌, [], flat_map};
 ghost use Rattle.engines.specs.Device.{IsFresh};
 ghost use Rattle.engines.specs.Engine.{RunsEngine};
-ghost use Rattle.engines.specs.Inside.Writing.{IsWritten};
+ghost use Rattle.engines.specs.Writing.{IsWritten};
 ghost use Rattle.texts.specs.Join.{IsJoined, IsJoinFault, frame_line};
 
 use crate::device::Device;

@@ -6,10 +6,10 @@
 //!
 //! - [`read_words`] reads what the arguments of the program ask for.
 //! - [`join_text`], [`cut_text`] and [`replay_text`] are the engines. Each reads its input to the
-//!   end, piece by piece, and only then writes: frames and reports as their lines are made, a cut
-//!   at once. [`replay_text_by`] decides besides by a rule which segments are lost.
-//! - [`read_input`] reads a whole input, and [`write_text`] writes a whole text, for the engine of
-//!   `run`.
+//!   end, piece by piece, and only then writes its text, as its lines are made. [`replay_text_by`]
+//!   decides besides by a rule which segments are lost.
+//! - [`read_lines`] reads an input piece by piece, and [`write_report`] writes a report in the room
+//!   that [`held_room`] gives, for the engine of `run`; [`write_text`] writes a whole text.
 //! - [`write_fault`] writes the line of a fault, and [`status`] is its exit status.
 //!
 //! What matters most: they write exactly the text that stands for the lines they read; or they
@@ -36,5 +36,7 @@ pub use device::Device;
 pub use fault::{EngineFault, WriteFault, exit_status, status};
 pub use fault_line::write_fault;
 pub use join::join_text;
-pub use replay::{replay_text, replay_text_by};
-pub use transfer::{INPUT_MAX, read_input, write_text};
+pub use lines_read::read_lines;
+pub use replay::{replay_text, replay_text_by, write_report};
+pub use text_writer::held_room;
+pub use transfer::{INPUT_MAX, write_text};

@@ -3,7 +3,7 @@ ghost use Rattle.std.specs.Prelude.{IfOk, IfErr, OnOk};
 ghost use Rattle.engines.specs.Device.{inner_of, IsFresh};
 ghost use Rattle.engines.specs.Engine.{IsReadBefore};
 ghost use Rattle.engines.specs.Transfer.{IsReadToEnd};
-ghost use Rattle.engines.specs.Inside.LinesRead.{HasReadLines, HasLinesCause};
+ghost use Rattle.engines.specs.LinesRead.{HasReadLines, HasLinesCause};
 
 use crate::device::Device;
 use crate::fault::EngineFault;
@@ -21,7 +21,7 @@ const PIECE_BYTES: usize = 262_144;
 ///
 /// `Read`: the reader failed or gave more. `Trace`: the first faulty line. `OutOfMemory`: an
 /// allocation failed.
-pub(crate) fn read_lines<T: TakeLine + Drop, R: Read>(
+pub fn read_lines<T: TakeLine + Drop, R: Read>(
     alloc: Global,
     taker: T,
     reader: &mut Device<R>,

@@ -2,7 +2,7 @@
 ghost use Rattle.std.specs.Prelude.{◌≡◌, []};
 ghost use Rattle.engines.specs.Device.{IsFresh};
 ghost use Rattle.engines.specs.Engine.{RunsEngine};
-ghost use Rattle.engines.specs.Inside.Writing.{IsWritten};
+ghost use Rattle.engines.specs.Writing.{IsWritten};
 ghost use Rattle.texts.specs.Report.{report_text};
 ghost use Rattle.texts.specs.Replay.{IsReplayed, IsReplayedBy, IsReplayFault};
 
@@ -17,7 +17,8 @@ use std::io::{Read, Write};
 use texts::{ReplayInput, laws, put_report};
 
 /// Writes the report of an outcome as it makes it. The room is empty, and no other memory is taken.
-fn write_report<W: Write>(
+/// An empty report is not written.
+pub fn write_report<W: Write>(
     outcome: &Outcome,
     room: &mut Vec<u8>,
     writer: &mut Device<W>,

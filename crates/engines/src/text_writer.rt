@@ -36,14 +36,14 @@ pub(crate) struct TextWriter<'a, W> {
 }
 
 /// Room for what a writer of a text holds back.
-pub(crate) fn held_room(alloc: Global) -> Result<Vec<u8>, AllocError>
+pub fn held_room(alloc: Global) -> Result<Vec<u8>, AllocError>
     ensures { IfOk result (λ room. room.items ≡ []) }
 {
     Vec::with_capacity(alloc, HELD_BYTES)
 }
 
 impl<'a, W: Write> TextWriter<'a, W> {
-    ghost use Rattle.engines.specs.Inside.Writing.{HasWritten, Takes, IsWritten};
+    ghost use Rattle.engines.specs.Writing.{HasWritten, Takes, IsWritten};
 
     /// A text to which nothing was put. What is put is held back in the room, which is empty.
     pub fn new(writer: &'a mut Device<W>, room: &'a mut Vec<u8>) -> TextWriter<'a, W>
@@ -117,7 +117,7 @@ impl<'a, W: Write> TextWriter<'a, W> {
 }
 
 impl<W: Write> PutText for TextWriter<'_, W> {
-    ghost use Rattle.engines.specs.Inside.Writing.{HasWritten};
+    ghost use Rattle.engines.specs.Writing.{HasWritten};
 
     ghost after = { HasWritten W.contents };
 

@@ -10,12 +10,13 @@ ghost use Rattle.text_lines.specs.Format.{IsRead, IsReadingFault};
 ghost use Rattle.texts.specs.AnyHeader.{any_header};
 ghost use Rattle.texts.specs.Cut.Line.{nothing, cut_format};
 ghost use Rattle.texts.specs.Cut.{IsCutText, IsCutFault, HasPieceFault, PutsCut, segment_line, cut_text_length};
+ghost use Rattle.texts.specs.Inside.Cut.{IsPrinted};
 
 mod line;
 
 use docsis_wire::{Bytes, Cutter, FillByte, NoCheck, Piece, SegmentParts, write_segment};
 use line::{CutLine, read_cut_line};
-use std::alloc::Global;
+use std::alloc::{AllocError, Global};
 use text_lines::{
     LineFault, ParseFault, PutText, TakeLine, TextBuffer, TextFault, put_hex, take_lines,
 };
@@ -154,6 +155,18 @@ pub fn put_segments<O: PutText>(out: &mut O, cutter: Cutter<'_>)
     }
 }
 
+/// The lines of the segments of a cut, in a text that begins with so much room.
+fn segment_lines(alloc: Global, cutter: Cutter<'_>, room: usize) -> Result<Vec<u8>, AllocError>
+    requires cuttable { IsCuttable any_header cutter.frames cutter.pieces }
+    requires none_made { cutter.made ≡ 0 }
+    requires room { room ≡ min (cut_text_length cutter.frames cutter.pieces) usize.MAX }
+    ensures { IfOk result (λ text. IsPrinted cutter.entry text.items) }
+{
+    let mut text = TextBuffer::with_capacity(alloc, room)?;
+    put_segments(&mut text, cutter);
+    text.finish()
+}
+
 /// The text that stands for an input of `cut`: the segments that its frames are cut into, one a
 /// line, each as the lower-case digits of its header and its payload. The first one has the number
 /// `first`, 0 to 8191.
@@ -175,7 +188,5 @@ pub fn cut_lines(
 {
     let read = read_cut_input(alloc, input)?;
     let cutter = read.cutter(first, fill)?;
-    let mut text = TextBuffer::with_capacity(alloc, text_length(&read))?;
-    put_segments(&mut text, cutter);
-    Ok(text.finish()?)
+    Ok(segment_lines(alloc, cutter, text_length(&read))?)
 }

@@ -1,7 +1,6 @@
 use Rattle.std.proofs.Common.{[], ◌∙◌, rules}
 use Rattle.std.specs.Prelude.{flat_map}
 use Rattle.texts.specs.Cut.{segment_line}
-use Rattle.engines.specs.Inside.Writing.{IsWritten}
 use Rattle.engines.proofs.cut.write_segments.Goals as goal
 
 pub returns : goal.returns
@@ -11,5 +10,4 @@ returns g c =
     let wrote = put.put c.new-text.result [] c.new-text.ensures.unused in
     let written = c.finish.ensures.written c.new-text.result text wrote in
     let name = c.finish.ensures.same_reference ∙ wrote.same in
-    let all : IsWritten g.W.Write.contents text c.args.writer.now c.finish.new.self.writer.now c.finish.result = search (rules, c.new-text.ensures.same_writer) in
-    record { segments = put.segments; made = put.made; written = all }
+    record { segments = put.segments; made = put.made; written = search (rules, c.new-text.ensures.same_writer) }
