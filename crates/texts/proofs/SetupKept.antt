@@ -1,5 +1,5 @@
 -- The setup that lines give passes the checks of a receiver, line after line.
-use Rattle.std.proofs.Common.{◌≡◌, ◌≢◌, ℕ, ◌<◌, ◌≤◌, ◌⊎◌, ◌↔◌, List, [], ◌∷◌, ◌++◌, length, refl, sym, ap, subst, ◌∙◌, arith}
+use Rattle.std.proofs.Common.{◌≡◌, ℕ, ◌<◌, ◌≤◌, ◌⊎◌, ◌↔◌, List, [], ◌∷◌, ◌++◌, length, refl, sym, ap, subst, ◌∙◌, arith}
 use Rattle.std.specs.declared.alloc.Global.{Global}
 use Rattle.std.specs.Prelude.{Bool, true, false, map, Vec, Some, slice_get, Result, Ok, Err, MatchResult}
 use Rattle.std.proofs.lemmas.Bool.{false≢true}
@@ -28,7 +28,7 @@ use Rattle.texts.specs.Trace.Place.{Said, IsSidAbove, HasFaultAmong, IsSfidAbove
 use Rattle.texts.specs.Inside.SetupLines.{SetupSoFar, setup_said, IsSetupSoFar, HasSetup, IsSfidAmong, SetsUp, IsCarried, AddsTo}
 use Rattle.texts.specs.Inside.Reading.{HasRead}
 use Rattle.texts.proofs.OneTraceLine.{sid_in_range, channel_in_range}
-use Rattle.texts.proofs.TraceChecks.{PassesChecks, passes_with, nothing_passes}
+use Rattle.texts.proofs.TraceChecks.{passes_with, nothing_passes}
 use Rattle.texts.proofs.TraceSoFar.{seen-kept, seen-pushed}
 
 -- what follows of a line that is taken

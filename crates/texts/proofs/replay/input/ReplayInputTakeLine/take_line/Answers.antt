@@ -1,12 +1,12 @@
 -- A line is replayed, or its least fault is reported.
-use Rattle.std.proofs.Common.{ℕ, ◌∷◌, subst, sym, ◌∙◌}
+use Rattle.std.proofs.Common.{ℕ, ◌∷◌, subst, ◌∙◌}
 use Rattle.loss_rule.specs.declared.rule.LossRule.{LossRule}
 use Rattle.text_lines.specs.Lines.{words_of}
 use Rattle.texts.specs.Trace.Line.{Carries}
 use Rattle.texts.specs.Trace.Place.{Said}
 use Rattle.texts.specs.Inside.ReplayInput.{HasReplayedLines}
 use Rattle.texts.proofs.TraceLines.{late_is_least}
-use Rattle.texts.proofs.TraceSoFar.{carried_as, taken_in_place, refused_in_place}
+use Rattle.texts.proofs.TraceSoFar.{taken_in_place, refused_in_place}
 use Rattle.texts.proofs.ReplayedLines.{late_after_input, not_late, not_begun, taken_by_rule}
 use Rattle.texts.proofs.replay.input.ReplayInputTakeLine.take_line.Goals as goal
 
