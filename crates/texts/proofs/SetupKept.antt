@@ -1,12 +1,11 @@
 -- The setup that lines give passes the checks of a receiver, line after line.
 use Rattle.std.proofs.Common.{◌≡◌, ℕ, ◌<◌, ◌≤◌, ◌⊎◌, ◌↔◌, List, [], ◌∷◌, ◌++◌, length, refl, sym, ap, subst, ◌∙◌, arith}
 use Rattle.std.specs.declared.alloc.Global.{Global}
-use Rattle.std.specs.Prelude.{Bool, true, false, map, Vec, Some, slice_get, Result, Ok, Err, MatchResult}
+use Rattle.std.specs.Prelude.{Bool, true, false, map, Vec, slice_get, Result, Ok, Err, MatchResult}
 use Rattle.std.proofs.lemmas.Bool.{false≢true}
 use Rattle.flow_records.specs.declared.record.FlowRecord.{FlowRecord}
 use Rattle.flow_records.specs.Limits.{flows_max}
 use Rattle.flow_records.specs.Setup.{CanBeSetUp}
-use Rattle.lane.specs.declared.input.Input.{Input}
 use Rattle.lane.specs.declared.sids.SidRow.{SidRow}
 use Rattle.lane.specs.declared.sids.seen.SeenSids.{SeenSids}
 use Rattle.lane.specs.Inside.Seen.{HasSeen}
@@ -27,8 +26,8 @@ use Rattle.texts.specs.Trace.{AreListsOf}
 use Rattle.texts.specs.Trace.Place.{Said, IsSidAbove, HasFaultAmong, IsSfidAbove, with_line}
 use Rattle.texts.specs.Inside.SetupLines.{SetupSoFar, setup_said, IsSetupSoFar, HasSetup, IsSfidAmong, SetsUp, IsCarried, AddsTo}
 use Rattle.texts.specs.Inside.Reading.{HasRead}
-use Rattle.texts.proofs.OneTraceLine.{sid_in_range, channel_in_range}
-use Rattle.texts.proofs.TraceChecks.{passes_with, nothing_passes}
+use Rattle.texts.proofs.OneTraceLine.{sid_in_range}
+use Rattle.texts.proofs.TraceChecks.{passes_with}
 use Rattle.texts.proofs.TraceSoFar.{seen-kept, seen-pushed}
 
 -- what follows of a line that is taken
@@ -61,25 +60,7 @@ can_receive_more ring before after line carried faultless flows sids can positiv
           (subst (λ (rows : List SidRow). CanBeOpened rows (length more.flows)) (sym sids) passes.sids);
     }
 
--- a setup without flows and identifiers is one
-pub no_setup : (ring : ℕ) (setup : Setup) (seen : SeenSids) → setup.flows.items ≡ [] → setup.sids.items ≡ []
-    → ((channel sid : ℕ) → ¬ (HasSeen seen channel sid)) → IsSetupSoFar ring setup seen
-no_setup ring setup seen flows sids none = record {
-  can_receive = λ positive.
-      let passes = nothing_passes ring positive in
-      record {
-        flows = subst CanBeSetUp (sym flows) passes.flows;
-        lanes =
-            subst (λ (records : List FlowRecord). CanBeOpened setup.sids.items (length records)) (sym flows)
-            (subst (λ (rows : List SidRow). CanBeOpened rows 0) (sym sids) passes.sids);
-      };
-  seen = λ channel sid. (
-    λ has. absurd (none channel sid has),
-    λ above. absurd (let at : slice_get [] above.k ≡ Some above.row = ap (λ (rows : List SidRow). slice_get rows above.k) (sym sids) ∙ above.above in cc),
-  );
-}
-
--- it is one with a flow more
+-- the setup so far with a flow more
 pub flow_set_up : (ring : ℕ) (before after : Setup) (seen : SeenSids) (flow_record : FlowRecord) → IsSetupSoFar ring before seen
     → IsCarried ring (line.Flow flow_record) → length before.flows.items < flows_max → ¬ (IsSfidAbove (setup_said ring before) flow_record.sfid)
     → after.flows.items ≡ before.flows.items ++ flow_record ∷ [] → after.sids.items ≡ before.sids.items → IsSetupSoFar ring after seen
@@ -106,10 +87,6 @@ sid_set_up ring before after seen more row was carried faultless inserted flows 
 pub row_in_range : (ring : ℕ) (row : SidRow) → IsCarried ring (line.Sid row) → (row.channel < channel_limit) × (row.sid < sid_limit)
 row_in_range ring row carried =
     let ranges = sid_in_range ring carried.0 row carried.1 in ((let within = ranges.0 in omega arith), (let within = ranges.1 in omega arith))
-
--- and so does the channel of an input
-pub input_in_range : (ring channel : ℕ) (input : Input) → IsCarried ring (line.Input channel input) → channel < channel_limit
-input_in_range ring channel input carried = let within = channel_in_range ring carried.0 channel input carried.1 in omega arith
 
 -- a setup is what its own lines say
 pub said_of_setup : (ring : ℕ) (setup : Setup) (so_far : SetupSoFar) → record { ring = ring; setup = setup } ≡ so_far → HasSetup (setup_said ring setup) so_far

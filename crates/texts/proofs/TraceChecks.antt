@@ -164,7 +164,7 @@ line_passes before fields after takes passes =
     (passes_with before fields takes.0.line takes.0.carries (none_among before fields takes.0.line takes.0.carries takes.1) passes)
 
 -- no lines say anything that fails the checks
-pub nothing_passes : (ring : ℕ) → 1 ≤ ring → PassesChecks (nothing_said ring)
+nothing_passes : (ring : ℕ) → 1 ≤ ring → PassesChecks (nothing_said ring)
 nothing_passes ring positive = record {
   ring = positive;
   flows = can_be_set_up [] (omega arith) (λ k x at. absurd cc) (λ j k earlier x before at_j at_k same. absurd cc);
