@@ -6,6 +6,13 @@ use Rattle.receiver.specs.declared.outcome.Outcome.{Outcome}
 use Rattle.uplink.specs.declared.eight_threads.RunFault.{RunFault}
 use Rattle.uplink.specs.declared.eight_threads.RunFault.TheVariants as run_fault
 use Rattle.flow_records.specs.declared.decision.Decision.{Decision}
+use Rattle.flow_records.specs.declared.record.FlowRecord.{FlowRecord}
+use Rattle.flow_records.specs.declared.record.SetupFault.{SetupFault}
+use Rattle.flow_records.specs.declared.record.SetupFault.TheVariants.{TooManyFlows, BadFlow, SameSfid, OutOfMemory}
+use Rattle.flow_records.specs.Setup.{CanBeSetUp, IsSetupFault}
+use Rattle.lane.specs.declared.sids.LaneFault.{LaneFault}
+use Rattle.lane.specs.declared.sids.SidRow.{SidRow}
+use Rattle.lane.specs.Rows.{IsLaneFault, CanBeOpened}
 use Rattle.receiver.specs.declared.setup.Lists.{Lists}
 use Rattle.receiver.specs.declared.setup.Setup.{Setup}
 use Rattle.lane.specs.Limits.{channel_limit}
@@ -14,7 +21,6 @@ use Rattle.loss_rule.specs.declared.rule.LossRule.{LossRule}
 use Rattle.receiver.specs.Ruled.{IsOutcomeBy}
 use Rattle.uplink.specs.Faults.{IsRunFault, CanRun}
 use Rattle.texts.proofs.OneReplay.{outcome_by_moved}
-use Rattle.texts.proofs.OutOfMemoryAlone.{HaveNoFault, no_setup_fault}
 
 -- the inputs of four channels, by the channel
 four_inputs : (lists : Lists) (i0 i1 i2 i3 : List Input) → i0 ≡ inputs_on lists 0 → i1 ≡ inputs_on lists 1 → i2 ≡ inputs_on lists 2 → i3 ≡ inputs_on lists 3
@@ -34,6 +40,17 @@ received rule check setup lists i0 i1 i2 i3 decisions order outcome e0 e1 e2 e3 
     let incoming = incoming_from (i0 ∷ i1 ∷ i2 ∷ i3 ∷ []) decisions in
     let inputs : (channel : ℕ) → channel < channel_limit → incoming.inputs channel ≡ inputs_on lists channel = four_inputs lists i0 i1 i2 i3 e0 e1 e2 e3 in
     outcome_by_moved setup setup incoming (incoming_of lists) refl refl inputs e4 rule check order outcome is
+
+-- records that can be set up have no fault
+no_setup_fault : (records : List FlowRecord) (fault : SetupFault) → CanBeSetUp records → IsSetupFault records fault → ⊥
+no_setup_fault records TooManyFlows can fault = omega (arith, can.few, fault)
+no_setup_fault records (BadFlow k) can fault = can.in_range k fault.1.0
+no_setup_fault records (SameSfid k) can fault = can.apart k fault.2.0
+no_setup_fault records OutOfMemory can fault = fault
+
+-- rows with which a lane can be opened have no fault
+abbrev HaveNoFault : Type 0
+HaveNoFault = (rows : List SidRow) (flow_count : ℕ) (fault : LaneFault) → IsLaneFault rows flow_count fault → ¬ (CanBeOpened rows flow_count)
 
 -- a setup that can be run has no fault
 pub out_of_memory_alone : (setup : Setup) (answer : Result Outcome RunFault) → HaveNoFault → CanRun setup → IfErr answer (IsRunFault setup)

@@ -14,7 +14,7 @@ use loss_rule::LossRule;
 use receiver::Outcome;
 use std::alloc::Global;
 use std::io::{Read, Write};
-use texts::{DEFAULT_CAPACITY, Reading, laws, put_report, replay_trace};
+use texts::{ReplayInput, laws, put_report};
 
 /// Writes the report of an outcome as it makes it. The room is empty, and no other memory is taken.
 /// An empty report is not written.
@@ -32,8 +32,8 @@ pub fn write_report<W: Write>(
 }
 
 /// Replays the trace that a reader gives, in the order of its lines, and writes the report of it.
-/// It reads all, at most 268,435,456 bytes, piece by piece, of which it keeps the trace alone; then
-/// it plays the trace, and then it writes the report as it makes it.
+/// It reads all, at most 268,435,456 bytes, piece by piece, and plays each line as it is read; then
+/// it writes the report as it makes it.
 ///
 /// `Read`: the reader failed or gave more. `Trace`: the first faulty line, any kind but `TooShort`
 /// and `PointerPast`. `OutOfMemory`: an allocation failed. Up to here nothing was written. `Write`:
@@ -65,11 +65,8 @@ pub fn replay_text_by<R: Read, W: Write>(
     ensures { RunsEngine R.remaining W.contents (IsReplayedBy rule) IsReplayFault
         reader.old reader.new writer.old writer.new result }
 {
-    laws::trace_passes_the_checks();
-    laws::tags_of_a_trace_are_lawful();
-    let reading = read_lines(alloc, Reading::new(alloc, DEFAULT_CAPACITY), reader)?;
-    let trace = reading.into_trace(DEFAULT_CAPACITY);
-    let outcome = replay_trace(rule, alloc, trace)?;
+    let lines = read_lines(alloc, ReplayInput::new(alloc, rule), reader)?;
+    let outcome = lines.finish(alloc)?;
     let mut room = held_room(alloc)?;
     write_report(&outcome, &mut room, writer)?;
     Ok(())

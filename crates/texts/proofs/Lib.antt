@@ -9,7 +9,6 @@ pub mod TextLengths
 pub mod PutSoFar
 pub mod CutOfLines
 pub mod NumberedLines
-pub mod OutOfMemoryAlone
 pub mod TraceFields
 pub mod OneTraceLine
 pub mod LastElement
@@ -19,6 +18,8 @@ pub mod TraceLineFaults
 pub mod TraceLines
 pub mod OneTrace
 pub mod TraceSoFar
+pub mod SetupKept
+pub mod ReplayedLines
 pub mod OneReport
 pub mod OneReplay
 pub mod PutLines

@@ -1,4 +1,4 @@
--- Traces that say the same are played in one order, and to one outcome.
+-- What lines say is played in one order, and to one outcome.
 use Rattle.std.proofs.Common.{◌≡◌, ℕ, zero, suc, ◌<◌, Bool, Some, List, length, map, refl, sym, ap, subst, ◌∙◌, arith}
 use Rattle.std.specs.Prelude.{nat_lt, filter, is_some, slice_get, if◌then◌else◌}
 use Rattle.flow_records.specs.declared.event.Event.{Event}
@@ -11,7 +11,7 @@ use Rattle.lane.specs.Inputs.{LaneSetup, AnsweredInput, AreAnswered, inputs_of}
 use Rattle.lane.specs.Report.{admitted_by, admitted_of}
 use Rattle.receiver.specs.Order.{kept_places, IsMergeOf}
 use Rattle.lane.specs.Limits.{senders}
-use Rattle.receiver.specs.Items.{Incoming, AreLanesOf, lane_setup, incoming_of, items_of, are_items}
+use Rattle.receiver.specs.Items.{Incoming, AreLanesOf, lane_setup, items_of, are_items}
 use Rattle.lane.specs.Report.{event_of_admitted}
 use Rattle.flow_records.specs.Decisions.{event_of_decision, names_a_flow}
 use Rattle.loss_rule.specs.declared.rule.LossRule.{LossRule}
@@ -20,8 +20,15 @@ use Rattle.receiver.specs.Ruled.{IsOutcomeBy, IsRuledOutcome, AreRuledOutcomes, 
 use Rattle.receiver.specs.AdmittedOrder.{IsAdmittedOrder}
 use Rattle.receiver.specs.Intake.{IsIntake}
 use Rattle.receiver.specs.Faults.{CanReceive}
-use Rattle.texts.specs.declared.trace.Trace.{Trace}
-use Rattle.texts.specs.Trace.{AreSameTraces}
+use Rattle.flow_records.specs.declared.record.FlowRecord.{FlowRecord}
+use Rattle.flow_records.specs.Setup.{CanBeSetUp}
+use Rattle.lane.specs.declared.sids.SidRow.{SidRow}
+use Rattle.receiver.specs.Entries.{tag_of, incoming_in}
+use Rattle.text_lines.specs.Capacities.{default_capacity}
+use Rattle.text_lines.specs.Format.{IsRead}
+use Rattle.texts.specs.Replay.{IsSetupOf}
+use Rattle.texts.specs.Trace.Place.{Said, nothing_said, trace_format}
+use Rattle.texts.proofs.TraceChecks.{read_passes}
 
 -- lists with the same items have the same merges
 merge_moved : {T : Type 0} (lists others : ℕ → List T) (order : List ℕ) (items : List T)
@@ -157,14 +164,24 @@ module _ (setup : Setup) (incoming : Incoming) (can : CanReceive setup) where
       let flags = merges (are_items setup incoming is.answered) tags is.flags also.flags is.merged merged in
       is.order_is ∙ ap (kept_places tags) flags ∙ sym also.order_is
 
--- so have traces that say the same
-pub one_played_order : AnswersAreOne → MergesAreOne → (trace other : Trace) → AreSameTraces other trace → CanReceive trace.setup → (order another : List ℕ)
-    → IsAdmittedOrder trace.setup (incoming_of trace.lists) trace.tags.items order
-    → IsAdmittedOrder other.setup (incoming_of other.lists) other.tags.items another → order ≡ another
-one_played_order answers merges trace other same can order another is also =
-    let incoming = incoming_of trace.lists in
-    let moved : IsAdmittedOrder trace.setup incoming other.tags.items another =
-    order_moved other.setup trace.setup (incoming_of other.lists) incoming same.flows same.sids same.inputs same.decisions other.tags.items another also
-    in
-    one_order trace.setup incoming can answers merges trace.tags.items order another is
-    (subst (λ (tags : List ℕ). IsAdmittedOrder trace.setup incoming tags another) same.tags moved)
+-- the setup that lines give can receive
+pub given_receives : (lines : List (List ℕ)) (said : Said) (setup : Setup) → IsRead trace_format (nothing_said default_capacity) lines said
+    → IsSetupOf said setup → CanReceive setup
+given_receives lines said setup read given =
+    let passes = read_passes default_capacity lines said (omega arith) read in
+    record {
+      flows = subst CanBeSetUp (sym given.flows) passes.flows;
+      lanes =
+          subst (λ (records : List FlowRecord). CanBeOpened setup.sids.items (length records)) (sym given.flows)
+          (subst (λ (rows : List SidRow). CanBeOpened rows (length said.flows)) (sym given.sids) passes.sids);
+    }
+
+-- two setups of what the same lines say have one admitted order
+pub one_played_order : AnswersAreOne → MergesAreOne → (said : Said) (setup other : Setup) → IsSetupOf said setup → IsSetupOf said other → CanReceive setup
+    → (order another : List ℕ) → IsAdmittedOrder setup (incoming_in said.entries) (map tag_of said.entries) order
+    → IsAdmittedOrder other (incoming_in said.entries) (map tag_of said.entries) another → order ≡ another
+one_played_order answers merges said setup other given also_given can order another is also =
+    let incoming = incoming_in said.entries in
+    let tags = map tag_of said.entries in
+    one_order setup incoming can answers merges tags order another is
+    (order_moved other setup incoming incoming (also_given.flows ∙ sym given.flows) (also_given.sids ∙ sym given.sids) (λ _ _. refl) refl tags another also)

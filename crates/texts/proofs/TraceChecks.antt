@@ -150,7 +150,7 @@ sid_passes said fields row carries faultless passes =
     faultless SameSid (record { k = k; row = earlier; above = at; channel_is = same.0; sid_is = same.1 }) in
     record { ring = passes.ring; flows = passes.flows; sids = CanBeOpened-pushed said.sids (length said.flows) row passes.sids fits new }
 
-passes_with : (said : Said) (fields : List (List ℕ)) (line : TraceLine) → Carries said.ring fields line
+pub passes_with : (said : Said) (fields : List (List ℕ)) (line : TraceLine) → Carries said.ring fields line
     → ((kind : TraceKind) → ¬ (HasFaultAmong said line kind))
     → PassesChecks said → PassesChecks (with_line said line)
 passes_with said fields (line.Flow flow_record) carries faultless passes = flow_passes said fields flow_record carries faultless passes

@@ -13,6 +13,7 @@ use Rattle.lane.specs.declared.sids.SidRow.{SidRow}
 use Rattle.lane.specs.declared.sids.seen.SeenSids.{SeenSids}
 use Rattle.flow_records.specs.declared.decision.Decision.{Decision}
 use Rattle.receiver.specs.declared.setup.Lists.{Lists}
+use Rattle.receiver.specs.Entries.{Entry, came, decided, tag_of, came_on, decision_in}
 use Rattle.receiver.specs.Items.{inputs_on}
 use Rattle.lane.specs.Limits.{channel_limit}
 use Rattle.lane.specs.Inside.Seen.{HasSeen}
@@ -25,11 +26,12 @@ use Rattle.text_lines.specs.Kinds.{IsLeastFault}
 use Rattle.texts.specs.declared.trace.line.TraceLine.{TraceLine}
 use Rattle.texts.specs.declared.trace.line.TraceLine.TheVariants as line
 use Rattle.texts.specs.declared.trace.reading.Reading.{Reading}
-use Rattle.texts.specs.Trace.{tag_of, came_on, decision_in, AreListsOf}
+use Rattle.texts.specs.Trace.{AreListsOf}
 use Rattle.texts.specs.Trace.Line.{flow_line, sid_line, word_of, Carries}
-use Rattle.texts.specs.Trace.Place.{Entry, came, decided, Said, HasFaultAmong, HasLineFault, IsSidAbove, AddsLine, with_line}
+use Rattle.texts.specs.Trace.Place.{Said, HasFaultAmong, HasLineFault, IsSidAbove, AddsLine, with_line}
 use Rattle.texts.specs.Inside.TraceLine.{IsLeastFaultByItself}
-use Rattle.texts.specs.Inside.Reading.{HasRead, HasReadMore}
+use Rattle.texts.specs.Inside.SetupLines.{SetupSoFar, HasSetup, HasMore}
+use Rattle.texts.specs.Inside.Reading.{HasRead}
 use Rattle.texts.proofs.TraceLines.{IsLate, word_of_late, faultless_in_place, least_in_place, least_by_itself}
 use Rattle.texts.proofs.LastElement.{slice_get-pushed, slice_get-front}
 
@@ -53,9 +55,9 @@ pub decision_without_fault : (said : Said) (decision : Decision) → decision.fl
 decision_without_fault said decision known UnknownFlow fault = omega (arith, known, fault)
 decision_without_fault said decision known _ fault = fault
 
--- a flow that the reading has is there
-pub flow_known : (said : Said) (reading : Reading) (flow : ℕ) → HasRead said reading → flow < vec_len reading.flows → flow < length said.flows
-flow_known said reading flow has below = omega (arith, below, reading.flows.ok.0, ap length has.flows)
+-- a flow that the setup has is there
+pub flow_known : (said : Said) (so_far : SetupSoFar) (flow : ℕ) → HasSetup said so_far → flow < vec_len so_far.setup.flows → flow < length said.flows
+flow_known said so_far flow has below = omega (arith, below, so_far.setup.flows.ok.0, ap length has.flows)
 
 -- ---- the lists
 
@@ -198,21 +200,21 @@ pub carried_as : (ring other : ℕ) (fields : List (List ℕ)) (line : TraceLine
 carried_as ring other fields line same carries = subst (λ ring. Carries ring fields line) same carries
 
 module _ (said : Said) (fields : List (List ℕ)) (early : IsLate said fields → ⊥) (line : TraceLine) (carries : Carries said.ring fields line)
-    (after : Reading) where
-  -- what a line says is read, so the line is taken
+    (Has : Said → Type 0) where
+  -- what a line says is added, so the line is taken
   pub taken_in_place : (result : Result (Unit {0}) LineFault)
-      → MatchResult result (λ _. HasReadMore said line after) (IsLineFault (IsLeastFault (HasFaultAmong said line)))
-      → OnOk result ((next : Said) × (AddsLine said fields next × ((kind : TraceKind) → ¬ (HasLineFault said fields kind))) × HasRead next after)
+      → MatchResult result (λ _. HasMore Has said line) (IsLineFault (IsLeastFault (HasFaultAmong said line)))
+      → OnOk result ((next : Said) × (AddsLine said fields next × ((kind : TraceKind) → ¬ (HasLineFault said fields kind))) × Has next)
   taken_in_place (Ok none) reads = (
     with_line said line,
     (record { line = line; carries = carries; added = refl }, faultless_in_place said fields early line carries reads.faultless),
-    reads.read,
+    reads.has,
   )
   taken_in_place (Err fault) reads = tt
 
   -- or its least fault is that of the line
   pub refused_in_place : (result : Result (Unit {0}) LineFault)
-      → MatchResult result (λ _. HasReadMore said line after) (IsLineFault (IsLeastFault (HasFaultAmong said line)))
+      → MatchResult result (λ _. HasMore Has said line) (IsLineFault (IsLeastFault (HasFaultAmong said line)))
       → IfErr result (IsLineFault (IsLeastFault (HasLineFault said fields)))
   refused_in_place (Ok none) reads = tt
   refused_in_place (Err (line_fault.Kind kind)) reads = least_in_place said fields early line carries kind reads

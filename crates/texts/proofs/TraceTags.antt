@@ -6,6 +6,7 @@ use Rattle.std.proofs.lemmas.Bool.{cases_lt}
 use Rattle.std.proofs.lemmas.List.Sums.{sum_by-cons}
 use Rattle.std.proofs.lemmas.List.Elements.{All-nil, All-head, All-tail, All-push, All-map, All-weaker}
 use Rattle.lane.specs.Limits.{channel_limit}
+use Rattle.receiver.specs.Entries.{Entry, came, decided, tag_of, came_on, decision_in}
 use Rattle.receiver.specs.Items.{Incoming, incoming_of}
 use Rattle.receiver.specs.Order.{times_of, IsLawfulOrder}
 use Rattle.lane.specs.Limits.{senders}
@@ -15,9 +16,9 @@ use Rattle.text_lines.proofs.KeptByEachLine.{Keeps, IsRead-keeps}
 use Rattle.texts.specs.declared.trace.Trace.{Trace}
 use Rattle.texts.specs.declared.trace.line.TraceLine.{TraceLine}
 use Rattle.texts.specs.declared.trace.line.TraceLine.TheVariants as line
-use Rattle.texts.specs.Trace.{tag_of, came_on, decision_in, IsGivenBy}
+use Rattle.texts.specs.Trace.{IsGivenBy}
 use Rattle.texts.specs.Trace.Line.{Carries}
-use Rattle.texts.specs.Trace.Place.{Entry, came, decided, Said, nothing_said, with_line, trace_format}
+use Rattle.texts.specs.Trace.Place.{Said, nothing_said, with_line, trace_format}
 use Rattle.texts.proofs.OneTraceLine.{channel_in_range}
 
 -- ---- each input came on one of the four channels

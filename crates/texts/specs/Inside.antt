@@ -2,4 +2,7 @@
 pub mod TraceLine
 pub mod Join
 pub mod Cut
+pub mod SetupLines
+pub mod UnderWay
 pub mod Reading
+pub mod ReplayInput

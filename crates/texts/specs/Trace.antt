@@ -1,32 +1,16 @@
 -- A trace: what its lines say, and the receiver's setup, lists and tags that they give.
 pub mod Line
 pub mod Place
-use Rattle.std.specs.Prelude.{◌≡◌, ◌<◌, ◌==◌, ℕ, Option, Some, None, List, length, map, filter_map, if◌then◌else◌}
+use Rattle.std.specs.Prelude.{◌≡◌, ◌<◌, ℕ, List, length, map, filter_map}
 use Rattle.lane.specs.Limits.{channel_limit}
-use Rattle.lane.specs.declared.input.Input.{Input}
-use Rattle.flow_records.specs.declared.decision.Decision.{Decision}
 use Rattle.receiver.specs.declared.setup.Lists.{Lists}
+use Rattle.receiver.specs.Entries.{Entry, tag_of, came_on, decision_in}
 use Rattle.receiver.specs.Items.{inputs_on}
 use Rattle.text_lines.specs.declared.fault.ParseFault.{ParseFault}
 use Rattle.text_lines.specs.Lines.{lines_of}
 use Rattle.text_lines.specs.Format.{IsRead, IsReadingFault}
 use Rattle.texts.specs.declared.trace.Trace.{Trace}
-use Rattle.texts.specs.Trace.Place.{Entry, came, decided, Said, nothing_said, trace_format}
-
--- the sender of an entry: its channel, or 4 for a decision
-abbrev pub tag_of : Entry → ℕ
-tag_of (came channel input) = channel
-tag_of (decided decision) = 4
-
--- what came in on this channel, if the entry says so
-abbrev pub came_on : ℕ → Entry → Option Input
-came_on channel (came other input) = if other == channel then Some input else None
-came_on channel (decided decision) = None
-
--- the decision that an entry is
-abbrev pub decision_in : Entry → Option Decision
-decision_in (came channel input) = None
-decision_in (decided decision) = Some decision
+use Rattle.texts.specs.Trace.Place.{Said, nothing_said, trace_format}
 
 -- The lists that these entries give: of each of the four channels its inputs, and the decisions, each in order.
 pub record AreListsOf (entries : List Entry) (lists : Lists) : Type 0 where

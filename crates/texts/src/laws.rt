@@ -129,8 +129,6 @@ pub fn replay_has_one_text()
     lane::laws::lane_has_at_most_one_answer_to_each_input();
     receiver::laws::lists_have_one_merge::<bool>();
     receiver::laws::replay_has_one_outcome();
-    input_is_one_trace();
-    trace_passes_the_checks();
 }
 
 /// An input of `replay` or `run` has at most one first fault.

@@ -15,8 +15,8 @@
 //!   also frees what it has read. So the crate `commands` receives a trace on threads.
 //!
 //! - Where an input comes in pieces, [`CutInput`], [`JoinInput`] and [`Reading`] are what its lines
-//!   are to be taken by, of a cut, of a join and of a trace; [`replay_trace`] plays a trace, and
-//!   [`put_report`] puts its report.
+//!   are to be taken by, of a cut, of a join and of a trace. [`ReplayInput`] replays a trace as its
+//!   lines are taken, and [`put_report`] puts its report.
 //!
 //! The lines and fields of all these formats, and the faults of a line, are those of `text_lines`;
 //! those of its names that a caller needs are exported here too.
@@ -31,7 +31,6 @@
 mod cut;
 mod join;
 pub mod laws;
-mod receiver_fault;
 mod replay;
 mod report_lines;
 mod report_text;
@@ -39,7 +38,7 @@ mod trace;
 
 pub use cut::{CutInput, cut_lines, put_segments};
 pub use join::{JoinInput, join_lines};
-pub use replay::{replay_lines, replay_lines_by, replay_trace};
+pub use replay::{ReplayInput, replay_lines, replay_lines_by};
 pub use report_lines::{put_flow_line, put_frame_line, put_lane_line, put_request_line};
 pub use report_text::{put_report, report};
 pub use text_lines::{

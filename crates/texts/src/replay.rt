@@ -1,33 +1,16 @@
 //! The text of `replay`: the report of a trace.
 ghost use Rattle.std.specs.Prelude.{IfOk, IfErr};
-ghost use Rattle.receiver.specs.Items.{incoming_of};
-ghost use Rattle.receiver.specs.Faults.{CanReceive};
-ghost use Rattle.receiver.specs.AdmittedOrder.{input_counts};
-ghost use Rattle.receiver.specs.Order.{IsLawfulOrder};
-ghost use Rattle.texts.specs.Replay.{IsPlayedBy, IsReplayed, IsReplayedBy, IsReplayFault};
+ghost use Rattle.texts.specs.Replay.{IsReplayed, IsReplayedBy, IsReplayFault};
 
-use crate::receiver_fault::unless_out_of_memory;
 use crate::report_text::report;
-use crate::trace::{Trace, read_trace};
-use docsis_wire::NoCheck;
 use loss_rule::LossRule;
-use receiver::{Outcome, replay_tags_by};
-use std::alloc::{AllocError, Global};
-use text_lines::{Capacities, DEFAULT_CAPACITY, TextFault};
+use std::alloc::Global;
+use text_lines::{TextFault, take_lines};
 
-/// What a trace gives by this rule; the trace is freed.
-pub fn replay_trace(rule: LossRule, alloc: Global, trace: Trace) -> Result<Outcome, AllocError>
-    requires can_receive { CanReceive trace.setup }
-    requires lawful { IsLawfulOrder (input_counts (incoming_of trace.lists))
-        trace.tags.items }
-    ensures { IfOk result (IsPlayedBy rule trace) }
-{
-    lane::laws::rows_have_one_first_fault();
-    receiver::laws::lawful_order_has_no_fault();
-    let (setup, lists) = (&trace.setup, &trace.lists);
-    let answer = replay_tags_by(rule, alloc, setup, lists, &trace.tags, NoCheck);
-    unless_out_of_memory(answer)
-}
+mod input;
+mod under_way;
+
+pub use input::ReplayInput;
 
 /// The report of a trace: its grants, bursts and decisions are taken in the order of their lines.
 ///
@@ -50,13 +33,8 @@ pub fn replay_lines_by(rule: LossRule, alloc: Global, input: Vec<u8>) -> Result<
     ensures text { IfOk result (λ text. IsReplayedBy rule input.items text.items) }
     ensures fault { IfErr result (IsReplayFault input.items) }
 {
-    crate::laws::trace_passes_the_checks();
-    crate::laws::tags_of_a_trace_are_lawful();
-    let capacities = Capacities {
-        mailbox: DEFAULT_CAPACITY,
-        ring: DEFAULT_CAPACITY,
-    };
-    let trace = read_trace(alloc, input, capacities)?;
-    let outcome = replay_trace(rule, alloc, trace)?;
+    let mut lines = ReplayInput::new(alloc, rule);
+    take_lines(alloc, &input, &mut lines)?;
+    let outcome = lines.finish(alloc)?;
     Ok(report(alloc, &outcome)?)
 }

@@ -8,8 +8,11 @@ use text_lines::{Capacities, ParseFault};
 
 mod line;
 mod reading;
+mod setup_lines;
 
+pub(crate) use line::{TraceLine, is_setup_word, read_trace_line};
 pub use reading::{Reading, parse_trace};
+pub(crate) use setup_lines::SetupLines;
 
 /// What a trace gives.
 #[derive(Debug, Drop)]

@@ -3,8 +3,7 @@ use Rattle.std.specs.Prelude.{◌≡◌, ◌≤◌, ◌<◌, ◌⊎◌, ℕ, Som
 use Rattle.flow_records.specs.Limits.{flows_max}
 use Rattle.flow_records.specs.declared.record.FlowRecord.{FlowRecord}
 use Rattle.lane.specs.declared.sids.SidRow.{SidRow}
-use Rattle.lane.specs.declared.input.Input.{Input}
-use Rattle.flow_records.specs.declared.decision.Decision.{Decision}
+use Rattle.receiver.specs.Entries.{Entry, came, decided}
 use Rattle.text_lines.specs.declared.fault.TraceKind.{TraceKind}
 use Rattle.text_lines.specs.declared.fault.TraceKind.TheVariants.{UnknownLine, SetupLate, FieldCount, BadNumber, BadWord, NotHex, UnknownFlow, TooManyFlows, SameFlow, SameSid, TooShort, PointerPast}
 use Rattle.text_lines.specs.Kinds.{IsLeastFault}
@@ -12,11 +11,6 @@ use Rattle.text_lines.specs.Format.{Format}
 use Rattle.texts.specs.declared.trace.line.TraceLine.{TraceLine}
 use Rattle.texts.specs.declared.trace.line.TraceLine.TheVariants as line
 use Rattle.texts.specs.Trace.Line.{LineForm, flow_line, sid_line, word_of, Carries, HasFaultByItself}
-
--- what an input line says: what came in on a channel, or a decision
-pub data Entry : Type 0 where
-  came : ℕ → Input → Entry
-  decided : Decision → Entry
 
 -- What some lines say: the flows, the rows of service identifiers, and what the input lines say, each in their order. The capacity of the
 -- flows' rings is given before, and no line says it.

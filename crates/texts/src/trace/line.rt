@@ -1,5 +1,5 @@
 //! A line of a trace, by itself.
-ghost use Rattle.std.specs.Prelude.{◌≡◌, ◌∷◌, ℕ, IfOk, IfErr};
+ghost use Rattle.std.specs.Prelude.{◌≡◌, ◌↔◌, ◌⊎◌, ◌∷◌, ℕ, IsTrue, IfOk, IfErr};
 ghost use Rattle.text_lines.specs.Inside.LineFault.{IsLineFault};
 ghost use Rattle.text_lines.specs.Lines.{words_of};
 ghost use Rattle.texts.specs.Trace.Line.{number_in, check_word, a_number, a_check};
@@ -38,6 +38,14 @@ pub enum TraceLine {
     Input { channel: u8, input: Input },
     /// A decision that segments are lost.
     Gap(Decision),
+}
+
+/// Whether a line that begins with this word sets up a flow or a service identifier.
+pub fn is_setup_word(word: &[u8]) -> bool
+    ensures { IsTrue result
+        ↔ ((word.now ≡ word_of flow_line) ⊎ (word.now ≡ word_of sid_line)) }
+{
+    word == b"flow".as_slice() || word == b"sid".as_slice()
 }
 
 /// What a line of a trace says by itself, by its first field and what follows that. Each flow has a

@@ -1,19 +1,17 @@
 //! The lines of a trace, one after another.
 ghost use Rattle.std.specs.Prelude.{◌≡◌, ◌≤◌, ◌<◌, ◌↔◌, ◌⊎◌, [], ◌∷◌, ◌++◌, IsTrue, OnOk, IfOk, IfErr, vec_len};
-ghost use Rattle.lane.specs.Limits.{channel_limit, sid_limit};
+ghost use Rattle.lane.specs.Limits.{channel_limit};
 ghost use Rattle.texts.specs.Trace.{IsTrace, IsTraceFault};
 ghost use Rattle.texts.specs.Trace.Line.{word_of, flow_line, sid_line};
 
 use super::Trace;
-use super::line::{TraceLine, read_trace_line};
-use flow_core::FlowRecord;
-use lane::{Input, SeenSids, SidRow};
-use receiver::{Decision, Lists, Setup};
+use super::line::{TraceLine, is_setup_word, read_trace_line};
+use super::setup_lines::SetupLines;
+use lane::Input;
+use receiver::{Decision, Lists};
 use std::alloc::{AllocError, Global};
-use text_lines::{LineFault, ParseFault, TakeLine, TraceKind, take_lines};
+use text_lines::{DEFAULT_CAPACITY, LineFault, ParseFault, TakeLine, TraceKind, take_lines};
 
-/// How many flows a trace may have.
-const FLOWS_MAX: usize = 64;
 /// The tag of a decision.
 const DECISION: u8 = 4;
 
@@ -27,18 +25,16 @@ fn push_tag(tags: &mut Vec<u8>, sender: u8) -> Result<(), AllocError>
 /// What the lines so far of a trace give.
 #[derive(Drop)]
 pub struct Reading {
-    ring: u16,
-    flows: Vec<FlowRecord>,
-    sids: Vec<SidRow>,
+    setup: SetupLines,
     lists: Lists,
     tags: Vec<u8>,
-    seen: SeenSids,
 }
 
 impl Reading {
     ghost use Rattle.texts.specs.Trace.{IsGivenBy};
     ghost use Rattle.texts.specs.Trace.Place.{Said, nothing_said};
-    ghost use Rattle.texts.specs.Inside.Reading.{HasRead, IsInRange, ReadsLine};
+    ghost use Rattle.texts.specs.Inside.Reading.{HasRead};
+    ghost use Rattle.texts.specs.Inside.SetupLines.{IsCarried, AddsTo};
 
     /// What no lines give, where each flow is to have a ring of this capacity.
     pub fn new(alloc: Global, ring: u16) -> Reading
@@ -54,12 +50,9 @@ impl Reading {
             decisions: Vec::new(alloc),
         };
         Reading {
-            ring,
-            flows: Vec::new(alloc),
-            sids: Vec::new(alloc),
+            setup: SetupLines::new(alloc, ring, DEFAULT_CAPACITY),
             lists,
             tags: Vec::new(alloc),
-            seen: SeenSids::new(),
         }
     }
 
@@ -67,19 +60,12 @@ impl Reading {
     pub fn into_trace(self, mailbox: u16) -> Trace
         ensures { (said : Said) → HasRead said self → IsGivenBy mailbox said result }
     {
-        let Reading {
-            flows,
-            sids,
+        let Reading { setup, lists, tags } = self;
+        Trace {
+            setup: setup.into_setup(mailbox),
             lists,
             tags,
-            ..
-        } = self;
-        let setup = Setup {
-            flows,
-            sids,
-            mailbox,
-        };
-        Trace { setup, lists, tags }
+        }
     }
 
     /// Whether a line that begins with this word is late: it sets up a flow or a service
@@ -89,53 +75,26 @@ impl Reading {
             ↔ (((word.now ≡ word_of flow_line) ⊎ (word.now ≡ word_of sid_line))
             × (0 < vec_len self.now.tags)) }
     {
-        (word == b"flow".as_slice() || word == b"sid".as_slice()) && !self.tags.is_empty()
+        is_setup_word(word) && !self.tags.is_empty()
     }
 
     /// Adds what a line says.
     fn add(&mut self, line: TraceLine) -> Result<(), LineFault>
-        requires { IsInRange line }
-        ensures { ReadsLine self.old line result self.new }
+        requires { IsCarried self.old.setup.ring line }
+        ensures { AddsTo HasRead self.old line result self.new }
     {
         match line {
-            TraceLine::Flow(flow) => self.add_flow(flow),
-            TraceLine::Sid(row) => self.add_sid(row),
+            TraceLine::Flow(flow) => self.setup.add_flow(flow),
+            TraceLine::Sid(row) => self.setup.add_sid(row),
             TraceLine::Input { channel, input } => self.add_input(channel, input),
             TraceLine::Gap(decision) => self.add_decision(decision),
         }
     }
 
-    /// Adds a flow.
-    fn add_flow(&mut self, flow: FlowRecord) -> Result<(), LineFault>
-        ensures { ReadsLine self.old (TraceLine.Flow flow) result self.new }
-    {
-        if self.flows.len() >= FLOWS_MAX {
-            return Err(LineFault::Kind(TraceKind::TooManyFlows));
-        }
-        if self.flows.iter().any(|other| other.sfid == flow.sfid) {
-            return Err(LineFault::Kind(TraceKind::SameFlow));
-        }
-        Ok(self.flows.push(flow)?)
-    }
-
-    /// Adds a service identifier.
-    fn add_sid(&mut self, row: SidRow) -> Result<(), LineFault>
-        requires channel { row.channel < channel_limit }
-        requires sid { row.sid < sid_limit }
-        ensures { ReadsLine self.old (TraceLine.Sid row) result self.new }
-    {
-        self.find_flow(row.flow)?;
-        if self.seen.contains(row.channel, row.sid) {
-            return Err(LineFault::Kind(TraceKind::SameSid));
-        }
-        self.seen.insert(row.channel, row.sid);
-        Ok(self.sids.push(row)?)
-    }
-
     /// Adds what came in on a channel, 0 to 3.
     fn add_input(&mut self, channel: u8, input: Input) -> Result<(), LineFault>
         requires { channel < channel_limit }
-        ensures { ReadsLine self.old (TraceLine.Input channel input) result self.new }
+        ensures { AddsTo HasRead self.old (TraceLine.Input channel input) result self.new }
     {
         push_tag(&mut self.tags, channel)?;
         Ok(self.lists.inputs[usize::from(channel)].push(input)?)
@@ -143,23 +102,11 @@ impl Reading {
 
     /// Adds a decision.
     fn add_decision(&mut self, decision: Decision) -> Result<(), LineFault>
-        ensures { ReadsLine self.old (TraceLine.Gap decision) result self.new }
+        ensures { AddsTo HasRead self.old (TraceLine.Gap decision) result self.new }
     {
-        self.find_flow(decision.flow)?;
+        self.setup.find_flow(decision.flow)?;
         push_tag(&mut self.tags, DECISION)?;
         Ok(self.lists.decisions.push(decision)?)
-    }
-
-    /// Looks whether a line above gives this flow.
-    fn find_flow(&self, flow: usize) -> Result<(), LineFault>
-        ensures known { OnOk result (flow < vec_len self.now.flows) }
-        ensures unknown { IfErr result (λ fault.
-            (fault ≡ LineFault.Kind TraceKind.UnknownFlow) × (vec_len self.now.flows ≤ flow)) }
-    {
-        if flow >= self.flows.len() {
-            return Err(LineFault::Kind(TraceKind::UnknownFlow));
-        }
-        Ok(())
     }
 }
 
@@ -177,7 +124,7 @@ impl TakeLine for Reading {
         if self.is_late(field) {
             return Err(LineFault::Kind(TraceKind::SetupLate));
         }
-        let line = read_trace_line(alloc, self.ring, field, rest)?;
+        let line = read_trace_line(alloc, self.setup.ring(), field, rest)?;
         self.add(line)
     }
 }

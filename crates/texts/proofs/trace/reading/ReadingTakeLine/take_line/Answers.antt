@@ -1,6 +1,9 @@
-use Rattle.std.proofs.Common.{◌∷◌, arith}
+use Rattle.std.proofs.Common.{ℕ, ◌∷◌, subst, arith}
 use Rattle.std.proofs.lemmas.Result.{err_from_is_err_and}
 use Rattle.text_lines.specs.Lines.{words_of}
+use Rattle.texts.specs.Trace.Line.{Carries}
+use Rattle.texts.specs.Trace.Place.{Said}
+use Rattle.texts.specs.Inside.Reading.{HasRead}
 use Rattle.texts.proofs.TraceLines.{late_by_word, late_is_least}
 use Rattle.texts.proofs.TraceSoFar.{count-tags, not_late, carried_as, taken_in_place, refused_in_place, refused_by_itself}
 use Rattle.texts.proofs.trace.reading.ReadingTakeLine.take_line.Goals as goal
@@ -25,13 +28,20 @@ returns-clause-taken c = λ before has.
     let word = c.args.field.now in
     let words = words_of c.args.rest.now in
     let early = not_late before c.args.self.now word words c.is_late.result has c.is_late.ensures.1 c.if-is_late.false in
-    let carries = carried_as c.args.self.now.ring before.ring (word ∷ words) c.in_ok-line.line has.ring c.in_ok-line.ensures.carried in
-    taken_in_place before (word ∷ words) early c.in_ok-line.line carries c.add.new.self c.add.result (c.add.ensures before has)
+    let carried = subst (λ (ring : ℕ). Carries ring (word ∷ words) c.in_ok-line.line) c.ring.ensures c.in_ok-line.ensures.carried in
+    let carries = carried_as c.args.self.now.setup.ring before.ring (word ∷ words) c.in_ok-line.line has.setup.ring carried in
+    taken_in_place before (word ∷ words) early c.in_ok-line.line carries (λ (more : Said). HasRead more c.add.new.self) c.add.result (c.add.ensures before has)
 
 pub returns-clause-fault : goal.returns-clause-fault
 returns-clause-fault c = λ before has.
     let word = c.args.field.now in
     let words = words_of c.args.rest.now in
     let early = not_late before c.args.self.now word words c.is_late.result has c.is_late.ensures.1 c.if-is_late.false in
-    let carries = carried_as c.args.self.now.ring before.ring (word ∷ words) c.in_ok-line.line has.ring c.in_ok-line.ensures.carried in
-    refused_in_place before (word ∷ words) early c.in_ok-line.line carries c.add.new.self c.add.result (c.add.ensures before has)
+    let carried = subst (λ (ring : ℕ). Carries ring (word ∷ words) c.in_ok-line.line) c.ring.ensures c.in_ok-line.ensures.carried in
+    let carries = carried_as c.args.self.now.setup.ring before.ring (word ∷ words) c.in_ok-line.line has.setup.ring carried in
+    refused_in_place before (word ∷ words) early c.in_ok-line.line carries (λ (more : Said). HasRead more c.add.new.self) c.add.result (c.add.ensures before has)
+
+pub add-requires : goal.add-requires
+add-requires c =
+    let fields = c.args.field.now ∷ words_of c.args.rest.now in
+    (fields, subst (λ (ring : ℕ). Carries ring fields c.in_ok-line.line) c.ring.ensures c.in_ok-line.ensures.carried)

@@ -1,0 +1,89 @@
+//! A replay under way of what the lines of a trace say.
+ghost use Rattle.std.specs.Prelude.{◌<◌, [], List, IfOk, map};
+ghost use Rattle.lane.specs.Limits.{channel_limit};
+ghost use Rattle.loss_rule.specs.declared.rule.LossRule.{LossRule};
+ghost use Rattle.receiver.specs.AdmittedOrder.{IsAdmittedOrder};
+ghost use Rattle.receiver.specs.Entries.{Entry, came, decided, tag_of, incoming_in};
+ghost use Rattle.receiver.specs.Faults.{CanReceive};
+ghost use Rattle.receiver.specs.Replaying.{HasReplayed, ReplaysMore};
+ghost use Rattle.receiver.specs.Ruled.{IsOutcomeBy};
+ghost use Rattle.texts.specs.AnyHeader.{any_header};
+ghost use Rattle.texts.specs.Inside.UnderWay.{no_check};
+
+use docsis_wire::NoCheck;
+use lane::Input;
+use loss_rule::LossRule;
+use receiver::{Decision, Outcome, Replaying, Setup};
+use std::alloc::{AllocError, Global};
+use std::marker::Model;
+
+/// A replay to which something may be handed in at any time: where an allocation fails it is freed.
+/// Contracts see the replay.
+#[derive(Drop)]
+pub struct UnderWay {
+    replaying: Replaying<NoCheck>,
+}
+
+impl Model for UnderWay {
+    ghost use Rattle.docsis_wire.specs.contracts.header_check.NoCheck as no_check_type;
+    ghost use Rattle.docsis_wire.specs.declared.header_check.NoCheck.{NoCheck};
+    ghost use Rattle.receiver.specs.contracts.replaying.Replaying as replaying_type;
+    ghost use Rattle.receiver.specs.declared.replaying.Replaying.{Replaying};
+    ghost use Rattle.receiver.specs.Replaying.{IsReplaying};
+    ghost use Rattle.texts.specs.Inside.UnderWay.{no_check};
+
+    ghost Value = { Replaying NoCheck };
+
+    ghost coded = { (replaying_type.the_row no_check_type.the_row).coded };
+
+    ghost view = { λ under_way. under_way.replaying };
+
+    ghost invariant = { λ under_way. IsReplaying no_check under_way.replaying };
+}
+
+impl UnderWay {
+    /// A replay to which nothing was handed in yet.
+    pub fn new(alloc: Global, rule: LossRule, setup: &Setup) -> Result<UnderWay, AllocError>
+        requires { CanReceive setup.now }
+        ensures { IfOk result (λ replay. HasReplayed no_check rule any_header setup.now replay []) }
+    {
+        Ok(UnderWay {
+            replaying: Replaying::new(alloc, rule, setup, NoCheck)?,
+        })
+    }
+
+    /// Hands in an input that came on a channel, 0 to 3.
+    pub fn take(self, alloc: Global, channel: u8, input: Input) -> Result<UnderWay, AllocError>
+        requires { channel < channel_limit }
+        ensures { IfOk result (ReplaysMore no_check self (came channel input)) }
+    {
+        let UnderWay { mut replaying } = self;
+        replaying.take(alloc, channel, input)?;
+        Ok(UnderWay { replaying })
+    }
+
+    /// Hands in a decision.
+    pub fn decide(self, alloc: Global, decision: Decision) -> Result<UnderWay, AllocError>
+        ensures { IfOk result (ReplaysMore no_check self (decided decision)) }
+    {
+        let UnderWay { mut replaying } = self;
+        replaying.decide(alloc, decision)?;
+        Ok(UnderWay { replaying })
+    }
+
+    /// Closes the receiver: what it gave.
+    pub fn finish(self, alloc: Global, setup: &Setup) -> Result<Outcome, AllocError>
+        requires { (rule : LossRule) × (entries : List Entry)
+            × HasReplayed no_check rule any_header setup.now self entries }
+        ensures order { IfOk result (λ outcome. (rule : LossRule) (entries : List Entry)
+            → HasReplayed no_check rule any_header setup.now self entries
+            → IsAdmittedOrder setup.now (incoming_in entries) (map tag_of entries)
+            outcome.order.items) }
+        ensures outcome { IfOk result (λ outcome. (rule : LossRule) (entries : List Entry)
+            → HasReplayed no_check rule any_header setup.now self entries
+            → IsOutcomeBy rule any_header setup.now (incoming_in entries) outcome.order.items
+            outcome) }
+    {
+        self.replaying.finish(alloc, setup)
+    }
+}
