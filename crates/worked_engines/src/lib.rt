@@ -19,6 +19,8 @@ mod limits;
 #[cfg(test)]
 mod long_texts;
 #[cfg(test)]
+mod pieces;
+#[cfg(test)]
 mod running;
 #[cfg(test)]
 mod words;
