@@ -1,9 +1,9 @@
 //! The command `run` between a reader and a writer, and the whole program over any reader and any
 //! two writers.
 //!
-//! [`run_text`] is the engine of `run`: it reads its whole input, has the receiver take it on
-//! threads, and writes the report; [`run_text_by`] decides besides by a rule which segments are
-//! lost. [`program`] is the whole program: it reads what its words ask for and runs that command's
+//! [`run_text`] is the engine of `run`: it reads its input to the end, piece by piece, has the
+//! receiver take it on threads, and writes the report; [`run_text_by`] decides besides by a rule
+//! which segments are lost. [`program`] is the whole program: it reads what its words ask for and runs that command's
 //! engine, of this crate or of `engines`; [`run_words`] is it between devices, and
 //! [`report_outcome`] its end.
 //!
@@ -12,7 +12,7 @@
 #![tactic(auto)]
 
 mod run;
-mod run_lines;
+mod run_trace;
 mod whole_program;
 
 pub use run::{run_text, run_text_by};

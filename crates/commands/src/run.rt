@@ -5,7 +5,7 @@ ghost use Rattle.engines.specs.Engine.{RunsEngine};
 ghost use Rattle.texts.specs.Replay.{IsReportFault};
 ghost use Rattle.texts.specs.Run.{IsRunText, IsRunTextBy};
 
-use crate::run_lines::run_trace;
+use crate::run_trace::run_trace;
 use docsis_wire::Bytes;
 use engines::{Device, EngineFault, held_room, read_lines, write_report};
 use loss_rule::LossRule;

@@ -98,6 +98,7 @@ impl<'a> SegmentParts<'a> {
         ensures part { IfSome result (λ part. self.old.payload ≡ part.now ++ self.new.payload) }
         ensures some { IfSome result (λ part. 0 < length part.now) }
         ensures all { result ≡ None → self.old.payload ≡ [] }
+        ensures stays { result ≡ None → self.new ≡ self.old }
         ensures head { self.new.head ≡ self.old.head }
     {
         let part = next_part(self.frames, &mut self.at, self.bytes);

@@ -17,7 +17,8 @@ const PIECE_BYTES: usize = 262_144;
 
 /// Reads all that a reader gives, if it is at most 268,435,456 bytes, and answers what is made of
 /// its lines. No more of the input than a piece and a line is held. It is read to its end also
-/// where a line is faulty or an allocation failed, so that a reader that fails is reported first.
+/// where a line is faulty or an allocation failed, so that a reader that fails is reported first;
+/// but where there is no memory for a piece nothing is read.
 ///
 /// `Read`: the reader failed or gave more. `Trace`: the first faulty line. `OutOfMemory`: an
 /// allocation failed.

@@ -17,7 +17,7 @@ use std::io::{Read, Write};
 use texts::{ReplayInput, laws, put_report};
 
 /// Writes the report of an outcome as it makes it. The room is empty, and no other memory is taken.
-/// An empty report is not written.
+/// What it held last is left in it.
 pub fn write_report<W: Write>(
     outcome: &Outcome,
     room: &mut Vec<u8>,

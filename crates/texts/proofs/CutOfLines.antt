@@ -21,4 +21,4 @@ module _ (input : List ℕ) (frames : List (List ℕ)) (pieces : List Piece)
   pub cut_fault : (fault : TextFault) → HasPieceFault frames pieces fault → IsCutFault input fault
   cut_fault (Trace fault) has = absurd has
   cut_fault (Cut fault) has = record { frames = frames; pieces = pieces; read = read; reported = has }
-  cut_fault OutOfMemory has = tt
+  cut_fault OutOfMemory has = absurd has

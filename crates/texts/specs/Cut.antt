@@ -57,11 +57,11 @@ IsPieceFault frames pieces (cut_fault.FillInsideFrame k) = IsFirstFillInsideFram
 IsPieceFault frames pieces (cut_fault.PointerTooFar k) = IsFirstPointerTooFar any_header frames pieces k
 IsPieceFault frames pieces cut_fault.OutOfMemory = ⊥
 
--- why frames and pieces are not cut: their first fault, or a failed allocation
+-- why frames and pieces are not cut: their first fault
 abbrev pub HasPieceFault : List (List ℕ) → List Piece → TextFault → Type 0
 HasPieceFault frames pieces (Trace fault) = ⊥
 HasPieceFault frames pieces (Cut fault) = IsPieceFault frames pieces fault
-HasPieceFault frames pieces OutOfMemory = Unit {0}
+HasPieceFault frames pieces OutOfMemory = ⊥
 
 -- no line of an input has a fault, and this is the first fault of its frames and pieces
 pub record IsFirstPieceFault (input : List ℕ) (fault : CutFault) : Type 0 where

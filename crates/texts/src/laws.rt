@@ -11,11 +11,16 @@ ghost use Rattle.docsis_wire.specs.declared.segment.Segment.{Segment};
 ghost use Rattle.loss_rule.specs.declared.rule.LossRule.{LossRule};
 ghost use Rattle.receiver.specs.Items.{incoming_of};
 ghost use Rattle.receiver.specs.Faults.{CanReceive};
-ghost use Rattle.receiver.specs.AdmittedOrder.{input_counts};
+ghost use Rattle.receiver.specs.AdmittedOrder.{input_counts, IsAdmittedOrder};
+ghost use Rattle.receiver.specs.Ruled.{IsOutcomeBy};
+ghost use Rattle.receiver.specs.declared.outcome.Outcome.{Outcome};
 ghost use Rattle.receiver.specs.Order.{IsLawfulOrder};
+ghost use Rattle.text_lines.specs.Capacities.{default_capacity};
 ghost use Rattle.text_lines.specs.declared.fault.ParseFault.{ParseFault};
 ghost use Rattle.text_lines.specs.declared.fault.TextFault.{TextFault};
 ghost use Rattle.texts.specs.declared.trace.Trace.{Trace};
+ghost use Rattle.texts.specs.AnyHeader.{any_header};
+ghost use Rattle.texts.specs.Report.{report_text};
 ghost use Rattle.texts.specs.Join.{IsJoined, IsJoinFault};
 ghost use Rattle.texts.specs.Cut.{IsCutInto, IsCutText, IsCutFault, segment_line, cut_text_length};
 ghost use Rattle.texts.specs.Replay.{IsReplayed, IsReplayedBy, IsReplayFault, IsReportFault};
@@ -130,6 +135,16 @@ pub fn replay_has_one_text()
     receiver::laws::lists_have_one_merge::<bool>();
     receiver::laws::replay_has_one_outcome();
 }
+
+/// The report of what the lists of a trace give by a loss rule, in the admitted order of its tags,
+/// is the text of `replay`.
+pub fn replay_of_a_trace_is_the_text()
+    ensures { (rule : LossRule) (input : List ℕ) (trace : Trace) (order : List ℕ) (outcome : Outcome)
+        → IsTrace default_capacity default_capacity input trace
+        → IsAdmittedOrder trace.setup (incoming_of trace.lists) trace.tags.items order
+        → IsOutcomeBy rule any_header trace.setup (incoming_of trace.lists) order outcome
+        → IsReplayedBy rule input (report_text outcome) }
+{}
 
 /// An input of `replay` or `run` has at most one first fault.
 pub fn report_has_one_fault()

@@ -11,12 +11,12 @@
 //!   the report of what each flow gave. [`replay_lines_by`] decides besides by a rule which
 //!   segments are lost.
 //! - For a receiver of one's own, [`parse_trace`] reads a trace into the setup, the lists and the
-//!   tags that `receiver` and `uplink` take, and [`report`] prints its outcome; [`read_trace`]
-//!   also frees what it has read. So the crate `commands` receives a trace on threads.
+//!   tags that `receiver` and `uplink` take, and [`report`] prints its outcome.
 //!
 //! - Where an input comes in pieces, [`CutInput`], [`JoinInput`] and [`Reading`] are what its lines
-//!   are to be taken by, of a cut, of a join and of a trace. [`ReplayInput`] replays a trace as its
-//!   lines are taken, and [`put_report`] puts its report.
+//!   are to be taken by, of a cut, of a join and of a trace; so the crate `commands` receives a
+//!   trace on threads. [`ReplayInput`] replays a trace as its lines are taken. [`put_segments`]
+//!   puts the lines of a cut, and [`put_report`] a report.
 //!
 //! The lines and fields of all these formats, and the faults of a line, are those of `text_lines`;
 //! those of its names that a caller needs are exported here too.
@@ -44,4 +44,4 @@ pub use report_text::{put_report, report};
 pub use text_lines::{
     Capacities, DEFAULT_CAPACITY, ParseFault, TextFault, TraceFault, TraceKind, read_number,
 };
-pub use trace::{Reading, Trace, parse_trace, read_trace};
+pub use trace::{Reading, Trace, parse_trace};

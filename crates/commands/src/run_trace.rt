@@ -1,17 +1,16 @@
-//! The text of `run`: the report of a trace that is received on threads.
-ghost use Rattle.std.specs.Prelude.{◌≡◌, ◌≤◌, Ok, IfOk, IfErr};
+//! A trace that is received on threads.
+ghost use Rattle.std.specs.Prelude.{◌≡◌, Ok, IfOk, IfErr};
 ghost use Rattle.uplink.specs.Faults.{CanRun};
 ghost use Rattle.uplink.specs.declared.eight_threads.RunFault.TheVariants as run_fault;
 ghost use Rattle.receiver.specs.Items.{inputs_on};
-ghost use Rattle.texts.specs.Replay.{IsReportFault};
-ghost use Rattle.texts.specs.Run.{IsReceivedBy, IsRunTextBy};
+ghost use Rattle.texts.specs.Run.{IsReceivedBy};
 
 use docsis_wire::{Bytes, NoCheck};
 use loss_rule::LossRule;
 use std::alloc::{AllocError, Global};
 use std::sync::Wait;
 use std::thread::Threads;
-use texts::{Capacities, TextFault, Trace, laws, read_trace, report};
+use texts::Trace;
 use uplink::{
     Decisions, ListDecisions, ListSource, Lists, Outcome, Request, RunFault, Source, Sources, Tap,
     Taps, run_by,
@@ -69,35 +68,4 @@ fn expect_outcome(answer: Result<Outcome, RunFault>) -> Result<Outcome, AllocErr
         Ok(outcome) => Ok(outcome),
         Err(_) => Err(AllocError),
     }
-}
-
-/// The report of a trace whose inputs are received on threads, each channel's on its own. Items of
-/// different channels are taken in the order in which they happen to come. Besides the decisions of
-/// the trace this rule decides which segments are lost. The capacities are at least 1.
-///
-/// Otherwise it reports the first faulty line, or that an allocation failed or a thread could not
-/// be started. That an input never has both a text and a faulty line is stated by
-/// [`faulty_input_has_no_report`](texts::laws::faulty_input_has_no_report).
-pub fn run_lines<F, Q, R>(
-    rule: LossRule,
-    alloc: Global,
-    rt: R,
-    input: Vec<u8>,
-    capacities: Capacities,
-    taps: Taps<F, Q>,
-) -> Result<Vec<u8>, TextFault>
-where
-    F: Tap<Bytes> + Drop + Send + 'static,
-    Q: Tap<Request> + Drop + Send + 'static,
-    R: Threads + Wait + Copy + Send + 'static,
-    requires ring { 1 ≤ capacities.ring }
-    requires mailbox { 1 ≤ capacities.mailbox }
-    ensures text { IfOk result
-        (λ text. IsRunTextBy rule capacities.ring capacities.mailbox input.items text.items) }
-    ensures fault { IfErr result (IsReportFault capacities.ring input.items) }
-{
-    laws::trace_passes_the_checks();
-    let trace = read_trace(alloc, input, capacities)?;
-    let outcome = run_trace(rule, alloc, rt, trace, taps)?;
-    Ok(report(alloc, &outcome)?)
 }

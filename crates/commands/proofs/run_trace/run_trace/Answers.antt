@@ -6,7 +6,7 @@ use Rattle.receiver.specs.Ruled.{IsOutcomeBy}
 use Rattle.texts.specs.AnyHeader.{any_header}
 use Rattle.texts.specs.Run.{IsReceivedBy}
 use Rattle.commands.proofs.TraceFromSources.{received, out_of_memory_alone, value_kept}
-use Rattle.commands.proofs.run_lines.run_trace.Goals as goal
+use Rattle.commands.proofs.run_trace.run_trace.Goals as goal
 
 pub expect_outcome-requires : goal.expect_outcome-requires
 expect_outcome-requires g c =
