@@ -1,6 +1,6 @@
 -- A text that is put to a device, piece by piece.
 use Rattle.std.proofs.Common.{◌≡◌, ◌≢◌, ℕ, List, Option, [], ◌∷◌, ◌++◌, true, Result, Ok, Err, refl, sym, ap, subst, ◌∙◌, append_assoc, append-nil}
-use Rattle.std.specs.Prelude.{IsErr, IsOk, OnOk, OnErr}
+use Rattle.std.specs.Prelude.{IsErr}
 use Rattle.std.specs.Io.KnownBytes.{Appends, Keeps}
 use Rattle.std.proofs.KnownBytes.{Appends-nil, Appends-trans, Appends-kept}
 use Rattle.engines.specs.declared.device.Device.{Device}
@@ -9,7 +9,7 @@ use Rattle.engines.specs.declared.text_writer.TextWriter.{TextWriter}
 use Rattle.engines.specs.declared.text_writer.Stage.{Stage}
 use Rattle.engines.specs.declared.text_writer.Stage.TheVariants.{Unused, Writing, Failed}
 use Rattle.engines.specs.Device.{inner_of, has_failed}
-use Rattle.engines.specs.Transfer.{AppendsBefore, AppendsFront, IsLeftFlushed}
+use Rattle.engines.specs.Transfer.{AppendsBefore, AppendsFront}
 use Rattle.engines.specs.Writing.{HasCome, HasWritten, Takes, IsWritten}
 
 -- one text went out but for what was held back, and of that and some more bytes all but what is held back now
@@ -142,6 +142,8 @@ module _ {W : Type 0} (contents : W → Option (List ℕ)) where
       record {
         written = tt;
         left_flushed = tt;
+        flushed = tt;
+        untouched = λ none. absurd (come.0 none);
         sound = tt;
         some = come.0;
         front = (
@@ -160,27 +162,4 @@ module _ {W : Type 0} (contents : W → Option (List ℕ)) where
   written-nothing start unused none = record {
     same = refl;
     come = subst (λ (stage : Stage). HasCome contents stage start.writer.now [] start.writer.now start.held.now.items) (sym unused) (refl, none, refl);
-  }
-
-  -- a text that was written at once
-  pub written-at-once : (text : List ℕ) (writer writer' : Device W) (result : Result (Unit {0}) WriteFault)
-      → OnOk result (Appends (contents (inner_of writer)) (contents (inner_of writer')) text) → OnOk result (IsLeftFlushed writer writer')
-      → OnOk result (has_failed writer' ≡ has_failed writer) → (text ≡ [] → IsOk result)
-      → OnErr result (AppendsFront (contents (inner_of writer)) (contents (inner_of writer')) text) → OnErr result (has_failed writer' ≡ true)
-      → IsWritten contents text writer writer' result
-  written-at-once text writer writer' (Ok done) written flushed sound empty front failed = record {
-    written = written;
-    left_flushed = flushed;
-    sound = sound;
-    some = tt;
-    front = tt;
-    failed = tt;
-  }
-  written-at-once text writer writer' (Err fault) written flushed sound empty front failed = record {
-    written = tt;
-    left_flushed = tt;
-    sound = tt;
-    some = λ none. let ok = empty none in absurd cc;
-    front = front;
-    failed = failed;
   }

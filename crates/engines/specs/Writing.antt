@@ -9,7 +9,7 @@ use Rattle.engines.specs.declared.fault.WriteFault.{WriteFault}
 use Rattle.engines.specs.declared.text_writer.TextWriter.{TextWriter}
 use Rattle.engines.specs.declared.text_writer.Stage.{Stage}
 use Rattle.engines.specs.declared.text_writer.Stage.TheVariants.{Unused, Writing, Failed}
-use Rattle.engines.specs.Device.{inner_of, has_failed}
+use Rattle.engines.specs.Device.{inner_of, has_failed, is_flushed}
 use Rattle.engines.specs.Transfer.{AppendsBefore, AppendsFront, IsLeftFlushed}
 
 module _ {W : Type 0} (contents : W → Option (List ℕ)) where
@@ -39,6 +39,8 @@ module _ {W : Type 0} (contents : W → Option (List ℕ)) where
   pub record IsWritten (text : List ℕ) (writer writer' : Device W) (result : Result (Unit {0}) WriteFault) : Type 0 where
     pub written : OnOk result (Appends (contents (inner_of writer)) (contents (inner_of writer')) text)
     pub left_flushed : OnOk result (IsLeftFlushed writer writer')
+    pub flushed : OnOk result (text ≢ [] → is_flushed writer' ≡ true)
+    pub untouched : text ≡ [] → writer' ≡ writer
     pub sound : OnOk result (has_failed writer' ≡ has_failed writer)
     pub some : OnErr result (text ≢ [])
     pub front : OnErr result (AppendsFront (contents (inner_of writer)) (contents (inner_of writer')) text)
