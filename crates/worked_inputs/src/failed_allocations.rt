@@ -137,6 +137,46 @@ fn receiver_refused(rt: HostRuntime) -> Result<(), Fail> {
 /// A grant for the first segment, and its burst.
 const FIRST_COMES: [Line; 2] = [Line::Grant(0, 7, 1, 13), Line::Burst(0, 7, FIRST)];
 
+/// Looks that of a flow that is being closed a grant is taken, and a burst comes back.
+fn expect_only_a_grant<C: HeaderCheck + Drop>(
+    rt: &impl Abort,
+    alloc: Global,
+    receiver: &mut Receiver<C>,
+    at: (usize, Input),
+    out: &mut Collected,
+) -> Result<(), Fail>
+    requires { IsReceiving C.accepts receiver.old }
+    ensures { IsReceiving C.accepts receiver.new }
+{
+    let (channel, input) = at;
+    let is_grant = matches!(input, Input::Grant { .. });
+    let taken = match receiver.take(alloc, channel, input, out) {
+        Ok(_) => true,
+        Err(TakeError::NotTaken(_, NotReady::Closing)) => false,
+        Err(_) => return Err(Fail::new(format_args!("another fault"))),
+    };
+    expect_same(rt, "only the grant is taken", taken, is_grant);
+    Ok(())
+}
+
+/// Hands in a grant and its burst to a flow that is being closed.
+fn hand_in_to_closing<C: HeaderCheck + Drop>(
+    rt: &impl Abort,
+    alloc: Global,
+    receiver: &mut Receiver<C>,
+    out: &mut Collected,
+) -> Result<(), Fail>
+    requires { IsReceiving C.accepts receiver.old }
+    ensures { IsReceiving C.accepts receiver.new }
+{
+    for line in &FIRST_COMES {
+        if let Some(at) = input(alloc, line)? {
+            expect_only_a_grant(rt, alloc, receiver, at, out)?;
+        }
+    }
+    Ok(())
+}
+
 /// Looks that the flow is being closed: it is ready for nothing, and what isn't taken comes back.
 fn expect_closing<C: HeaderCheck + Drop>(
     rt: &impl Abort,
@@ -152,17 +192,7 @@ fn expect_closing<C: HeaderCheck + Drop>(
     let decided = receiver.decide(alloc, 0, FlowDecision::Gap, out);
     let closing = Err(DecideFault::NotTaken(NotReady::Closing));
     expect_same(rt, "a decision", decided.map(|_| ()), closing);
-    for line in &FIRST_COMES {
-        if let Some((channel, input)) = input(alloc, line)? {
-            let is_grant = matches!(input, Input::Grant { .. });
-            let taken = match receiver.take(alloc, channel, input, out) {
-                Ok(_) => true,
-                Err(TakeError::NotTaken(_, NotReady::Closing)) => false,
-                Err(_) => return Err(Fail::new(format_args!("another fault"))),
-            };
-            expect_same(rt, "only the grant is taken", taken, is_grant);
-        }
-    }
+    hand_in_to_closing(rt, alloc, receiver, out)?;
     expect_same(rt, "outstanding", receiver.outstanding(0), Some(1));
     Ok(())
 }
