@@ -19,8 +19,8 @@ use uplink::{Request, Tap, Taps};
 /// Receives the trace that a reader gives, each channel's inputs and the decisions on a thread of
 /// their own, and writes the report of it. Items of different channels are taken in the order in
 /// which they happen to come. `mailbox` and `ring` are the capacities of the two mailboxes and of
-/// each flow's ring, at least 1. It reads all, at most 268,435,456 bytes, piece by piece, of which it
-/// keeps the trace alone; then it receives, and then it writes the report as it makes it.
+/// each flow's ring, at least 1. It reads all, at most 268,435,456 bytes, piece by piece, of which
+/// it keeps the trace alone; then it receives, and then it writes the report as it makes it.
 ///
 /// `Read`: the reader failed or gave more. `Trace`: the first faulty line, any kind but `TooShort`
 /// and `PointerPast`. `OutOfMemory`: an allocation failed, or a thread could not be started. Up to
