@@ -13,18 +13,24 @@ from shared.plain_reading import DECIDED, RuledFlow, header
 CHANNELS, MOST_FLOWS, MOST_GRANTS = 4, 64, 65536
 DECISION = 4
 # What a word of a line may be: a number of a range, one of some words, or bytes in hexadecimal.
-UNITS_32 = range(1 << 32)
-CHANNEL, FLOW, SID, NUMBER = range(CHANNELS), range(MOST_FLOWS), range(1 << 14), range(8192)
+UNITS_32, SID, NUMBER = range(1 << 32), range(1 << 14), range(8192)
 CHECK = {b"ok": True, b"bad": False}
 HEX = re.compile(rb"-|([0-9A-Fa-f][0-9A-Fa-f])+")
-# The words that may follow the first one.
-FORMS = {
-    b"flow": [[UNITS_32, NUMBER, range(1, 4097), range(1, 9)]],
-    b"sid": [[CHANNEL, SID, FLOW]],
-    b"grant": [[CHANNEL, UNITS_32, SID, UNITS_32]],
-    b"burst": [[CHANNEL, UNITS_32, CHECK, HEX]],
-    b"gap": [[FLOW], [FLOW, NUMBER]],
-}
+
+
+def forms_of(channels, flows):
+    """The words that may follow the first one of a line, where there may be so many channels and flows."""
+    channel, flow = range(channels), range(flows)
+    return {
+        b"flow": [[UNITS_32, NUMBER, range(1, 4097), range(1, 9)]],
+        b"sid": [[channel, SID, flow]],
+        b"grant": [[channel, UNITS_32, SID, UNITS_32]],
+        b"burst": [[channel, UNITS_32, CHECK, HEX]],
+        b"gap": [[flow], [flow, NUMBER]],
+    }
+
+
+FORMS = forms_of(CHANNELS, MOST_FLOWS)
 # Of several faults of a line the first of these is told.
 FAULTS = [
     *["unknown line", "setup after input", "wrong number of fields", "bad number", "not ok or bad", "not hexadecimal"],
@@ -38,12 +44,13 @@ sys.set_int_max_str_digits(0)
 
 
 class Trace:
-    """What the lines of a trace give."""
+    """What the lines of a trace give, which may have so many channels and flows."""
 
-    def __init__(self):
+    def __init__(self, channels=CHANNELS, flows=MOST_FLOWS):
+        self.forms, self.most_flows = forms_of(channels, flows), flows
         self.flows = []  # sfid, first number, window and clusters
         self.sids = {}  # the flow of a channel and a SID
-        self.inputs = [[] for _ in range(CHANNELS)]
+        self.inputs = [[] for _ in range(channels)]
         self.decisions = []  # the flow, and the number up to which it is meant or None
         self.tags = []  # the channel of each input line, or DECISION
 
@@ -93,7 +100,7 @@ def fault_of_form(form):
 def faults_in_setup(trace, kind, values):
     """The faults of a line whose words are of their forms."""
     if kind == b"flow":
-        if len(trace.flows) == MOST_FLOWS:
+        if len(trace.flows) == trace.most_flows:
             yield "too many flows"
         if any(values[0] == earlier[0] for earlier in trace.flows):
             yield "flow given before"
@@ -105,10 +112,10 @@ def faults_in_setup(trace, kind, values):
 
 def read_line(trace, kind, words):
     """The values of a line after those that gave the trace, and its faults: all of them that can be seen."""
-    if kind not in FORMS:
+    if kind not in trace.forms:
         return [], {"unknown line"}
     late = {"setup after input"} if kind in (b"flow", b"sid") and trace.tags else set()
-    form = next((form for form in FORMS[kind] if len(form) == len(words)), None)
+    form = next((form for form in trace.forms[kind] if len(form) == len(words)), None)
     if form is None:
         return [], late | {"wrong number of fields"}
     values = [value_of(*pair) for pair in zip(form, words)]

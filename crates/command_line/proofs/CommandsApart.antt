@@ -16,6 +16,15 @@ cut_is_not_run e = let first : 99 ≡ 114 = ap (λ text. get_or text 0 0) e in o
 pub cut_is_not_replay : codes "cut" ≢ codes "replay"
 cut_is_not_replay e = let first : 99 ≡ 114 = ap (λ text. get_or text 0 0) e in omega (arith, first)
 
+pub follow_is_not_cut : codes "follow" ≢ codes "cut"
+follow_is_not_cut e = let first : 102 ≡ 99 = ap (λ text. get_or text 0 0) e in omega (arith, first)
+
+pub follow_is_not_run : codes "follow" ≢ codes "run"
+follow_is_not_run e = let first : 102 ≡ 114 = ap (λ text. get_or text 0 0) e in omega (arith, first)
+
+pub follow_is_not_replay : codes "follow" ≢ codes "replay"
+follow_is_not_replay e = let first : 102 ≡ 114 = ap (λ text. get_or text 0 0) e in omega (arith, first)
+
 -- or have different lengths
 pub replay_is_not_run : codes "replay" ≢ codes "run"
 replay_is_not_run e = let long : 6 ≡ 3 = ap length e in omega (arith, long)
@@ -32,3 +41,6 @@ join_is_not_cut e = let long : 4 ≡ 3 = ap length e in omega (arith, long)
 
 pub join_is_not_run : codes "join" ≢ codes "run"
 join_is_not_run e = let long : 4 ≡ 3 = ap length e in omega (arith, long)
+
+pub join_is_not_follow : codes "join" ≢ codes "follow"
+join_is_not_follow e = let long : 4 ≡ 6 = ap length e in omega (arith, long)

@@ -4,7 +4,7 @@ use Rattle.docsis_wire.specs.Limits.{sequence_modulus}
 use Rattle.loss_rule.specs.declared.rule.LossRule.{LossRule}
 use Rattle.command_line.specs.Losses.{HasNoLossesWord, AskForRule, AskForRuleAlone}
 use Rattle.command_line.specs.declared.command.Command.{Command}
-use Rattle.command_line.specs.declared.command.Command.TheVariants.{Join, Cut, Replay, Run, Help}
+use Rattle.command_line.specs.declared.command.Command.TheVariants.{Join, Cut, Replay, Run, Follow, Help}
 
 -- the command's word alone follows the name
 abbrev pub IsCommandAlone : List ℕ → List (List ℕ) → Type 0
@@ -52,6 +52,14 @@ AsksToReplay words = IsCommandAlone (codes "replay") words
 abbrev pub AsksToReplayBy : LossRule → List (List ℕ) → Type 0
 AsksToReplayBy rule words = IsCommand (codes "replay") words × AskForRuleAlone rule (options_in words)
 
+-- to follow has options too, by a loss rule as to run
+abbrev pub AsksToFollow : LossRule → List (List ℕ) → Type 0
+AsksToFollow rule words = IsCommand (codes "follow") words × AskForRule rule (options_in words)
+
+-- the greatest number of channels of a trace that is followed
+abbrev pub channels_max : ℕ
+channels_max = 16
+
 -- the word asks for help
 abbrev pub IsHelpWord : List ℕ → Type 0
 IsHelpWord word = (word ≡ codes "-h") ⊎ (word ≡ codes "--help")
@@ -69,20 +77,22 @@ pub record StandsBeforeHelp (before words : List (List ℕ)) : Type 0 where
   pub help : IsHelpWord word
   pub first : HasNoHelpWord before
 
--- the words ask for an engine, to run or to replay by some loss rule, which is `Decided` where none is asked for
+-- the words ask for an engine, to run, to replay or to follow by some loss rule, which is `Decided` where none is asked for
 abbrev pub AsksForAnEngine : List (List ℕ) → Type 0
 AsksForAnEngine words =
     AsksToJoin words ⊎ AsksToCut words ⊎ ((rule : LossRule) × AsksToReplayBy rule words) ⊎ ((rule : LossRule) × AsksToRunBy rule words)
+    ⊎ ((rule : LossRule) × AsksToFollow rule words)
 
 -- a word asks for help, and the words before it ask for an engine
 abbrev pub AsksForHelp : List (List ℕ) → Type 0
 AsksForHelp words = (before : List (List ℕ)) × StandsBeforeHelp before words × AsksForAnEngine before
 
--- The words ask for this. The first number of a cut is one of a segment, and mailboxes and rings have room for something; no word of a command
--- with options asks for help.
+-- The words ask for this. The first number of a cut is one of a segment, mailboxes and rings have room for something, and a trace that is followed
+-- has a channel; no word of a command with options asks for help.
 abbrev pub Asks : List (List ℕ) → Command → Type 0
 Asks words Join = AsksToJoin words
 Asks words (Cut first fill) = AsksToCut words × HasNoHelpWord words × (first < sequence_modulus)
 Asks words (Replay rule) = AsksToReplayBy rule words
 Asks words (Run rule mailbox ring) = AsksToRunBy rule words × HasNoHelpWord words × (1 ≤ mailbox) × (1 ≤ ring)
+Asks words (Follow rule channels) = AsksToFollow rule words × HasNoHelpWord words × (1 ≤ channels) × (channels ≤ channels_max)
 Asks words (Help text) = AsksForHelp words

@@ -11,13 +11,14 @@ Lines of cut:
   frame FRAME      one whole frame; frames are cut in their order
   piece DATA FILL  one segment with DATA bytes of frames and FILL of fill,
                    0 to 65535 each; segments are made in their order
-Lines of replay and run, a trace of what came in on the channels:
+Lines of replay, run and follow, a trace of what came in on the channels:
   flow SFID FIRST WINDOW CLUSTERS
                    a service flow: the number of its first segment, its window
                    of 1 to 4096 segments, and its 1 to 8 SID clusters; FLOW
                    below is its place among these lines, from 0
   sid CHANNEL SID FLOW
-                   a SID of that flow on a channel, 0 to 3
+                   a SID of that flow on a channel, 0 to 3, or of follow one
+                   below the number of channels
   grant CHANNEL NUMBER SID BYTES
                    a grant to that SID, under a number
   burst CHANNEL NUMBER ok|bad BURST
@@ -27,7 +28,7 @@ Lines of replay and run, a trace of what came in on the channels:
                    the expected segment is lost, or all before that number
 Bytes are written as hexadecimal digits, two a byte, or as - for no bytes. Words
 are separated by spaces, tabs or carriage returns. A line without words, or that
-begins with #, is skipped. At most 268435456 bytes are read.
+begins with #, is skipped. At most 268435456 bytes are read, by follow all.
 
 join prints one frame a line, and cut one segment a line. replay and run print a
 report of each flow with its frames, of the requests and of the channels. replay
@@ -36,7 +37,9 @@ and takes it in the order in which it happens to come. Which segments are lost
 say the gap lines alone by the rule decided; by passed, lost is also what each
 channel of the flow has passed, since on each a later segment came; by slid, so
 is what has to leave the window for one that comes beyond it. Nothing is printed
-before the whole input was read and is without fault.
+before the whole input was read and is without fault; but follow prints each
+frame and each request as soon as the line is read that brings it, also above a
+line that is at fault, and what was counted at the end.
 
 Exit status:
   0  done
@@ -63,7 +66,7 @@ fn command<'a>(alloc: Global, name: &'a str, about: &'a str, usage: &'a str) -> 
         .after_help(FORMATS)
 }
 
-/// The option of `replay` and `run` that names a loss rule.
+/// The option of `replay`, `run` and `follow` that names a loss rule.
 fn losses_option<'a>(alloc: Global) -> Arg<'a> {
     let help = "What is lost: decided, passed or slid [default: decided]";
     option(alloc, "losses", "RULE", help)
@@ -99,11 +102,22 @@ fn run_command<'a>(alloc: Global) -> Result<Command<'a>, AllocError> {
         .arg(option(alloc, "ring", "N", ring))
 }
 
+/// The command `follow` with its options.
+fn follow_command<'a>(alloc: Global) -> Result<Command<'a>, AllocError> {
+    let channels = "Channels that the trace may have, 1 to 16 [default: 16]";
+    let about = "Follows a trace, and prints what each flow gives as its lines are read";
+    let usage = "segrx follow [--losses RULE] [--channels N] < TRACE > FRAMES_AND_REQUESTS";
+    command(alloc, "follow", about, usage)
+        .arg(losses_option(alloc))?
+        .arg(option(alloc, "channels", "N", channels))
+}
+
 /// The program's own usage: that of each command.
 const USAGE: &str = "segrx [join] < SEGMENTS > FRAMES
        segrx cut [--first N] [--fill zero|ones] < FRAMES_AND_PIECES > SEGMENTS
        segrx replay [--losses RULE] < TRACE > REPORT
-       segrx run [--losses RULE] [--mailbox N] [--ring N] < TRACE > REPORT";
+       segrx run [--losses RULE] [--mailbox N] [--ring N] < TRACE > REPORT
+       segrx follow [--losses RULE] [--channels N] < TRACE > FRAMES_AND_REQUESTS";
 
 /// The commands of the program.
 pub fn command_line<'a>(alloc: Global) -> Result<Command<'a>, AllocError> {
@@ -115,5 +129,6 @@ pub fn command_line<'a>(alloc: Global) -> Result<Command<'a>, AllocError> {
         .subcommand(join)?
         .subcommand(cut_command(alloc)?)?
         .subcommand(replay_command(alloc)?)?
-        .subcommand(run_command(alloc)?)
+        .subcommand(run_command(alloc)?)?
+        .subcommand(follow_command(alloc)?)
 }

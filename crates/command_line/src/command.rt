@@ -1,13 +1,14 @@
 //! What the program's arguments ask for.
-ghost use Rattle.std.specs.Prelude.{◌≡◌, ◌<◌, ◌↔◌, map, codes, IsTrue, IfOk, MatchOption};
+ghost use Rattle.std.specs.Prelude.{◌≡◌, ◌<◌, ◌≤◌, ◌↔◌, map, codes, IsTrue, IfOk, MatchOption};
 ghost use Rattle.loss_rule.specs.declared.rule.LossRule.{LossRule};
 ghost use Rattle.text_lines.specs.Capacities.{default_capacity};
 ghost use Rattle.command_line.specs.declared.command.UsageFault.TheVariants.{OutOfMemory};
 ghost use Rattle.command_line.specs.Command.{IsCommandAlone, IsCommand, options_in, AsksToJoin};
-ghost use Rattle.command_line.specs.Command.{AsksToReplayBy, AsksToRunBy, AsksToRunByAlone, Asks};
+ghost use Rattle.command_line.specs.Command.{AsksToReplayBy, AsksToRunBy, AsksToRunByAlone};
+ghost use Rattle.command_line.specs.Command.{AsksToFollow, Asks};
 ghost use Rattle.command_line.specs.Command.{IsHelpWord, HasNoHelpWord, StandsBeforeHelp};
 ghost use Rattle.command_line.specs.Inside.Command.{AsksWithOptions};
-ghost use Rattle.command_line.specs.Inside.Options.{ReadsOptions, ReadsCapacity, ReadsCapacities};
+ghost use Rattle.command_line.specs.Inside.Options.{ReadsOptions, ReadsCount, ReadsCapacities, ReadsChannels};
 ghost use Rattle.clap.specs.Matches.{found_of, first_value};
 
 use crate::arguments::command_line;
@@ -48,6 +49,13 @@ pub enum Command {
         mailbox: u16,
         /// How many frames the ring of each flow has room for, its end mark included: 1 to 65,535.
         ring: u16,
+    },
+    /// To follow a trace, and print what a receiver gives for it as its lines are read.
+    Follow {
+        /// By what losses are decided.
+        rule: LossRule,
+        /// How many channels the trace may have, 1 to 16.
+        channels: u8,
     },
     /// To print this text, which says how the program is used.
     Help(String),
@@ -94,7 +102,11 @@ impl From<clap::Error> for UsageFault {
 const FIRST_MAX: u32 = 8191;
 
 /// The greatest capacity of a mailbox or a ring.
-const CAPACITY_MAX: u32 = 65_535;
+const CAPACITY_MAX: u16 = 65_535;
+
+/// The greatest number of channels of a trace that is followed, and how many it may have where none
+/// is asked for.
+const CHANNELS_MAX: u16 = 16;
 
 /// Whether the words are the program's name and this command's word.
 fn is_command_alone<S: AsStr>(words: &[S], command: &str) -> bool
@@ -162,6 +174,14 @@ fn asked_run<S: AsStr>(words: &[S]) -> Option<LossRule>
     asked_rule(options_of(words, "run")?)
 }
 
+/// The rule by which the words, the program's name first, ask to follow.
+fn asked_follow<S: AsStr>(words: &[S]) -> Option<LossRule>
+    ensures { (rule : LossRule)
+        → (result ≡ Some rule) ↔ AsksToFollow rule (map S.text words.now) }
+{
+    asked_rule(options_of(words, "follow")?)
+}
+
 /// Whether a word asks for help.
 fn asks_for_help(word: &str) -> bool
     ensures { IsTrue result ↔ IsHelpWord word.now }
@@ -211,15 +231,22 @@ fn read_cut(options: &ArgMatches<'_>) -> Result<(u16, FillByte), UsageFault>
     Ok((first as u16, fill))
 }
 
-/// The capacity that an option of `run` asks for.
-fn read_capacity(options: &ArgMatches<'_>, name: &str) -> Result<u16, UsageFault>
-    ensures { ReadsCapacity (first_value (found_of options.now) name.now) result }
+/// The number from 1 to this that an option asks for, and this other one where it is left out.
+fn read_count(
+    options: &ArgMatches<'_>,
+    name: &str,
+    most: u16,
+    default: u16,
+) -> Result<u16, UsageFault>
+    requires { default ≤ most }
+    ensures read { ReadsCount most default (first_value (found_of options.now) name.now) result }
+    ensures within { IfOk result (λ count. count ≤ most) }
 {
     let Some(text) = options.get_str(name) else {
-        return Ok(DEFAULT_CAPACITY);
+        return Ok(default);
     };
-    match read_number(text.as_bytes(), CAPACITY_MAX) {
-        Some(capacity) if capacity > 0 => Ok(capacity as u16),
+    match read_number(text.as_bytes(), u32::from(most)) {
+        Some(count) if count > 0 => Ok(count as u16),
         _ => Err(UsageFault::Usage),
     }
 }
@@ -229,9 +256,16 @@ fn read_run(options: &ArgMatches<'_>) -> Result<Capacities, UsageFault>
     ensures { ReadsCapacities (first_value (found_of options.now) (codes "mailbox"))
         (first_value (found_of options.now) (codes "ring")) result }
 {
-    let mailbox = read_capacity(options, "mailbox")?;
-    let ring = read_capacity(options, "ring")?;
+    let mailbox = read_count(options, "mailbox", CAPACITY_MAX, DEFAULT_CAPACITY)?;
+    let ring = read_count(options, "ring", CAPACITY_MAX, DEFAULT_CAPACITY)?;
     Ok(Capacities { mailbox, ring })
+}
+
+/// How many channels the options of `follow` ask for.
+fn read_follow(options: &ArgMatches<'_>) -> Result<u8, UsageFault>
+    ensures { ReadsChannels (first_value (found_of options.now) (codes "channels")) result }
+{
+    Ok(read_count(options, "channels", CHANNELS_MAX, CHANNELS_MAX)? as u8)
 }
 
 /// What words ask for that begin with a command which has options, and of which none asks for help.
@@ -240,7 +274,9 @@ fn read_with_options<'a, S: AsStr>(alloc: Global, words: &'a [S]) -> Result<Comm
 {
     let cuts = is_command(words, "cut");
     let run_rule = asked_run(words);
-    if !cuts && run_rule.is_none() || ends_options(words) {
+    let follow_rule = asked_follow(words);
+    let asked = cuts || run_rule.is_some() || follow_rule.is_some();
+    if !asked || ends_options(words) {
         return Err(UsageFault::Usage);
     }
     let matches = command_line(alloc)?.try_get_matches_from(words)?;
@@ -257,6 +293,12 @@ fn read_with_options<'a, S: AsStr>(alloc: Global, words: &'a [S]) -> Result<Comm
             mailbox,
             ring,
         });
+    }
+    if let Some(rule) = follow_rule
+        && let Some(options) = matches.subcommand_matches("follow")
+    {
+        let channels = read_follow(options)?;
+        return Ok(Command::Follow { rule, channels });
     }
     Err(UsageFault::Usage)
 }

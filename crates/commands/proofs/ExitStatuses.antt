@@ -12,11 +12,14 @@ use Rattle.texts.specs.Cut.{IsCutText, IsCutFault}
 use Rattle.texts.specs.Replay.{IsReplayed, IsReplayedBy, IsReplayFault, IsReportFault}
 use Rattle.texts.specs.Run.{IsRunText, IsRunTextBy}
 use Rattle.engines.specs.Device.{inner_of}
+use Rattle.engines.specs.Following.{HasFollowCause, FollowsTrace}
+use Rattle.receiver.specs.declared.width.Width.{Width}
+use Rattle.texts.specs.Follow.{IsFollowed}
 use Rattle.engines.specs.Fault.{status_of, exit_status_of}
 use Rattle.loss_rule.specs.declared.rule.LossRule.{LossRule}
 use Rattle.command_line.specs.Command.{AsksToJoin, AsksToReplay, AsksToReplayBy, AsksToRunByAlone}
 use Rattle.engines.specs.Engine.{engine_fault, WritesText, IsFaultOfKnown, HasCause, RunsEngine}
-use Rattle.commands.specs.Program.{AsksToCutOnly, AsksToRunOnly, AsksToRunByOnly, AsksForNothing, IsRefused, Obeys, RunsWords, IsStatus, HasJoinedText, HasCutText, HasReport, HasReportBy, HasRunReport, HasRunReportBy, HasRunFault, SaysOf}
+use Rattle.commands.specs.Program.{AsksToCutOnly, AsksToRunOnly, AsksToRunByOnly, AsksToFollowOnly, AsksForNothing, IsRefused, Obeys, RunsWords, IsStatus, HasJoinedText, HasCutText, HasReport, HasReportBy, HasRunReport, HasRunReportBy, HasRunFault, HasFollowed, HasFollowFault, SaysOf}
 
 -- a status other than 0 and 1 says nothing
 says_nothing : (HasText : List ℕ → Type 0) (IsFault : List ℕ → TextFault → Type 0) (status : ℕ) (input : List ℕ) → 1 < status → SaysOf HasText IsFault status input
@@ -84,6 +87,28 @@ SaysOf-above HasText IsFault None status above = tt
 SaysOf-above HasText IsFault (Some input) status above =
     elim above [ inl two ↦ says_nothing HasText IsFault status input (omega (arith, two)) | inr three ↦ says_nothing HasText IsFault status input (omega (arith, three)) ]
 
+-- what the status says of a fault of what was followed
+follow_fault : {R W : Type 0} (rule : LossRule) (width : Width) (known : Option (List ℕ)) (reader : Device R) (writer : Device W) (fault : EngineFault)
+    → HasFollowCause width known reader writer fault → IfSome known (SaysOf (HasFollowed rule) HasFollowFault (status_of fault))
+follow_fault rule width None reader writer fault cause = tt
+follow_fault rule width (Some input) reader writer (Trace fault) cause =
+    record { done = λ e. absurd (omega (arith, e)); faulty = λ _. (text_fault.Trace fault, refl, (width, cause)) }
+follow_fault rule width (Some input) reader writer (Cut fault) cause = absurd cause
+follow_fault rule width (Some input) reader writer OutOfMemory cause = says_nothing (HasFollowed rule) HasFollowFault 3 input (omega arith)
+follow_fault rule width (Some input) reader writer Read cause = says_nothing (HasFollowed rule) HasFollowFault 4 input (omega arith)
+follow_fault rule width (Some input) reader writer Write cause = says_nothing (HasFollowed rule) HasFollowFault 4 input (omega arith)
+follow_fault rule width (Some input) reader writer Usage cause = absurd cause
+
+-- and after a trace was followed
+SaysOf-followed : {R W : Type 0} (remaining : R → Option (List ℕ)) (contents : W → Option (List ℕ)) (rule : LossRule) (width : Width) (reader reader' : Device R)
+    (writer writer' : Device W) (result : Result (Unit {0}) EngineFault) → FollowsTrace rule width remaining contents reader reader' writer writer' result
+    → IfSome (remaining (inner_of reader)) (SaysOf (HasFollowed rule) HasFollowFault (exit_status_of result))
+SaysOf-followed remaining contents rule width reader reader' writer writer' (Ok done) ran =
+    SaysOf-written (HasFollowed rule) (IsFollowed rule width) HasFollowFault (remaining (inner_of reader)) (contents (inner_of writer)) (contents (inner_of writer'))
+    (λ input text is. (width, text, is)) ran.written
+SaysOf-followed remaining contents rule width reader reader' writer writer' (Err fault) ran =
+    follow_fault rule width (remaining (inner_of reader)) reader' writer' fault ran.cause
+
 -- words that ask to join, to replay or to run by a rule alone are known: whatever comes of them, it is not usage
 known_status : {R W : Type 0} (remaining : R → Option (List ℕ)) (contents : W → Option (List ℕ)) (IsText : List ℕ → List ℕ → Type 0) (IsFault : List ℕ → TextFault → Type 0)
     (reader reader' : Device R) (writer writer' : Device W) (result : Result (Unit {0}) EngineFault) → RunsEngine remaining contents IsText IsFault reader reader' writer writer' result
@@ -117,6 +142,7 @@ pub record SaysOfWords {R : Type 0} (remaining : R → Option (List ℕ)) (words
   pub replay_by_is_known : (rule : LossRule) → AsksToReplayBy rule words → n ≢ 2
   pub run_by : (rule : LossRule) → AsksToRunByOnly rule words → IfSome (remaining reader) (SaysOf (HasRunReportBy rule) HasRunFault n)
   pub run_by_is_known : (rule : LossRule) → AsksToRunByAlone rule words → n ≢ 2
+  pub follow : (rule : LossRule) → AsksToFollowOnly rule words → IfSome (remaining reader) (SaysOf (HasFollowed rule) HasFollowFault n)
   pub usage : AsksForNothing words → (n ≡ 2) ⊎ (n ≡ 3)
 
 -- so does that of what came of them
@@ -161,6 +187,11 @@ SaysOfWords-outcome remaining contents words reader reader' writer writer' resul
   run_by_is_known = λ rule asks.
       known_status remaining contents (IsRunTextBy rule default_capacity default_capacity) (IsReportFault default_capacity) reader reader' writer writer' result
       (obeyed.run_alone rule asks);
+  follow = λ rule asks.
+      elim (obeyed.follow rule asks) [
+        | inl ran ↦ SaysOf-followed remaining contents rule ran.0 reader reader' writer writer' result ran.2
+        | inr refused ↦ SaysOf-above (HasFollowed rule) HasFollowFault (remaining (inner_of reader)) (exit_status_of result) (refused_status reader reader' writer writer' result refused)
+      ];
   usage = λ asks. refused_status reader reader' writer writer' result (obeyed.nothing asks);
 }
 

@@ -1,11 +1,12 @@
 -- What the step that obeys the words promises, by the command that they were read as.
-use Rattle.std.proofs.Common.{◌≡◌, ℕ, List, [], ◌∷◌, Option, Result, Ok, Err, inl, inr, refl, ap, ◌∙◌, subst, arith}
-use Rattle.std.specs.Prelude.{string_bytes, codes, IsErrAnd}
+use Rattle.std.proofs.Common.{◌≡◌, ℕ, ◌≤◌, ◌^◌, ◌-◌, ◌⊎◌, true, false, List, [], ◌∷◌, length, Option, Some, Result, Ok, Err, OnOk, IfErr, inl, inr, refl, sym, ap, ◌∙◌, subst, arith}
+use Rattle.std.specs.Prelude.{string_bytes, codes, slice_get, IsErrAnd}
+use Rattle.docsis_wire.proofs.StreamPlaces.{slice_get-at}
 use Rattle.loss_rule.specs.declared.rule.LossRule.{LossRule}
 use Rattle.loss_rule.specs.declared.rule.LossRule.TheVariants.{Decided}
 use Rattle.engines.specs.declared.device.Device.{Device}
 use Rattle.command_line.specs.declared.command.Command.{Command}
-use Rattle.command_line.specs.declared.command.Command.TheVariants.{Join, Cut, Replay, Run, Help}
+use Rattle.command_line.specs.declared.command.Command.TheVariants.{Join, Cut, Replay, Run, Follow, Help}
 use Rattle.command_line.specs.declared.command.UsageFault.{UsageFault}
 use Rattle.command_line.specs.declared.command.UsageFault.TheVariants as usage
 use Rattle.engines.specs.declared.fault.EngineFault.{EngineFault}
@@ -16,15 +17,19 @@ use Rattle.texts.specs.Join.{IsJoined, IsJoinFault}
 use Rattle.texts.specs.Cut.{IsCutText, IsCutFault}
 use Rattle.texts.specs.Replay.{IsReplayed, IsReplayedBy, IsReplayFault, IsReportFault}
 use Rattle.texts.specs.Run.{IsRunText, IsRunTextBy}
-use Rattle.engines.specs.Device.{inner_of, IsFresh}
+use Rattle.engines.specs.Device.{inner_of, has_failed, given_of, IsFresh}
+use Rattle.engines.specs.Transfer.{IsReadFault}
+use Rattle.std.specs.Io.KnownBytes.{IsAtEnd}
 use Rattle.engines.specs.Fault.{usage_fault}
 use Rattle.engines.specs.Engine.{HasCause, RunsEngine}
-use Rattle.command_line.specs.Command.{options_in, AsksToJoin, AsksToReplay, AsksToReplayBy, AsksToRun, AsksToRunBy, AsksToRunByAlone, HasNoHelpWord, Asks}
+use Rattle.command_line.specs.Command.{options_in, AsksToJoin, AsksToReplay, AsksToReplayBy, AsksToRun, AsksToRunBy, AsksToRunByAlone, AsksToFollow, AsksForHelp, HasNoHelpWord, Asks}
 use Rattle.command_line.proofs.AskedRules.{AskForRule-one}
 use Rattle.command_line.proofs.AskedWithoutHelp.{replays_without_help}
-use Rattle.command_line.proofs.CommandsApart.{commands_apart, cut_is_not_run, cut_is_not_replay, replay_is_not_run, join_is_another, join_is_not_cut, join_is_not_run}
+use Rattle.command_line.proofs.CommandsApart.{commands_apart, cut_is_not_run, cut_is_not_replay, replay_is_not_run, follow_is_not_cut, follow_is_not_run, follow_is_not_replay, join_is_another, join_is_not_cut, join_is_not_run, join_is_not_follow}
 use Rattle.engines.proofs.WeakerTexts.{RunsEngine-weaker}
-use Rattle.commands.specs.Program.{AsksToCutOnly, AsksToRunOnly, AsksToRunByOnly, AsksForNothing, RunsCut, RunsRun, RunsRunBy, RunsRunAlone, WritesHelp, Obeys}
+use Rattle.engines.specs.Following.{HasFollowCause}
+use Rattle.receiver.specs.declared.width.Width.{Width}
+use Rattle.commands.specs.Program.{AsksToCutOnly, AsksToRunOnly, AsksToRunByOnly, AsksToFollowOnly, AsksForNothing, RunsCut, RunsRun, RunsRunBy, RunsRunAlone, RunsFollow, WritesHelp, Obeys}
 use Rattle.commands.specs.Inside.Program.{Performs}
 
 -- where no rule is asked for, `Decided` is
@@ -76,8 +81,9 @@ module _ {R W : Type 0} (remaining : R → Option (List ℕ)) (contents : W → 
       → ((rule : LossRule) → AsksToReplayBy rule words → RunsEngine remaining contents (IsReplayedBy rule) IsReplayFault reader reader' writer writer' result)
       → ((rule : LossRule) → AsksToRunByOnly rule words → RunsRunBy rule remaining contents reader reader' writer writer' result)
       → ((rule : LossRule) → AsksToRunByAlone rule words → RunsRunAlone rule remaining contents reader reader' writer writer' result)
+      → ((rule : LossRule) → ¬ AsksToFollow rule words)
       → ¬ AsksForNothing words → (¬ AsksToJoin words → HasNoHelpWord words) → Obeys remaining contents words reader reader' writer writer' result
-  Obeys-engine IsText IsFault (Ok done) replay_same run_same ran joins cuts replays runs alone something no_help = record {
+  Obeys-engine IsText IsFault (Ok done) replay_same run_same ran joins cuts replays runs alone no_follow something no_help = record {
     join = joins;
     cut = λ asks. inl (cuts asks);
     replay = replayed_by_decisions (Ok done) replay_same replays;
@@ -85,15 +91,16 @@ module _ {R W : Type 0} (remaining : R → Option (List ℕ)) (contents : W → 
     replay_by = replays;
     run_by = λ rule asks. inl (runs rule asks);
     run_alone = alone;
+    follow = λ rule asks. absurd (no_follow rule asks.0);
     nothing = λ asks. absurd (something asks);
     help = λ other asks. absurd (asks (no_help other));
     flushed = ran.flushed;
     no_cause = ran.no_cause.1;
     read_fault = λ is. absurd cc;
     write_fault = λ is. absurd cc;
-    read_first = tt;
+    read_first = λ _. tt;
   }
-  Obeys-engine IsText IsFault (Err fault) replay_same run_same ran joins cuts replays runs alone something no_help =
+  Obeys-engine IsText IsFault (Err fault) replay_same run_same ran joins cuts replays runs alone no_follow something no_help =
       let P : EngineFault → Type 0 = HasCause IsFault (remaining (inner_of reader)) reader' writer' in
       record {
         join = joins;
@@ -103,21 +110,22 @@ module _ {R W : Type 0} (remaining : R → Option (List ℕ)) (contents : W → 
         replay_by = replays;
         run_by = λ rule asks. inl (runs rule asks);
         run_alone = alone;
+        follow = λ rule asks. absurd (no_follow rule asks.0);
         nothing = λ asks. absurd (something asks);
         help = λ other asks. absurd (asks (no_help other));
         flushed = tt;
         no_cause = tt;
         read_fault = λ is. let same : fault ≡ Read = cc in subst P same ran.cause;
         write_fault = λ is. let same : fault ≡ Write = cc in subst P same ran.cause;
-        read_first = λ other. (ran.read_first other).0;
+        read_first = λ _ other. (ran.read_first other).0;
       }
 
   -- so have those that ask for help, where its text is written
   Obeys-help : (text : List ℕ) (result : Result (Unit {0}) EngineFault) → IsFresh reader → IsFresh writer
       → ¬ AsksToJoin words → ¬ AsksToCutOnly words → ((rule : LossRule) → ¬ AsksToReplayBy rule words) → ((rule : LossRule) → ¬ AsksToRunByOnly rule words)
-      → ((rule : LossRule) → ¬ AsksToRunByAlone rule words) → ¬ AsksForNothing words → WritesHelp contents text reader reader' writer writer' result
+      → ((rule : LossRule) → ¬ AsksToRunByAlone rule words) → ((rule : LossRule) → ¬ AsksToFollowOnly rule words) → ¬ AsksForNothing words → WritesHelp contents text reader reader' writer writer' result
       → Obeys remaining contents words reader reader' writer writer' result
-  Obeys-help text (Ok done) unread unwritten other no_cut no_replay no_run no_alone something wrote = record {
+  Obeys-help text (Ok done) unread unwritten other no_cut no_replay no_run no_alone no_follow something wrote = record {
     join = λ asks. absurd (other asks);
     cut = λ asks. absurd (no_cut asks);
     replay = λ asks. absurd (no_replay Decided (replays_by_decisions words asks));
@@ -125,15 +133,16 @@ module _ {R W : Type 0} (remaining : R → Option (List ℕ)) (contents : W → 
     replay_by = λ rule asks. absurd (no_replay rule asks);
     run_by = λ rule asks. absurd (no_run rule asks);
     run_alone = λ rule asks. absurd (no_alone rule asks);
+    follow = λ rule asks. absurd (no_follow rule asks);
     nothing = λ asks. absurd (something asks);
     help = λ _ _. inl (text, wrote);
     flushed = wrote.left_flushed;
     no_cause = wrote.writes.sound ∙ unwritten.0;
     read_fault = λ is. absurd cc;
     write_fault = λ is. absurd cc;
-    read_first = tt;
+    read_first = λ _. tt;
   }
-  Obeys-help text (Err fault) unread unwritten other no_cut no_replay no_run no_alone something wrote = record {
+  Obeys-help text (Err fault) unread unwritten other no_cut no_replay no_run no_alone no_follow something wrote = record {
     join = λ asks. absurd (other asks);
     cut = λ asks. absurd (no_cut asks);
     replay = λ asks. absurd (no_replay Decided (replays_by_decisions words asks));
@@ -141,14 +150,67 @@ module _ {R W : Type 0} (remaining : R → Option (List ℕ)) (contents : W → 
     replay_by = λ rule asks. absurd (no_replay rule asks);
     run_by = λ rule asks. absurd (no_run rule asks);
     run_alone = λ rule asks. absurd (no_alone rule asks);
+    follow = λ rule asks. absurd (no_follow rule asks);
     nothing = λ asks. absurd (something asks);
     help = λ _ _. inl (text, wrote);
     flushed = tt;
     no_cause = tt;
     read_fault = λ is. absurd (cc wrote.only);
     write_fault = λ _. wrote.writes.failed;
-    read_first = λ _. rw wrote.unread (unread.0, omega (arith, unread.1));
+    read_first = λ _ _. rw wrote.unread (unread.0, omega (arith, unread.1));
   }
+
+  -- the reader's part in a fault of what is followed
+  followed_reader : (width : Width) (fault : EngineFault) → fault ≡ Read → HasFollowCause width (remaining (inner_of reader)) reader' writer' fault → IsReadFault reader'
+  followed_reader width fault is cause = failed_or_long (subst (HasFollowCause width (remaining (inner_of reader)) reader' writer') is cause) where
+    failed_or_long : (has_failed reader' ≡ true) ⊎ (2 ^ 64 - 1 ≤ given_of reader') → IsReadFault reader'
+    failed_or_long (inl failed) = inl failed
+    failed_or_long (inr many) = inr (omega (arith, many))
+
+  -- words that ask to follow a trace
+  Obeys-follow : (rule : LossRule) (result : Result (Unit {0}) EngineFault) → AsksToFollow rule words → HasNoHelpWord words
+      → RunsFollow rule remaining contents reader reader' writer writer' result → ¬ AsksForNothing words
+      → Obeys remaining contents words reader reader' writer writer' result
+  Obeys-follow rule result asked no_help ran something = record {
+    join = λ asks. absurd (join_is_another (codes "follow") join_is_not_follow words asks asked.0);
+    cut = λ asks. absurd (commands_apart (codes "follow") (codes "cut") follow_is_not_cut words asked.0 asks.0);
+    replay = λ asks. absurd (commands_apart (codes "follow") (codes "replay") follow_is_not_replay words asked.0 (replays_by_decisions words asks).0);
+    run = λ asks. absurd (commands_apart (codes "follow") (codes "run") follow_is_not_run words asked.0 asks.0.0);
+    replay_by = λ other asks. absurd (commands_apart (codes "follow") (codes "replay") follow_is_not_replay words asked.0 asks.0);
+    run_by = λ other asks. absurd (commands_apart (codes "follow") (codes "run") follow_is_not_run words asked.0 asks.0.0);
+    run_alone = λ other asks. absurd (commands_apart (codes "follow") (codes "run") follow_is_not_run words asked.0 asks.0);
+    follow = λ other asks.
+        let same : rule ≡ other = AskForRule-one (options_in words) rule other asked.1 asks.0.1 in
+        inl (subst (λ by. RunsFollow by remaining contents reader reader' writer writer' result) same ran);
+    nothing = λ asks. absurd (something asks);
+    help = λ other asks. absurd (asks no_help);
+    flushed = ran.2.flushed;
+    no_cause = OnOk-weaker result ran.2.no_cause;
+    read_fault = λ is. followed_fault result is ran.2.cause;
+    write_fault = λ is. followed_write result is ran.2.cause;
+    read_first = λ none. absurd (none rule (asked, λ helps. absurd (no_help_asked helps)));
+  } where
+    OnOk-weaker : (result : Result (Unit {0}) EngineFault)
+        → OnOk result ((has_failed reader' ≡ false) × IsAtEnd (remaining (inner_of reader')) × (has_failed writer' ≡ false)) → OnOk result (has_failed writer' ≡ false)
+    OnOk-weaker (Ok done) is = is.2
+    OnOk-weaker (Err fault) is = tt
+
+    followed_fault : (result : Result (Unit {0}) EngineFault) → result ≡ Err Read → IfErr result (HasFollowCause ran.0 (remaining (inner_of reader)) reader' writer')
+        → IsReadFault reader'
+    followed_fault (Ok done) is cause = absurd cc
+    followed_fault (Err fault) is cause = let same : fault ≡ Read = cc in followed_reader ran.0 fault same cause
+
+    followed_write : (result : Result (Unit {0}) EngineFault) → result ≡ Err Write → IfErr result (HasFollowCause ran.0 (remaining (inner_of reader)) reader' writer')
+        → has_failed writer' ≡ true
+    followed_write (Ok done) is cause = absurd cc
+    followed_write (Err fault) is cause =
+        let same : fault ≡ Write = cc in subst (HasFollowCause ran.0 (remaining (inner_of reader)) reader' writer') same cause
+
+    no_help_asked : AsksForHelp words → ⊥
+    no_help_asked helps =
+        let stands = helps.1 in
+        no_help (length helps.0) stands.word stands.named (subst (λ all. slice_get all (length helps.0) ≡ Some stands.word) (sym stands.are)
+        (slice_get-at helps.0 stands.word stands.after)) stands.help
 
   -- a command that was read as a run by a rule alone is that
   performed_alone : (command : Command) (result : Result (Unit {0}) EngineFault) → Performs remaining contents command reader reader' writer writer' result
@@ -168,6 +230,7 @@ module _ {R W : Type 0} (remaining : R → Option (List ℕ)) (contents : W → 
       Obeys-engine IsJoined IsJoinFault result replay_same run_same ran (λ _. ran)
       (λ asks. absurd (join_is_another (codes "cut") join_is_not_cut words asked asks.0)) (λ rule asks. let e = replays rule asks in absurd cc)
       (λ rule asks. absurd (join_is_another (codes "run") join_is_not_run words asked asks.0.0)) (performed_alone Join result ran runs)
+      (λ rule asks. absurd (join_is_another (codes "follow") join_is_not_follow words asked asks.0))
       (λ nothing. nothing.0 (inl asked))
       (λ other. absurd (other asked))
   Obeys-performed (Cut first fill) result replay_same run_same unread unwritten asked joins replays runs ran =
@@ -175,6 +238,7 @@ module _ {R W : Type 0} (remaining : R → Option (List ℕ)) (contents : W → 
       (λ asks. absurd (join_is_another (codes "cut") join_is_not_cut words asks asked.0)) (λ _. (first, fill, asked.2, ran))
       (λ rule asks. let e = replays rule asks in absurd cc)
       (λ rule asks. absurd (commands_apart (codes "cut") (codes "run") cut_is_not_run words asked.0 asks.0.0)) (performed_alone (Cut first fill) result ran runs)
+      (λ rule asks. absurd (commands_apart (codes "follow") (codes "cut") follow_is_not_cut words asks.0 asked.0))
       (λ nothing. nothing.0 (inr (inl asked.0))) (λ _. asked.1)
   Obeys-performed (Replay rule) result replay_same run_same unread unwritten asked joins replays runs ran =
       Obeys-engine (IsReplayedBy rule) IsReplayFault result replay_same run_same ran (λ asks. let e = joins asks in absurd cc)
@@ -184,7 +248,8 @@ module _ {R W : Type 0} (remaining : R → Option (List ℕ)) (contents : W → 
       let same : rule ≡ other = cc in
       subst (λ by. RunsEngine remaining contents (IsReplayedBy by) IsReplayFault reader reader' writer writer' result) same ran)
       (λ other asks. absurd (commands_apart (codes "replay") (codes "run") replay_is_not_run words asked.0 asks.0.0))
-      (performed_alone (Replay rule) result ran runs) (λ nothing. nothing.0 (inr (inr (inl (rule, asked))))) (λ _. replays_without_help rule words asked)
+      (performed_alone (Replay rule) result ran runs)
+      (λ other asks. absurd (commands_apart (codes "follow") (codes "replay") follow_is_not_replay words asks.0 asked.0)) (λ nothing. nothing.0 (inr (inr (inl (rule, asked))))) (λ _. replays_without_help rule words asked)
   Obeys-performed (Run rule mailbox ring) result replay_same run_same unread unwritten asked joins replays runs ran =
       Obeys-engine (IsRunTextBy rule ring mailbox) (IsReportFault ring) result replay_same run_same ran
       (λ asks. absurd (join_is_another (codes "run") join_is_not_run words asks asked.0.0))
@@ -193,11 +258,15 @@ module _ {R W : Type 0} (remaining : R → Option (List ℕ)) (contents : W → 
       (λ other asks.
       let same : rule ≡ other = AskForRule-one (options_in words) rule other asked.0.1 asks.0.1 in
       subst (λ by. RunsRunBy by remaining contents reader reader' writer writer' result) same (mailbox, ring, asked.2, asked.3, ran))
-      (performed_alone (Run rule mailbox ring) result ran runs) (λ nothing. nothing.0 (inr (inr (inr (rule, asked.0))))) (λ _. asked.1)
+      (performed_alone (Run rule mailbox ring) result ran runs)
+      (λ other asks. absurd (commands_apart (codes "follow") (codes "run") follow_is_not_run words asks.0 asked.0.0))
+      (λ nothing. nothing.0 (inr (inr (inr (inl (rule, asked.0)))))) (λ _. asked.1)
+  Obeys-performed (Follow rule channels) result replay_same run_same unread unwritten asked joins replays runs ran =
+      Obeys-follow rule result asked.0 asked.1 ran (λ nothing. nothing.0 (inr (inr (inr (inr (rule, asked.0))))))
   Obeys-performed (Help text) result replay_same run_same unread unwritten asked joins replays runs ran =
       Obeys-help (string_bytes text) result unread unwritten (λ asks. let e = joins asks in absurd cc) (λ asks. asks.1 asked)
       (λ rule asks. let e = replays rule asks in absurd cc) (λ rule asks. asks.1 asked) (λ rule asks. let e = runs rule asks in absurd cc)
-      (λ nothing. nothing.1 asked) ran
+      (λ rule asks. asks.1 asked) (λ nothing. nothing.1 asked) ran
 
 -- words that were refused ask neither to join nor to replay nor to run by a rule alone, and nothing is read or written
 pub Obeys-refused : {R W : Type 0} (remaining : R → Option (List ℕ)) (contents : W → Option (List ℕ)) (words : List (List ℕ)) (reader : Device R)
@@ -211,13 +280,14 @@ Obeys-refused remaining contents words reader writer usage.Usage unread other no
   replay_by = λ rule asks. absurd (no_replay rule asks);
   run_by = λ rule _. inr (record { fault = inl refl; unread = refl; unwritten = refl });
   run_alone = λ rule asks. absurd (no_alone rule asks);
+  follow = λ rule _. inr (record { fault = inl refl; unread = refl; unwritten = refl });
   nothing = λ _. record { fault = inl refl; unread = refl; unwritten = refl };
   help = λ _ _. inr (record { fault = inl refl; unread = refl; unwritten = refl });
   flushed = tt;
   no_cause = tt;
   read_fault = λ is. absurd cc;
   write_fault = λ is. absurd cc;
-  read_first = λ _. (unread.0, omega (arith, unread.1));
+  read_first = λ _ _. (unread.0, omega (arith, unread.1));
 }
 Obeys-refused remaining contents words reader writer usage.OutOfMemory unread other no_replay no_alone = record {
   join = λ asks. absurd (other asks);
@@ -227,13 +297,14 @@ Obeys-refused remaining contents words reader writer usage.OutOfMemory unread ot
   replay_by = λ rule asks. absurd (no_replay rule asks);
   run_by = λ rule _. inr (record { fault = inr refl; unread = refl; unwritten = refl });
   run_alone = λ rule asks. absurd (no_alone rule asks);
+  follow = λ rule _. inr (record { fault = inr refl; unread = refl; unwritten = refl });
   nothing = λ _. record { fault = inr refl; unread = refl; unwritten = refl };
   help = λ _ _. inr (record { fault = inr refl; unread = refl; unwritten = refl });
   flushed = tt;
   no_cause = tt;
   read_fault = λ is. absurd cc;
   write_fault = λ is. absurd cc;
-  read_first = λ _. (unread.0, omega (arith, unread.1));
+  read_first = λ _ _. (unread.0, omega (arith, unread.1));
 }
 
 -- an answer whose fault is this one

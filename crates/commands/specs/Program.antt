@@ -1,5 +1,5 @@
 -- What the program does with its arguments, and what its exit status says of its input.
-use Rattle.std.specs.Prelude.{◌≡◌, ◌≢◌, ◌⊎◌, ◌<◌, ◌≤◌, ℕ, List, [], Option, Result, Ok, Err, true, false, IfErr, OnOk, OnErr}
+use Rattle.std.specs.Prelude.{◌≡◌, ◌≢◌, ◌⊎◌, ◌<◌, ◌≤◌, ◌^◌, ℕ, List, [], Option, Result, Ok, Err, true, false, IfErr, OnOk, OnErr, length}
 use Rattle.std.specs.Io.KnownBytes.{Appends}
 use Rattle.docsis_wire.specs.declared.pieces.FillByte.{FillByte}
 use Rattle.docsis_wire.specs.Limits.{sequence_modulus}
@@ -14,7 +14,16 @@ use Rattle.engines.specs.Device.{inner_of, has_failed, is_flushed, IsFresh}
 use Rattle.engines.specs.Transfer.{AppendsFront, IsLeftFlushed, IsReadFault, IsRead}
 use Rattle.engines.specs.Fault.{status_of, exit_status_of, fault_line}
 use Rattle.engines.specs.Engine.{engine_fault, RunsEngine}
-use Rattle.command_line.specs.Command.{AsksToJoin, AsksToCut, AsksToReplay, AsksToReplayBy, AsksToRun, AsksToRunBy, AsksToRunByAlone, AsksForAnEngine, AsksForHelp, HasNoHelpWord}
+use Rattle.command_line.specs.Command.{AsksToJoin, AsksToCut, AsksToReplay, AsksToReplayBy, AsksToRun, AsksToRunBy, AsksToRunByAlone, AsksToFollow, AsksForAnEngine, AsksForHelp, HasNoHelpWord}
+use Rattle.flow_records.specs.Limits.{most_flows}
+use Rattle.receiver.specs.declared.width.Width.{Width}
+use Rattle.text_lines.specs.declared.fault.TextFault.TheVariants as text_fault
+use Rattle.text_lines.specs.Format.{IsFirstFaultyLine}
+use Rattle.text_lines.specs.Lines.{lines_of}
+use Rattle.engines.specs.Following.{FollowsTrace}
+use Rattle.texts.specs.Follow.{IsFollowed}
+use Rattle.texts.specs.Trace.Line.{shape_of}
+use Rattle.texts.specs.Trace.Place.{nothing_said_in, trace_format}
 use Rattle.texts.specs.Join.{IsJoined, IsJoinFault}
 use Rattle.texts.specs.Cut.{IsCutText, IsCutFault}
 use Rattle.texts.specs.Replay.{IsReplayed, IsReplayedBy, IsReplayFault, IsReportFault}
@@ -31,6 +40,10 @@ AsksToRunOnly words = AsksToRun words × ¬ AsksForHelp words
 -- so by a loss rule
 abbrev pub AsksToRunByOnly : LossRule → List (List ℕ) → Type 0
 AsksToRunByOnly rule words = AsksToRunBy rule words × ¬ AsksForHelp words
+
+-- the words ask to follow a trace by a loss rule, and not for help
+abbrev pub AsksToFollowOnly : LossRule → List (List ℕ) → Type 0
+AsksToFollowOnly rule words = AsksToFollow rule words × ¬ AsksForHelp words
 
 -- the words ask for nothing
 abbrev pub AsksForNothing : List (List ℕ) → Type 0
@@ -83,6 +96,11 @@ abbrev pub RunsRunAlone : {R W : Type 0} → LossRule → (R → Option (List �
 RunsRunAlone rule remaining contents reader reader' writer writer' result =
     RunsEngine remaining contents (IsRunTextBy rule default_capacity default_capacity) (IsReportFault default_capacity) reader reader' writer writer' result
 
+-- a trace was followed by a loss rule, of as many flows as a receiver can have
+abbrev pub RunsFollow : {R W : Type 0} → LossRule → (R → Option (List ℕ)) → (W → Option (List ℕ)) → Device R → Device R → Device W → Device W → Result (Unit {0}) EngineFault → Type 0
+RunsFollow rule remaining contents reader reader' writer writer' result =
+    (width : Width) × (width.flows ≡ most_flows) × FollowsTrace rule width remaining contents reader reader' writer writer' result
+
 -- what comes of words, the program's name first, over a fresh reader and a fresh writer: `remaining` are the bytes that a reader is known
 -- to have left, `contents` those that a writer is known to hold
 pub record Obeys {R W : Type 0} (remaining : R → Option (List ℕ)) (contents : W → Option (List ℕ)) (words : List (List ℕ))
@@ -99,6 +117,9 @@ pub record Obeys {R W : Type 0} (remaining : R → Option (List ℕ)) (contents 
       → RunsRunBy rule remaining contents reader reader' writer writer' result ⊎ IsRefused reader reader' writer writer' result
   -- a run by a rule alone is never refused
   pub run_alone : (rule : LossRule) → AsksToRunByAlone rule words → RunsRunAlone rule remaining contents reader reader' writer writer' result
+  -- a trace is followed
+  pub follow : (rule : LossRule) → AsksToFollowOnly rule words
+      → RunsFollow rule remaining contents reader reader' writer writer' result ⊎ IsRefused reader reader' writer writer' result
   pub nothing : AsksForNothing words → IsRefused reader reader' writer writer' result
   pub help : ¬ AsksToJoin words → ¬ HasNoHelpWord words → Helps contents reader reader' writer writer' result ⊎ IsRefused reader reader' writer writer' result
   -- where the work was done all that was written is flushed
@@ -107,7 +128,8 @@ pub record Obeys {R W : Type 0} (remaining : R → Option (List ℕ)) (contents 
   pub no_cause : OnOk result (has_failed writer' ≡ false)
   pub read_fault : result ≡ Err Read → IsReadFault reader'
   pub write_fault : result ≡ Err Write → has_failed writer' ≡ true
-  pub read_first : IfErr result (λ fault. fault ≢ Read → IsRead reader')
+  -- and but where a trace is followed no more is read than an engine reads
+  pub read_first : ((rule : LossRule) → ¬ AsksToFollowOnly rule words) → IfErr result (λ fault. fault ≢ Read → IsRead reader')
 
 -- an outcome was reported: the line of its fault was written and flushed, or the writer failed and a front of it went out; without a fault
 -- the writer was not used
@@ -166,6 +188,16 @@ HasReportBy rule input = (text : List ℕ) × IsReplayedBy rule input text
 
 abbrev pub HasRunReportBy : LossRule → List ℕ → Type 0
 HasRunReportBy rule input = (mailbox ring : ℕ) × (text : List ℕ) × (1 ≤ mailbox) × (1 ≤ ring) × IsRunTextBy rule ring mailbox input text
+
+-- some text may stand for a trace that is followed by a loss rule
+abbrev pub HasFollowed : LossRule → List ℕ → Type 0
+HasFollowed rule input = (width : Width) × (text : List ℕ) × IsFollowed rule width input text
+
+-- a trace that is followed has this fault
+abbrev pub HasFollowFault : List ℕ → TextFault → Type 0
+HasFollowFault input (text_fault.Trace fault) =
+    (width : Width) × (length input < 2 ^ 64 → IsFirstFaultyLine trace_format (nothing_said_in (shape_of width default_capacity)) (lines_of input) fault)
+HasFollowFault input _ = ⊥
 
 -- an input of `run` has this fault
 abbrev pub HasRunFault : List ℕ → TextFault → Type 0

@@ -82,7 +82,7 @@ where
         reader.old reader.new writer.old writer.new result }
 {
     laws::trace_passes_the_checks();
-    let reading = read_lines(alloc, Reading::new(alloc, ring), reader)?;
+    let reading = read_lines(alloc, Reading::new(alloc, ring)?, reader)?;
     let trace = reading.into_trace(mailbox);
     let outcome = run_trace(rule, alloc, rt, trace, taps)?;
     let mut room = held_room(alloc)?;

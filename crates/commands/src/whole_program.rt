@@ -8,15 +8,16 @@ ghost use Rattle.command_line.specs.Command.{AsksToJoin, AsksToReplay, AsksToRep
 ghost use Rattle.texts.specs.Join.{IsJoinFault};
 ghost use Rattle.texts.specs.Cut.{IsCutFault};
 ghost use Rattle.texts.specs.Replay.{IsReplayFault};
-ghost use Rattle.commands.specs.Program.{AsksToCutOnly, AsksToRunOnly, AsksToRunByOnly, AsksForNothing, Obeys, IsReported, RunsWords, ComesOf};
+ghost use Rattle.commands.specs.Program.{AsksToCutOnly, AsksToRunOnly, AsksToRunByOnly, AsksToFollowOnly, AsksForNothing, Obeys, IsReported, RunsWords, ComesOf};
 ghost use Rattle.commands.specs.Inside.Program.{Performs, IsInRange};
-ghost use Rattle.commands.specs.Program.{IsStatus, HasJoinedText, HasCutText, HasReport, HasReportBy, HasRunReport, HasRunReportBy, HasRunFault, SaysOf};
+ghost use Rattle.commands.specs.Program.{IsStatus, HasJoinedText, HasCutText, HasReport, HasReportBy, HasRunReport, HasRunReportBy, HasRunFault, HasFollowed, HasFollowFault, SaysOf};
 
 use crate::run::run_text_by;
 use engines::{
-    Command, Device, EngineFault, cut_text, exit_status, join_text, read_words, replay_text_by,
-    write_fault, write_text,
+    Command, Device, EngineFault, cut_text, exit_status, follow_text, join_text, read_words,
+    replay_text_by, write_fault, write_text,
 };
+use receiver::{MOST_FLOWS, Width};
 use std::alloc::Global;
 use std::convert::AsStr;
 use std::io::{Read, Write};
@@ -54,6 +55,12 @@ fn perform<T: Threads + Wait + Copy + Send + 'static, R: Read, W: Write>(
                 requests: NoTap,
             };
             run_text_by(rule, alloc, rt, mailbox, ring, taps, reader, out)
+        }
+        Command::Follow { rule, channels } => {
+            let Ok(width) = Width::new(channels, MOST_FLOWS) else {
+                return Err(EngineFault::Usage);
+            };
+            follow_text(rule, width, alloc, reader, out)
         }
         Command::Help(text) => Ok(write_text(out, text.as_bytes())?),
     }
@@ -149,6 +156,8 @@ where
         → IfSome (R.remaining reader) (SaysOf (HasRunReportBy rule) HasRunFault result) }
     ensures run_by_is_known { (rule : LossRule) → AsksToRunByAlone rule (map S.text words.now)
         → result ≢ 2 }
+    ensures follow { (rule : LossRule) → AsksToFollowOnly rule (map S.text words.now)
+        → IfSome (R.remaining reader) (SaysOf (HasFollowed rule) HasFollowFault result) }
     ensures usage { AsksForNothing (map S.text words.now) → (result ≡ 2) ⊎ (result ≡ 3) }
 {
     let mut reader = Device::new(reader);

@@ -1,5 +1,5 @@
 -- What an engine promises follows from what became of its lines and of its text.
-use Rattle.std.proofs.Common.{◌≡◌, ◌≢◌, ℕ, List, [], Option, Some, None, Ok, Err, false, refl, subst, ◌∙◌}
+use Rattle.std.proofs.Common.{◌≡◌, ◌≢◌, ℕ, List, [], Option, Some, None, Ok, Err, false, refl, subst, ◌∙◌, arith}
 use Rattle.std.specs.Prelude.{IfSome}
 use Rattle.std.specs.Io.KnownBytes.{Appends}
 use Rattle.std.proofs.KnownBytes.{Keeps-refl}
@@ -10,7 +10,7 @@ use Rattle.engines.specs.declared.device.Device.{Device}
 use Rattle.engines.specs.declared.fault.WriteFault.{WriteFault}
 use Rattle.engines.specs.declared.fault.EngineFault.{EngineFault}
 use Rattle.engines.specs.declared.fault.EngineFault.TheVariants.{Trace, Cut, OutOfMemory, Read, Write, Usage}
-use Rattle.engines.specs.Device.{inner_of, has_failed}
+use Rattle.engines.specs.Device.{inner_of, has_failed, IsFresh}
 use Rattle.engines.specs.Engine.{engine_fault, WritesText, WritesFront, IsReadBefore, HasCause, RunsEngine}
 use Rattle.engines.specs.Transfer.{AppendsFront, IsReadToEnd}
 use Rattle.engines.specs.LinesRead.{IsLinesFault, HasLinesCause}
@@ -51,6 +51,18 @@ module _ {R W : Type 0} (remaining : R → Option (List ℕ)) (contents : W → 
       no_cause = tt;
       read_first = before;
     }
+
+  -- an allocation failed before anything was read
+  pub ran-refused : (reader : Device R) (writer : Device W) → IsFresh reader → RunsEngine remaining contents IsTextOf IsFaultOf reader reader writer writer (Err OutOfMemory)
+  ran-refused reader writer fresh = record {
+    written = tt;
+    write_fault = λ is. absurd cc;
+    nothing_written = λ other. Keeps-refl (contents (inner_of writer));
+    flushed = tt;
+    cause = tt;
+    no_cause = tt;
+    read_first = λ other. ((fresh.0, (let none = fresh.1 in omega arith)), (λ not. absurd (not refl)));
+  }
 
   -- the text of what is known was written
   text_of_known : (known old new : Option (List ℕ)) (input text : List ℕ) → IfSome known (λ bytes. input ≡ bytes) → IsTextOf input text → Appends old new text

@@ -6,3 +6,5 @@ pub mod EngineRan
 pub mod JoinedText
 pub mod CutText
 pub mod TraceText
+pub mod FollowedLines
+pub mod FollowedDevices

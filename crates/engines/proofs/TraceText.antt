@@ -1,38 +1,39 @@
 -- What was replayed of the lines of a trace is what its text reports.
-use Rattle.std.proofs.Common.{ℕ, List, Option, refl, subst}
+use Rattle.std.proofs.Common.{◌≡◌, ℕ, List, Option, refl, subst}
 use Rattle.loss_rule.specs.declared.rule.LossRule.{LossRule}
 use Rattle.receiver.specs.declared.outcome.Outcome.{Outcome}
 use Rattle.text_lines.specs.Capacities.{default_capacity}
+use Rattle.text_lines.specs.declared.fault.ParseFault.TheVariants as parse
+use Rattle.text_lines.specs.Format.{IsRead}
 use Rattle.text_lines.specs.Lines.{lines_of}
 use Rattle.text_lines.specs.declared.fault.TextFault.{TextFault}
 use Rattle.text_lines.specs.declared.fault.TextFault.TheVariants.{Trace, Cut, OutOfMemory}
-use Rattle.texts.specs.Inside.ReplayInput.{HasReplayedLines, replay_format}
+use Rattle.texts.specs.Inside.TraceInput.{TraceState, taking_format}
 use Rattle.texts.specs.Replay.{IsPlayedBy, IsReplayedBy, IsReplayFault}
 use Rattle.texts.specs.Report.{report_text}
-use Rattle.texts.specs.Trace.Place.{Said, nothing_said}
-use Rattle.texts.specs.declared.replay.input.ReplayInput.{ReplayInput}
-use Rattle.texts.proofs.ReplayedLines.{read_by_rule, faulty_by_rule}
+use Rattle.texts.specs.Trace.Place.{Said, nothing_said, trace_format}
+use Rattle.texts.proofs.HandedLines.{read_alone}
+use Rattle.texts.proofs.OneReplay.{replay_fault}
 use Rattle.engines.specs.LinesRead.{HasReadLines, IsLinesFault}
 
 -- what the lines give by the rule, which no line changed
-pub is_replayed : (rule : LossRule) (known : Option (List ℕ)) (lines : ReplayInput) (outcome : Outcome)
-    → (read : HasReadLines replay_format (rule, nothing_said default_capacity)
-    (λ (given : LossRule × Said) (lines : ReplayInput). HasReplayedLines given.0 given.1 lines) known lines)
-    → ((other : LossRule) (said : Said) → HasReplayedLines other said lines → IsPlayedBy other said outcome)
-    → IsReplayedBy rule read.input (report_text outcome)
-is_replayed rule known lines outcome read played =
-    let all = read_by_rule read.read in
+pub is_replayed : {Lines : Type 0} (Has : TraceState (Unit {0}) → Lines → Type 0) (start : TraceState (Unit {0})) (known : Option (List ℕ)) (lines : Lines)
+    (outcome : Outcome) → start.said ≡ nothing_said default_capacity → (read : HasReadLines taking_format start Has known lines)
+    → ((given : TraceState (Unit {0})) → Has given lines → IsPlayedBy given.rule given.said outcome)
+    → IsReplayedBy start.rule read.input (report_text outcome)
+is_replayed Has start known lines outcome none read played =
+    let all = read_alone read.read in
     record {
-      said = read.state.1;
-      read = all.1;
+      said = read.state.said;
+      read = subst (λ (said : Said). IsRead trace_format said (lines_of read.input) read.state.said) none all.3;
       outcome = outcome;
-      played = subst (λ (by : LossRule). IsPlayedBy by read.state.1 outcome) all.0 (played read.state.0 read.state.1 read.stands);
+      played = subst (λ (by : LossRule). IsPlayedBy by read.state.said outcome) all.1 (played read.state read.stands);
       printed = refl;
     }
 
 -- and why they give nothing
-pub replay_fault : (rule : LossRule) (input : List ℕ) (fault : TextFault) → IsLinesFault replay_format (rule, nothing_said default_capacity) input fault
-    → IsReplayFault input fault
-replay_fault rule input (Trace fault) faulty = faulty_by_rule (rule, nothing_said default_capacity) (lines_of input) fault faulty
-replay_fault rule input (Cut fault) faulty = absurd faulty
-replay_fault rule input OutOfMemory faulty = tt
+pub lines_fault : (start : TraceState (Unit {0})) → start.said ≡ nothing_said default_capacity → (input : List ℕ) (fault : TextFault)
+    → IsLinesFault taking_format start input fault → IsReplayFault input fault
+lines_fault start none input (Trace fault) faulty = replay_fault start input (parse.Line fault) none faulty
+lines_fault start none input (Cut fault) faulty = absurd faulty
+lines_fault start none input OutOfMemory faulty = tt

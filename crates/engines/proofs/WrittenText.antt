@@ -10,7 +10,8 @@ use Rattle.engines.specs.declared.text_writer.Stage.{Stage}
 use Rattle.engines.specs.declared.text_writer.Stage.TheVariants.{Unused, Writing, Failed}
 use Rattle.engines.specs.Device.{inner_of, has_failed}
 use Rattle.engines.specs.Transfer.{AppendsBefore, AppendsFront}
-use Rattle.engines.specs.Writing.{HasCome, HasWritten, Takes, IsWritten}
+use Rattle.engines.specs.Inside.Writing.{HasCome, HasWritten, Takes}
+use Rattle.engines.specs.Writing.{IsWritten}
 
 -- one text went out but for what was held back, and of that and some more bytes all but what is held back now
 AppendsBefore-then : (a b c : Option (List ℕ)) (text held bytes rest : List ℕ) → AppendsBefore a b text held → AppendsBefore b c (held ++ bytes) rest

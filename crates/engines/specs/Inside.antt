@@ -1,2 +1,4 @@
 -- What only the contracts of functions inside this crate cite.
 pub mod Transfer
+pub mod Writing
+pub mod Following

@@ -5,4 +5,5 @@ pub mod Transfer
 pub mod Engine
 pub mod LinesRead
 pub mod Writing
+pub mod Following
 pub mod Inside

@@ -4,7 +4,7 @@ ghost use Rattle.docsis_wire.specs.Limits.{sequence_modulus};
 ghost use Rattle.docsis_wire.specs.Pieces.{IsCuttable};
 ghost use Rattle.engines.specs.Device.{IsFresh};
 ghost use Rattle.engines.specs.Engine.{RunsEngine};
-ghost use Rattle.engines.specs.Writing.{IsWrittenCut};
+ghost use Rattle.engines.specs.Inside.Writing.{IsWrittenCut};
 ghost use Rattle.texts.specs.AnyHeader.{any_header};
 ghost use Rattle.texts.specs.Cut.{IsCutText, IsCutFault};
 
@@ -15,7 +15,7 @@ use crate::text_writer::{TextWriter, held_room};
 use docsis_wire::{Cutter, FillByte};
 use std::alloc::Global;
 use std::io::{Read, Write};
-use texts::{CutInput, put_segments};
+use texts::{CutInput, put_cut};
 
 /// Writes a line for each segment of a cut as it makes it. The room is empty, and no other memory
 /// is taken.
@@ -30,7 +30,7 @@ fn write_segments<W: Write>(
     ensures { IsWrittenCut W.contents cutter.entry writer.old writer.new result }
 {
     let mut text = TextWriter::new(writer, room);
-    put_segments(&mut text, cutter);
+    put_cut(&mut text, cutter);
     text.finish()
 }
 

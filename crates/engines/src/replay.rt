@@ -11,10 +11,10 @@ use crate::fault::{EngineFault, WriteFault};
 use crate::lines_read::read_lines;
 use crate::text_writer::{TextWriter, held_room};
 use loss_rule::LossRule;
-use receiver::Outcome;
+use receiver::{Outcome, Width};
 use std::alloc::Global;
 use std::io::{Read, Write};
-use texts::{ReplayInput, laws, put_report};
+use texts::{ReplayInput, finish_replay, laws, put_report};
 
 /// Writes the report of an outcome as it makes it. The room is empty, and no other memory is taken.
 /// What it held last is left in it.
@@ -65,8 +65,9 @@ pub fn replay_text_by<R: Read, W: Write>(
     ensures { RunsEngine R.remaining W.contents (IsReplayedBy rule) IsReplayFault
         reader.old reader.new writer.old writer.new result }
 {
-    let lines = read_lines(alloc, ReplayInput::new(alloc, rule), reader)?;
-    let outcome = lines.finish(alloc)?;
+    let input = ReplayInput::new(alloc, Width::PROFILE, rule)?;
+    let lines = read_lines(alloc, input, reader)?;
+    let outcome = finish_replay(alloc, lines)?;
     let mut room = held_room(alloc)?;
     write_report(&outcome, &mut room, writer)?;
     Ok(())

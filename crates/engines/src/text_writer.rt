@@ -43,7 +43,8 @@ pub fn held_room(alloc: Global) -> Result<Vec<u8>, AllocError>
 }
 
 impl<'a, W: Write> TextWriter<'a, W> {
-    ghost use Rattle.engines.specs.Writing.{HasWritten, Takes, IsWritten};
+    ghost use Rattle.engines.specs.Inside.Writing.{HasWritten, Takes};
+    ghost use Rattle.engines.specs.Writing.{IsWritten};
 
     /// A text to which nothing was put. What is put is held back in the room, which is empty.
     pub fn new(writer: &'a mut Device<W>, room: &'a mut Vec<u8>) -> TextWriter<'a, W>
@@ -117,7 +118,7 @@ impl<'a, W: Write> TextWriter<'a, W> {
 }
 
 impl<W: Write> PutText for TextWriter<'_, W> {
-    ghost use Rattle.engines.specs.Writing.{HasWritten};
+    ghost use Rattle.engines.specs.Inside.Writing.{HasWritten};
 
     ghost after = { HasWritten W.contents };
 

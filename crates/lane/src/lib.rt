@@ -33,5 +33,5 @@ pub use lane::Lane;
 pub use refusal::Refusal;
 pub use report::{Answer, LaneReport, admitted_segment};
 pub use sids::{
-    CHANNELS, LaneFault, MOST_CHANNELS, SIDS, SeenSids, SidRow, check_rows, check_rows_within,
+    CHANNELS, LaneFault, MOST_CHANNELS, SIDS, SidRow, SidTable, check_rows, check_rows_within,
 };

@@ -10,9 +10,10 @@ ghost use Rattle.lane.specs.declared.sids.LaneFault.{LaneFault};
 mod seen;
 mod table;
 
-pub use seen::{CHANNELS, MOST_CHANNELS, SIDS, SeenSids};
+use seen::SeenSids;
+pub use seen::{CHANNELS, MOST_CHANNELS, SIDS};
 use std::alloc::{AllocError, Global};
-use table::SidTable;
+pub use table::SidTable;
 use thiserror::Error;
 
 /// How many channels there are where no number is named.

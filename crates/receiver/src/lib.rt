@@ -58,4 +58,4 @@ pub use replaying::Replaying;
 pub use reply::{DecisionReply, Reply, RestartError, TakeError};
 pub use setup::{BadSetup, Lists, Setup, SetupError};
 pub use tally::LaneTally;
-pub use width::{Width, WidthFault};
+pub use width::{MOST_FLOWS, Width, WidthFault};

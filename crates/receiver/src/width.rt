@@ -8,7 +8,7 @@ use lane::MOST_CHANNELS;
 use thiserror::Error;
 
 /// The greatest number of flows for which a receiver can be made.
-const MOST_FLOWS: u16 = 16384;
+pub const MOST_FLOWS: u16 = 16384;
 
 /// How many channels and flows a receiver is made for: the number of upstream channels of the
 /// modems' transmit channel sets, and that of the flows of all modems.

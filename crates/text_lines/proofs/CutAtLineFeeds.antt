@@ -15,7 +15,7 @@ use Rattle.text_lines.proofs.FirstBytes.{position-found}
 -- ---- parts
 
 -- a split has a first part
-slice_split_shape : (p : ℕ → Bool) (xs : List ℕ) → (first : List ℕ) × (more : List (List ℕ)) × (slice_split p xs ≡ first ∷ more)
+pub slice_split_shape : (p : ℕ → Bool) (xs : List ℕ) → (first : List ℕ) × (more : List (List ℕ)) × (slice_split p xs ≡ first ∷ more)
 slice_split_shape p [] = ([], [], refl)
 slice_split_shape p (x ∷ xs) =
     let first = slice_split_shape p xs in
@@ -57,7 +57,7 @@ joined_before x xs p ys (part ∷ parts) last first more rest is =
     ap (onto_first x) (rest (shape.0 ∷ parts) last same) ∙ ap (λ part. part ∷ (parts ++ (last ++ first) ∷ more)) begun
 
 -- what follows a list goes on with its last part
-slice_split-append : (p : ℕ → Bool) (xs ys : List ℕ) (first : List ℕ) (more : List (List ℕ)) → slice_split p ys ≡ first ∷ more
+pub slice_split-append : (p : ℕ → Bool) (xs ys : List ℕ) (first : List ℕ) (more : List (List ℕ)) → slice_split p ys ≡ first ∷ more
     → (front : List (List ℕ)) (last : List ℕ) → slice_split p xs ≡ front ++ last ∷ [] → slice_split p (xs ++ ys) ≡ front ++ (last ++ first) ∷ more
 slice_split-append p [] ys first more next [] last is =
     let empty : [] ≡ last = cc in

@@ -10,7 +10,8 @@
 //!   and [`split_field`].
 //! - [`LineReader`] does so where the input comes in pieces: [`LineReader::take_piece`] takes the
 //!   lines that end in a piece, [`LineReader::finish`] the last one. It holds the bytes of one
-//!   line, and what was taken is what is taken of all pieces end to end. [`LineInput`] is one with
+//!   line, and what was taken is what is taken of all pieces end to end. Who has to do something
+//!   behind each line splits a piece by [`split_behind_line`]. [`LineInput`] is one with
 //!   what is made of its lines, for an input that is read to its end even where a line is faulty.
 //! - [`no_word`], [`only_word`], [`only_two_words`], [`only_three_words`] and [`only_four_words`]
 //!   split what follows the first field of a line, where it has just so many words.
@@ -42,7 +43,7 @@ pub use fault::{LineFault, ParseFault, TextFault, TraceFault, TraceKind};
 pub use field::read_hex;
 pub use line_input::LineInput;
 pub use line_reader::LineReader;
-pub use lines::{TakeLine, split_line, take_lines};
+pub use lines::{TakeLine, split_behind_line, split_line, take_lines};
 pub use number::{read_number, read_number_in};
 pub use put_text::{PutText, put_hex, put_number};
 pub use text_buffer::TextBuffer;

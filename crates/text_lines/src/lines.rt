@@ -56,6 +56,18 @@ pub fn split_line(text: &[u8]) -> (&[u8], &[u8])
     split_whole_line(text).unwrap_or((text, &[]))
 }
 
+/// The first line of a text with the line feed that ends it, or all of a text that has none; and
+/// what follows that.
+pub fn split_behind_line(text: &[u8]) -> (&[u8], &[u8])
+    ensures all { text.now ≡ result.0.now ++ result.1.now }
+    ensures shorter { 0 < length text.now → length result.1.now < length text.now }
+{
+    match line_end(text) {
+        Some(end) => (&text[..end + 1], &text[end + 1..]),
+        None => (text, &[]),
+    }
+}
+
 /// Counts a line, and takes it, or skips it where it has no fields.
 pub(crate) fn take_or_skip<T: TakeLine>(
     alloc: Global,

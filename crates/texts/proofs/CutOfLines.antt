@@ -8,7 +8,7 @@ use Rattle.text_lines.specs.declared.fault.TextFault.{TextFault}
 use Rattle.text_lines.specs.declared.fault.TextFault.TheVariants.{Trace, Cut, OutOfMemory}
 use Rattle.text_lines.specs.Format.{IsRead}
 use Rattle.text_lines.specs.Lines.{lines_of}
-use Rattle.texts.specs.Cut.{IsCutInto, IsCutText, IsCutFault, HasPieceFault, segment_line}
+use Rattle.texts.specs.Cut.{IsCutInto, IsCutText, IsCutFault, CannotCut, segment_line}
 use Rattle.texts.specs.Cut.Line.{nothing, cut_format}
 
 module _ (input : List ℕ) (frames : List (List ℕ)) (pieces : List Piece)
@@ -18,7 +18,7 @@ module _ (input : List ℕ) (frames : List (List ℕ)) (pieces : List Piece)
   cut_text first fill segments cut = record { frames = frames; pieces = pieces; segments = segments; read = read; cut = cut; printed = refl }
 
   -- a fault of its frames and pieces is one of the input
-  pub cut_fault : (fault : TextFault) → HasPieceFault frames pieces fault → IsCutFault input fault
+  pub cut_fault : (fault : TextFault) → CannotCut frames pieces fault → IsCutFault input fault
   cut_fault (Trace fault) has = absurd has
   cut_fault (Cut fault) has = record { frames = frames; pieces = pieces; read = read; reported = has }
   cut_fault OutOfMemory has = absurd has

@@ -19,7 +19,9 @@ pub mod TraceLines
 pub mod OneTrace
 pub mod TraceSoFar
 pub mod SetupKept
-pub mod ReplayedLines
+pub mod HandedLines
+pub mod FollowedTrace
+pub mod Profile
 pub mod OneReport
 pub mod OneReplay
 pub mod PutLines

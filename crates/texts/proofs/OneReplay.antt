@@ -25,9 +25,15 @@ use Rattle.flow_records.specs.Setup.{CanBeSetUp}
 use Rattle.lane.specs.declared.sids.SidRow.{SidRow}
 use Rattle.receiver.specs.Entries.{tag_of, incoming_in}
 use Rattle.text_lines.specs.Capacities.{default_capacity}
-use Rattle.text_lines.specs.Format.{IsRead}
-use Rattle.texts.specs.Replay.{IsSetupOf}
+use Rattle.text_lines.specs.declared.fault.ParseFault.{ParseFault}
+use Rattle.text_lines.specs.declared.fault.ParseFault.TheVariants as parse
+use Rattle.text_lines.specs.Fault.{text_fault_of_parse}
+use Rattle.text_lines.specs.Format.{IsRead, IsReadingFault, IsFirstFaultyLine}
+use Rattle.text_lines.specs.Lines.{lines_of}
+use Rattle.texts.specs.Inside.TraceInput.{TraceState, taking_format}
+use Rattle.texts.specs.Replay.{IsSetupOf, IsReplayFault}
 use Rattle.texts.specs.Trace.Place.{Said, nothing_said, trace_format}
+use Rattle.texts.proofs.HandedLines.{faulty_alone}
 use Rattle.texts.proofs.TraceChecks.{read_passes}
 
 -- lists with the same items have the same merges
@@ -185,3 +191,12 @@ one_played_order answers merges said setup other given also_given can order anot
     let tags = map tag_of said.entries in
     one_order setup incoming can answers merges tags order another is
     (order_moved other setup incoming incoming (also_given.flows ∙ sym given.flows) (also_given.sids ∙ sym given.sids) (λ _ _. refl) refl tags another also)
+
+-- ---- a trace that is replayed as it is read
+
+-- why lines are not read is why there is no report
+pub replay_fault : (start : TraceState (Unit {0})) (input : List ℕ) (fault : ParseFault) → start.said ≡ nothing_said default_capacity
+    → IsReadingFault taking_format start (lines_of input) fault → IsReplayFault input (text_fault_of_parse fault)
+replay_fault start input (parse.Line fault) none faulty =
+    subst (λ (said : Said). IsFirstFaultyLine trace_format said (lines_of input) fault) none (faulty_alone start (lines_of input) fault faulty)
+replay_fault start input parse.OutOfMemory none faulty = tt

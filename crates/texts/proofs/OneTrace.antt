@@ -54,7 +54,7 @@ one_least Has kind other a b =
 -- a line makes one thing of what the lines above say
 one_state : (before : Said) (fields : List (List ℕ)) (after other : Said) → AddsLine before fields after → AddsLine before fields other
     → after ≡ other
-one_state before fields after other a b = a.added ∙ ap (with_line before) (one_line before.ring fields a.line b.line a.carries b.carries)
+one_state before fields after other a b = a.added ∙ ap (with_line before) (one_line before.shape fields a.line b.line a.carries b.carries)
     ∙ sym b.added
 
 -- no fields say anything

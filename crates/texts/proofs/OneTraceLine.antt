@@ -1,6 +1,6 @@
 -- A line of a trace says one thing by itself, and then has no fault by itself.
 use Rattle.std.proofs.Common.{◌≡◌, ℕ, suc, ◌≤◌, Bool, true, false, Option, Some, None, List, [], ◌∷◌, length, inl, inr, refl, sym, ap, ◌∙◌, subst, arith}
-use Rattle.std.specs.Prelude.{codes}
+use Rattle.std.specs.Prelude.{◌-◌, codes}
 use Rattle.lane.specs.declared.sids.SidRow.{SidRow}
 use Rattle.lane.specs.declared.input.Input.{Input}
 use Rattle.lane.specs.declared.input.Input.TheVariants.{Grant, Burst}
@@ -8,7 +8,7 @@ use Rattle.text_lines.specs.declared.fault.TraceKind.{TraceKind}
 use Rattle.text_lines.specs.declared.fault.TraceKind.TheVariants.{UnknownLine, FieldCount, BadNumber, BadWord, NotHex}
 use Rattle.texts.specs.declared.trace.line.TraceLine.{TraceLine}
 use Rattle.texts.specs.declared.trace.line.TraceLine.TheVariants as line
-use Rattle.texts.specs.Trace.Line.{FieldForm, number_in, check_word, hex_field, LineForm, flow_line, sid_line, grant_line, burst_line, gap_line, gap_to_line, word_of, fields_after, Value, a_number, a_check, some_bytes, SaysCheck, IsField, AreFields, gap_form, upto_values, form_of, values_of, HasRing, Carries, HasBadAmong, HasBadField, HasFaultByItself}
+use Rattle.texts.specs.Trace.Line.{TraceShape, FieldForm, number_in, check_word, hex_field, LineForm, flow_line, sid_line, grant_line, burst_line, gap_line, gap_to_line, word_of, fields_after, Value, a_number, a_check, some_bytes, SaysCheck, IsField, AreFields, gap_form, upto_values, form_of, values_of, HasRing, Carries, HasBadAmong, HasBadField, HasFaultByItself}
 use Rattle.texts.proofs.FirstField.{one_word, same_after}
 use Rattle.texts.proofs.OneJoinLine.{one_spelling}
 use Rattle.texts.proofs.TraceFields.{one_form, not_unknown, not_miscounted, bad_among}
@@ -30,18 +30,18 @@ none_is_bad (form ∷ forms) (field ∷ fields) (value ∷ values) kind are (inr
 none_is_bad _ _ _ kind are bad = absurd are
 
 -- what carries something has no fault by itself
-pub carried_without_fault : (ring : ℕ) (fields : List (List ℕ)) (line : TraceLine) (kind : TraceKind)
-    → Carries ring fields line → HasFaultByItself fields kind → ⊥
-carried_without_fault ring fields line kind a fault = faultless kind (subst (λ fields. HasFaultByItself fields kind) a.are fault) where
-  count : length a.after ≡ length (fields_after (form_of line))
-  count = AreFields-count (fields_after (form_of line)) a.after (values_of line) a.values
+pub carried_without_fault : (shape : TraceShape) (fields : List (List ℕ)) (line : TraceLine) (kind : TraceKind)
+    → Carries shape fields line → HasFaultByItself shape fields kind → ⊥
+carried_without_fault shape fields line kind a fault = faultless kind (subst (λ fields. HasFaultByItself shape fields kind) a.are fault) where
+  count : length a.after ≡ length (fields_after shape (form_of line))
+  count = AreFields-count (fields_after shape (form_of line)) a.after (values_of line) a.values
 
-  no_bad : (kind : TraceKind) → HasBadField (word_of (form_of line) ∷ a.after) kind → ⊥
-  no_bad kind bad = none_is_bad (fields_after (form_of line)) a.after (values_of line) kind a.values (bad_among (form_of line) a.after count kind bad)
+  no_bad : (kind : TraceKind) → HasBadField shape (word_of (form_of line) ∷ a.after) kind → ⊥
+  no_bad kind bad = none_is_bad (fields_after shape (form_of line)) a.after (values_of line) kind a.values (bad_among shape (form_of line) a.after count kind bad)
 
-  faultless : (kind : TraceKind) → HasFaultByItself (word_of (form_of line) ∷ a.after) kind → ⊥
-  faultless UnknownLine fault = not_unknown (form_of line) a.after count fault
-  faultless FieldCount fault = not_miscounted (form_of line) a.after count fault
+  faultless : (kind : TraceKind) → HasFaultByItself shape (word_of (form_of line) ∷ a.after) kind → ⊥
+  faultless UnknownLine fault = not_unknown shape (form_of line) a.after count fault
+  faultless FieldCount fault = not_miscounted shape (form_of line) a.after count fault
   faultless BadNumber fault = no_bad BadNumber fault
   faultless BadWord fault = no_bad BadWord fault
   faultless NotHex fault = no_bad NotHex fault
@@ -131,36 +131,36 @@ same_line ring (line.Gap d) (line.Gap e) forms values there here =
 same_line ring a b forms values there here = absurd (omega (arith, sym (said_in-by a) ∙ ap said_in forms ∙ said_in-by b))
 
 -- the fields of a line say one thing
-pub one_line : (ring : ℕ) (fields : List (List ℕ)) (line other : TraceLine) → Carries ring fields line → Carries ring fields other → line ≡ other
-one_line ring fields line other a b =
+pub one_line : (shape : TraceShape) (fields : List (List ℕ)) (line other : TraceLine) → Carries shape fields line → Carries shape fields other → line ≡ other
+one_line shape fields line other a b =
     let word = one_word fields (word_of (form_of line)) (word_of (form_of other)) a.after b.after a.are b.are in
     let after = same_after fields (word_of (form_of line)) (word_of (form_of other)) a.after b.after a.are b.are in
-    let count = sym (AreFields-count (fields_after (form_of line)) a.after (values_of line) a.values)
+    let count = sym (AreFields-count (fields_after shape (form_of line)) a.after (values_of line) a.values)
     ∙ ap length after
-    ∙ AreFields-count (fields_after (form_of other)) b.after (values_of other) b.values in
-    let form = one_form (form_of line) (form_of other) word count in
-    let After : List (List ℕ) → Type 0 = λ after. AreFields (fields_after (form_of line)) after (values_of line) in
-    let Form : LineForm → Type 0 = λ form. AreFields (fields_after form) b.after (values_of line) in
-    let again : AreFields (fields_after (form_of other)) b.after (values_of line) = subst Form form (subst After after a.values) in
-    same_line ring line other form (one_list (fields_after (form_of other)) b.after (values_of line) (values_of other) again b.values) a.ring_is b.ring_is
+    ∙ AreFields-count (fields_after shape (form_of other)) b.after (values_of other) b.values in
+    let form = one_form shape (form_of line) (form_of other) word count in
+    let After : List (List ℕ) → Type 0 = λ after. AreFields (fields_after shape (form_of line)) after (values_of line) in
+    let Form : LineForm → Type 0 = λ form. AreFields (fields_after shape form) b.after (values_of line) in
+    let again : AreFields (fields_after shape (form_of other)) b.after (values_of line) = subst Form form (subst After after a.values) in
+    same_line shape.ring line other form (one_list (fields_after shape (form_of other)) b.after (values_of line) (values_of other) again b.values) a.ring_is b.ring_is
 
 -- ---- what a line can say
 
 -- the channel and the service identifier of a row lie in their ranges
-pub sid_in_range : (ring : ℕ) (fields : List (List ℕ)) (row : SidRow) → Carries ring fields (line.Sid row) → (row.channel ≤ 3) × (row.sid ≤ 16383)
-sid_in_range ring fields row a = ranges a.after a.values where
-  ranges : (after : List (List ℕ)) → AreFields (fields_after sid_line) after (values_of (line.Sid row)) → (row.channel ≤ 3) × (row.sid ≤ 16383)
+pub sid_in_range : (shape : TraceShape) (fields : List (List ℕ)) (row : SidRow) → Carries shape fields (line.Sid row) → (row.channel ≤ shape.channels - 1) × (row.sid ≤ 16383)
+sid_in_range shape fields row a = ranges a.after a.values where
+  ranges : (after : List (List ℕ)) → AreFields (fields_after shape sid_line) after (values_of (line.Sid row)) → (row.channel ≤ shape.channels - 1) × (row.sid ≤ 16383)
   ranges (channel ∷ sid ∷ more) are = (are.0.0.within, are.1.0.0.within)
   ranges (channel ∷ []) are = absurd are.1
   ranges [] are = absurd are
 
 -- and so does the channel of what came in
-pub channel_in_range : (ring : ℕ) (fields : List (List ℕ)) (channel : ℕ) (input : Input) → Carries ring fields (line.Input channel input) → channel ≤ 3
-channel_in_range ring fields channel (Grant number sid bytes) a = range a.after a.values where
-  range : (after : List (List ℕ)) → AreFields (fields_after grant_line) after (values_of (line.Input channel (Grant number sid bytes))) → channel ≤ 3
+pub channel_in_range : (shape : TraceShape) (fields : List (List ℕ)) (channel : ℕ) (input : Input) → Carries shape fields (line.Input channel input) → channel ≤ shape.channels - 1
+channel_in_range shape fields channel (Grant number sid bytes) a = range a.after a.values where
+  range : (after : List (List ℕ)) → AreFields (fields_after shape grant_line) after (values_of (line.Input channel (Grant number sid bytes))) → channel ≤ shape.channels - 1
   range (first ∷ more) are = are.0.0.within
   range [] are = absurd are
-channel_in_range ring fields channel (Burst grant hcs_ok bytes) a = range a.after a.values where
-  range : (after : List (List ℕ)) → AreFields (fields_after burst_line) after (values_of (line.Input channel (Burst grant hcs_ok bytes))) → channel ≤ 3
+channel_in_range shape fields channel (Burst grant hcs_ok bytes) a = range a.after a.values where
+  range : (after : List (List ℕ)) → AreFields (fields_after shape burst_line) after (values_of (line.Input channel (Burst grant hcs_ok bytes))) → channel ≤ shape.channels - 1
   range (first ∷ more) are = are.0.0.within
   range [] are = absurd are

@@ -1,20 +1,19 @@
 -- The setup that lines give passes the checks of a receiver, line after line.
 use Rattle.std.proofs.Common.{◌≡◌, ℕ, ◌<◌, ◌≤◌, ◌⊎◌, ◌↔◌, List, [], ◌∷◌, ◌++◌, length, refl, sym, ap, subst, ◌∙◌, arith}
 use Rattle.std.specs.declared.alloc.Global.{Global}
-use Rattle.std.specs.Prelude.{Bool, true, false, map, Vec, slice_get, Result, Ok, Err, MatchResult}
+use Rattle.std.specs.Prelude.{Bool, true, false, map, Vec, Result, Ok, Err, MatchResult}
 use Rattle.std.proofs.lemmas.Bool.{false≢true}
 use Rattle.flow_records.specs.declared.record.FlowRecord.{FlowRecord}
-use Rattle.flow_records.specs.Limits.{flows_max}
-use Rattle.flow_records.specs.Setup.{CanBeSetUp}
+use Rattle.flow_records.specs.Setup.{CanBeSetUpWithin}
 use Rattle.lane.specs.declared.sids.SidRow.{SidRow}
-use Rattle.lane.specs.declared.sids.seen.SeenSids.{SeenSids}
-use Rattle.lane.specs.Inside.Seen.{HasSeen}
-use Rattle.lane.specs.Limits.{channel_limit, sid_limit}
-use Rattle.lane.specs.Rows.{CanBeOpened}
+use Rattle.lane.specs.declared.sids.table.SidTable.{SidTable}
+use Rattle.lane.specs.Inside.Seen.{HasMarked}
+use Rattle.lane.specs.Limits.{sid_limit}
+use Rattle.lane.specs.Rows.{CanBeOpenedWithin}
 use Rattle.receiver.specs.declared.setup.Lists.{Lists}
 use Rattle.receiver.specs.declared.setup.Setup.{Setup}
 use Rattle.receiver.specs.Entries.{Entry, tag_of}
-use Rattle.receiver.specs.Faults.{CanReceive}
+use Rattle.receiver.specs.Widths.{CanReceiveWithin}
 use Rattle.text_lines.specs.declared.fault.LineFault.{LineFault}
 use Rattle.text_lines.specs.declared.fault.TraceKind.{TraceKind}
 use Rattle.text_lines.specs.declared.fault.TraceKind.TheVariants.{TooManyFlows, SameFlow}
@@ -23,11 +22,12 @@ use Rattle.texts.specs.declared.trace.line.TraceLine.{TraceLine}
 use Rattle.texts.specs.declared.trace.line.TraceLine.TheVariants as line
 use Rattle.texts.specs.declared.trace.reading.Reading.{Reading}
 use Rattle.texts.specs.Trace.{AreListsOf}
-use Rattle.texts.specs.Trace.Place.{Said, IsSidAbove, HasFaultAmong, IsSfidAbove, with_line}
-use Rattle.texts.specs.Inside.SetupLines.{SetupSoFar, setup_said, IsSetupSoFar, HasSetup, IsSfidAmong, SetsUp, IsCarried, AddsTo}
+use Rattle.texts.specs.Trace.Line.{TraceShape}
+use Rattle.texts.specs.Trace.Place.{Said, IsSidAbove, HasFaultAmong, IsSfidAmong, IsSfidAbove, with_line}
+use Rattle.texts.specs.Inside.SetupLines.{SetupSoFar, setup_said, HoldsSetup, HasSetup, SetsUp, IsCarried, AddsTo}
 use Rattle.texts.specs.Inside.Reading.{HasRead}
 use Rattle.texts.proofs.OneTraceLine.{sid_in_range}
-use Rattle.texts.proofs.TraceChecks.{passes_with}
+use Rattle.texts.proofs.TraceChecks.{passes_with, shape_with}
 use Rattle.texts.proofs.TraceSoFar.{seen-kept, seen-pushed}
 
 -- what follows of a line that is taken
@@ -37,98 +37,99 @@ on_taken Fails (Ok none) leads took = leads took
 on_taken Fails (Err fault) leads failed = failed
 
 -- a flow that is one of few and whose identifier is new has no fault
-pub flow_without_fault : (said : Said) (flow_record : FlowRecord) → length said.flows < flows_max → ¬ (IsSfidAbove said flow_record.sfid)
+pub flow_without_fault : (said : Said) (flow_record : FlowRecord) → length said.flows < said.shape.flows → ¬ (IsSfidAbove said flow_record.sfid)
     → (kind : TraceKind) → HasFaultAmong said (line.Flow flow_record) kind → ⊥
 flow_without_fault said flow_record few new TooManyFlows fault = omega (arith, few, fault)
 flow_without_fault said flow_record few new SameFlow fault = new fault
 flow_without_fault said flow_record few new _ fault = fault
 
 -- a setup that a receiver takes is taken with one line more that has no fault
-pub can_receive_more : (ring : ℕ) (before after : Setup) (line : TraceLine) → IsCarried ring line
-    → ((kind : TraceKind) → ¬ (HasFaultAmong (setup_said ring before) line kind))
-    → after.flows.items ≡ (with_line (setup_said ring before) line).flows → after.sids.items ≡ (with_line (setup_said ring before) line).sids
-    → (1 ≤ ring → CanReceive before) → 1 ≤ ring → CanReceive after
-can_receive_more ring before after line carried faultless flows sids can positive =
+pub can_receive_more : (shape : TraceShape) (before after : Setup) (line : TraceLine) → IsCarried shape line
+    → ((kind : TraceKind) → ¬ (HasFaultAmong (setup_said shape before) line kind))
+    → after.flows.items ≡ (with_line (setup_said shape before) line).flows → after.sids.items ≡ (with_line (setup_said shape before) line).sids
+    → 1 ≤ shape.channels → (1 ≤ shape.ring → CanReceiveWithin shape.channels shape.flows before) → 1 ≤ shape.ring
+    → CanReceiveWithin shape.channels shape.flows after
+can_receive_more shape before after line carried faultless flows sids some can positive =
     let was = can positive in
-    let said = setup_said ring before in
+    let said = setup_said shape before in
     let more = with_line said line in
-    let passes = passes_with said carried.0 line carried.1 faultless (record { ring = positive; flows = was.flows; sids = was.lanes }) in
+    let passes = passes_with said carried.0 line carried.1 faultless (record { ring = positive; channels = some; flows = was.flows_fit; sids = was.rows_fit }) in
+    let kept = shape_with said line in
     record {
-      flows = subst CanBeSetUp (sym flows) passes.flows;
-      lanes =
-          subst (λ (records : List FlowRecord). CanBeOpened after.sids.items (length records)) (sym flows)
-          (subst (λ (rows : List SidRow). CanBeOpened rows (length more.flows)) (sym sids) passes.sids);
+      flows_fit =
+          subst (CanBeSetUpWithin shape.flows) (sym flows)
+          (subst (λ (shape : TraceShape). CanBeSetUpWithin shape.flows more.flows) kept passes.flows);
+      rows_fit =
+          subst (λ (records : List FlowRecord). CanBeOpenedWithin shape.channels after.sids.items (length records)) (sym flows)
+          (subst (λ (rows : List SidRow). CanBeOpenedWithin shape.channels rows (length more.flows)) (sym sids)
+          (subst (λ (shape : TraceShape). CanBeOpenedWithin shape.channels more.sids (length more.flows)) kept passes.sids));
     }
 
 -- the setup so far with a flow more
-pub flow_set_up : (ring : ℕ) (before after : Setup) (seen : SeenSids) (flow_record : FlowRecord) → IsSetupSoFar ring before seen
-    → IsCarried ring (line.Flow flow_record) → length before.flows.items < flows_max → ¬ (IsSfidAbove (setup_said ring before) flow_record.sfid)
-    → after.flows.items ≡ before.flows.items ++ flow_record ∷ [] → after.sids.items ≡ before.sids.items → IsSetupSoFar ring after seen
-flow_set_up ring before after seen flow_record was carried few new flows sids = record {
+pub flow_set_up : (shape : TraceShape) (before after : Setup) (seen : SidTable) (flow_record : FlowRecord) → HoldsSetup shape before seen
+    → IsCarried shape (line.Flow flow_record) → length before.flows.items < shape.flows → ¬ (IsSfidAbove (setup_said shape before) flow_record.sfid)
+    → after.flows.items ≡ before.flows.items ++ flow_record ∷ [] → after.sids.items ≡ before.sids.items → 1 ≤ shape.channels → HoldsSetup shape after seen
+flow_set_up shape before after seen flow_record was carried few new flows sids some = record {
   can_receive =
-      can_receive_more ring before after (line.Flow flow_record) carried (flow_without_fault (setup_said ring before) flow_record few new) flows sids
-      was.can_receive;
-  seen = seen-kept (setup_said ring before) (setup_said ring after) seen sids was.seen;
+      can_receive_more shape before after (line.Flow flow_record) carried (flow_without_fault (setup_said shape before) flow_record few new) flows sids
+      some was.can_receive;
+  channels = was.channels;
+  seen = seen-kept (setup_said shape before) (setup_said shape after) seen sids was.seen;
 }
 
 -- and with an identifier more
-pub sid_set_up : (ring : ℕ) (before after : Setup) (seen more : SeenSids) (row : SidRow) → IsSetupSoFar ring before seen
-    → IsCarried ring (line.Sid row) → ((kind : TraceKind) → ¬ (HasFaultAmong (setup_said ring before) (line.Sid row) kind))
-    → ((channel sid : ℕ) → HasSeen more channel sid ↔ (HasSeen seen channel sid ⊎ ((channel ≡ row.channel) × (sid ≡ row.sid))))
-    → after.flows.items ≡ before.flows.items → after.sids.items ≡ before.sids.items ++ row ∷ [] → IsSetupSoFar ring after more
-sid_set_up ring before after seen more row was carried faultless inserted flows sids = record {
-  can_receive = can_receive_more ring before after (line.Sid row) carried faultless flows sids was.can_receive;
+pub sid_set_up : (shape : TraceShape) (before after : Setup) (seen more : SidTable) (row : SidRow) → HoldsSetup shape before seen
+    → IsCarried shape (line.Sid row) → ((kind : TraceKind) → ¬ (HasFaultAmong (setup_said shape before) (line.Sid row) kind))
+    → ((channel sid : ℕ) → sid < sid_limit → HasMarked more channel sid ↔ (HasMarked seen channel sid ⊎ ((channel ≡ row.channel) × (sid ≡ row.sid))))
+    → more.channels ≡ seen.channels → 1 ≤ shape.channels → after.flows.items ≡ before.flows.items → after.sids.items ≡ before.sids.items ++ row ∷ [] → HoldsSetup shape after more
+sid_set_up shape before after seen more row was carried faultless inserted kept some flows sids = record {
+  can_receive = can_receive_more shape before after (line.Sid row) carried faultless flows sids some was.can_receive;
+  channels = kept ∙ was.channels;
   seen =
-      seen-kept (with_line (setup_said ring before) (line.Sid row)) (setup_said ring after) more sids
-      (seen-pushed (setup_said ring before) row seen more was.seen inserted);
+      seen-kept (with_line (setup_said shape before) (line.Sid row)) (setup_said shape after) more sids
+      (seen-pushed (setup_said shape before) row seen more was.seen inserted);
 }
 
 -- the channel and the service identifier of a row lie in their ranges
-pub row_in_range : (ring : ℕ) (row : SidRow) → IsCarried ring (line.Sid row) → (row.channel < channel_limit) × (row.sid < sid_limit)
-row_in_range ring row carried =
-    let ranges = sid_in_range ring carried.0 row carried.1 in ((let within = ranges.0 in omega arith), (let within = ranges.1 in omega arith))
+pub row_in_range : (shape : TraceShape) (row : SidRow) → 1 ≤ shape.channels → IsCarried shape (line.Sid row)
+    → (row.channel < shape.channels) × (row.sid < sid_limit)
+row_in_range shape row some carried =
+    let ranges = sid_in_range shape carried.0 row carried.1 in ((let within = ranges.0 in omega arith), (let within = ranges.1 in omega arith))
 
 -- a setup is what its own lines say
-pub said_of_setup : (ring : ℕ) (setup : Setup) (so_far : SetupSoFar) → record { ring = ring; setup = setup } ≡ so_far → HasSetup (setup_said ring setup) so_far
-said_of_setup ring setup so_far is = record {
-  ring = ap (λ (s : SetupSoFar). s.ring) (sym is);
+pub said_of_setup : (shape : TraceShape) (setup : Setup) (so_far : SetupSoFar) → record { shape = shape; setup = setup } ≡ so_far → HasSetup (setup_said shape setup) so_far
+said_of_setup shape setup so_far is = record {
+  shape = ap (λ (s : SetupSoFar). s.shape) (sym is);
   flows = ap (λ (s : SetupSoFar). s.setup.flows.items) (sym is);
   sids = ap (λ (s : SetupSoFar). s.setup.sids.items) (sym is);
 }
 
 -- an identifier that was not seen stands in no line above
-pub not_above : (said : Said) (ring : ℕ) (setup : Setup) (seen : SeenSids) (so_far : SetupSoFar) (channel sid : ℕ) (found : Bool)
-    → IsSetupSoFar ring setup seen → record { ring = ring; setup = setup } ≡ so_far → HasSetup said so_far
-    → (found ≡ true ↔ HasSeen seen channel sid) → found ≡ false → ¬ (IsSidAbove said channel sid)
-not_above said ring setup seen so_far channel sid found is same has means not above =
+pub not_above : (said : Said) (shape : TraceShape) (setup : Setup) (seen : SidTable) (so_far : SetupSoFar) (channel sid : ℕ) (found : Bool)
+    → HoldsSetup shape setup seen → record { shape = shape; setup = setup } ≡ so_far → HasSetup said so_far
+    → sid < sid_limit → (found ≡ true ↔ HasMarked seen channel sid) → found ≡ false → ¬ (IsSidAbove said channel sid)
+not_above said shape setup seen so_far channel sid found is same has small means not above =
     let rows : said.sids ≡ setup.sids.items = sym has.sids ∙ ap (λ (s : SetupSoFar). s.setup.sids.items) (sym same) in
-    let was = (seen-kept (setup_said ring setup) said seen rows is.seen channel sid).1 above in
+    let was = (seen-kept (setup_said shape setup) said seen rows is.seen channel sid small).1 above in
     false≢true (sym not ∙ means.1 was)
 
 -- an identifier that none of the setup's flows has stands in no line above
-pub sfid_not_above : (said : Said) (ring : ℕ) (setup : Setup) (so_far : SetupSoFar) (sfid : ℕ) (found : Bool)
-    → record { ring = ring; setup = setup } ≡ so_far → HasSetup said so_far → (IsSfidAmong setup.flows.items sfid → found ≡ true) → found ≡ false
+pub sfid_not_above : (said : Said) (shape : TraceShape) (setup : Setup) (so_far : SetupSoFar) (sfid : ℕ) (found : Bool)
+    → record { shape = shape; setup = setup } ≡ so_far → HasSetup said so_far → (IsSfidAmong setup.flows.items sfid → found ≡ true) → found ≡ false
     → ¬ (IsSfidAbove said sfid)
-sfid_not_above said ring setup so_far sfid found same has means not above =
+sfid_not_above said shape setup so_far sfid found same has means not above =
     let flows : said.flows ≡ setup.flows.items = sym has.flows ∙ ap (λ (s : SetupSoFar). s.setup.flows.items) (sym same) in
-    let at = ap (λ (records : List FlowRecord). slice_get records above.k) (sym flows) ∙ above.above in
-    let was = means (record { k = above.k; flow_record = above.flow_record; at = at; sfid_is = above.sfid_is }) in
-    false≢true (sym not ∙ was)
+    false≢true (sym not ∙ means (subst (λ (records : List FlowRecord). IsSfidAmong records sfid) flows above))
 
 -- and one that a flow has stands in a line above
-pub sfid_above : (said : Said) (ring : ℕ) (setup : Setup) (so_far : SetupSoFar) (sfid : ℕ) → record { ring = ring; setup = setup } ≡ so_far
+pub sfid_above : (said : Said) (shape : TraceShape) (setup : Setup) (so_far : SetupSoFar) (sfid : ℕ) → record { shape = shape; setup = setup } ≡ so_far
     → HasSetup said so_far → IsSfidAmong setup.flows.items sfid → IsSfidAbove said sfid
-sfid_above said ring setup so_far sfid same has among =
+sfid_above said shape setup so_far sfid same has among =
     let flows : setup.flows.items ≡ said.flows = ap (λ (s : SetupSoFar). s.setup.flows.items) same ∙ has.flows in
-    record {
-      k = among.k;
-      flow_record = among.flow_record;
-      above = ap (λ (records : List FlowRecord). slice_get records among.k) (sym flows) ∙ among.at;
-      sfid_is = among.sfid_is;
-    }
+    subst (λ (records : List FlowRecord). IsSfidAmong records sfid) flows among
 
 -- a repeated identifier is the least fault of a flow that is one of few
-pub same_flow_is_least : (said : Said) (flow_record : FlowRecord) → length said.flows < flows_max → IsSfidAbove said flow_record.sfid
+pub same_flow_is_least : (said : Said) (flow_record : FlowRecord) → length said.flows < said.shape.flows → IsSfidAbove said flow_record.sfid
     → IsLeastFault (HasFaultAmong said (line.Flow flow_record)) SameFlow
 same_flow_is_least said flow_record few above = (above, lesser) where
   lesser : (other : TraceKind) → kind_number other < 9 → HasFaultAmong said (line.Flow flow_record) other → ⊥
@@ -137,10 +138,10 @@ same_flow_is_least said flow_record few above = (above, lesser) where
   lesser _ less fault = fault
 
 -- few flows are few in the lines
-pub few_said : (said : Said) (ring : ℕ) (setup : Setup) (so_far : SetupSoFar) → record { ring = ring; setup = setup } ≡ so_far → HasSetup said so_far
-    → length setup.flows.items < flows_max → length said.flows < flows_max
-few_said said ring setup so_far same has few =
-    omega (arith, few, ap length (ap (λ (s : SetupSoFar). s.setup.flows.items) same ∙ has.flows))
+pub few_said : (said : Said) (shape : TraceShape) (setup : Setup) (so_far : SetupSoFar) → record { shape = shape; setup = setup } ≡ so_far → HasSetup said so_far
+    → length setup.flows.items < so_far.shape.flows → length said.flows < said.shape.flows
+few_said said shape setup so_far same has few =
+    omega (arith, few, ap length (ap (λ (s : SetupSoFar). s.setup.flows.items) same ∙ has.flows), ap (λ (shape : TraceShape). shape.flows) has.shape)
 
 -- what sets something up is no entry
 pub no_entry : (said : Said) (line : TraceLine) → SetsUp line → (with_line said line).entries ≡ said.entries

@@ -11,7 +11,7 @@ use Rattle.texts.proofs.FirstField.{one_word}
 use Rattle.texts.proofs.OneTraceLine.{one_line, carried_without_fault}
 
 -- what a line without faults says has none after the lines above
-pub none_among : (said : Said) (fields : List (List ℕ)) (line : TraceLine) → Carries said.ring fields line
+pub none_among : (said : Said) (fields : List (List ℕ)) (line : TraceLine) → Carries said.shape fields line
     → ((kind : TraceKind) → ¬ (HasLineFault said fields kind))
     → (kind : TraceKind) → HasFaultAmong said line kind → ⊥
 none_among said fields line carries faultless UnknownFlow fault = faultless UnknownFlow (record { line = line; carries = carries; faulty = fault })
@@ -50,7 +50,7 @@ module _ (said : Said) (fields : List (List ℕ)) where
 
 module _ (said : Said) (fields : List (List ℕ)) (early : IsLate said fields → ⊥) where
   -- the least fault of a line by itself is its least fault
-  least_of_few : (kind : TraceKind) → kind_number kind ≤ 6 → IsLeastFaultByItself fields kind → (other : TraceKind)
+  least_of_few : (kind : TraceKind) → kind_number kind ≤ 6 → IsLeastFaultByItself said.shape fields kind → (other : TraceKind)
       → kind_number other < kind_number kind → HasLineFault said fields other → ⊥
   least_of_few kind few least UnknownLine less fault = least.1 UnknownLine less fault
   least_of_few kind few least SetupLate less fault = early fault
@@ -60,7 +60,7 @@ module _ (said : Said) (fields : List (List ℕ)) (early : IsLate said fields �
   least_of_few kind few least NotHex less fault = least.1 NotHex less fault
   least_of_few kind few least _ less fault = omega (arith, less, few)
 
-  pub least_by_itself : (kind : TraceKind) → IsLeastFaultByItself fields kind → IsLeastFault (HasLineFault said fields) kind
+  pub least_by_itself : (kind : TraceKind) → IsLeastFaultByItself said.shape fields kind → IsLeastFault (HasLineFault said fields) kind
   least_by_itself UnknownLine least = (least.0, least_of_few UnknownLine (omega arith) least)
   least_by_itself FieldCount least = (least.0, least_of_few FieldCount (omega arith) least)
   least_by_itself BadNumber least = (least.0, least_of_few BadNumber (omega arith) least)
@@ -68,20 +68,20 @@ module _ (said : Said) (fields : List (List ℕ)) (early : IsLate said fields �
   least_by_itself NotHex least = (least.0, least_of_few NotHex (omega arith) least)
   least_by_itself _ least = absurd least.0
 
-  module _ (line : TraceLine) (carries : Carries said.ring fields line) where
+  module _ (line : TraceLine) (carries : Carries said.shape fields line) where
     -- a fault of what the line says is one of this line
     faulty_here : (kind : TraceKind) → SaysFaulty said fields kind → HasFaultAmong said line kind
-    faulty_here kind says = subst (λ line. HasFaultAmong said line kind) (one_line said.ring fields says.line line says.carries carries) says.faulty
+    faulty_here kind says = subst (λ line. HasFaultAmong said line kind) (one_line said.shape fields says.line line says.carries carries) says.faulty
 
     -- the line has no fault that what it says has not
     no_other : (Counts : TraceKind → Type 0) → ((kind : TraceKind) → Counts kind → ¬ (HasFaultAmong said line kind))
         → (kind : TraceKind) → Counts kind → HasLineFault said fields kind → ⊥
-    no_other Counts none UnknownLine counts fault = carried_without_fault said.ring fields line UnknownLine carries fault
+    no_other Counts none UnknownLine counts fault = carried_without_fault said.shape fields line UnknownLine carries fault
     no_other Counts none SetupLate counts fault = early fault
-    no_other Counts none FieldCount counts fault = carried_without_fault said.ring fields line FieldCount carries fault
-    no_other Counts none BadNumber counts fault = carried_without_fault said.ring fields line BadNumber carries fault
-    no_other Counts none BadWord counts fault = carried_without_fault said.ring fields line BadWord carries fault
-    no_other Counts none NotHex counts fault = carried_without_fault said.ring fields line NotHex carries fault
+    no_other Counts none FieldCount counts fault = carried_without_fault said.shape fields line FieldCount carries fault
+    no_other Counts none BadNumber counts fault = carried_without_fault said.shape fields line BadNumber carries fault
+    no_other Counts none BadWord counts fault = carried_without_fault said.shape fields line BadWord carries fault
+    no_other Counts none NotHex counts fault = carried_without_fault said.shape fields line NotHex carries fault
     no_other Counts none UnknownFlow counts fault = none UnknownFlow counts (faulty_here UnknownFlow fault)
     no_other Counts none TooManyFlows counts fault = none TooManyFlows counts (faulty_here TooManyFlows fault)
     no_other Counts none SameFlow counts fault = none SameFlow counts (faulty_here SameFlow fault)

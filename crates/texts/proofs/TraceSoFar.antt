@@ -10,13 +10,13 @@ use Rattle.std.proofs.lemmas.Bool.{cases_eq, false≢true}
 use Rattle.docsis_wire.proofs.StreamPlaces.{slice_get-at}
 use Rattle.lane.specs.declared.input.Input.{Input}
 use Rattle.lane.specs.declared.sids.SidRow.{SidRow}
-use Rattle.lane.specs.declared.sids.seen.SeenSids.{SeenSids}
+use Rattle.lane.specs.declared.sids.table.SidTable.{SidTable}
 use Rattle.flow_records.specs.declared.decision.Decision.{Decision}
 use Rattle.receiver.specs.declared.setup.Lists.{Lists}
 use Rattle.receiver.specs.Entries.{Entry, came, decided, tag_of, came_on, decision_in}
 use Rattle.receiver.specs.Items.{inputs_on}
-use Rattle.lane.specs.Limits.{channel_limit}
-use Rattle.lane.specs.Inside.Seen.{HasSeen}
+use Rattle.lane.specs.Limits.{channel_limit, sid_limit}
+use Rattle.lane.specs.Inside.Seen.{HasMarked}
 use Rattle.text_lines.specs.declared.fault.TraceKind.{TraceKind}
 use Rattle.text_lines.specs.declared.fault.TraceKind.TheVariants.{UnknownFlow, SameSid}
 use Rattle.text_lines.specs.declared.fault.LineFault.{LineFault}
@@ -27,7 +27,7 @@ use Rattle.texts.specs.declared.trace.line.TraceLine.{TraceLine}
 use Rattle.texts.specs.declared.trace.line.TraceLine.TheVariants as line
 use Rattle.texts.specs.declared.trace.reading.Reading.{Reading}
 use Rattle.texts.specs.Trace.{AreListsOf}
-use Rattle.texts.specs.Trace.Line.{flow_line, sid_line, word_of, Carries}
+use Rattle.texts.specs.Trace.Line.{TraceShape, flow_line, sid_line, word_of, Carries}
 use Rattle.texts.specs.Trace.Place.{Said, HasFaultAmong, HasLineFault, IsSidAbove, AddsLine, with_line}
 use Rattle.texts.specs.Inside.TraceLine.{IsLeastFaultByItself}
 use Rattle.texts.specs.Inside.SetupLines.{SetupSoFar, HasSetup, HasMore}
@@ -155,29 +155,29 @@ IsSidAbove-pushed said row channel sid = (
 )
 
 -- what is above is said by the rows alone
-pub seen-kept : (said other : Said) (seen : SeenSids) → other.sids ≡ said.sids
-    → ((channel sid : ℕ) → HasSeen seen channel sid ↔ IsSidAbove said channel sid)
-    → (channel sid : ℕ) → HasSeen seen channel sid ↔ IsSidAbove other channel sid
-seen-kept said other seen same was channel sid = (
+pub seen-kept : (said other : Said) (seen : SidTable) → other.sids ≡ said.sids
+    → ((channel sid : ℕ) → sid < sid_limit → HasMarked seen channel sid ↔ IsSidAbove said channel sid)
+    → (channel sid : ℕ) → sid < sid_limit → HasMarked seen channel sid ↔ IsSidAbove other channel sid
+seen-kept said other seen same was channel sid small = (
   λ has.
-      let is = (was channel sid).0 has in
+      let is = (was channel sid small).0 has in
       let above = ap (λ rows. slice_get rows is.k) same ∙ is.above in
       record { k = is.k; row = is.row; above = above; channel_is = is.channel_is; sid_is = is.sid_is },
   λ is.
       let above = ap (λ rows. slice_get rows is.k) (sym same) ∙ is.above in
-      (was channel sid).1 (record { k = is.k; row = is.row; above = above; channel_is = is.channel_is; sid_is = is.sid_is }),
+      (was channel sid small).1 (record { k = is.k; row = is.row; above = above; channel_is = is.channel_is; sid_is = is.sid_is }),
 )
 
 -- what was seen before and the row's identifier are what is above
-pub seen-pushed : (said : Said) (row : SidRow) (before after : SeenSids)
-    → ((channel sid : ℕ) → HasSeen before channel sid ↔ IsSidAbove said channel sid)
-    → ((channel sid : ℕ) → HasSeen after channel sid ↔ (HasSeen before channel sid ⊎ ((channel ≡ row.channel) × (sid ≡ row.sid))))
-    → (channel sid : ℕ) → HasSeen after channel sid ↔ IsSidAbove (with_line said (line.Sid row)) channel sid
-seen-pushed said row before after was inserted channel sid = (
+pub seen-pushed : (said : Said) (row : SidRow) (before after : SidTable)
+    → ((channel sid : ℕ) → sid < sid_limit → HasMarked before channel sid ↔ IsSidAbove said channel sid)
+    → ((channel sid : ℕ) → sid < sid_limit → HasMarked after channel sid ↔ (HasMarked before channel sid ⊎ ((channel ≡ row.channel) × (sid ≡ row.sid))))
+    → (channel sid : ℕ) → sid < sid_limit → HasMarked after channel sid ↔ IsSidAbove (with_line said (line.Sid row)) channel sid
+seen-pushed said row before after was inserted channel sid small = (
   λ seen. (IsSidAbove-pushed said row channel sid).1
-      (⊎_elim (λ old. inl ((was channel sid).0 old)) (λ new. inr new) ((inserted channel sid).0 seen)),
-  λ above. (inserted channel sid).1
-      (⊎_elim (λ old. inl ((was channel sid).1 old)) (λ new. inr new) ((IsSidAbove-pushed said row channel sid).0 above)),
+      (⊎_elim (λ old. inl ((was channel sid small).0 old)) (λ new. inr new) ((inserted channel sid small).0 seen)),
+  λ above. (inserted channel sid small).1
+      (⊎_elim (λ old. inl ((was channel sid small).1 old)) (λ new. inr new) ((IsSidAbove-pushed said row channel sid).0 above)),
 )
 
 -- ---- a line in its place
@@ -196,10 +196,10 @@ not_late said reading word after late has found not is =
     false≢true (sym not ∙ yes)
 
 -- what fields carry they carry as well by other names
-pub carried_as : (ring other : ℕ) (fields : List (List ℕ)) (line : TraceLine) → ring ≡ other → Carries ring fields line → Carries other fields line
-carried_as ring other fields line same carries = subst (λ ring. Carries ring fields line) same carries
+pub carried_as : (shape other : TraceShape) (fields : List (List ℕ)) (line : TraceLine) → shape ≡ other → Carries shape fields line → Carries other fields line
+carried_as shape other fields line same carries = subst (λ (shape : TraceShape). Carries shape fields line) same carries
 
-module _ (said : Said) (fields : List (List ℕ)) (early : IsLate said fields → ⊥) (line : TraceLine) (carries : Carries said.ring fields line)
+module _ (said : Said) (fields : List (List ℕ)) (early : IsLate said fields → ⊥) (line : TraceLine) (carries : Carries said.shape fields line)
     (Has : Said → Type 0) where
   -- what a line says is added, so the line is taken
   pub taken_in_place : (result : Result (Unit {0}) LineFault)
@@ -222,7 +222,7 @@ module _ (said : Said) (fields : List (List ℕ)) (early : IsLate said fields �
 
 -- the line has a fault by itself, which is its least
 pub refused_by_itself : (said : Said) (fields : List (List ℕ)) (early : IsLate said fields → ⊥) (fault : LineFault)
-    → IsLineFault (IsLeastFaultByItself fields) fault
+    → IsLineFault (IsLeastFaultByItself said.shape fields) fault
     → IsLineFault (IsLeastFault (HasLineFault said fields)) fault
 refused_by_itself said fields early (line_fault.Kind kind) least = least_by_itself said fields early kind least
 refused_by_itself said fields early line_fault.OutOfMemory least = tt

@@ -28,15 +28,17 @@ IsOfChannel (came channel input) = channel < channel_limit
 IsOfChannel (decided decision) = Unit {0}
 
 abbrev AreOfChannels : Said → Type 0
-AreOfChannels said = All IsOfChannel said.entries
+AreOfChannels said = (said.shape.channels ≡ channel_limit) × All IsOfChannel said.entries
 
-of_channels_with : (said : Said) (fields : List (List ℕ)) (line : TraceLine) → Carries said.ring fields line → AreOfChannels said
+of_channels_with : (said : Said) (fields : List (List ℕ)) (line : TraceLine) → Carries said.shape fields line → AreOfChannels said
     → AreOfChannels (with_line said line)
 of_channels_with said fields (line.Flow flow_record) carries each = each
 of_channels_with said fields (line.Sid row) carries each = each
 of_channels_with said fields (line.Input channel input) carries each =
-    All-push IsOfChannel said.entries (came channel input) each (let within = channel_in_range said.ring fields channel input carries in omega arith)
-of_channels_with said fields (line.Gap decision) carries each = All-push IsOfChannel said.entries (decided decision) each tt
+    let within = channel_in_range said.shape fields channel input carries in
+    let four = each.0 in
+    (each.0, All-push IsOfChannel said.entries (came channel input) each.1 (omega arith))
+of_channels_with said fields (line.Gap decision) carries each = (each.0, All-push IsOfChannel said.entries (decided decision) each.1 tt)
 
 line_of_channel : Keeps trace_format AreOfChannels
 line_of_channel before fields after takes each =
@@ -44,7 +46,7 @@ line_of_channel before fields after takes each =
 
 pub read_of_channels : (ring : ℕ) (lines : List (List ℕ)) (said : Said) → IsRead trace_format (nothing_said ring) lines said
     → All IsOfChannel said.entries
-read_of_channels ring lines said read = IsRead-keeps AreOfChannels line_of_channel read (All-nil IsOfChannel)
+read_of_channels ring lines said read = (IsRead-keeps AreOfChannels line_of_channel read (refl, All-nil IsOfChannel)).1
 
 -- ---- how often a sender stands in the tags
 

@@ -29,11 +29,15 @@ pub record IsCutInto (first : ℕ) (fill : FillByte) (frames : List (List ℕ)) 
 abbrev pub segment_line : Segment → List ℕ
 segment_line segment = encode_lower (segment_bytes segment) ++ line_feed ∷ []
 
--- a line for each segment of the cut was put, one after another
-pub record PutsCut {T : Type 0} (after : T → List ℕ → T → Type 0) (cut : CutUnderWay) (old new : T) : Type 0 where
+-- the text is a line for each segment of the cut, one after another
+pub record IsPrinted (cut : CutUnderWay) (text : List ℕ) : Type 0 where
   pub segments : List Segment
   pub made : IsCutInto cut.first cut.fill cut.frames cut.pieces segments
-  pub put : Puts after old (flat_map segment_line segments) new
+  pub printed : text ≡ flat_map segment_line segments
+
+-- this text was put
+abbrev pub PutsCut : {T : Type 0} → (T → List ℕ → T → Type 0) → CutUnderWay → T → T → Type 0
+PutsCut after cut old new = (text : List ℕ) × IsPrinted cut text × Puts after old text new
 
 -- How long the lines of a cut's segments are: two digits for each byte of a header, of what the pieces take of the frames, and of fill, and a
 -- line feed for each segment.
@@ -58,10 +62,10 @@ IsPieceFault frames pieces (cut_fault.PointerTooFar k) = IsFirstPointerTooFar an
 IsPieceFault frames pieces cut_fault.OutOfMemory = ⊥
 
 -- why frames and pieces are not cut: their first fault
-abbrev pub HasPieceFault : List (List ℕ) → List Piece → TextFault → Type 0
-HasPieceFault frames pieces (Trace fault) = ⊥
-HasPieceFault frames pieces (Cut fault) = IsPieceFault frames pieces fault
-HasPieceFault frames pieces OutOfMemory = ⊥
+abbrev pub CannotCut : List (List ℕ) → List Piece → TextFault → Type 0
+CannotCut frames pieces (Trace fault) = ⊥
+CannotCut frames pieces (Cut fault) = IsPieceFault frames pieces fault
+CannotCut frames pieces OutOfMemory = ⊥
 
 -- no line of an input has a fault, and this is the first fault of its frames and pieces
 pub record IsFirstPieceFault (input : List ℕ) (fault : CutFault) : Type 0 where

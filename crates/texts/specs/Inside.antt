@@ -3,6 +3,7 @@ pub mod TraceLine
 pub mod Join
 pub mod Cut
 pub mod SetupLines
-pub mod UnderWay
 pub mod Reading
-pub mod ReplayInput
+pub mod TraceInput
+pub mod Replayed
+pub mod Followed

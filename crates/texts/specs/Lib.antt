@@ -5,4 +5,5 @@ pub mod Trace
 pub mod Report
 pub mod Replay
 pub mod Run
+pub mod Follow
 pub mod Inside

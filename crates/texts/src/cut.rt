@@ -9,8 +9,7 @@ ghost use Rattle.text_lines.specs.Putting.{Puts};
 ghost use Rattle.text_lines.specs.Format.{IsRead, IsReadingFault};
 ghost use Rattle.texts.specs.AnyHeader.{any_header};
 ghost use Rattle.texts.specs.Cut.Line.{nothing, cut_format};
-ghost use Rattle.texts.specs.Cut.{IsCutText, IsCutFault, HasPieceFault, PutsCut, segment_line, cut_text_length};
-ghost use Rattle.texts.specs.Inside.Cut.{IsPrinted};
+ghost use Rattle.texts.specs.Cut.{IsCutText, IsCutFault, CannotCut, IsPrinted, PutsCut, segment_line, cut_text_length};
 
 mod line;
 
@@ -59,7 +58,7 @@ impl CutInput {
         ensures cuttable { OnOk result
             (IsCuttable any_header self.now.frames.items self.now.pieces.items) }
         ensures fault { IfErr result
-            (HasPieceFault self.now.frames.items self.now.pieces.items) }
+            (CannotCut self.now.frames.items self.now.pieces.items) }
     {
         let cutter = Cutter::new(&self.frames, &self.pieces, first, fill, &NoCheck)?;
         Ok(cutter)
@@ -143,7 +142,7 @@ fn put_segment<O: PutText>(out: &mut O, segment: SegmentParts<'_>)
 
 /// Puts a line for each segment of a cut, of which none was given yet. It takes no memory of its
 /// own.
-pub fn put_segments<O: PutText>(out: &mut O, cutter: Cutter<'_>)
+pub fn put_cut<O: PutText>(out: &mut O, cutter: Cutter<'_>)
     requires cuttable { IsCuttable any_header cutter.frames cutter.pieces }
     requires none_made { cutter.made ≡ 0 }
     ensures { PutsCut O.after cutter.entry out.old out.new }
@@ -156,14 +155,14 @@ pub fn put_segments<O: PutText>(out: &mut O, cutter: Cutter<'_>)
 }
 
 /// The lines of the segments of a cut, in a text that begins with so much room.
-fn segment_lines(alloc: Global, cutter: Cutter<'_>, room: usize) -> Result<Vec<u8>, AllocError>
+fn whole_text(alloc: Global, cutter: Cutter<'_>, room: usize) -> Result<Vec<u8>, AllocError>
     requires cuttable { IsCuttable any_header cutter.frames cutter.pieces }
     requires none_made { cutter.made ≡ 0 }
     requires room { room ≡ min (cut_text_length cutter.frames cutter.pieces) usize.MAX }
     ensures { IfOk result (λ text. IsPrinted cutter.entry text.items) }
 {
     let mut text = TextBuffer::with_capacity(alloc, room)?;
-    put_segments(&mut text, cutter);
+    put_cut(&mut text, cutter);
     text.finish()
 }
 
@@ -188,5 +187,5 @@ pub fn cut_lines(
 {
     let read = read_cut_input(alloc, input)?;
     let cutter = read.cutter(first, fill)?;
-    Ok(segment_lines(alloc, cutter, text_length(&read))?)
+    Ok(whole_text(alloc, cutter, text_length(&read))?)
 }

@@ -15,7 +15,7 @@
 //!
 //! - Where an input comes in pieces, [`CutInput`], [`JoinInput`] and [`Reading`] are what its lines
 //!   are to be taken by, of a cut, of a join and of a trace; so the crate `commands` receives a
-//!   trace on threads. [`ReplayInput`] replays a trace as its lines are taken. [`put_segments`]
+//!   trace on threads. [`ReplayInput`] replays a trace as its lines are taken. [`put_cut`]
 //!   puts the lines of a cut, and [`put_report`] a report.
 //!
 //! The lines and fields of all these formats, and the faults of a line, are those of `text_lines`;
@@ -29,6 +29,7 @@
 #![tactic(auto)]
 
 mod cut;
+mod follow;
 mod join;
 pub mod laws;
 mod replay;
@@ -36,12 +37,13 @@ mod report_lines;
 mod report_text;
 mod trace;
 
-pub use cut::{CutInput, cut_lines, put_segments};
+pub use cut::{CutInput, cut_lines, put_cut};
+pub use follow::{FollowInput, Followed, Following, GivenList, finish_follow, put_end};
 pub use join::{JoinInput, join_lines};
-pub use replay::{ReplayInput, replay_lines, replay_lines_by};
+pub use replay::{ReplayInput, UnderWay, finish_replay, replay_lines, replay_lines_by};
 pub use report_lines::{put_flow_line, put_frame_line, put_lane_line, put_request_line};
 pub use report_text::{put_report, report};
 pub use text_lines::{
     Capacities, DEFAULT_CAPACITY, ParseFault, TextFault, TraceFault, TraceKind, read_number,
 };
-pub use trace::{Reading, Trace, parse_trace};
+pub use trace::{Reading, TakeEntries, Trace, TraceInput, parse_trace};

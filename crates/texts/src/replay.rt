@@ -1,16 +1,34 @@
 //! The text of `replay`: the report of a trace.
 ghost use Rattle.std.specs.Prelude.{IfOk, IfErr};
-ghost use Rattle.texts.specs.Replay.{IsReplayed, IsReplayedBy, IsReplayFault};
+ghost use Rattle.texts.specs.Replay.{IsPlayedBy, IsReplayed, IsReplayedBy, IsReplayFault};
+ghost use Rattle.texts.specs.Inside.Replayed.{HasReplayedLines};
+ghost use Rattle.texts.specs.Inside.TraceInput.{TraceState};
 
 use crate::report_text::report;
+use crate::trace::TraceInput;
 use loss_rule::LossRule;
-use std::alloc::Global;
+use receiver::{Outcome, Width};
+use std::alloc::{AllocError, Global};
 use text_lines::{TextFault, take_lines};
 
-mod input;
 mod under_way;
 
-pub use input::ReplayInput;
+pub use under_way::UnderWay;
+
+/// The lines so far of a trace that is replayed as they are read. It is for the profile's width.
+pub type ReplayInput = TraceInput<UnderWay>;
+
+/// What a trace gives, of which all lines were read.
+pub fn finish_replay(alloc: Global, lines: ReplayInput) -> Result<Outcome, AllocError>
+    requires { (given : TraceState (Unit {0}))
+        × HasReplayedLines given lines.width lines.rule lines.setup lines.taker }
+    ensures { IfOk result (λ outcome. (given : TraceState (Unit {0}))
+        → HasReplayedLines given lines.width lines.rule lines.setup lines.taker
+        → IsPlayedBy given.rule given.said outcome) }
+{
+    let (setup, replay) = lines.finish(alloc)?;
+    replay.finish(alloc, &setup)
+}
 
 /// The report of a trace: its grants, bursts and decisions are taken in the order of their lines.
 ///
@@ -33,8 +51,8 @@ pub fn replay_lines_by(rule: LossRule, alloc: Global, input: Vec<u8>) -> Result<
     ensures text { IfOk result (λ text. IsReplayedBy rule input.items text.items) }
     ensures fault { IfErr result (IsReplayFault input.items) }
 {
-    let mut lines = ReplayInput::new(alloc, rule);
+    let mut lines = ReplayInput::new(alloc, Width::PROFILE, rule)?;
     take_lines(alloc, &input, &mut lines)?;
-    let outcome = lines.finish(alloc)?;
+    let outcome = finish_replay(alloc, lines)?;
     Ok(report(alloc, &outcome)?)
 }

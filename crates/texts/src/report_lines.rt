@@ -9,14 +9,14 @@ use lane::{LaneReport, Request};
 use text_lines::{PutText, put_hex, put_number};
 
 /// Puts a word.
-fn put_word<O: PutText>(out: &mut O, word: &str)
+pub(crate) fn put_word<O: PutText>(out: &mut O, word: &str)
     ensures { Puts O.after out.old word.now out.new }
 {
     out.put(word.as_bytes());
 }
 
 /// Puts a space and a number.
-fn put_spaced<O: PutText>(out: &mut O, number: u64)
+pub(crate) fn put_spaced<O: PutText>(out: &mut O, number: u64)
     ensures { Puts O.after out.old (spaced number) out.new }
 {
     put_word(out, " ");
@@ -24,7 +24,7 @@ fn put_spaced<O: PutText>(out: &mut O, number: u64)
 }
 
 /// Puts a space, a word, a space and a number.
-fn put_named<O: PutText>(out: &mut O, word: &str, number: u64)
+pub(crate) fn put_named<O: PutText>(out: &mut O, word: &str, number: u64)
     ensures { Puts O.after out.old (named word.now number) out.new }
 {
     put_word(out, " ");

@@ -2,13 +2,15 @@
 
 use receiver::{Lists, Setup};
 
+mod input;
 mod line;
 mod reading;
 mod setup_lines;
+mod taking;
 
-pub(crate) use line::{TraceLine, is_setup_word, read_trace_line};
+pub use input::TraceInput;
 pub use reading::{Reading, parse_trace};
-pub(crate) use setup_lines::SetupLines;
+pub use taking::TakeEntries;
 
 /// What a trace gives.
 #[derive(Debug, Drop)]

@@ -26,8 +26,8 @@ mod open;
 
 pub use eight_threads::{RunFault, run, run_by};
 pub use lane::{
-    Admitted, Answer, CHANNELS, Input, Lane, LaneFault, LaneReport, Refusal, Request, SeenSids,
-    SidRow,
+    Admitted, Answer, CHANNELS, Input, Lane, LaneFault, LaneReport, Refusal, Request, SidRow,
+    SidTable,
 };
 pub use loss_rule::LossRule;
 pub use receiver::{

@@ -2,13 +2,15 @@
 //! at one place of each call. Each test takes out of memory as lawful there, says so by the word
 //! `refused`, and calls again; where nothing failed it says nothing. Where the name of a test ends
 //! in `without_memory` all later allocations fail, too.
+use crate::followed::FOLLOWED;
 use commands::{program, run_text, run_text_by};
 use docsis_wire::FillByte;
 use engines::{
-    Command, Device, EngineFault, UsageFault, WriteFault, cut_text, join_text, read_words,
-    replay_text, replay_text_by, status, write_fault,
+    Command, Device, EngineFault, UsageFault, WriteFault, cut_text, follow_text, join_text,
+    read_words, replay_text, replay_text_by, status, write_fault,
 };
 use loss_rule::LossRule;
+use receiver::Width;
 use std::alloc::Global;
 use std::io::Read;
 use std::process::Abort;
@@ -115,6 +117,33 @@ fn replay_text_by_is_refused(rt: HostRuntime) -> Result<(), Fail> {
     }
     assert_eq!(rt; done, Ok(()));
     assert_eq!(rt; text.as_slice(), SLID_REPORT.as_bytes());
+    Ok(())
+}
+
+/// Follows the trace into an array that is just large enough for what is printed of it.
+fn follow_into(alloc: Global, text: &mut [u8]) -> Result<(), EngineFault> {
+    let mut reader = Device::new(TRACE.as_bytes());
+    let mut writer = Device::new(text);
+    let rule = LossRule::Decided;
+    let done = follow_text(rule, Width::PROFILE, alloc, &mut reader, &mut writer);
+    reader.into_inner();
+    writer.into_inner();
+    done
+}
+
+/// What was printed before the allocation failed stands.
+#[test]
+fn follow_text_is_refused(rt: HostRuntime) -> Result<(), Fail> {
+    let mut text = [0u8; 237];
+    let mut done = follow_into(rt.alloc(), &mut text);
+    if done == Err(EngineFault::OutOfMemory) {
+        println!(rt; "refused")?;
+        let printed = text.iter().filter(|byte| **byte > 0).count();
+        assert!(rt; FOLLOWED.as_bytes().starts_with(&text[..printed]));
+        done = follow_into(rt.alloc(), &mut text);
+    }
+    assert_eq!(rt; done, Ok(()));
+    assert_eq!(rt; text.as_slice(), FOLLOWED.as_bytes());
     Ok(())
 }
 
@@ -292,6 +321,24 @@ fn replaying_program_is_refused(rt: HostRuntime) -> Result<(), Fail> {
 fn running_program_is_refused(rt: HostRuntime) -> Result<(), Fail> {
     let words = ["segrx", "run"];
     run_program(rt, &words, TRACE, REPORT, &mut [0u8; 233])
+}
+
+#[test]
+fn words_of_follow_are_refused(rt: HostRuntime) -> Result<(), Fail> {
+    let words = ["segrx", "follow", "--losses=slid", "--channels", "2"];
+    let mut read = read_words(rt.alloc(), &words);
+    if let Err(UsageFault::OutOfMemory) = read {
+        println!(rt; "refused")?;
+        read = read_words(rt.alloc(), &words);
+    }
+    match read {
+        Ok(Command::Follow { rule, channels }) => {
+            assert_eq!(rt; rule, LossRule::PassedOrSlid);
+            assert_eq!(rt; channels, 2);
+        }
+        _ => assert!(rt; false, "no follow"),
+    }
+    Ok(())
 }
 
 /// The first of three segments is lost, which both channels pass.

@@ -15,6 +15,8 @@ mod faults;
 #[cfg(test)]
 mod fitful;
 #[cfg(test)]
+mod followed;
+#[cfg(test)]
 mod limits;
 #[cfg(test)]
 mod long_texts;

@@ -10,9 +10,9 @@ use texts::{TraceFault, TraceKind};
 
 /// A reader that gives at most so many bytes of a text at each call.
 #[derive(Drop)]
-struct InPieces<'a> {
-    rest: &'a [u8],
-    most: usize,
+pub(crate) struct InPieces<'a> {
+    pub(crate) rest: &'a [u8],
+    pub(crate) most: usize,
 }
 
 impl Read for InPieces<'_> {

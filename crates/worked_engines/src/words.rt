@@ -11,6 +11,7 @@ enum Asked {
     Cut(u16, FillByte),
     Replay(LossRule),
     Run(LossRule, u16, u16),
+    Follow(LossRule, u8),
     Help,
     Fault(UsageFault),
 }
@@ -27,6 +28,7 @@ fn what_is_asked(alloc: Global, words: &[&str]) -> Asked {
                 ring,
             },
         ) => Asked::Run(rule, mailbox, ring),
+        Ok(Command::Follow { rule, channels }) => Asked::Follow(rule, channels),
         Ok(Command::Help(_)) => Asked::Help,
         Err(fault) => Asked::Fault(fault),
     }
@@ -36,7 +38,7 @@ fn what_is_asked(alloc: Global, words: &[&str]) -> Asked {
 const USAGE: Asked = Asked::Fault(UsageFault::Usage);
 
 /// Words, each with the name of its case, and what is asked for.
-const WORDS: [(&str, &[&str], Asked); 36] = [
+const WORDS: [(&str, &[&str], Asked); 43] = [
     ("no words at all", &[], Asked::Join),
     ("no command", &["segrx"], Asked::Join),
     ("join", &["segrx", "join"], Asked::Join),
@@ -157,6 +159,29 @@ const WORDS: [(&str, &[&str], Asked); 36] = [
         USAGE,
     ),
     ("an option of cut", &["segrx", "run", "--first=1"], USAGE),
+    (
+        "follow",
+        &["segrx", "follow"],
+        Asked::Follow(LossRule::Decided, 16),
+    ),
+    (
+        "the options of follow",
+        &["segrx", "follow", "--channels", "09", "--losses=slid"],
+        Asked::Follow(LossRule::PassedOrSlid, 9),
+    ),
+    (
+        "one channel",
+        &["segrx", "follow", "--channels=1"],
+        Asked::Follow(LossRule::Decided, 1),
+    ),
+    ("no channel", &["segrx", "follow", "--channels=0"], USAGE),
+    (
+        "a channel too many",
+        &["segrx", "follow", "--channels=17"],
+        USAGE,
+    ),
+    ("channels of run", &["segrx", "run", "--channels=4"], USAGE),
+    ("a ring of follow", &["segrx", "follow", "--ring=4"], USAGE),
     ("help", &["segrx", "cut", "-h", "frob"], Asked::Help),
     ("help of replay", &["segrx", "replay", "-h"], Asked::Help),
     ("help too late", &["segrx", "replay", "x", "-h"], USAGE),
@@ -180,7 +205,7 @@ fn help_of(alloc: Global, words: &[&str]) -> String {
 }
 
 /// Words that ask for help, and parts of it.
-const HELPS: [(&[&str], &[&str]); 5] = [
+const HELPS: [(&[&str], &[&str]); 6] = [
     (
         &["segrx", "-h"],
         &[
@@ -189,8 +214,10 @@ const HELPS: [(&[&str], &[&str]); 5] = [
             "segrx replay [",
             "  cut   ",
             "segrx run [",
+            "segrx follow [",
             "  replay  ",
             "  run   ",
+            "  follow  ",
         ],
     ),
     (&["segrx", "join", "-h"], &["Usage: segrx join < "]),
@@ -206,6 +233,10 @@ const HELPS: [(&[&str], &[&str]); 5] = [
             "--mailbox <N>",
             "--ring <N>",
         ],
+    ),
+    (
+        &["segrx", "follow", "-h"],
+        &["Usage: segrx follow [", "--losses <RULE>", "--channels <N>"],
     ),
     (
         &["segrx", "cut", "-h"],

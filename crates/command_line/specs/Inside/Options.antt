@@ -5,6 +5,7 @@ use Rattle.docsis_wire.specs.declared.pieces.FillByte.TheVariants.{Zero, Ones}
 use Rattle.text_lines.specs.declared.capacities.Capacities.{Capacities}
 use Rattle.text_lines.specs.Number.{IsNumber}
 use Rattle.text_lines.specs.Capacities.{default_capacity}
+use Rattle.command_line.specs.Command.{channels_max}
 use Rattle.command_line.specs.declared.command.UsageFault.{UsageFault}
 use Rattle.command_line.specs.declared.command.UsageFault.TheVariants.{Usage, OutOfMemory}
 
@@ -32,16 +33,24 @@ ReadsOptions first fill (Ok options) = IsFirst first options.0 × IsFill fill op
 ReadsOptions first fill (Err Usage) = ((n : ℕ) → ¬ IsFirst first n) ⊎ ((byte : FillByte) → ¬ IsFill fill byte)
 ReadsOptions first fill (Err OutOfMemory) = ⊥
 
--- the capacity that an option asks for, the default one where it is left out
-abbrev pub IsCapacity : Option (List ℕ) → ℕ → Type 0
-IsCapacity None capacity = capacity ≡ default_capacity
-IsCapacity (Some text) capacity = IsNumber text capacity_max capacity × (1 ≤ capacity)
+-- the number from 1 to the most that an option asks for, the default one where it is left out
+abbrev pub IsCount : ℕ → ℕ → Option (List ℕ) → ℕ → Type 0
+IsCount most default None count = count ≡ default
+IsCount most default (Some text) count = IsNumber text most count × (1 ≤ count)
 
--- an option's capacity was read, or it has none
-abbrev pub ReadsCapacity : Option (List ℕ) → Result ℕ UsageFault → Type 0
-ReadsCapacity option (Ok capacity) = IsCapacity option capacity
-ReadsCapacity option (Err Usage) = (n : ℕ) → ¬ IsCapacity option n
-ReadsCapacity option (Err OutOfMemory) = ⊥
+-- an option's number was read, or it has none
+abbrev pub ReadsCount : ℕ → ℕ → Option (List ℕ) → Result ℕ UsageFault → Type 0
+ReadsCount most default option (Ok count) = IsCount most default option count
+ReadsCount most default option (Err Usage) = (n : ℕ) → ¬ IsCount most default option n
+ReadsCount most default option (Err OutOfMemory) = ⊥
+
+-- the capacity that an option asks for
+abbrev pub IsCapacity : Option (List ℕ) → ℕ → Type 0
+IsCapacity = IsCount capacity_max default_capacity
+
+-- how many channels the option of `follow` asks for
+abbrev pub ReadsChannels : Option (List ℕ) → Result ℕ UsageFault → Type 0
+ReadsChannels = ReadsCount channels_max channels_max
 
 -- the options of `run` were read: both have a value, or one has none
 abbrev pub ReadsCapacities : Option (List ℕ) → Option (List ℕ) → Result Capacities UsageFault → Type 0

@@ -1,45 +1,39 @@
 -- What the setup lines of a trace gave so far, and what becomes of a line after others.
-use Rattle.std.specs.Prelude.{◌≡◌, ◌≤◌, ◌↔◌, ℕ, Some, List, [], slice_get, Result, MatchResult}
-use Rattle.flow_records.specs.declared.record.FlowRecord.{FlowRecord}
-use Rattle.lane.specs.Inside.Seen.{HasSeen}
-use Rattle.lane.specs.declared.sids.seen.SeenSids.{SeenSids}
+use Rattle.std.specs.Prelude.{◌≡◌, ◌<◌, ◌≤◌, ◌↔◌, ℕ, List, [], Result, MatchResult}
+use Rattle.lane.specs.Inside.Seen.{HasMarked}
+use Rattle.lane.specs.Limits.{sid_limit}
+use Rattle.lane.specs.declared.sids.table.SidTable.{SidTable}
 use Rattle.receiver.specs.declared.setup.Setup.{Setup}
-use Rattle.receiver.specs.Faults.{CanReceive}
+use Rattle.receiver.specs.Widths.{CanReceiveWithin}
 use Rattle.text_lines.specs.declared.fault.LineFault.{LineFault}
 use Rattle.text_lines.specs.declared.fault.TraceKind.{TraceKind}
 use Rattle.text_lines.specs.Inside.LineFault.{IsLineFault}
 use Rattle.text_lines.specs.Kinds.{IsLeastFault}
 use Rattle.texts.specs.declared.trace.line.TraceLine.{TraceLine}
 use Rattle.texts.specs.declared.trace.line.TraceLine.TheVariants as line
-use Rattle.texts.specs.Trace.Line.{Carries}
+use Rattle.texts.specs.Trace.Line.{TraceShape, Carries}
 use Rattle.texts.specs.Trace.Place.{Said, IsSidAbove, HasFaultAmong, with_line}
 
--- the capacity of each flow's ring, and the setup that the lines so far give
+-- the shape of the trace, and the setup that the lines so far give
 pub record SetupSoFar : Type 0 where
-  pub ring : ℕ
+  pub shape : TraceShape
   pub setup : Setup
 
 -- what lines say that give this setup alone
-abbrev pub setup_said : ℕ → Setup → Said
-setup_said ring setup = record { ring = ring; flows = setup.flows.items; sids = setup.sids.items; entries = [] }
+abbrev pub setup_said : TraceShape → Setup → Said
+setup_said shape setup = record { shape = shape; flows = setup.flows.items; sids = setup.sids.items; entries = [] }
 
--- a receiver can be set up with it, if the rings have room, and its service identifiers are those that were seen
-pub record IsSetupSoFar (ring : ℕ) (setup : Setup) (seen_sids : SeenSids) : Type 0 where
-  pub can_receive : 1 ≤ ring → CanReceive setup
-  pub seen : (channel sid : ℕ) → HasSeen seen_sids channel sid ↔ IsSidAbove (setup_said ring setup) channel sid
+-- a receiver of that width can be set up with it, if the rings have room, and its service identifiers are those that were seen
+pub record HoldsSetup (shape : TraceShape) (setup : Setup) (seen_sids : SidTable) : Type 0 where
+  pub can_receive : 1 ≤ shape.ring → CanReceiveWithin shape.channels shape.flows setup
+  pub channels : seen_sids.channels ≡ shape.channels
+  pub seen : (channel sid : ℕ) → sid < sid_limit → HasMarked seen_sids channel sid ↔ IsSidAbove (setup_said shape setup) channel sid
 
 -- it is the setup that the lines say
 pub record HasSetup (said : Said) (so_far : SetupSoFar) : Type 0 where
-  pub ring : so_far.ring ≡ said.ring
+  pub shape : so_far.shape ≡ said.shape
   pub flows : so_far.setup.flows.items ≡ said.flows
   pub sids : so_far.setup.sids.items ≡ said.sids
-
--- one of the flows has this service flow identifier
-pub record IsSfidAmong (flows : List FlowRecord) (sfid : ℕ) : Type 0 where
-  pub k : ℕ
-  pub flow_record : FlowRecord
-  pub at : slice_get flows k ≡ Some flow_record
-  pub sfid_is : flow_record.sfid ≡ sfid
 
 -- the line sets something up
 abbrev pub SetsUp : TraceLine → Type 0
@@ -48,8 +42,8 @@ SetsUp (line.Sid row) = Unit {0}
 SetsUp _ = ⊥
 
 -- fields of some line say this
-abbrev pub IsCarried : ℕ → TraceLine → Type 0
-IsCarried ring line = (fields : List (List ℕ)) × Carries ring fields line
+abbrev pub IsCarried : TraceShape → TraceLine → Type 0
+IsCarried shape line = (fields : List (List ℕ)) × Carries shape fields line
 
 -- what a line says has no fault after lines that say this, and something has all of it
 pub record HasMore (Has : Said → Type 0) (said : Said) (line : TraceLine) : Type 0 where

@@ -1,12 +1,30 @@
 -- What a line of a trace says by itself, and the faults that it has by itself.
-use Rattle.std.specs.Prelude.{◌≡◌, ◌≢◌, ◌⊎◌, ℕ, Bool, true, false, Option, Some, None, List, [], ◌∷◌, length, codes}
+use Rattle.std.specs.Prelude.{◌≡◌, ◌≢◌, ◌-◌, ◌⊎◌, ℕ, Bool, true, false, Option, Some, None, List, [], ◌∷◌, length, codes}
+use Rattle.flow_records.specs.Limits.{flows_max}
+use Rattle.lane.specs.Limits.{channel_limit}
 use Rattle.lane.specs.declared.input.Input.TheVariants.{Grant, Burst}
+use Rattle.receiver.specs.declared.width.Width.{Width}
 use Rattle.text_lines.specs.declared.fault.TraceKind.{TraceKind}
 use Rattle.text_lines.specs.declared.fault.TraceKind.TheVariants.{UnknownLine, SetupLate, FieldCount, BadNumber, BadWord, NotHex, UnknownFlow, TooManyFlows, SameFlow, SameSid, TooShort, PointerPast}
 use Rattle.text_lines.specs.Field.{SpellsBytes}
 use Rattle.text_lines.specs.Number.{IsNumberIn}
 use Rattle.texts.specs.declared.trace.line.TraceLine.{TraceLine}
 use Rattle.texts.specs.declared.trace.line.TraceLine.TheVariants.{Flow, Sid, Input, Gap}
+
+-- ---- what no line says
+
+-- The shape of a trace, which is given before it is read: how many channels and flows it may have, and the capacity of each flow's ring.
+pub record TraceShape : Type 0 where
+  pub channels : ℕ
+  pub flows : ℕ
+  pub ring : ℕ
+
+-- that of a trace for a receiver of this width, and for one of the profile's width
+abbrev pub shape_of : Width → ℕ → TraceShape
+shape_of width ring = record { channels = width.channels; flows = width.flows; ring = ring }
+
+abbrev pub profile_shape : ℕ → TraceShape
+profile_shape ring = record { channels = channel_limit; flows = flows_max; ring = ring }
 
 -- ---- the forms of lines and of their fields
 
@@ -41,14 +59,14 @@ any_number = number_in 0 4294967295
 abbrev pub sequence_number : FieldForm
 sequence_number = number_in 0 8191
 
-abbrev pub channel_number : FieldForm
-channel_number = number_in 0 3
+abbrev pub channel_number : TraceShape → FieldForm
+channel_number shape = number_in 0 (shape.channels - 1)
 
 abbrev pub sid_number : FieldForm
 sid_number = number_in 0 16383
 
-abbrev pub flow_number : FieldForm
-flow_number = number_in 0 63
+abbrev pub flow_number : TraceShape → FieldForm
+flow_number shape = number_in 0 (shape.flows - 1)
 
 -- The fields that follow that word:
 --   flow <sfid> <first> <window> <clusters>
@@ -57,13 +75,13 @@ flow_number = number_in 0 63
 --   burst <channel> <number> <check> <hex>
 --   gap <flow>
 --   gap <flow> <number>
-abbrev pub fields_after : LineForm → List FieldForm
-fields_after flow_line = any_number ∷ sequence_number ∷ number_in 1 4096 ∷ number_in 1 8 ∷ []
-fields_after sid_line = channel_number ∷ sid_number ∷ flow_number ∷ []
-fields_after grant_line = channel_number ∷ any_number ∷ sid_number ∷ any_number ∷ []
-fields_after burst_line = channel_number ∷ any_number ∷ check_word ∷ hex_field ∷ []
-fields_after gap_line = flow_number ∷ []
-fields_after gap_to_line = flow_number ∷ sequence_number ∷ []
+abbrev pub fields_after : TraceShape → LineForm → List FieldForm
+fields_after shape flow_line = any_number ∷ sequence_number ∷ number_in 1 4096 ∷ number_in 1 8 ∷ []
+fields_after shape sid_line = channel_number shape ∷ sid_number ∷ flow_number shape ∷ []
+fields_after shape grant_line = channel_number shape ∷ any_number ∷ sid_number ∷ any_number ∷ []
+fields_after shape burst_line = channel_number shape ∷ any_number ∷ check_word ∷ hex_field ∷ []
+fields_after shape gap_line = flow_number shape ∷ []
+fields_after shape gap_to_line = flow_number shape ∷ sequence_number ∷ []
 
 -- ---- what a line says
 
@@ -123,11 +141,11 @@ HasRing ring (Flow flow_record) = flow_record.ring ≡ ring
 HasRing ring _ = Unit {0}
 
 -- the fields of a line say this
-pub record Carries (ring : ℕ) (fields : List (List ℕ)) (line : TraceLine) : Type 0 where
+pub record Carries (shape : TraceShape) (fields : List (List ℕ)) (line : TraceLine) : Type 0 where
   pub after : List (List ℕ)
   pub are : fields ≡ word_of (form_of line) ∷ after
-  pub values : AreFields (fields_after (form_of line)) after (values_of line)
-  pub ring_is : HasRing ring line
+  pub values : AreFields (fields_after shape (form_of line)) after (values_of line)
+  pub ring_is : HasRing shape.ring line
 
 -- ---- the faults of a line by itself
 
@@ -139,11 +157,11 @@ pub record IsUnknown (fields : List (List ℕ)) : Type 0 where
   pub unknown : (form : LineForm) → word ≢ word_of form
 
 -- it begins a line, but more or fewer fields follow it than follow it in any form of line
-pub record HasWrongCount (fields : List (List ℕ)) : Type 0 where
+pub record HasWrongCount (shape : TraceShape) (fields : List (List ℕ)) : Type 0 where
   pub form : LineForm
   pub after : List (List ℕ)
   pub are : fields ≡ word_of form ∷ after
-  pub wrong : (other : LineForm) → word_of form ≡ word_of other → length after ≢ length (fields_after other)
+  pub wrong : (other : LineForm) → word_of form ≡ word_of other → length after ≢ length (fields_after shape other)
 
 -- the fault of a field that does not have its form
 abbrev pub fault_of : FieldForm → TraceKind
@@ -160,24 +178,24 @@ HasBadAmong (form ∷ forms) (field ∷ fields) kind = ((fault_of form ≡ kind)
 HasBadAmong _ _ kind = ⊥
 
 -- as many fields as in a form of line follow its word, and one of them has this fault
-pub record HasBadField (fields : List (List ℕ)) (kind : TraceKind) : Type 0 where
+pub record HasBadField (shape : TraceShape) (fields : List (List ℕ)) (kind : TraceKind) : Type 0 where
   pub form : LineForm
   pub after : List (List ℕ)
   pub are : fields ≡ word_of form ∷ after
-  pub count : length after ≡ length (fields_after form)
-  pub bad : HasBadAmong (fields_after form) after kind
+  pub count : length after ≡ length (fields_after shape form)
+  pub bad : HasBadAmong (fields_after shape form) after kind
 
 -- the faults that a line with these fields has, whatever the lines above say
-abbrev pub HasFaultByItself : List (List ℕ) → TraceKind → Type 0
-HasFaultByItself fields UnknownLine = IsUnknown fields
-HasFaultByItself fields SetupLate = ⊥
-HasFaultByItself fields FieldCount = HasWrongCount fields
-HasFaultByItself fields BadNumber = HasBadField fields BadNumber
-HasFaultByItself fields BadWord = HasBadField fields BadWord
-HasFaultByItself fields NotHex = HasBadField fields NotHex
-HasFaultByItself fields UnknownFlow = ⊥
-HasFaultByItself fields TooManyFlows = ⊥
-HasFaultByItself fields SameFlow = ⊥
-HasFaultByItself fields SameSid = ⊥
-HasFaultByItself fields TooShort = ⊥
-HasFaultByItself fields PointerPast = ⊥
+abbrev pub HasFaultByItself : TraceShape → List (List ℕ) → TraceKind → Type 0
+HasFaultByItself shape fields UnknownLine = IsUnknown fields
+HasFaultByItself shape fields SetupLate = ⊥
+HasFaultByItself shape fields FieldCount = HasWrongCount shape fields
+HasFaultByItself shape fields BadNumber = HasBadField shape fields BadNumber
+HasFaultByItself shape fields BadWord = HasBadField shape fields BadWord
+HasFaultByItself shape fields NotHex = HasBadField shape fields NotHex
+HasFaultByItself shape fields UnknownFlow = ⊥
+HasFaultByItself shape fields TooManyFlows = ⊥
+HasFaultByItself shape fields SameFlow = ⊥
+HasFaultByItself shape fields SameSid = ⊥
+HasFaultByItself shape fields TooShort = ⊥
+HasFaultByItself shape fields PointerPast = ⊥

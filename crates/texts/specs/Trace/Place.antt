@@ -1,6 +1,5 @@
 -- What a line of a trace means in its place, after the lines above it.
 use Rattle.std.specs.Prelude.{◌≡◌, ◌≤◌, ◌<◌, ◌⊎◌, ℕ, Some, List, [], ◌∷◌, ◌++◌, length, slice_get}
-use Rattle.flow_records.specs.Limits.{flows_max}
 use Rattle.flow_records.specs.declared.record.FlowRecord.{FlowRecord}
 use Rattle.lane.specs.declared.sids.SidRow.{SidRow}
 use Rattle.receiver.specs.Entries.{Entry, came, decided}
@@ -10,19 +9,22 @@ use Rattle.text_lines.specs.Kinds.{IsLeastFault}
 use Rattle.text_lines.specs.Format.{Format}
 use Rattle.texts.specs.declared.trace.line.TraceLine.{TraceLine}
 use Rattle.texts.specs.declared.trace.line.TraceLine.TheVariants as line
-use Rattle.texts.specs.Trace.Line.{LineForm, flow_line, sid_line, word_of, Carries, HasFaultByItself}
+use Rattle.texts.specs.Trace.Line.{TraceShape, profile_shape, LineForm, flow_line, sid_line, word_of, Carries, HasFaultByItself}
 
--- What some lines say: the flows, the rows of service identifiers, and what the input lines say, each in their order. The capacity of the
--- flows' rings is given before, and no line says it.
+-- What some lines say: the flows, the rows of service identifiers, and what the input lines say, each in their order. The shape of the trace
+-- is given before, and no line says it.
 pub record Said : Type 0 where
-  pub ring : ℕ
+  pub shape : TraceShape
   pub flows : List FlowRecord
   pub sids : List SidRow
   pub entries : List Entry
 
--- what no lines say
+-- what no lines say, of a trace of any shape, and of one of the profile's
+abbrev pub nothing_said_in : TraceShape → Said
+nothing_said_in shape = record { shape = shape; flows = []; sids = []; entries = [] }
+
 abbrev pub nothing_said : ℕ → Said
-nothing_said ring = record { ring = ring; flows = []; sids = []; entries = [] }
+nothing_said ring = nothing_said_in (profile_shape ring)
 
 -- what lines say together with one more
 abbrev pub with_line : Said → TraceLine → Said
@@ -48,15 +50,19 @@ NamesUnknownFlow said _ = ⊥
 
 -- the line gives one flow too many
 abbrev pub IsFlowTooMany : Said → TraceLine → Type 0
-IsFlowTooMany said (line.Flow flow_record) = flows_max ≤ length said.flows
+IsFlowTooMany said (line.Flow flow_record) = said.shape.flows ≤ length said.flows
 IsFlowTooMany said _ = ⊥
 
--- this service flow identifier stands in a line above
-pub record IsSfidAbove (said : Said) (sfid : ℕ) : Type 0 where
+-- one of the flows has this service flow identifier
+pub record IsSfidAmong (flows : List FlowRecord) (sfid : ℕ) : Type 0 where
   pub k : ℕ
   pub flow_record : FlowRecord
-  pub above : slice_get said.flows k ≡ Some flow_record
+  pub at : slice_get flows k ≡ Some flow_record
   pub sfid_is : flow_record.sfid ≡ sfid
+
+-- it stands in a line above
+abbrev pub IsSfidAbove : Said → ℕ → Type 0
+IsSfidAbove said = IsSfidAmong said.flows
 
 abbrev pub HasSameFlow : Said → TraceLine → Type 0
 HasSameFlow said (line.Flow flow_record) = IsSfidAbove said flow_record.sfid
@@ -85,18 +91,18 @@ HasFaultAmong said line _ = ⊥
 -- the fields say something that has this fault after lines that say this
 pub record SaysFaulty (said : Said) (fields : List (List ℕ)) (kind : TraceKind) : Type 0 where
   pub line : TraceLine
-  pub carries : Carries said.ring fields line
+  pub carries : Carries said.shape fields line
   pub faulty : HasFaultAmong said line kind
 
 -- The faults that a line with these fields has after lines that say this. A line with a fault by itself says nothing; its fault has a lesser
 -- number than those of what a line says.
 abbrev pub HasLineFault : Said → List (List ℕ) → TraceKind → Type 0
-HasLineFault said fields UnknownLine = HasFaultByItself fields UnknownLine
+HasLineFault said fields UnknownLine = HasFaultByItself said.shape fields UnknownLine
 HasLineFault said fields SetupLate = IsSetupLine fields × (0 < length said.entries)
-HasLineFault said fields FieldCount = HasFaultByItself fields FieldCount
-HasLineFault said fields BadNumber = HasFaultByItself fields BadNumber
-HasLineFault said fields BadWord = HasFaultByItself fields BadWord
-HasLineFault said fields NotHex = HasFaultByItself fields NotHex
+HasLineFault said fields FieldCount = HasFaultByItself said.shape fields FieldCount
+HasLineFault said fields BadNumber = HasFaultByItself said.shape fields BadNumber
+HasLineFault said fields BadWord = HasFaultByItself said.shape fields BadWord
+HasLineFault said fields NotHex = HasFaultByItself said.shape fields NotHex
 HasLineFault said fields UnknownFlow = SaysFaulty said fields UnknownFlow
 HasLineFault said fields TooManyFlows = SaysFaulty said fields TooManyFlows
 HasLineFault said fields SameFlow = SaysFaulty said fields SameFlow
@@ -109,7 +115,7 @@ HasLineFault said fields PointerPast = ⊥
 -- what a line with these fields makes of what the lines above say
 pub record AddsLine (before : Said) (fields : List (List ℕ)) (after : Said) : Type 0 where
   pub line : TraceLine
-  pub carries : Carries before.ring fields line
+  pub carries : Carries before.shape fields line
   pub added : after ≡ with_line before line
 
 -- The lines of a trace. A line is taken if it has no fault; of its faults the one of the least kind is reported.

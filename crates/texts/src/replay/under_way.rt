@@ -1,23 +1,22 @@
 //! A replay under way of what the lines of a trace say.
-ghost use Rattle.std.specs.Prelude.{◌<◌, [], List, IfOk, map};
-ghost use Rattle.lane.specs.Limits.{channel_limit};
+ghost use Rattle.std.specs.Prelude.{List, IfOk, map};
 ghost use Rattle.loss_rule.specs.declared.rule.LossRule.{LossRule};
 ghost use Rattle.receiver.specs.AdmittedOrder.{IsAdmittedOrder};
-ghost use Rattle.receiver.specs.Entries.{Entry, came, decided, tag_of, incoming_in};
-ghost use Rattle.receiver.specs.Faults.{CanReceive};
-ghost use Rattle.receiver.specs.Replaying.{HasReplayed, ReplaysMore};
+ghost use Rattle.receiver.specs.Entries.{Entry, tag_of, incoming_in};
+ghost use Rattle.receiver.specs.Replaying.{HasReplayed};
 ghost use Rattle.receiver.specs.Ruled.{IsOutcomeBy};
 ghost use Rattle.texts.specs.AnyHeader.{any_header};
-ghost use Rattle.texts.specs.Inside.UnderWay.{no_check};
+ghost use Rattle.texts.specs.AnyHeader.{no_check};
 
+use crate::trace::TakeEntries;
 use docsis_wire::NoCheck;
 use lane::Input;
 use loss_rule::LossRule;
-use receiver::{Decision, Outcome, Replaying, Setup};
+use receiver::{Decision, Outcome, Replaying, Setup, Width};
 use std::alloc::{AllocError, Global};
 use std::marker::Model;
 
-/// A replay to which something may be handed in at any time: where an allocation fails it is freed.
+/// A replay to which something may be handed in at any time. It is for the profile's width.
 /// Contracts see the replay.
 #[derive(Drop)]
 pub struct UnderWay {
@@ -30,7 +29,7 @@ impl Model for UnderWay {
     ghost use Rattle.receiver.specs.contracts.replaying.Replaying as replaying_type;
     ghost use Rattle.receiver.specs.declared.replaying.Replaying.{Replaying};
     ghost use Rattle.receiver.specs.Replaying.{IsReplaying};
-    ghost use Rattle.texts.specs.Inside.UnderWay.{no_check};
+    ghost use Rattle.texts.specs.AnyHeader.{no_check};
 
     ghost Value = { Replaying NoCheck };
 
@@ -42,35 +41,6 @@ impl Model for UnderWay {
 }
 
 impl UnderWay {
-    /// A replay to which nothing was handed in yet.
-    pub fn new(alloc: Global, rule: LossRule, setup: &Setup) -> Result<UnderWay, AllocError>
-        requires { CanReceive setup.now }
-        ensures { IfOk result (λ replay. HasReplayed no_check rule any_header setup.now replay []) }
-    {
-        Ok(UnderWay {
-            replaying: Replaying::new(alloc, rule, setup, NoCheck)?,
-        })
-    }
-
-    /// Hands in an input that came on a channel, 0 to 3.
-    pub fn take(self, alloc: Global, channel: u8, input: Input) -> Result<UnderWay, AllocError>
-        requires { channel < channel_limit }
-        ensures { IfOk result (ReplaysMore no_check self (came channel input)) }
-    {
-        let UnderWay { mut replaying } = self;
-        replaying.take(alloc, channel, input)?;
-        Ok(UnderWay { replaying })
-    }
-
-    /// Hands in a decision.
-    pub fn decide(self, alloc: Global, decision: Decision) -> Result<UnderWay, AllocError>
-        ensures { IfOk result (ReplaysMore no_check self (decided decision)) }
-    {
-        let UnderWay { mut replaying } = self;
-        replaying.decide(alloc, decision)?;
-        Ok(UnderWay { replaying })
-    }
-
     /// Closes the receiver: what it gave.
     pub fn finish(self, alloc: Global, setup: &Setup) -> Result<Outcome, AllocError>
         requires { (rule : LossRule) × (entries : List Entry)
@@ -85,5 +55,51 @@ impl UnderWay {
             outcome) }
     {
         self.replaying.finish(alloc, setup)
+    }
+}
+
+impl TakeEntries for UnderWay {
+    ghost use Rattle.texts.specs.Inside.Replayed.{is_profile, WasReplayed};
+
+    ghost State = { Unit {0} };
+
+    ghost start = { tt };
+
+    ghost fits = { is_profile };
+
+    ghost has_taken = { WasReplayed };
+
+    fn begin(
+        alloc: Global,
+        _width: Width,
+        rule: LossRule,
+        setup: &Setup,
+    ) -> Result<UnderWay, AllocError> {
+        Ok(UnderWay {
+            replaying: Replaying::new(alloc, rule, setup, NoCheck)?,
+        })
+    }
+
+    fn take(
+        self,
+        alloc: Global,
+        _width: Width,
+        channel: u8,
+        input: Input,
+    ) -> Result<UnderWay, AllocError> {
+        let UnderWay { mut replaying } = self;
+        replaying.take(alloc, channel, input)?;
+        Ok(UnderWay { replaying })
+    }
+
+    fn decide(
+        self,
+        alloc: Global,
+        _width: Width,
+        decision: Decision,
+    ) -> Result<UnderWay, AllocError> {
+        let UnderWay { mut replaying } = self;
+        replaying.decide(alloc, decision)?;
+        Ok(UnderWay { replaying })
     }
 }

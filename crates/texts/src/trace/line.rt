@@ -5,25 +5,22 @@ ghost use Rattle.text_lines.specs.Lines.{words_of};
 ghost use Rattle.texts.specs.Trace.Line.{number_in, check_word, a_number, a_check};
 ghost use Rattle.texts.specs.Trace.Line.{flow_line, sid_line, grant_line, burst_line, gap_line};
 ghost use Rattle.texts.specs.Trace.Line.{word_of, IsField, IsBadField};
-ghost use Rattle.texts.specs.Trace.Line.{Carries};
+ghost use Rattle.texts.specs.Trace.Line.{TraceShape, shape_of, Carries};
+ghost use Rattle.texts.specs.Trace.Line.{channel_number, flow_number};
 ghost use Rattle.texts.specs.Inside.TraceLine.{IsLeastFaultByItself};
 
 use docsis_wire::Bytes;
 use flow_core::FlowRecord;
 use lane::{Input, SidRow};
-use receiver::Decision;
+use receiver::{Decision, Width};
 use std::alloc::Global;
 use text_lines::{
     LineFault, TraceKind, only_four_words, only_three_words, only_two_words, only_word, read_hex,
     read_number_in,
 };
 
-/// The greatest number of a channel.
-const CHANNEL_MAX: u32 = 3;
 /// The greatest service identifier.
 const SID_MAX: u32 = 16_383;
-/// The greatest index of a flow.
-const FLOW_MAX: u32 = 63;
 /// The greatest sequence number.
 const SEQUENCE_MAX: u32 = 8191;
 
@@ -48,28 +45,29 @@ pub fn is_setup_word(word: &[u8]) -> bool
     word == b"flow".as_slice() || word == b"sid".as_slice()
 }
 
-/// What a line of a trace says by itself, by its first field and what follows that. Each flow has a
-/// ring of this capacity.
+/// What a line of a trace for a receiver of this width says by itself, by its first field and what
+/// follows that. Each flow has a ring of this capacity.
 pub fn read_trace_line(
     alloc: Global,
+    width: Width,
     ring: u16,
     field: &[u8],
     rest: &[u8],
 ) -> Result<TraceLine, LineFault>
-    ensures carried { IfOk result (Carries ring (field.now ∷ words_of rest.now)) }
-    ensures fault { IfErr result
-        (IsLineFault (IsLeastFaultByItself (field.now ∷ words_of rest.now))) }
+    ensures carried { IfOk result (Carries (shape_of width ring) (field.now ∷ words_of rest.now)) }
+    ensures fault { IfErr result (IsLineFault
+        (IsLeastFaultByItself (shape_of width ring) (field.now ∷ words_of rest.now))) }
 {
     if field == b"burst".as_slice() {
-        read_burst(alloc, rest)
+        read_burst(alloc, width, rest)
     } else if field == b"grant".as_slice() {
-        read_grant(rest)
+        read_grant(width, rest)
     } else if field == b"gap".as_slice() {
-        read_gap(rest)
+        read_gap(width, rest)
     } else if field == b"flow".as_slice() {
         read_flow(ring, rest)
     } else if field == b"sid".as_slice() {
-        read_sid(rest)
+        read_sid(width, rest)
     } else {
         Err(LineFault::Kind(TraceKind::UnknownLine))
     }
@@ -95,6 +93,28 @@ fn number_of(field: &[u8], most: u32) -> Result<u32, LineFault>
     number_between(field, 0, most)
 }
 
+/// The number of a channel, which is below how many there are.
+fn channel_of(width: Width, field: &[u8]) -> Result<u8, LineFault>
+    ensures number { (ring : ℕ) → IfOk result (λ channel.
+        IsField (channel_number (shape_of width ring)) field.now (a_number channel)) }
+    ensures kind { IfErr result (λ fault. fault ≡ LineFault.Kind TraceKind.BadNumber) }
+    ensures bad { (ring : ℕ) → IfErr result (λ _.
+        IsBadField (channel_number (shape_of width ring)) field.now) }
+{
+    Ok(number_of(field, u32::from(width.channels()) - 1)? as u8)
+}
+
+/// The index of a flow, which is below how many there may be.
+fn flow_of(width: Width, field: &[u8]) -> Result<usize, LineFault>
+    ensures number { (ring : ℕ) → IfOk result (λ flow.
+        IsField (flow_number (shape_of width ring)) field.now (a_number flow)) }
+    ensures kind { IfErr result (λ fault. fault ≡ LineFault.Kind TraceKind.BadNumber) }
+    ensures bad { (ring : ℕ) → IfErr result (λ _.
+        IsBadField (flow_number (shape_of width ring)) field.now) }
+{
+    Ok(number_of(field, u32::from(width.flows()) - 1)? as usize)
+}
+
 /// Whether a burst's check is right, by the word for it.
 fn read_check(word: &[u8]) -> Result<bool, LineFault>
     ensures check { IfOk result (λ right. IsField check_word word.now (a_check right)) }
@@ -112,9 +132,10 @@ fn read_check(word: &[u8]) -> Result<bool, LineFault>
 
 /// `flow <sfid> <first> <window> <clusters>`, by what follows the first word.
 fn read_flow(ring: u16, rest: &[u8]) -> Result<TraceLine, LineFault>
-    ensures carried { IfOk result (Carries ring (word_of flow_line ∷ words_of rest.now)) }
-    ensures fault { IfErr result
-        (IsLineFault (IsLeastFaultByItself (word_of flow_line ∷ words_of rest.now))) }
+    ensures carried { (width : Width)
+        → IfOk result (Carries (shape_of width ring) (word_of flow_line ∷ words_of rest.now)) }
+    ensures fault { (shape : TraceShape) → IfErr result
+        (IsLineFault (IsLeastFaultByItself shape (word_of flow_line ∷ words_of rest.now))) }
 {
     let Some((sfid, first, window, clusters)) = only_four_words(rest) else {
         return Err(LineFault::Kind(TraceKind::FieldCount));
@@ -133,32 +154,32 @@ fn read_flow(ring: u16, rest: &[u8]) -> Result<TraceLine, LineFault>
 }
 
 /// `sid <channel> <sid> <flow>`, by what follows the first word.
-fn read_sid(rest: &[u8]) -> Result<TraceLine, LineFault>
+fn read_sid(width: Width, rest: &[u8]) -> Result<TraceLine, LineFault>
     ensures carried { (ring : ℕ)
-        → IfOk result (Carries ring (word_of sid_line ∷ words_of rest.now)) }
-    ensures fault { IfErr result
-        (IsLineFault (IsLeastFaultByItself (word_of sid_line ∷ words_of rest.now))) }
+        → IfOk result (Carries (shape_of width ring) (word_of sid_line ∷ words_of rest.now)) }
+    ensures fault { (ring : ℕ) → IfErr result (IsLineFault
+        (IsLeastFaultByItself (shape_of width ring) (word_of sid_line ∷ words_of rest.now))) }
 {
     let Some((channel, sid, flow)) = only_three_words(rest) else {
         return Err(LineFault::Kind(TraceKind::FieldCount));
     };
-    let channel = number_of(channel, CHANNEL_MAX)? as u8;
+    let channel = channel_of(width, channel)?;
     let sid = number_of(sid, SID_MAX)? as u16;
-    let flow = number_of(flow, FLOW_MAX)? as usize;
+    let flow = flow_of(width, flow)?;
     Ok(TraceLine::Sid(SidRow { channel, sid, flow }))
 }
 
 /// `grant <channel> <number> <sid> <bytes>`, by what follows the first word.
-fn read_grant(rest: &[u8]) -> Result<TraceLine, LineFault>
+fn read_grant(width: Width, rest: &[u8]) -> Result<TraceLine, LineFault>
     ensures carried { (ring : ℕ)
-        → IfOk result (Carries ring (word_of grant_line ∷ words_of rest.now)) }
-    ensures fault { IfErr result
-        (IsLineFault (IsLeastFaultByItself (word_of grant_line ∷ words_of rest.now))) }
+        → IfOk result (Carries (shape_of width ring) (word_of grant_line ∷ words_of rest.now)) }
+    ensures fault { (ring : ℕ) → IfErr result (IsLineFault
+        (IsLeastFaultByItself (shape_of width ring) (word_of grant_line ∷ words_of rest.now))) }
 {
     let Some((channel, number, sid, bytes)) = only_four_words(rest) else {
         return Err(LineFault::Kind(TraceKind::FieldCount));
     };
-    let channel = number_of(channel, CHANNEL_MAX)? as u8;
+    let channel = channel_of(width, channel)?;
     let number = number_of(number, u32::MAX)?;
     let sid = number_of(sid, SID_MAX)? as u16;
     let bytes = number_of(bytes, u32::MAX)?;
@@ -167,16 +188,16 @@ fn read_grant(rest: &[u8]) -> Result<TraceLine, LineFault>
 }
 
 /// `burst <channel> <number> ok|bad <hex>`, by what follows the first word.
-fn read_burst(alloc: Global, rest: &[u8]) -> Result<TraceLine, LineFault>
+fn read_burst(alloc: Global, width: Width, rest: &[u8]) -> Result<TraceLine, LineFault>
     ensures carried { (ring : ℕ)
-        → IfOk result (Carries ring (word_of burst_line ∷ words_of rest.now)) }
-    ensures fault { IfErr result
-        (IsLineFault (IsLeastFaultByItself (word_of burst_line ∷ words_of rest.now))) }
+        → IfOk result (Carries (shape_of width ring) (word_of burst_line ∷ words_of rest.now)) }
+    ensures fault { (ring : ℕ) → IfErr result (IsLineFault
+        (IsLeastFaultByItself (shape_of width ring) (word_of burst_line ∷ words_of rest.now))) }
 {
     let Some((channel, number, check, hex)) = only_four_words(rest) else {
         return Err(LineFault::Kind(TraceKind::FieldCount));
     };
-    let channel = number_of(channel, CHANNEL_MAX)? as u8;
+    let channel = channel_of(width, channel)?;
     let input = Input::Burst {
         grant: number_of(number, u32::MAX)?,
         hcs_ok: read_check(check)?,
@@ -186,20 +207,20 @@ fn read_burst(alloc: Global, rest: &[u8]) -> Result<TraceLine, LineFault>
 }
 
 /// `gap <flow>` or `gap <flow> <number>`, by what follows the first word.
-fn read_gap(rest: &[u8]) -> Result<TraceLine, LineFault>
+fn read_gap(width: Width, rest: &[u8]) -> Result<TraceLine, LineFault>
     ensures carried { (ring : ℕ)
-        → IfOk result (Carries ring (word_of gap_line ∷ words_of rest.now)) }
-    ensures fault { IfErr result
-        (IsLineFault (IsLeastFaultByItself (word_of gap_line ∷ words_of rest.now))) }
+        → IfOk result (Carries (shape_of width ring) (word_of gap_line ∷ words_of rest.now)) }
+    ensures fault { (ring : ℕ) → IfErr result (IsLineFault
+        (IsLeastFaultByItself (shape_of width ring) (word_of gap_line ∷ words_of rest.now))) }
 {
     if let Some(flow) = only_word(rest) {
-        let flow = number_of(flow, FLOW_MAX)? as usize;
+        let flow = flow_of(width, flow)?;
         return Ok(TraceLine::Gap(Decision { flow, upto: None }));
     }
     let Some((index, number)) = only_two_words(rest) else {
         return Err(LineFault::Kind(TraceKind::FieldCount));
     };
-    let index = number_of(index, FLOW_MAX)? as usize;
+    let index = flow_of(width, index)?;
     let number = number_of(number, SEQUENCE_MAX)? as u16;
     Ok(TraceLine::Gap(Decision {
         flow: index,

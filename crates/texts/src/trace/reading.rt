@@ -5,10 +5,10 @@ ghost use Rattle.texts.specs.Trace.{IsTrace, IsTraceFault};
 ghost use Rattle.texts.specs.Trace.Line.{word_of, flow_line, sid_line};
 
 use super::Trace;
-use super::line::{TraceLine, is_setup_word, read_trace_line};
+use super::line::{TraceLine, is_setup_word};
 use super::setup_lines::SetupLines;
 use lane::Input;
-use receiver::{Decision, Lists};
+use receiver::{Decision, Lists, Width};
 use std::alloc::{AllocError, Global};
 use text_lines::{DEFAULT_CAPACITY, LineFault, ParseFault, TakeLine, TraceKind, take_lines};
 
@@ -28,6 +28,7 @@ pub struct Reading {
     setup: SetupLines,
     lists: Lists,
     tags: Vec<u8>,
+    ghost four_channels: { setup.shape.channels ≡ channel_limit },
 }
 
 impl Reading {
@@ -37,8 +38,8 @@ impl Reading {
     ghost use Rattle.texts.specs.Inside.SetupLines.{IsCarried, AddsTo};
 
     /// What no lines give, where each flow is to have a ring of this capacity.
-    pub fn new(alloc: Global, ring: u16) -> Reading
-        ensures { HasRead (nothing_said ring) result }
+    pub fn new(alloc: Global, ring: u16) -> Result<Reading, AllocError>
+        ensures { IfOk result (HasRead (nothing_said ring)) }
     {
         let lists = Lists {
             inputs: [
@@ -49,18 +50,23 @@ impl Reading {
             ],
             decisions: Vec::new(alloc),
         };
-        Reading {
-            setup: SetupLines::new(alloc, ring, DEFAULT_CAPACITY),
+        Ok(Reading {
+            setup: SetupLines::new(alloc, Width::PROFILE, ring, DEFAULT_CAPACITY)?,
             lists,
             tags: Vec::new(alloc),
-        }
+        })
     }
 
     /// The trace that the lines give, with mailboxes of this capacity.
     pub fn into_trace(self, mailbox: u16) -> Trace
         ensures { (said : Said) → HasRead said self → IsGivenBy mailbox said result }
     {
-        let Reading { setup, lists, tags } = self;
+        let Reading {
+            setup,
+            lists,
+            tags,
+            ..
+        } = self;
         Trace {
             setup: setup.into_setup(mailbox),
             lists,
@@ -80,7 +86,7 @@ impl Reading {
 
     /// Adds what a line says.
     fn add(&mut self, line: TraceLine) -> Result<(), LineFault>
-        requires { IsCarried self.old.setup.ring line }
+        requires { IsCarried self.old.setup.shape line }
         ensures { AddsTo HasRead self.old line result self.new }
     {
         match line {
@@ -124,7 +130,7 @@ impl TakeLine for Reading {
         if self.is_late(field) {
             return Err(LineFault::Kind(TraceKind::SetupLate));
         }
-        let line = read_trace_line(alloc, self.setup.ring(), field, rest)?;
+        let line = self.setup.read_line(alloc, field, rest)?;
         self.add(line)
     }
 }
@@ -148,7 +154,7 @@ pub fn parse_trace(
     ensures trace { IfOk result (IsTrace ring mailbox input.now) }
     ensures fault { IfErr result (IsTraceFault ring input.now) }
 {
-    let mut reading = Reading::new(alloc, ring);
+    let mut reading = Reading::new(alloc, ring)?;
     take_lines(alloc, input, &mut reading)?;
     Ok(reading.into_trace(mailbox))
 }

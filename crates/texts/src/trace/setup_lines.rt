@@ -1,18 +1,22 @@
 //! The lines of a trace that set a receiver up, one after another.
-ghost use Rattle.std.specs.Prelude.{◌≡◌, ◌≤◌, ◌<◌, ◌↔◌, [], IsTrue, OnOk, IfErr, vec_len};
-ghost use Rattle.receiver.specs.Faults.{CanReceive};
-ghost use Rattle.texts.specs.Inside.SetupLines.{HasSetup, IsCarried, AddsTo, IsSfidAmong};
+ghost use Rattle.std.specs.Prelude.{◌≡◌, ◌≤◌, ◌<◌, ◌↔◌, ◌∷◌, [], IsTrue, IfOk, OnOk, IfErr, vec_len};
+ghost use Rattle.receiver.specs.Widths.{CanReceiveWithin};
+ghost use Rattle.texts.specs.Trace.Line.{shape_of};
+ghost use Rattle.text_lines.specs.Inside.LineFault.{IsLineFault};
+ghost use Rattle.text_lines.specs.Lines.{words_of};
+ghost use Rattle.texts.specs.Inside.SetupLines.{HasSetup, IsCarried, AddsTo};
+ghost use Rattle.texts.specs.Inside.TraceLine.{IsLeastFaultByItself};
+ghost use Rattle.texts.specs.Trace.Line.{Carries};
+ghost use Rattle.texts.specs.Trace.Place.{IsSfidAmong};
 ghost use Rattle.texts.specs.declared.trace.line.TraceLine.TheVariants as line;
 
+use super::line::{TraceLine, read_trace_line};
 use flow_core::FlowRecord;
-use lane::{SeenSids, SidRow};
-use receiver::Setup;
-use std::alloc::Global;
+use lane::{SidRow, SidTable};
+use receiver::{Setup, Width};
+use std::alloc::{AllocError, Global};
 use std::marker::Model;
 use text_lines::{LineFault, TraceKind};
-
-/// How many flows a trace may have.
-const FLOWS_MAX: usize = 64;
 
 /// Whether one of the flows has this service flow identifier.
 fn has_sfid(flows: &[FlowRecord], sfid: u32) -> bool
@@ -21,56 +25,78 @@ fn has_sfid(flows: &[FlowRecord], sfid: u32) -> bool
     flows.iter().any(|flow| flow.sfid == sfid)
 }
 
-/// The setup that the lines so far of a trace give. Contracts see the capacity of each flow's ring,
-/// which no line says, and the setup.
+/// The setup that the lines so far of a trace give. Contracts see the shape of the trace, which no
+/// line says, and the setup.
 #[derive(Drop)]
 pub struct SetupLines {
+    width: Width,
     ring: u16,
     setup: Setup,
-    seen: SeenSids,
+    seen: SidTable,
 }
 
 impl Model for SetupLines {
-    ghost use Rattle.texts.specs.Inside.SetupLines.{SetupSoFar, IsSetupSoFar};
+    ghost use Rattle.texts.specs.Trace.Line.{shape_of};
+    ghost use Rattle.texts.specs.Inside.SetupLines.{SetupSoFar, HoldsSetup};
 
     ghost Value = { SetupSoFar };
 
-    ghost view = { λ lines. record { ring = lines.ring; setup = lines.setup } };
+    ghost view = { λ lines. record {
+      shape = shape_of lines.width lines.ring;
+      setup = lines.setup;
+    } };
 
-    ghost invariant = { λ lines. IsSetupSoFar lines.ring lines.setup lines.seen };
+    ghost invariant = { λ lines.
+        HoldsSetup (shape_of lines.width lines.ring) lines.setup lines.seen };
 }
 
 impl SetupLines {
-    /// What no lines give, where each flow is to have a ring of this capacity, and the mailboxes
-    /// have that one.
-    pub fn new(alloc: Global, ring: u16, mailbox: u16) -> SetupLines
-        ensures ring { result.ring ≡ ring }
-        ensures flows { result.setup.flows.items ≡ [] }
-        ensures sids { result.setup.sids.items ≡ [] }
-        ensures mailbox { result.setup.mailbox ≡ mailbox }
+    /// What no lines give of a trace for a receiver of this width, where each flow is to have a ring
+    /// of this capacity, and the mailboxes have that one.
+    pub fn new(
+        alloc: Global,
+        width: Width,
+        ring: u16,
+        mailbox: u16,
+    ) -> Result<SetupLines, AllocError>
+        ensures shape { IfOk result (λ lines. lines.shape ≡ shape_of width ring) }
+        ensures flows { IfOk result (λ lines. lines.setup.flows.items ≡ []) }
+        ensures sids { IfOk result (λ lines. lines.setup.sids.items ≡ []) }
+        ensures mailbox { IfOk result (λ lines. lines.setup.mailbox ≡ mailbox) }
     {
-        SetupLines {
+        let seen = SidTable::new(alloc, width.channels())?;
+        Ok(SetupLines {
+            width,
             ring,
             setup: Setup {
                 flows: Vec::new(alloc),
                 sids: Vec::new(alloc),
                 mailbox,
             },
-            seen: SeenSids::new(),
-        }
+            seen,
+        })
     }
 
-    /// The capacity of each flow's ring.
-    pub fn ring(&self) -> u16
-        ensures { result ≡ self.now.ring }
+    /// What a line of the trace says by itself, by its first field and what follows that.
+    pub fn read_line(
+        &self,
+        alloc: Global,
+        field: &[u8],
+        rest: &[u8],
+    ) -> Result<TraceLine, LineFault>
+        ensures carried { IfOk result
+            (Carries self.now.shape (field.now ∷ words_of rest.now)) }
+        ensures fault { IfErr result (IsLineFault
+            (IsLeastFaultByItself self.now.shape (field.now ∷ words_of rest.now))) }
     {
-        self.ring
+        read_trace_line(alloc, self.width, self.ring, field, rest)
     }
 
     /// The setup so far.
     pub fn setup(&self) -> &Setup
         ensures same { result.now ≡ self.now.setup }
-        ensures can_receive { 1 ≤ self.now.ring → CanReceive result.now }
+        ensures can_receive { 1 ≤ self.now.shape.ring
+            → CanReceiveWithin self.now.shape.channels self.now.shape.flows result.now }
     {
         &self.setup
     }
@@ -88,12 +114,12 @@ impl SetupLines {
 
     /// Adds a flow.
     pub fn add_flow(&mut self, flow: FlowRecord) -> Result<(), LineFault>
-        requires { IsCarried self.old.ring (line.Flow flow) }
+        requires { IsCarried self.old.shape (line.Flow flow) }
         ensures added { AddsTo HasSetup self.old (line.Flow flow) result self.new }
-        ensures ring { self.new.ring ≡ self.old.ring }
+        ensures shape { self.new.shape ≡ self.old.shape }
         ensures mailbox { self.new.setup.mailbox ≡ self.old.setup.mailbox }
     {
-        if self.setup.flows.len() >= FLOWS_MAX {
+        if self.setup.flows.len() >= usize::from(self.width.flows()) {
             return Err(LineFault::Kind(TraceKind::TooManyFlows));
         }
         if has_sfid(&self.setup.flows, flow.sfid) {
@@ -104,9 +130,9 @@ impl SetupLines {
 
     /// Adds a service identifier.
     pub fn add_sid(&mut self, row: SidRow) -> Result<(), LineFault>
-        requires { IsCarried self.old.ring (line.Sid row) }
+        requires { IsCarried self.old.shape (line.Sid row) }
         ensures added { AddsTo HasSetup self.old (line.Sid row) result self.new }
-        ensures ring { self.new.ring ≡ self.old.ring }
+        ensures shape { self.new.shape ≡ self.old.shape }
         ensures mailbox { self.new.setup.mailbox ≡ self.old.setup.mailbox }
     {
         self.find_flow(row.flow)?;

@@ -57,3 +57,6 @@ returns-clause-run_by g c = (SaysOfWords-run c.new-reader.ensures.inner c.run_wo
 
 pub returns-clause-run_by_is_known : goal.returns-clause-run_by_is_known
 returns-clause-run_by_is_known g c = (SaysOfWords-run c.new-reader.ensures.inner c.run_words-status.ensures).run_by_is_known
+
+pub returns-clause-follow : goal.returns-clause-follow
+returns-clause-follow g c = (SaysOfWords-run c.new-reader.ensures.inner c.run_words-status.ensures).follow

@@ -1,13 +1,11 @@
-use Rattle.std.proofs.Common.{◌≡◌, List, ℕ, subst}
-use Rattle.std.specs.Prelude.{flat_map}
+use Rattle.std.proofs.Common.{◌≡◌, List, ℕ, sym, subst}
 use Rattle.std.proofs.lemmas.Result.{err_from_is_err_and}
 use Rattle.docsis_wire.specs.declared.pieces.FillByte.{FillByte}
 use Rattle.docsis_wire.specs.declared.pieces.Piece.{Piece}
-use Rattle.docsis_wire.specs.declared.segment.Segment.{Segment}
 use Rattle.docsis_wire.specs.CutUnderWay.{CutUnderWay}
 use Rattle.text_lines.specs.Format.{IsRead}
 use Rattle.text_lines.specs.Lines.{lines_of}
-use Rattle.texts.specs.Cut.{IsCutInto, IsCutText, IsCutFault, segment_line}
+use Rattle.texts.specs.Cut.{IsCutInto, IsCutText, IsCutFault, IsPrinted}
 use Rattle.texts.specs.Cut.Line.{nothing, cut_format}
 use Rattle.texts.proofs.CutOfLines.{cut_text, cut_fault}
 use Rattle.engines.proofs.EngineRan.{ran-unread, ran-faulty, ran-written, ran-failed}
@@ -31,13 +29,13 @@ returns-in_err-cutter g c =
     rw (p.1, p.2) (ran-faulty g.R.Read.remaining g.W.Write.contents (IsCutText c.args.first c.args.fill) IsCutFault c.args.reader.now c.read_lines.new.reader c.args.writer.now
     read.input read.is c.in_ok-read.ensures.to_end c.in_err-cutter.field-0.0 faulty)
 
--- the lines that were written are the text of the cut
-cut_of : (first : ℕ) (fill : FillByte) (input : List ℕ) (frames : List (List ℕ)) (pieces : List Piece) (cut : CutUnderWay) (segments : List Segment)
+-- the text that was written is that of the cut
+cut_of : (first : ℕ) (fill : FillByte) (input : List ℕ) (frames : List (List ℕ)) (pieces : List Piece) (cut : CutUnderWay) (text : List ℕ)
     → IsRead cut_format nothing (lines_of input) (record { frames = frames; pieces = pieces })
-    → cut ≡ record { frames = frames; pieces = pieces; first = first; fill = fill; made = 0 } → IsCutInto cut.first cut.fill cut.frames cut.pieces segments
-    → IsCutText first fill input (flat_map segment_line segments)
-cut_of first fill input frames pieces cut segments read begins into =
-    cut_text input frames pieces read first fill segments (subst (λ (one : CutUnderWay). IsCutInto one.first one.fill one.frames one.pieces segments) begins into)
+    → cut ≡ record { frames = frames; pieces = pieces; first = first; fill = fill; made = 0 } → IsPrinted cut text → IsCutText first fill input text
+cut_of first fill input frames pieces cut text read begins printed =
+    let into = subst (λ (one : CutUnderWay). IsCutInto one.first one.fill one.frames one.pieces printed.segments) begins printed.made in
+    subst (IsCutText first fill input) (sym printed.printed) (cut_text input frames pieces read first fill printed.segments into)
 
 pub returns-in_err-write_segments : goal.returns-in_err-write_segments
 returns-in_err-write_segments g c =
@@ -46,12 +44,12 @@ returns-in_err-write_segments g c =
     let read = c.in_ok-read.ensures.read nothing fresh in
     let written = c.write_segments.ensures in
     let stands =
-    cut_of c.args.first c.args.fill read.input c.in_ok-read.read.frames.items c.in_ok-read.read.pieces.items c.in_ok-cutter.cutter written.segments (read_cut _ c.in_ok-read.read read)
-    c.in_ok-cutter.ensures.begins written.made
+    cut_of c.args.first c.args.fill read.input c.in_ok-read.read.frames.items c.in_ok-read.read.pieces.items c.in_ok-cutter.cutter written.0 (read_cut _ c.in_ok-read.read read)
+    c.in_ok-cutter.ensures.begins written.1
     in
     rw (p.1, p.2) (ran-failed g.R.Read.remaining g.W.Write.contents (IsCutText c.args.first c.args.fill) IsCutFault c.args.reader.now c.read_lines.new.reader c.args.writer.now
-    c.write_segments.new.writer read.input (flat_map segment_line written.segments) read.is stands c.in_ok-read.ensures.to_end c.in_err-write_segments.field-0.0
-    (rw c.in_err-write_segments.was at written.written))
+    c.write_segments.new.writer read.input written.0 read.is stands c.in_ok-read.ensures.to_end c.in_err-write_segments.field-0.0
+    (rw c.in_err-write_segments.was at written.2))
 
 pub returns : goal.returns
 returns g c =
@@ -59,9 +57,9 @@ returns g c =
     let read = c.in_ok-read.ensures.read nothing fresh in
     let written = c.write_segments.ensures in
     let stands =
-    cut_of c.args.first c.args.fill read.input c.in_ok-read.read.frames.items c.in_ok-read.read.pieces.items c.in_ok-cutter.cutter written.segments (read_cut _ c.in_ok-read.read read)
-    c.in_ok-cutter.ensures.begins written.made
+    cut_of c.args.first c.args.fill read.input c.in_ok-read.read.frames.items c.in_ok-read.read.pieces.items c.in_ok-cutter.cutter written.0 (read_cut _ c.in_ok-read.read read)
+    c.in_ok-cutter.ensures.begins written.1
     in
     ran-written g.R.Read.remaining g.W.Write.contents (IsCutText c.args.first c.args.fill) IsCutFault c.args.reader.now c.read_lines.new.reader c.args.writer.now
-    c.write_segments.new.writer read.input (flat_map segment_line written.segments) read.is stands c.in_ok-read.ensures.to_end c.in_ok-write_segments.field-0 c.requires.writer.0
-    (rw c.in_ok-write_segments.was at written.written)
+    c.write_segments.new.writer read.input written.0 read.is stands c.in_ok-read.ensures.to_end c.in_ok-write_segments.field-0 c.requires.writer.0
+    (rw c.in_ok-write_segments.was at written.2)

@@ -4,7 +4,7 @@ use Rattle.docsis_wire.specs.declared.header_check.NoCheck.{NoCheck}
 use Rattle.receiver.specs.declared.replaying.Replaying.{Replaying}
 use Rattle.receiver.specs.Replaying.{HasReplayed}
 use Rattle.texts.specs.AnyHeader.{any_header}
-use Rattle.texts.specs.Inside.UnderWay.{no_check}
+use Rattle.texts.specs.AnyHeader.{no_check}
 use Rattle.texts.proofs.replay.under_way.UnderWay.finish.Goals as goal
 
 pub returns-clause-order : goal.returns-clause-order

@@ -10,7 +10,7 @@ returns c = λ said has.
     record {
       faultless = decision_without_fault said c.args.decision known;
       has = record {
-        setup = record { ring = has.setup.ring; flows = has.setup.flows; sids = has.setup.sids };
+        setup = record { shape = has.setup.shape; flows = has.setup.flows; sids = has.setup.sids };
         lists = AreListsOf-decision said.entries c.args.self.now.lists _ c.args.decision has.lists refl c.in_ok-push.ensures.items;
         tags = c.in_ok-push_tag.ensures ∙ tags-pushed c.args.self.now.tags.items said.entries entry has.tags;
       };

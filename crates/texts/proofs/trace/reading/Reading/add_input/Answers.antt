@@ -9,7 +9,7 @@ returns c = λ said has.
     record {
       faultless = input_without_fault said c.args.channel c.args.input;
       has = record {
-        setup = record { ring = has.setup.ring; flows = has.setup.flows; sids = has.setup.sids };
+        setup = record { shape = has.setup.shape; flows = has.setup.flows; sids = has.setup.sids };
         lists = AreListsOf-input said.entries c.args.self.now.lists _ c.args.channel c.args.input c.from.result c.index-self-from.result _
             has.lists c.requires c.from.ensures refl c.in_ok-push.ensures.items refl;
         tags = c.in_ok-push_tag.ensures ∙ tags-pushed c.args.self.now.tags.items said.entries entry has.tags;

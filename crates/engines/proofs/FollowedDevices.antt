@@ -1,0 +1,293 @@
+-- What following a trace promises follows from what became of its pieces and of its end.
+use Rattle.std.proofs.Common.{◌≡◌, ◌≢◌, ℕ, ◌-◌, ◌^◌, ◌<◌, ◌≤◌, ◌⊎◌, inl, inr, Option, Some, None, Result, Ok, Err, true, false, List, [], ◌∷◌, ◌++◌, length, refl, sym, ap, subst, ◌∙◌, arith, append-nil, length-append}
+use Rattle.std.specs.Prelude.{flat_map, IfSome, MatchResult}
+use Rattle.std.specs.Io.KnownBytes.{Appends, Keeps, Consumes, IsAtEnd}
+use Rattle.std.proofs.KnownBytes.{Appends-nil, Appends-trans, Consumes-nil, Consumes-trans, Consumes-kept, Consumes-all}
+use Rattle.std.proofs.lemmas.Grind.{flat_map-append}
+use Rattle.consumer.specs.declared.given.Given.{Given}
+use Rattle.loss_rule.specs.declared.rule.LossRule.{LossRule}
+use Rattle.receiver.specs.declared.width.Width.{Width}
+use Rattle.text_lines.specs.Capacities.{default_capacity}
+use Rattle.text_lines.specs.declared.fault.TraceFault.{TraceFault}
+use Rattle.text_lines.specs.Format.{no_lines, IsFirstFaultyLine}
+use Rattle.text_lines.specs.Lines.{lines_of}
+use Rattle.texts.specs.Follow.{given_line, IsFollowed, IsFollowedSoFar}
+use Rattle.texts.specs.Trace.Line.{shape_of}
+use Rattle.texts.specs.Trace.Place.{nothing_said_in, trace_format}
+use Rattle.engines.specs.declared.device.Device.{Device}
+use Rattle.engines.specs.declared.fault.EngineFault.{EngineFault}
+use Rattle.engines.specs.declared.fault.EngineFault.TheVariants.{Trace, Cut, OutOfMemory, Read, Write, Usage}
+use Rattle.engines.specs.declared.follow.Follower.{Follower}
+use Rattle.engines.specs.Device.{inner_of, has_failed, given_of}
+use Rattle.engines.specs.Engine.{WritesText}
+use Rattle.engines.specs.Following.{IsTextOfFront, IsTextOfWhole, IsFollowedTill, HasFollowCause, FollowsTrace}
+use Rattle.engines.specs.Inside.Following.{HasFollowedBytes, IsFollowFault, IsFollowFaultOr, WritesTill, EndsBy}
+use Rattle.engines.specs.Transfer.{AppendsFront, IsLeftFlushed}
+use Rattle.engines.proofs.FollowedLines.{text_so_far, front_of_whole}
+use Rattle.engines.proofs.WrittenText.{AppendsFront-behind}
+
+-- a writer was not used, or flushed, and then again
+pub flushed_then : {W : Type 0} (a b c : Device W) → IsLeftFlushed a b → IsLeftFlushed b c → IsLeftFlushed a c
+flushed_then {W = W} a b c first (inl same) = subst (λ (device : Device W). IsLeftFlushed a device) (sym same) first
+flushed_then a b c first (inr flushed) = inr flushed
+
+module _ {R W : Type 0} (remaining : R → Option (List ℕ)) (contents : W → Option (List ℕ)) (rule : LossRule) (width : Width) where
+  -- So far these bytes were read and followed, and what was given for their lines was written and flushed.
+  pub record FollowsSoFar (reader reader' : Device R) (writer writer' : Device W) (follower : Follower) : Type 0 where
+    pub bytes : List ℕ
+    pub told : List Given
+    pub followed : HasFollowedBytes rule width bytes told follower
+    pub read : Consumes (remaining (inner_of reader)) (remaining (inner_of reader')) bytes
+    pub wrote : Appends (contents (inner_of writer)) (contents (inner_of writer')) (flat_map given_line told)
+    pub flushed : IsLeftFlushed writer writer'
+    pub sound : has_failed writer' ≡ has_failed writer
+    pub read_sound : has_failed reader' ≡ has_failed reader
+
+  module _ (reader : Device R) (writer : Device W) where
+    -- nothing was read
+    pub far_nothing : (follower : Follower) → HasFollowedBytes rule width [] [] follower → FollowsSoFar reader reader writer writer follower
+    far_nothing follower has = record {
+      bytes = [];
+      told = [];
+      followed = has;
+      read = Consumes-nil (remaining (inner_of reader));
+      wrote = Appends-nil (contents (inner_of writer));
+      flushed = inl refl;
+      sound = refl;
+      read_sound = refl;
+    }
+
+    -- an allocation failed before anything was read
+    pub trace_refused : FollowsTrace rule width remaining contents reader reader writer writer (Err OutOfMemory)
+    trace_refused = record {
+      written = tt;
+      above = λ other. ([], till, Appends-nil (contents (inner_of writer)));
+      write_fault = λ is. absurd cc;
+      flushed = tt;
+      flushed_above = λ other. inl refl;
+      cause = tt;
+      no_cause = tt;
+    } where
+      nothing : IsFollowedSoFar rule width [] []
+      nothing = record {
+        said = nothing_said_in (shape_of width default_capacity);
+        read = no_lines;
+        given = [];
+        is_given = inl (refl, refl);
+        printed = refl;
+      }
+
+      till : IsFollowedTill rule width (remaining (inner_of reader)) (remaining (inner_of reader)) OutOfMemory []
+      till = record {
+        bytes = [];
+        read = Consumes-nil (remaining (inner_of reader));
+        front = record { lines = []; below = [] ∷ []; some = omega arith; parts = refl; followed = nothing };
+        whole = λ is. absurd cc;
+      }
+
+    module _ (reader' : Device R) (writer' : Device W) (follower : Follower) (far : FollowsSoFar reader reader' writer writer' follower) where
+      abbrev text : List ℕ
+      text = flat_map given_line far.told
+
+      whole : IsTextOfWhole rule width far.bytes text
+      whole = text_so_far rule width far.bytes far.told follower far.followed
+
+      till_here : (left : Option (List ℕ)) (fault : EngineFault) → Consumes (remaining (inner_of reader)) left far.bytes
+          → IsFollowedTill rule width (remaining (inner_of reader)) left fault text
+      till_here left fault read =
+          record { bytes = far.bytes; read = read; front = front_of_whole rule width far.bytes text whole; whole = λ is. whole }
+
+      -- the reader failed, or gave as much as can be counted
+      pub trace_unread : (reader'' : Device R) → Keeps (remaining (inner_of reader')) (remaining (inner_of reader''))
+          → (has_failed reader'' ≡ true) ⊎ (2 ^ 64 - 1 ≤ given_of reader'') → FollowsTrace rule width remaining contents reader reader'' writer writer' (Err Read)
+      trace_unread reader'' kept cause = record {
+        written = tt;
+        above = λ other. (
+          text,
+          till_here (remaining (inner_of reader'')) Read
+              (Consumes-kept (remaining (inner_of reader)) (remaining (inner_of reader')) (remaining (inner_of reader'')) far.bytes far.read kept),
+          far.wrote,
+        );
+        write_fault = λ is. absurd cc;
+        flushed = tt;
+        flushed_above = λ other. far.flushed;
+        cause = cause;
+        no_cause = tt;
+      }
+
+      -- one text was written, and another behind it
+      both_written : (more : List Given) → text ++ flat_map given_line more ≡ flat_map given_line (far.told ++ more)
+      both_written more = sym (flat_map-append given_line far.told more)
+
+      module _ (reader'' : Device R) (piece : List ℕ) (read : Consumes (remaining (inner_of reader')) (remaining (inner_of reader'')) piece) where
+        read_both : Consumes (remaining (inner_of reader)) (remaining (inner_of reader'')) (far.bytes ++ piece)
+        read_both =
+            Consumes-trans (remaining (inner_of reader)) (remaining (inner_of reader')) (remaining (inner_of reader'')) far.bytes piece far.read read
+
+        -- a piece was followed
+        pub far_more : (writer'' : Device W) (follower' : Follower) (given : List Given) → has_failed reader'' ≡ has_failed reader'
+            → HasFollowedBytes rule width (far.bytes ++ piece) (far.told ++ given) follower'
+            → Appends (contents (inner_of writer')) (contents (inner_of writer'')) (flat_map given_line given) → IsLeftFlushed writer' writer''
+            → has_failed writer'' ≡ has_failed writer' → FollowsSoFar reader reader'' writer writer'' follower'
+        far_more writer'' follower' given read_sound followed wrote flushed sound = record {
+          bytes = far.bytes ++ piece;
+          told = far.told ++ given;
+          followed = followed;
+          read = read_both;
+          wrote =
+              subst (λ (all : List ℕ). Appends (contents (inner_of writer)) (contents (inner_of writer'')) all) (both_written given)
+              (Appends-trans (contents (inner_of writer)) (contents (inner_of writer')) (contents (inner_of writer'')) text (flat_map given_line given) far.wrote wrote);
+          flushed = flushed_then writer writer' writer'' far.flushed flushed;
+          sound = sound ∙ far.sound;
+          read_sound = read_sound ∙ far.read_sound;
+        }
+
+        module _ (writer'' : Device W) (given : List Given)
+            (front : IsTextOfFront rule width (far.bytes ++ piece) (flat_map given_line (far.told ++ given))) where
+          till_there : (fault : EngineFault) → fault ≢ Read
+              → IsFollowedTill rule width (remaining (inner_of reader)) (remaining (inner_of reader'')) fault (flat_map given_line (far.told ++ given))
+          till_there fault other = record { bytes = far.bytes ++ piece; read = read_both; front = front; whole = λ is. absurd (other is) }
+
+          -- of what is known the first faulty line
+          known_fault : (known left : Option (List ℕ)) (bytes : List ℕ) (fault : TraceFault) → Consumes known left bytes → IsFollowFault width bytes (Trace fault)
+              → IfSome known (λ input. length input < 2 ^ 64
+              → IsFirstFaultyLine trace_format (nothing_said_in (shape_of width default_capacity)) (lines_of input) fault)
+          known_fault None left bytes fault read is = tt
+          known_fault (Some input) None bytes fault read is = absurd read
+          known_fault (Some input) (Some left) bytes fault read is = λ few.
+              subst (λ (all : List ℕ). IsFirstFaultyLine trace_format (nothing_said_in (shape_of width default_capacity)) (lines_of all) fault) (sym read)
+              (is (omega (arith, few, ap length read, length-append bytes left)) left)
+
+          -- why no more was followed
+          cause_of : (fault : EngineFault) → IsFollowFault width (far.bytes ++ piece) fault → HasFollowCause width (remaining (inner_of reader)) reader'' writer'' fault
+          cause_of (Trace fault) is = known_fault (remaining (inner_of reader)) (remaining (inner_of reader'')) (far.bytes ++ piece) fault read_both is
+          cause_of (Cut fault) is = absurd is
+          cause_of OutOfMemory is = tt
+          cause_of Read is = absurd is
+          cause_of Write is = absurd is
+          cause_of Usage is = absurd is
+
+          -- a line of the piece is at fault, or an allocation failed
+          stopped_at : (fault : EngineFault) → fault ≢ Write → fault ≢ Read → IsFollowFault width (far.bytes ++ piece) fault
+              → Appends (contents (inner_of writer')) (contents (inner_of writer'')) (flat_map given_line given) × IsLeftFlushed writer' writer''
+              × (has_failed writer'' ≡ has_failed writer') → FollowsTrace rule width remaining contents reader reader'' writer writer'' (Err fault)
+          stopped_at fault no_write no_read is wrote = record {
+            written = tt;
+            above = λ other. (
+              flat_map given_line (far.told ++ given),
+              till_there fault no_read,
+              subst (λ (all : List ℕ). Appends (contents (inner_of writer)) (contents (inner_of writer'')) all) (both_written given)
+                  (Appends-trans (contents (inner_of writer)) (contents (inner_of writer')) (contents (inner_of writer'')) text (flat_map given_line given) far.wrote wrote.0),
+            );
+            write_fault = λ written. absurd (no_write cc);
+            flushed = tt;
+            flushed_above = λ other. flushed_then writer writer' writer'' far.flushed wrote.1;
+            cause = cause_of fault is;
+            no_cause = tt;
+          }
+
+          pub trace_stopped : (fault : EngineFault) → IsFollowFaultOr contents width (far.bytes ++ piece) fault
+              → WritesTill contents writer' writer'' (flat_map given_line given) fault → FollowsTrace rule width remaining contents reader reader'' writer writer'' (Err fault)
+          trace_stopped (Trace fault) is wrote = stopped_at (Trace fault) (λ e. absurd cc) (λ e. absurd cc) is wrote
+          trace_stopped (Cut fault) is wrote = absurd is
+          trace_stopped OutOfMemory is wrote = stopped_at OutOfMemory (λ e. absurd cc) (λ e. absurd cc) is wrote
+          trace_stopped Read is wrote = absurd is
+          trace_stopped Usage is wrote = absurd is
+          trace_stopped Write is wrote = record {
+            written = tt;
+            above = λ other. absurd (other refl);
+            write_fault = λ _. (
+              flat_map given_line (far.told ++ given),
+              inr (till_there Write (λ e. absurd cc)),
+              subst (λ (all : List ℕ). AppendsFront (contents (inner_of writer)) (contents (inner_of writer'')) all) (both_written given)
+                  (AppendsFront-behind (contents (inner_of writer)) (contents (inner_of writer')) (contents (inner_of writer'')) text (flat_map given_line given) far.wrote wrote.0),
+            );
+            flushed = tt;
+            flushed_above = λ other. absurd (other refl);
+            cause = wrote.1;
+            no_cause = tt;
+          }
+
+      -- ---- the end of the input
+
+      module _ (reader'' : Device R) (read : Consumes (remaining (inner_of reader')) (remaining (inner_of reader'')) []) (end : IsAtEnd (remaining (inner_of reader''))) where
+        read_all : Consumes (remaining (inner_of reader)) (remaining (inner_of reader'')) far.bytes
+        read_all =
+            subst (λ (bytes : List ℕ). Consumes (remaining (inner_of reader)) (remaining (inner_of reader'')) bytes) (append-nil far.bytes)
+            (Consumes-trans (remaining (inner_of reader)) (remaining (inner_of reader')) (remaining (inner_of reader'')) far.bytes [] far.read read)
+
+        all_of : (P : List ℕ → Type 0) → P far.bytes → IfSome (remaining (inner_of reader)) P
+        all_of P is = of_known (remaining (inner_of reader)) (Consumes-all (remaining (inner_of reader)) (remaining (inner_of reader'')) far.bytes [] far.bytes read_all end refl) where
+          of_known : (known : Option (List ℕ)) → IfSome known (λ input. far.bytes ≡ [] ++ input) → IfSome known P
+          of_known None same = tt
+          of_known (Some input) same = subst P same is
+
+        -- all was followed and written
+        pub trace_followed : (writer'' : Device W) (done : Unit {0}) (rest : List ℕ) → has_failed reader ≡ false → has_failed writer ≡ false
+            → has_failed reader'' ≡ has_failed reader' → IsFollowed rule width far.bytes (text ++ rest)
+            → Appends (contents (inner_of writer')) (contents (inner_of writer'')) rest → IsLeftFlushed writer' writer'' → has_failed writer'' ≡ has_failed writer'
+            → FollowsTrace rule width remaining contents reader reader'' writer writer'' (Ok done)
+        trace_followed writer'' done rest read_sound sound kept followed wrote flushed writes = record {
+          written =
+              all_of (WritesText (IsFollowed rule width) (contents (inner_of writer)) (contents (inner_of writer''))) (
+                text ++ rest,
+                followed,
+                Appends-trans (contents (inner_of writer)) (contents (inner_of writer')) (contents (inner_of writer'')) text rest far.wrote wrote,
+              );
+          above = tt;
+          write_fault = λ is. absurd cc;
+          flushed = flushed_then writer writer' writer'' far.flushed flushed;
+          flushed_above = tt;
+          cause = tt;
+          no_cause = (kept ∙ far.read_sound ∙ read_sound, end, writes ∙ far.sound ∙ sound);
+        }
+
+        -- the last line is at fault, or an allocation failed
+        ended_at : (fault : EngineFault) → fault ≢ Write → HasFollowCause width (remaining (inner_of reader)) reader'' writer' fault
+            → FollowsTrace rule width remaining contents reader reader'' writer writer' (Err fault)
+        ended_at fault no_write cause = record {
+          written = tt;
+          above = λ other. (text, till_here (remaining (inner_of reader'')) fault read_all, far.wrote);
+          write_fault = λ written. absurd (no_write cc);
+          flushed = tt;
+          flushed_above = λ other. far.flushed;
+          cause = cause;
+          no_cause = tt;
+        }
+
+        pub trace_ended : (writer'' : Device W) (fault : EngineFault) → EndsBy contents rule width far.bytes far.told writer' writer'' fault
+            → FollowsTrace rule width remaining contents reader reader'' writer writer'' (Err fault)
+        trace_ended writer'' (Trace fault) by =
+            subst (λ (device : Device W). FollowsTrace rule width remaining contents reader reader'' writer device (Err (Trace fault))) (sym by.0)
+            (ended_at (Trace fault) (λ e. absurd cc)
+            (all_of (λ input. length input < 2 ^ 64 → IsFirstFaultyLine trace_format (nothing_said_in (shape_of width default_capacity)) (lines_of input) fault) by.1))
+        trace_ended writer'' (Cut fault) by = absurd by.1
+        trace_ended writer'' OutOfMemory by =
+            subst (λ (device : Device W). FollowsTrace rule width remaining contents reader reader'' writer device (Err OutOfMemory)) (sym by.0)
+            (ended_at OutOfMemory (λ e. absurd cc) tt)
+        trace_ended writer'' Read by = absurd by.1
+        trace_ended writer'' Usage by = absurd by.1
+        trace_ended writer'' Write by = record {
+          written = tt;
+          above = λ other. absurd (other refl);
+          write_fault = λ _. (
+            text ++ by.0,
+            inl (all_of (λ input. IsFollowed rule width input (text ++ by.0)) by.1),
+            AppendsFront-behind (contents (inner_of writer)) (contents (inner_of writer')) (contents (inner_of writer'')) text by.0 far.wrote by.2,
+          );
+          flushed = tt;
+          flushed_above = λ other. absurd (other refl);
+          cause = by.3;
+          no_cause = tt;
+        }
+
+        -- the end was followed, or not
+        pub trace_finished : (writer'' : Device W) (result : Result (Unit {0}) EngineFault) → has_failed reader ≡ false → has_failed writer ≡ false
+            → has_failed reader'' ≡ has_failed reader'
+            → MatchResult result
+            (λ _. (rest : List ℕ) × IsFollowed rule width far.bytes (text ++ rest)
+            × Appends (contents (inner_of writer')) (contents (inner_of writer'')) rest × IsLeftFlushed writer' writer'' × (has_failed writer'' ≡ has_failed writer'))
+            (λ fault. EndsBy contents rule width far.bytes far.told writer' writer'' fault)
+            → FollowsTrace rule width remaining contents reader reader'' writer writer'' result
+        trace_finished writer'' (Ok done) read_sound sound kept ends = trace_followed writer'' done ends.0 read_sound sound kept ends.1 ends.2 ends.3 ends.4
+        trace_finished writer'' (Err fault) read_sound sound kept ends = trace_ended writer'' fault ends

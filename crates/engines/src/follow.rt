@@ -1,0 +1,206 @@
+//! The command `follow`: what a receiver gives for the lines of a trace is written as they are read.
+ghost use Rattle.std.specs.Prelude.{◌≡◌, ◌≤◌, ◌<◌, ◌+◌, ◌-◌, ◌^◌, [], length, min, take, true, IfOk, IfErr, OnErr};
+ghost use Rattle.std.specs.Io.KnownBytes.{Consumes, Keeps, IsAtEnd};
+ghost use Rattle.engines.specs.Device.{inner_of, has_failed, given_of, IsFresh};
+ghost use Rattle.engines.specs.Following.{FollowsTrace};
+ghost use Rattle.engines.specs.Inside.Following.{HasFollowedBytes, FollowsPiece};
+ghost use Rattle.engines.specs.Inside.Following.{FollowsWritten, FollowsEnd};
+ghost use Rattle.engines.specs.Inside.Following.{WritesPiece, ClosesFollowed, CannotClose};
+ghost use Rattle.engines.specs.Writing.{IsWritten};
+ghost use Rattle.texts.specs.Follow.{end_text};
+
+use crate::device::Device;
+use crate::fault::{EngineFault, WriteFault};
+use crate::text_writer::{TextWriter, held_room};
+use crate::transfer::zeros;
+use loss_rule::LossRule;
+use receiver::Width;
+use std::alloc::{AllocError, Global};
+use std::io::{Read, Write};
+use text_lines::{LineReader, PutText, split_behind_line};
+use texts::{FollowInput, Followed, finish_follow, put_end};
+
+/// How many bytes are asked of the reader at once.
+const PIECE_BYTES: usize = 262_144;
+
+/// The lines so far of a trace that is followed.
+#[derive(Drop)]
+struct Follower {
+    lines: LineReader,
+    input: FollowInput,
+}
+
+impl Follower {
+    /// One that has read nothing.
+    fn new(alloc: Global, rule: LossRule, width: Width) -> Result<Follower, AllocError>
+        ensures { IfOk result (HasFollowedBytes rule width [] []) }
+    {
+        Ok(Follower {
+            lines: LineReader::new(alloc),
+            input: FollowInput::new(alloc, width, rule)?,
+        })
+    }
+
+    /// Takes the lines of a piece one after another, and puts what the receiver gives for each
+    /// before the next is taken.
+    fn take_lines<O: PutText>(
+        &mut self,
+        alloc: Global,
+        piece: &[u8],
+        out: &mut O,
+    ) -> Result<(), EngineFault>
+        ensures { FollowsPiece O.after self.old out.old piece.now self.new out.new result }
+    {
+        let mut rest = piece;
+        while !rest.is_empty() {
+            let (line, below) = split_behind_line(rest);
+            self.take_line(alloc, line, out)?;
+            rest = below;
+        }
+        Ok(())
+    }
+
+    /// Takes a piece, and then puts what the receiver gave for it.
+    fn take_line<O: PutText>(
+        &mut self,
+        alloc: Global,
+        piece: &[u8],
+        out: &mut O,
+    ) -> Result<(), EngineFault>
+        ensures { FollowsPiece O.after self.old out.old piece.now self.new out.new result }
+    {
+        self.lines.take_piece(alloc, piece, &mut self.input)?;
+        self.input.put_given(out)?;
+        Ok(())
+    }
+
+    /// Takes the lines of a piece, and writes what the receiver gives for them. It answers how that
+    /// went, and how the lines were taken. The room is empty.
+    fn write_lines<W: Write>(
+        &mut self,
+        alloc: Global,
+        piece: &[u8],
+        room: &mut Vec<u8>,
+        writer: &mut Device<W>,
+    ) -> (Result<(), WriteFault>, Result<(), EngineFault>)
+        requires { room.old.items ≡ [] }
+        ensures { WritesPiece W.contents self.old writer.old piece.now
+            self.new writer.new result.0 result.1 }
+    {
+        let mut text = TextWriter::new(writer, room);
+        let taken = self.take_lines(alloc, piece, &mut text);
+        (text.finish(), taken)
+    }
+
+    /// Takes the lines of a piece, writes what the receiver gives for them, and flushes.
+    fn take_piece<W: Write>(
+        &mut self,
+        alloc: Global,
+        piece: &[u8],
+        room: &mut Vec<u8>,
+        writer: &mut Device<W>,
+    ) -> Result<(), EngineFault>
+        ensures { FollowsWritten W.contents self.old writer.old piece.now
+            self.new writer.new result }
+    {
+        room.clear();
+        let (written, taken) = self.write_lines(alloc, piece, room, writer);
+        written?;
+        taken
+    }
+
+    /// Takes the last line, which no line feed ends, and closes the receiver.
+    fn close(self, alloc: Global) -> Result<Followed, EngineFault>
+        ensures end { IfOk result (ClosesFollowed self) }
+        ensures fault { IfErr result (CannotClose self) }
+    {
+        let Follower { lines, mut input } = self;
+        lines.finish(alloc, &mut input)?;
+        Ok(finish_follow(alloc, input)?)
+    }
+
+    /// Takes the last line, closes the receiver, and writes what is left to be written.
+    fn finish<W: Write>(
+        self,
+        alloc: Global,
+        room: &mut Vec<u8>,
+        writer: &mut Device<W>,
+    ) -> Result<(), EngineFault>
+        ensures { FollowsEnd W.contents self writer.old writer.new result }
+    {
+        let end = self.close(alloc)?;
+        room.clear();
+        write_end(&end, room, writer)?;
+        Ok(())
+    }
+}
+
+/// Writes what is left to be written at the end of a trace that is followed. The room is empty.
+fn write_end<W: Write>(
+    end: &Followed,
+    room: &mut Vec<u8>,
+    writer: &mut Device<W>,
+) -> Result<(), WriteFault>
+    requires { room.old.items ≡ [] }
+    ensures { IsWritten W.contents (end_text end.now) writer.old writer.new result }
+{
+    let mut text = TextWriter::new(writer, room);
+    put_end(&mut text, end);
+    text.finish()
+}
+
+/// Makes one read of a reader. It answers how many bytes it gave, at the front of the room: none
+/// only at its end.
+fn read_some<R: Read>(reader: &mut Device<R>, room: &mut [u8]) -> Result<usize, EngineFault>
+    requires room { 0 < length room.old }
+    ensures within { IfOk result (λ count. count ≤ length room.new) }
+    ensures taken { IfOk result (λ count. Consumes (R.remaining (inner_of reader.old))
+        (R.remaining (inner_of reader.new)) (take count room.new)) }
+    ensures end { IfOk result (λ count. count ≡ 0 → IsAtEnd (R.remaining (inner_of reader.new))) }
+    ensures given { IfOk result (λ count. given_of reader.new
+        ≡ min (given_of reader.old + count) (2 ^ 64 - 1)) }
+    ensures sound { IfOk result (λ _. has_failed reader.new ≡ has_failed reader.old) }
+    ensures failed { OnErr result (has_failed reader.new ≡ true) }
+    ensures kept { OnErr result (Keeps (R.remaining (inner_of reader.old))
+        (R.remaining (inner_of reader.new))) }
+    ensures only { IfErr result (λ fault. fault ≡ EngineFault.Read) }
+{
+    match reader.read(room) {
+        Ok(count) => Ok(count),
+        Err(_) => Err(EngineFault::Read),
+    }
+}
+
+/// Follows the trace that a reader gives, of a receiver of this width, where besides the decisions
+/// of the trace this rule decides which segments are lost: what the receiver gives for a line is
+/// written as soon as the line is read, and flushed before more is read. It reads without a limit,
+/// up to 2^64 - 1 bytes, and holds a piece of the input, a line, and what the receiver holds.
+///
+/// `Read`: the reader failed, or gave more. `Trace`: the first faulty line, any kind but `TooShort`
+/// and `PointerPast`. `OutOfMemory`: an allocation failed. Whichever comes, what the receiver gave
+/// for the lines before was written and flushed. `Write`: the writer failed, and a front of the text
+/// may have gone out.
+pub fn follow_text<R: Read, W: Write>(
+    rule: LossRule,
+    width: Width,
+    alloc: Global,
+    reader: &mut Device<R>,
+    writer: &mut Device<W>,
+) -> Result<(), EngineFault>
+    requires reader { IsFresh reader.old }
+    requires writer { IsFresh writer.old }
+    ensures { FollowsTrace rule width R.remaining W.contents
+        reader.old reader.new writer.old writer.new result }
+{
+    let mut piece = zeros(alloc, PIECE_BYTES)?;
+    let mut room = held_room(alloc)?;
+    let mut follower = Follower::new(alloc, rule, width)?;
+    for _ in 0..u64::MAX {
+        let count = read_some(reader, &mut piece)?;
+        if count == 0 {
+            return follower.finish(alloc, &mut room, writer);
+        }
+        follower.take_piece(alloc, &piece[..count], &mut room, writer)?;
+    }
+    Err(EngineFault::Read)
+}

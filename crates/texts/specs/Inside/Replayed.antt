@@ -1,0 +1,27 @@
+-- What was replayed so far of a trace that is replayed as it is read.
+use Rattle.std.specs.Prelude.{◌==◌, ◌&&◌, Bool, Option, List}
+use Rattle.docsis_wire.specs.declared.header_check.NoCheck.{NoCheck}
+use Rattle.flow_records.specs.Limits.{flows_max}
+use Rattle.lane.specs.Limits.{channel_limit}
+use Rattle.loss_rule.specs.declared.rule.LossRule.{LossRule}
+use Rattle.receiver.specs.declared.setup.Setup.{Setup}
+use Rattle.receiver.specs.declared.replaying.Replaying.{Replaying}
+use Rattle.receiver.specs.declared.width.Width.{Width}
+use Rattle.receiver.specs.Entries.{Entry}
+use Rattle.receiver.specs.Replaying.{HasReplayed}
+use Rattle.texts.specs.AnyHeader.{any_header}
+use Rattle.texts.specs.AnyHeader.{no_check}
+use Rattle.texts.specs.Inside.SetupLines.{SetupSoFar}
+use Rattle.texts.specs.Inside.TraceInput.{TraceState, HasTakenLines}
+
+-- the width is the profile's
+abbrev pub is_profile : Width → Bool
+is_profile width = (width.channels == channel_limit) && (width.flows == flows_max)
+
+-- these entries were replayed, in this order, and nothing else
+abbrev pub WasReplayed : Unit {0} → LossRule → Width → Setup → List Entry → Replaying NoCheck → Type 0
+WasReplayed state rule width setup entries replaying = HasReplayed no_check rule any_header setup replaying entries
+
+-- what the lines say was set up and replayed
+abbrev pub HasReplayedLines : TraceState (Unit {0}) → Width → LossRule → SetupSoFar → Option (Replaying NoCheck) → Type 0
+HasReplayedLines = HasTakenLines tt WasReplayed

@@ -1,0 +1,82 @@
+//! The lines of what is followed.
+ghost use Rattle.std.specs.Prelude.{flat_map};
+ghost use Rattle.text_lines.specs.Putting.{Puts};
+ghost use Rattle.texts.specs.Follow.{given_line, tally_line, closed_flow, closed_lines};
+ghost use Rattle.texts.specs.Report.{numbered_lines};
+
+use crate::report_lines::{
+    put_flow_line, put_frame_line, put_named, put_request_line, put_spaced, put_word,
+};
+use consumer::Given;
+use flow_core::{FlowCounts, FlowRecord};
+use receiver::{Closed, LaneTally, Setup};
+use text_lines::PutText;
+
+/// Puts the line of a frame or of a request.
+fn put_one<O: PutText>(out: &mut O, one: &Given)
+    ensures { Puts O.after out.old (given_line one.now) out.new }
+{
+    match one {
+        Given::Frame { flow, frame } => put_frame_line(out, *flow, frame.as_slice()),
+        Given::Asked(request) => put_request_line(out, request),
+    }
+}
+
+/// Puts a line for each thing that was given.
+pub fn put_given<O: PutText>(out: &mut O, given: &[Given])
+    ensures { Puts O.after out.old (flat_map given_line given.now) out.new }
+{
+    for one in given {
+        if out.is_closed() {
+            return;
+        }
+        put_one(out, one);
+    }
+}
+
+/// Puts the line of the flow with this index, if it has a record.
+fn put_flow<O: PutText>(out: &mut O, records: &[FlowRecord], k: usize, counts: &FlowCounts)
+    ensures { Puts O.after out.old (closed_flow records.now k counts.now) out.new }
+{
+    if let Some(record) = records.get(k) {
+        put_flow_line(out, k, record.sfid, counts);
+    }
+}
+
+/// Puts the lines of what was counted of flows.
+fn put_flows<O: PutText>(out: &mut O, records: &[FlowRecord], flows: &[FlowCounts])
+    ensures { Puts O.after out.old
+        (numbered_lines (closed_flow records.now) flows.now) out.new }
+{
+    for (k, counts) in flows.iter().enumerate() {
+        put_flow(out, records, k, counts);
+    }
+}
+
+/// Puts the line of what was counted of this channel.
+fn put_tally<O: PutText>(out: &mut O, channel: usize, tally: &LaneTally)
+    ensures { Puts O.after out.old (tally_line channel tally.now) out.new }
+{
+    put_word(out, "lane");
+    put_spaced(out, channel as u64);
+    put_named(out, "admitted", tally.admitted);
+    put_named(out, "refusals", tally.refused);
+    put_word(out, "\n");
+}
+
+/// Puts the lines of what was counted of channels.
+fn put_tallies<O: PutText>(out: &mut O, tallies: &[LaneTally])
+    ensures { Puts O.after out.old (numbered_lines tally_line tallies.now) out.new }
+{
+    for (channel, tally) in tallies.iter().enumerate() {
+        put_tally(out, channel, tally);
+    }
+}
+
+/// Puts the lines of what was counted of each flow, and of each channel.
+pub fn put_closed<O: PutText>(out: &mut O, setup: &Setup, closed: &Closed)
+    ensures { Puts O.after out.old (closed_lines setup.now closed.now) out.new }
+{
+    put_flows(out, &setup.flows, &closed.flows);
+    put_tallies(out, &closed.lanes);
+}

@@ -1,0 +1,147 @@
+//! Traces that are followed: in pieces of any size, with faults, and up to a failure of the reader.
+use crate::fitful::{FitfulReader, FitfulWriter, Full};
+use crate::pieces::InPieces;
+use engines::{Device, EngineFault, follow_text};
+use loss_rule::LossRule;
+use receiver::Width;
+use std::alloc::Global;
+use std::io::{ErrorKind, Read};
+use std::test::Fail;
+use texts::{TraceFault, TraceKind};
+use worked_texts::samples::TRACE;
+
+/// What is printed of the trace where it may have four channels.
+pub(crate) const FOLLOWED: &str = "\
+frame 0 000000021111aabb
+frame 0 01010003e02222ccdd
+flow 0 100 kept 3 late 0 repeat 0 beyond 0 lost 0 frames 2 skipped 0
+lane 0 admitted 2 refusals 0
+lane 1 admitted 1 refusals 0
+lane 2 admitted 0 refusals 0
+lane 3 admitted 0 refusals 0
+";
+/// How many bytes of that are the two frames, and how many the first.
+const FRAMES_LENGTH: usize = 52;
+
+const FIRST_LENGTH: usize = 25;
+
+/// What came of following a trace, and what was written of it.
+#[derive(Drop)]
+struct Followed {
+    done: Result<(), EngineFault>,
+    text: Vec<u8>,
+}
+
+/// Follows what a reader gives, of so many channels and two flows, by decisions alone.
+fn follow<R: Read + Drop>(alloc: Global, channels: u8, reader: R) -> Result<Followed, Fail> {
+    let width = Width::new(channels, 2)?;
+    let mut reader = Device::new(reader);
+    let mut writer = Device::new(Vec::<u8>::new(alloc));
+    let done = follow_text(LossRule::Decided, width, alloc, &mut reader, &mut writer);
+    reader.into_inner();
+    Ok(Followed {
+        done,
+        text: writer.into_inner(),
+    })
+}
+
+/// The fault of this line.
+fn fault(line: u64, kind: TraceKind) -> Result<(), EngineFault> {
+    Err(EngineFault::Trace(TraceFault { line, kind }))
+}
+
+#[test]
+fn pieces_may_end_anywhere(rt: HostRuntime) -> Result<(), Fail> {
+    for most in 1..=TRACE.len() {
+        let rest = TRACE.as_bytes();
+        let Followed { done, text } = follow(rt.alloc(), 4, InPieces { rest, most })?;
+        assert_eq!(rt; done, Ok(()));
+        assert!(rt; text.as_slice() == FOLLOWED.as_bytes(), "pieces of {most}");
+    }
+    Ok(())
+}
+
+/// How much of the text is printed where a trace is read so far: a frame once the line is whole that
+/// brings it.
+fn printed_after(count: usize) -> usize {
+    let lines = TRACE.as_bytes()[..count]
+        .iter()
+        .filter(|byte| **byte == b'\n')
+        .count();
+    match lines {
+        0..=8 => 0,
+        9 => FIRST_LENGTH,
+        _ => FRAMES_LENGTH,
+    }
+}
+
+#[test]
+fn all_is_written_of_the_lines_before_the_reader_fails(rt: HostRuntime) -> Result<(), Fail> {
+    for count in 0..=TRACE.len() {
+        let front = &TRACE.as_bytes()[..count];
+        let reader = FitfulReader::new(front, Some(ErrorKind::BrokenPipe));
+        let Followed { done, text } = follow(rt.alloc(), 4, reader)?;
+        assert_eq!(rt; done, Err(EngineFault::Read));
+        let printed = &FOLLOWED.as_bytes()[..printed_after(count)];
+        assert!(rt; text.as_slice() == printed, "{count} bytes");
+    }
+    Ok(())
+}
+
+#[test]
+fn faulty_line_is_reported_behind_what_came_before(rt: HostRuntime) -> Result<(), Fail> {
+    let mut trace = Vec::new(rt.alloc());
+    trace.extend_from_slice(TRACE.as_bytes())?;
+    trace.extend_from_slice(b"sid 0 2 0\nburst 0 1 ok 0\n")?;
+    for most in [1usize, 7, 100, 1000] {
+        let rest = trace.as_slice();
+        let Followed { done, text } = follow(rt.alloc(), 4, InPieces { rest, most })?;
+        assert_eq!(rt; done, fault(11, TraceKind::SetupLate));
+        assert!(rt; text.as_slice() == &FOLLOWED.as_bytes()[..FRAMES_LENGTH]);
+    }
+    Ok(())
+}
+
+/// Two flows, and a segment of the second on channel 15.
+const WIDE: &[u8] = b"flow 7 5 16 1\nflow 8 0 16 1\nsid 15 16383 1\ngrant 15 1 16383 14\n\
+burst 15 1 ok 800000000007000000000000aabb\ngap 1\n";
+
+/// What is printed of that where it may have 16 channels, up to the lines of lanes.
+const WIDE_FLOWS: &[u8] = b"request 15 1 0 7 0\n\
+flow 0 7 kept 0 late 0 repeat 0 beyond 0 lost 0 frames 0 skipped 0\n\
+flow 1 8 kept 1 late 0 repeat 0 beyond 0 lost 0 frames 0 skipped 6\nlane 0 admitted 0";
+
+#[test]
+fn as_wide_as_is_asked_for(rt: HostRuntime) -> Result<(), Fail> {
+    let Followed { done, text } = follow(rt.alloc(), 16, WIDE)?;
+    assert_eq!(rt; done, Ok(()));
+    assert!(rt; text.as_slice().starts_with(WIDE_FLOWS));
+    let Followed { done, text } = follow(rt.alloc(), 15, WIDE)?;
+    assert_eq!(rt; done, fault(3, TraceKind::BadNumber));
+    assert_eq!(rt; text.len(), 0);
+    let three = b"flow 7 5 16 1\nflow 8 0 16 1\nflow 9 0 16 1\n".as_slice();
+    let Followed { done, .. } = follow(rt.alloc(), 16, three)?;
+    assert_eq!(rt; done, fault(3, TraceKind::TooManyFlows));
+    Ok(())
+}
+
+#[test]
+fn writer_that_fails_is_reported(rt: HostRuntime) -> Result<(), Fail> {
+    for room in 0..FOLLOWED.len() {
+        let mut written = Vec::new(rt.alloc());
+        let mut reader = Device::new(TRACE.as_bytes());
+        let mut writer = Device::new(FitfulWriter::new(&mut written, room, Full::TakesNothing));
+        let done = follow_text(
+            LossRule::Decided,
+            Width::PROFILE,
+            rt.alloc(),
+            &mut reader,
+            &mut writer,
+        );
+        reader.into_inner();
+        writer.into_inner();
+        assert_eq!(rt; done, Err(EngineFault::Write));
+        assert!(rt; FOLLOWED.as_bytes().starts_with(&written), "{room} bytes");
+    }
+    Ok(())
+}
