@@ -1,8 +1,12 @@
 -- The setup that lines give passes the checks of a receiver, line after line.
-use Rattle.std.proofs.Common.{◌≡◌, ℕ, ◌<◌, ◌≤◌, ◌⊎◌, ◌↔◌, List, [], ◌∷◌, ◌++◌, length, refl, sym, ap, subst, ◌∙◌, arith}
+use Rattle.std.proofs.Common.{◌≡◌, ◌≢◌, ℕ, ◌<◌, ◌≤◌, ◌⊎◌, ◌↔◌, inl, inr, ⊎_elim, IsTrue, List, [], ◌∷◌, ◌++◌, length, refl, sym, ap, subst, ◌∙◌, arith}
 use Rattle.std.specs.declared.alloc.Global.{Global}
 use Rattle.std.specs.Prelude.{Bool, true, false, map, Vec, Result, Ok, Err, MatchResult}
-use Rattle.std.proofs.lemmas.Bool.{false≢true}
+use Rattle.std.proofs.lemmas.Bool.{cases_eq, ne_eqb, false≢true}
+use Rattle.std.specs.Cmp.{unsigned_tied}
+use Rattle.std.specs.Ordering.{nat_cmp}
+use Rattle.std.specs.BTreeSet.{BTreeSet, contains, Updates}
+use Rattle.docsis_wire.proofs.StreamPlaces.{slice_get-at}
 use Rattle.flow_records.specs.declared.record.FlowRecord.{FlowRecord}
 use Rattle.flow_records.specs.Setup.{CanBeSetUpWithin}
 use Rattle.lane.specs.declared.sids.SidRow.{SidRow}
@@ -28,6 +32,7 @@ use Rattle.texts.specs.Inside.SetupLines.{SetupSoFar, setup_said, HoldsSetup, Ha
 use Rattle.texts.specs.Inside.Reading.{HasRead}
 use Rattle.texts.proofs.OneTraceLine.{sid_in_range}
 use Rattle.texts.proofs.TraceChecks.{passes_with, shape_with}
+use Rattle.texts.proofs.LastElement.{slice_get-pushed, slice_get-front}
 use Rattle.texts.proofs.TraceSoFar.{seen-kept, seen-pushed}
 
 -- what follows of a line that is taken
@@ -65,29 +70,69 @@ can_receive_more shape before after line carried faultless flows sids some can p
           (subst (λ (shape : TraceShape). CanBeOpenedWithin shape.channels more.sids (length more.flows)) kept passes.sids));
     }
 
+-- ---- the service flow identifiers that were seen
+
+-- one flow more
+IsSfidAmong-pushed : (flows : List FlowRecord) (flow_record : FlowRecord) (sfid : ℕ)
+    → IsSfidAmong (flows ++ flow_record ∷ []) sfid ↔ (IsSfidAmong flows sfid ⊎ (flow_record.sfid ≡ sfid))
+IsSfidAmong-pushed flows flow_record sfid = (
+  λ is. ⊎_elim
+      (λ above. inl (record { k = is.k; flow_record = is.flow_record; at = above; sfid_is = is.sfid_is }))
+      (λ last. inr (ap (λ one. one.sfid) (sym last.1) ∙ is.sfid_is))
+      (slice_get-pushed flows flow_record is.k is.flow_record is.at),
+  ⊎_elim
+      (λ is. record { k = is.k; flow_record = is.flow_record; at = slice_get-front flows flow_record is.k is.flow_record is.at; sfid_is = is.sfid_is })
+      (λ same. record { k = length flows; flow_record = flow_record; at = slice_get-at flows flow_record []; sfid_is = same }),
+)
+
+-- and its identifier
+pub named-more : (flows more : List FlowRecord) (flow_record : FlowRecord) (before after : BTreeSet ℕ) → more ≡ flows ++ flow_record ∷ []
+    → Updates nat_cmp before after flow_record.sfid true → ((sfid : ℕ) → IsTrue (contains nat_cmp before sfid) ↔ IsSfidAmong flows sfid)
+    → (sfid : ℕ) → IsTrue (contains nat_cmp after sfid) ↔ IsSfidAmong more sfid
+named-more flows more flow_record before after is updates named sfid =
+    rw is (
+      λ yes. (IsSfidAmong-pushed flows flow_record sfid).1
+          (elim (cases_eq sfid flow_record.sfid) [
+            | inl same ↦ inr (sym same)
+            | inr differ ↦ inl ((named sfid).0 (sym (stays differ) ∙ yes))
+          ]),
+      λ among. elim (cases_eq sfid flow_record.sfid) [
+        | inl same ↦ subst (λ q. IsTrue (contains nat_cmp after q)) (sym same) updates.1
+        | inr differ ↦ stays differ
+            ∙ (named sfid).1
+            (⊎_elim (λ above. above) (λ same. absurd (differ (sym same))) ((IsSfidAmong-pushed flows flow_record sfid).0 among))
+      ],
+    ) where
+      stays : sfid ≢ flow_record.sfid → contains nat_cmp after sfid ≡ contains nat_cmp before sfid
+      stays differ = updates.2 sfid (unsigned_tied flow_record.sfid sfid ∙ ne_eqb flow_record.sfid sfid (λ same. differ (sym same)))
+
 -- the setup so far with a flow more
-pub flow_set_up : (shape : TraceShape) (before after : Setup) (seen : SidTable) (flow_record : FlowRecord) → HoldsSetup shape before seen
+pub flow_set_up : (shape : TraceShape) (before after : Setup) (seen : SidTable) (sfids more : BTreeSet ℕ) (flow_record : FlowRecord) → HoldsSetup shape before seen sfids
     → IsCarried shape (line.Flow flow_record) → length before.flows.items < shape.flows → ¬ (IsSfidAbove (setup_said shape before) flow_record.sfid)
-    → after.flows.items ≡ before.flows.items ++ flow_record ∷ [] → after.sids.items ≡ before.sids.items → 1 ≤ shape.channels → HoldsSetup shape after seen
-flow_set_up shape before after seen flow_record was carried few new flows sids some = record {
+    → after.flows.items ≡ before.flows.items ++ flow_record ∷ [] → after.sids.items ≡ before.sids.items → 1 ≤ shape.channels
+    → Updates nat_cmp sfids more flow_record.sfid true → HoldsSetup shape after seen more
+flow_set_up shape before after seen sfids more flow_record was carried few new flows sids some updates = record {
   can_receive =
       can_receive_more shape before after (line.Flow flow_record) carried (flow_without_fault (setup_said shape before) flow_record few new) flows sids
       some was.can_receive;
   channels = was.channels;
   seen = seen-kept (setup_said shape before) (setup_said shape after) seen sids was.seen;
+  named = named-more before.flows.items after.flows.items flow_record sfids more flows updates was.named;
 }
 
 -- and with an identifier more
-pub sid_set_up : (shape : TraceShape) (before after : Setup) (seen more : SidTable) (row : SidRow) → HoldsSetup shape before seen
+pub sid_set_up : (shape : TraceShape) (before after : Setup) (seen more : SidTable) (sfids : BTreeSet ℕ) (row : SidRow) → HoldsSetup shape before seen sfids
     → IsCarried shape (line.Sid row) → ((kind : TraceKind) → ¬ (HasFaultAmong (setup_said shape before) (line.Sid row) kind))
     → ((channel sid : ℕ) → sid < sid_limit → HasMarked more channel sid ↔ (HasMarked seen channel sid ⊎ ((channel ≡ row.channel) × (sid ≡ row.sid))))
-    → more.channels ≡ seen.channels → 1 ≤ shape.channels → after.flows.items ≡ before.flows.items → after.sids.items ≡ before.sids.items ++ row ∷ [] → HoldsSetup shape after more
-sid_set_up shape before after seen more row was carried faultless inserted kept some flows sids = record {
+    → more.channels ≡ seen.channels → 1 ≤ shape.channels → after.flows.items ≡ before.flows.items → after.sids.items ≡ before.sids.items ++ row ∷ [] → HoldsSetup shape after more sfids
+sid_set_up shape before after seen more sfids row was carried faultless inserted kept some flows sids = record {
   can_receive = can_receive_more shape before after (line.Sid row) carried faultless flows sids some was.can_receive;
   channels = kept ∙ was.channels;
   seen =
       seen-kept (with_line (setup_said shape before) (line.Sid row)) (setup_said shape after) more sids
       (seen-pushed (setup_said shape before) row seen more was.seen inserted);
+  named = λ sfid.
+      subst (λ (records : List FlowRecord). IsTrue (contains nat_cmp sfids sfid) ↔ IsSfidAmong records sfid) (sym flows) (was.named sfid);
 }
 
 -- the channel and the service identifier of a row lie in their ranges
@@ -105,10 +150,10 @@ said_of_setup shape setup so_far is = record {
 }
 
 -- an identifier that was not seen stands in no line above
-pub not_above : (said : Said) (shape : TraceShape) (setup : Setup) (seen : SidTable) (so_far : SetupSoFar) (channel sid : ℕ) (found : Bool)
-    → HoldsSetup shape setup seen → record { shape = shape; setup = setup } ≡ so_far → HasSetup said so_far
+pub not_above : (said : Said) (shape : TraceShape) (setup : Setup) (seen : SidTable) (sfids : BTreeSet ℕ) (so_far : SetupSoFar) (channel sid : ℕ) (found : Bool)
+    → HoldsSetup shape setup seen sfids → record { shape = shape; setup = setup } ≡ so_far → HasSetup said so_far
     → sid < sid_limit → (found ≡ true ↔ HasMarked seen channel sid) → found ≡ false → ¬ (IsSidAbove said channel sid)
-not_above said shape setup seen so_far channel sid found is same has small means not above =
+not_above said shape setup seen sfids so_far channel sid found is same has small means not above =
     let rows : said.sids ≡ setup.sids.items = sym has.sids ∙ ap (λ (s : SetupSoFar). s.setup.sids.items) (sym same) in
     let was = (seen-kept (setup_said shape setup) said seen rows is.seen channel sid small).1 above in
     false≢true (sym not ∙ means.1 was)

@@ -1,5 +1,7 @@
 -- What the setup lines of a trace gave so far, and what becomes of a line after others.
-use Rattle.std.specs.Prelude.{◌≡◌, ◌<◌, ◌≤◌, ◌↔◌, ℕ, List, [], Result, MatchResult}
+use Rattle.std.specs.Prelude.{◌≡◌, ◌<◌, ◌≤◌, ◌↔◌, ℕ, List, [], IsTrue, Result, MatchResult}
+use Rattle.std.specs.BTreeSet.{BTreeSet, contains}
+use Rattle.std.specs.Ordering.{nat_cmp}
 use Rattle.lane.specs.Inside.Seen.{HasMarked}
 use Rattle.lane.specs.Limits.{sid_limit}
 use Rattle.lane.specs.declared.sids.table.SidTable.{SidTable}
@@ -12,7 +14,7 @@ use Rattle.text_lines.specs.Kinds.{IsLeastFault}
 use Rattle.texts.specs.declared.trace.line.TraceLine.{TraceLine}
 use Rattle.texts.specs.declared.trace.line.TraceLine.TheVariants as line
 use Rattle.texts.specs.Trace.Line.{TraceShape, Carries}
-use Rattle.texts.specs.Trace.Place.{Said, IsSidAbove, HasFaultAmong, with_line}
+use Rattle.texts.specs.Trace.Place.{Said, IsSfidAmong, IsSidAbove, HasFaultAmong, with_line}
 
 -- the shape of the trace, and the setup that the lines so far give
 pub record SetupSoFar : Type 0 where
@@ -23,11 +25,12 @@ pub record SetupSoFar : Type 0 where
 abbrev pub setup_said : TraceShape → Setup → Said
 setup_said shape setup = record { shape = shape; flows = setup.flows.items; sids = setup.sids.items; entries = [] }
 
--- a receiver of that width can be set up with it, if the rings have room, and its service identifiers are those that were seen
-pub record HoldsSetup (shape : TraceShape) (setup : Setup) (seen_sids : SidTable) : Type 0 where
+-- a receiver of that width can be set up with it, if the rings have room, and its service identifiers and service flow identifiers are those that were seen
+pub record HoldsSetup (shape : TraceShape) (setup : Setup) (seen_sids : SidTable) (seen_sfids : BTreeSet ℕ) : Type 0 where
   pub can_receive : 1 ≤ shape.ring → CanReceiveWithin shape.channels shape.flows setup
   pub channels : seen_sids.channels ≡ shape.channels
   pub seen : (channel sid : ℕ) → sid < sid_limit → HasMarked seen_sids channel sid ↔ IsSidAbove (setup_said shape setup) channel sid
+  pub named : (sfid : ℕ) → IsTrue (contains nat_cmp seen_sfids sfid) ↔ IsSfidAmong setup.flows.items sfid
 
 -- it is the setup that the lines say
 pub record HasSetup (said : Said) (so_far : SetupSoFar) : Type 0 where

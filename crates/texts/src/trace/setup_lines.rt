@@ -7,7 +7,6 @@ ghost use Rattle.text_lines.specs.Lines.{words_of};
 ghost use Rattle.texts.specs.Inside.SetupLines.{HasSetup, IsCarried, AddsTo};
 ghost use Rattle.texts.specs.Inside.TraceLine.{IsLeastFaultByItself};
 ghost use Rattle.texts.specs.Trace.Line.{Carries};
-ghost use Rattle.texts.specs.Trace.Place.{IsSfidAmong};
 ghost use Rattle.texts.specs.declared.trace.line.TraceLine.TheVariants as line;
 
 use super::line::{TraceLine, read_trace_line};
@@ -15,15 +14,9 @@ use flow_core::FlowRecord;
 use lane::{SidRow, SidTable};
 use receiver::{Setup, Width};
 use std::alloc::{AllocError, Global};
+use std::collections::BTreeSet;
 use std::marker::Model;
 use text_lines::{LineFault, TraceKind};
-
-/// Whether one of the flows has this service flow identifier.
-fn has_sfid(flows: &[FlowRecord], sfid: u32) -> bool
-    ensures { IsTrue result ↔ IsSfidAmong flows.now sfid }
-{
-    flows.iter().any(|flow| flow.sfid == sfid)
-}
 
 /// The setup that the lines so far of a trace give. Contracts see the shape of the trace, which no
 /// line says, and the setup.
@@ -33,6 +26,7 @@ pub struct SetupLines {
     ring: u16,
     setup: Setup,
     seen: SidTable,
+    sfids: BTreeSet<u32>,
 }
 
 impl Model for SetupLines {
@@ -47,7 +41,7 @@ impl Model for SetupLines {
     } };
 
     ghost invariant = { λ lines.
-        HoldsSetup (shape_of lines.width lines.ring) lines.setup lines.seen };
+        HoldsSetup (shape_of lines.width lines.ring) lines.setup lines.seen lines.sfids };
 }
 
 impl SetupLines {
@@ -74,6 +68,7 @@ impl SetupLines {
                 mailbox,
             },
             seen,
+            sfids: BTreeSet::new(alloc),
         })
     }
 
@@ -122,10 +117,12 @@ impl SetupLines {
         if self.setup.flows.len() >= usize::from(self.width.flows()) {
             return Err(LineFault::Kind(TraceKind::TooManyFlows));
         }
-        if has_sfid(&self.setup.flows, flow.sfid) {
+        self.setup.flows.reserve(1)?;
+        if !self.sfids.insert(flow.sfid)? {
             return Err(LineFault::Kind(TraceKind::SameFlow));
         }
-        Ok(self.setup.flows.push(flow)?)
+        self.setup.flows.push_reserved(flow);
+        Ok(())
     }
 
     /// Adds a service identifier.

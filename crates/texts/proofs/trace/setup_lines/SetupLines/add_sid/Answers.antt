@@ -37,9 +37,9 @@ invariant_of-self-2 c =
     let known = flow_known said c.args.self.now row.flow has c.in_ok-find_flow.ensures.known in
     let some = c.self.inside.width.some_channel in
     let small = (row_in_range shape row some carried).1 in
-    let new = not_above said shape setup c.self.inside.seen c.args.self.now row.channel row.sid c.contains.result c.self.invariant c.self.view_is has
+    let new = not_above said shape setup c.self.inside.seen c.self.inside.sfids c.args.self.now row.channel row.sid c.contains.result c.self.invariant c.self.view_is has
     small c.contains.ensures c.if-contains.false in
-    sid_set_up shape setup _ c.self.inside.seen c.insert.new.self row c.self.invariant carried (sid_without_fault said row known new)
+    sid_set_up shape setup _ c.self.inside.seen c.insert.new.self c.self.inside.sfids row c.self.invariant carried (sid_without_fault said row known new)
     c.insert.ensures.inserted c.insert.ensures.channels some refl c.in_ok-push.ensures.items
 
 pub returns-clause-added : goal.returns-clause-added
@@ -49,7 +49,7 @@ returns-clause-added c = λ said has.
     let shape = shape_of c.self.inside.width c.self.inside.ring in
     let carried = subst (λ (shape : TraceShape). IsCarried shape (line.Sid row)) (ap (λ (s : SetupSoFar). s.shape) (sym c.self.view_is)) c.requires in
     let small = (row_in_range shape row c.self.inside.width.some_channel carried).1 in
-    let new = not_above said shape c.self.inside.setup c.self.inside.seen c.args.self.now row.channel row.sid c.contains.result
+    let new = not_above said shape c.self.inside.setup c.self.inside.seen c.self.inside.sfids c.args.self.now row.channel row.sid c.contains.result
     c.self.invariant c.self.view_is has small c.contains.ensures c.if-contains.false in
     record {
       faultless = sid_without_fault said row known new;
