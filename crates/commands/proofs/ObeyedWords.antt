@@ -262,7 +262,7 @@ module _ {R W : Type 0} (remaining : R → Option (List ℕ)) (contents : W → 
       (λ other asks. absurd (commands_apart (codes "follow") (codes "run") follow_is_not_run words asks.0 asked.0.0))
       (λ nothing. nothing.0 (inr (inr (inr (inl (rule, asked.0)))))) (λ _. asked.1)
   Obeys-performed (Follow rule channels) result replay_same run_same unread unwritten asked joins replays runs ran =
-      Obeys-follow rule result asked.0 asked.1 ran (λ nothing. nothing.0 (inr (inr (inr (inr (rule, asked.0))))))
+      Obeys-follow rule result asked.0 asked.1 (ran.0, ran.2, ran.3) (λ nothing. nothing.0 (inr (inr (inr (inr (rule, asked.0))))))
   Obeys-performed (Help text) result replay_same run_same unread unwritten asked joins replays runs ran =
       Obeys-help (string_bytes text) result unread unwritten (λ asks. let e = joins asks in absurd cc) (λ asks. asks.1 asked)
       (λ rule asks. let e = replays rule asks in absurd cc) (λ rule asks. asks.1 asked) (λ rule asks. let e = runs rule asks in absurd cc)

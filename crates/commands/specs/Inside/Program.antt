@@ -1,5 +1,5 @@
 -- What a command does.
-use Rattle.std.specs.Prelude.{◌<◌, ◌≤◌, ℕ, List, Option, Result, string_bytes}
+use Rattle.std.specs.Prelude.{◌≡◌, ◌<◌, ◌≤◌, ℕ, List, Option, Result, string_bytes}
 use Rattle.docsis_wire.specs.Limits.{sequence_modulus}
 use Rattle.command_line.specs.Command.{channels_max}
 use Rattle.command_line.specs.declared.command.Command.{Command}
@@ -7,7 +7,10 @@ use Rattle.command_line.specs.declared.command.Command.TheVariants.{Join, Cut, R
 use Rattle.engines.specs.declared.device.Device.{Device}
 use Rattle.engines.specs.declared.fault.EngineFault.{EngineFault}
 use Rattle.engines.specs.Engine.{RunsEngine}
-use Rattle.commands.specs.Program.{RunsFollow, WritesHelp}
+use Rattle.engines.specs.Following.{FollowsTrace}
+use Rattle.flow_records.specs.Limits.{most_flows}
+use Rattle.receiver.specs.declared.width.Width.{Width}
+use Rattle.commands.specs.Program.{WritesHelp}
 use Rattle.texts.specs.Join.{IsJoined, IsJoinFault}
 use Rattle.texts.specs.Cut.{IsCutText, IsCutFault}
 use Rattle.texts.specs.Replay.{IsReplayedBy, IsReplayFault, IsReportFault}
@@ -21,7 +24,8 @@ Performs remaining contents (Replay rule) reader reader' writer writer' result =
     RunsEngine remaining contents (IsReplayedBy rule) IsReplayFault reader reader' writer writer' result
 Performs remaining contents (Run rule mailbox ring) reader reader' writer writer' result =
     RunsEngine remaining contents (IsRunTextBy rule ring mailbox) (IsReportFault ring) reader reader' writer writer' result
-Performs remaining contents (Follow rule channels) reader reader' writer writer' result = RunsFollow rule remaining contents reader reader' writer writer' result
+Performs remaining contents (Follow rule channels) reader reader' writer writer' result =
+    (width : Width) × (width.channels ≡ channels) × (width.flows ≡ most_flows) × FollowsTrace rule width remaining contents reader reader' writer writer' result
 Performs remaining contents (Help text) reader reader' writer writer' result = WritesHelp contents (string_bytes text) reader reader' writer writer' result
 
 -- a cut begins with the number of a segment, a run has room in its mailboxes and rings, and a trace that is followed has a channel, and not too many
