@@ -20,10 +20,10 @@ use Rattle.engines.specs.declared.fault.EngineFault.TheVariants.{Trace, Cut, Out
 use Rattle.engines.specs.declared.follow.Follower.{Follower}
 use Rattle.engines.specs.Device.{inner_of, has_failed, given_of}
 use Rattle.engines.specs.Engine.{WritesText}
-use Rattle.engines.specs.Following.{IsTextOfFront, IsTextOfWhole, IsFollowedTill, HasFollowCause, FollowsTrace}
-use Rattle.engines.specs.Inside.Following.{HasFollowedBytes, IsFollowFault, IsFollowFaultOr, WritesTill, EndsBy}
+use Rattle.engines.specs.Following.{IsBehind, IsTextOfFront, IsTextOfWhole, IsFollowedTill, HasFollowCause, FollowsTrace}
+use Rattle.engines.specs.Inside.Following.{IsEndFault, HasFollowedBytes, IsFollowFault, IsFollowFaultOr, WritesTill, EndsBy}
 use Rattle.engines.specs.Transfer.{AppendsFront, IsLeftFlushed}
-use Rattle.engines.proofs.FollowedLines.{text_so_far, front_of_whole}
+use Rattle.engines.proofs.FollowedLines.{text_so_far, front_of_whole, behind_last}
 use Rattle.engines.proofs.WrittenText.{AppendsFront-behind}
 
 -- a writer was not used, or flushed, and then again
@@ -81,7 +81,7 @@ module _ {R W : Type 0} (remaining : R → Option (List ℕ)) (contents : W → 
       till = record {
         bytes = [];
         read = Consumes-nil (remaining (inner_of reader));
-        front = record { lines = []; below = [] ∷ []; some = omega arith; parts = refl; followed = nothing };
+        front = record { lines = []; below = [] ∷ []; some = omega arith; parts = refl; followed = nothing; behind = tt };
         whole = λ is. absurd cc;
       }
 
@@ -92,10 +92,10 @@ module _ {R W : Type 0} (remaining : R → Option (List ℕ)) (contents : W → 
       whole : IsTextOfWhole rule width far.bytes text
       whole = text_so_far rule width far.bytes far.told follower far.followed
 
-      till_here : (left : Option (List ℕ)) (fault : EngineFault) → Consumes (remaining (inner_of reader)) left far.bytes
+      till_here : (left : Option (List ℕ)) (fault : EngineFault) → Consumes (remaining (inner_of reader)) left far.bytes → IsBehind far.bytes whole.lines fault
           → IsFollowedTill rule width (remaining (inner_of reader)) left fault text
-      till_here left fault read =
-          record { bytes = far.bytes; read = read; front = front_of_whole rule width far.bytes text whole; whole = λ is. whole }
+      till_here left fault read behind =
+          record { bytes = far.bytes; read = read; front = front_of_whole rule width fault far.bytes text whole behind; whole = λ is. whole }
 
       -- the reader failed, or gave as much as can be counted
       pub trace_unread : (reader'' : Device R) → Keeps (remaining (inner_of reader')) (remaining (inner_of reader''))
@@ -105,7 +105,7 @@ module _ {R W : Type 0} (remaining : R → Option (List ℕ)) (contents : W → 
         above = λ other. (
           text,
           till_here (remaining (inner_of reader'')) Read
-              (Consumes-kept (remaining (inner_of reader)) (remaining (inner_of reader')) (remaining (inner_of reader'')) far.bytes far.read kept),
+              (Consumes-kept (remaining (inner_of reader)) (remaining (inner_of reader')) (remaining (inner_of reader'')) far.bytes far.read kept) tt,
           far.wrote,
         );
         write_fault = λ is. absurd cc;
@@ -142,11 +142,10 @@ module _ {R W : Type 0} (remaining : R → Option (List ℕ)) (contents : W → 
           read_sound = read_sound ∙ far.read_sound;
         }
 
-        module _ (writer'' : Device W) (given : List Given)
-            (front : IsTextOfFront rule width (far.bytes ++ piece) (flat_map given_line (far.told ++ given))) where
-          till_there : (fault : EngineFault) → fault ≢ Read
+        module _ (writer'' : Device W) (given : List Given) where
+          till_there : (fault : EngineFault) → IsTextOfFront rule width fault (far.bytes ++ piece) (flat_map given_line (far.told ++ given)) → fault ≢ Read
               → IsFollowedTill rule width (remaining (inner_of reader)) (remaining (inner_of reader'')) fault (flat_map given_line (far.told ++ given))
-          till_there fault other = record { bytes = far.bytes ++ piece; read = read_both; front = front; whole = λ is. absurd (other is) }
+          till_there fault front other = record { bytes = far.bytes ++ piece; read = read_both; front = front; whole = λ is. absurd (other is) }
 
           -- of what is known the first faulty line
           known_fault : (known left : Option (List ℕ)) (bytes : List ℕ) (fault : TraceFault) → Consumes known left bytes → IsFollowFault width bytes (Trace fault)
@@ -168,14 +167,15 @@ module _ {R W : Type 0} (remaining : R → Option (List ℕ)) (contents : W → 
           cause_of Usage is = absurd is
 
           -- a line of the piece is at fault, or an allocation failed
-          stopped_at : (fault : EngineFault) → fault ≢ Write → fault ≢ Read → IsFollowFault width (far.bytes ++ piece) fault
+          stopped_at : (fault : EngineFault) → IsTextOfFront rule width fault (far.bytes ++ piece) (flat_map given_line (far.told ++ given))
+              → fault ≢ Write → fault ≢ Read → IsFollowFault width (far.bytes ++ piece) fault
               → Appends (contents (inner_of writer')) (contents (inner_of writer'')) (flat_map given_line given) × IsLeftFlushed writer' writer''
               × (has_failed writer'' ≡ has_failed writer') → FollowsTrace rule width remaining contents reader reader'' writer writer'' (Err fault)
-          stopped_at fault no_write no_read is wrote = record {
+          stopped_at fault front no_write no_read is wrote = record {
             written = tt;
             above = λ other. (
               flat_map given_line (far.told ++ given),
-              till_there fault no_read,
+              till_there fault front no_read,
               subst (λ (all : List ℕ). Appends (contents (inner_of writer)) (contents (inner_of writer'')) all) (both_written given)
                   (Appends-trans (contents (inner_of writer)) (contents (inner_of writer')) (contents (inner_of writer'')) text (flat_map given_line given) far.wrote wrote.0),
             );
@@ -186,19 +186,20 @@ module _ {R W : Type 0} (remaining : R → Option (List ℕ)) (contents : W → 
             no_cause = tt;
           }
 
-          pub trace_stopped : (fault : EngineFault) → IsFollowFaultOr contents width (far.bytes ++ piece) fault
+          pub trace_stopped : (fault : EngineFault) → IsTextOfFront rule width fault (far.bytes ++ piece) (flat_map given_line (far.told ++ given))
+              → IsFollowFaultOr contents width (far.bytes ++ piece) fault
               → WritesTill contents writer' writer'' (flat_map given_line given) fault → FollowsTrace rule width remaining contents reader reader'' writer writer'' (Err fault)
-          trace_stopped (Trace fault) is wrote = stopped_at (Trace fault) (λ e. absurd cc) (λ e. absurd cc) is wrote
-          trace_stopped (Cut fault) is wrote = absurd is
-          trace_stopped OutOfMemory is wrote = stopped_at OutOfMemory (λ e. absurd cc) (λ e. absurd cc) is wrote
-          trace_stopped Read is wrote = absurd is
-          trace_stopped Usage is wrote = absurd is
-          trace_stopped Write is wrote = record {
+          trace_stopped (Trace fault) front is wrote = stopped_at (Trace fault) front (λ e. absurd cc) (λ e. absurd cc) is wrote
+          trace_stopped (Cut fault) front is wrote = absurd is
+          trace_stopped OutOfMemory front is wrote = stopped_at OutOfMemory front (λ e. absurd cc) (λ e. absurd cc) is wrote
+          trace_stopped Read front is wrote = absurd is
+          trace_stopped Usage front is wrote = absurd is
+          trace_stopped Write front is wrote = record {
             written = tt;
             above = λ other. absurd (other refl);
             write_fault = λ _. (
               flat_map given_line (far.told ++ given),
-              inr (till_there Write (λ e. absurd cc)),
+              inr (till_there Write front (λ e. absurd cc)),
               subst (λ (all : List ℕ). AppendsFront (contents (inner_of writer)) (contents (inner_of writer'')) all) (both_written given)
                   (AppendsFront-behind (contents (inner_of writer)) (contents (inner_of writer')) (contents (inner_of writer'')) text (flat_map given_line given) far.wrote wrote.0),
             );
@@ -243,11 +244,12 @@ module _ {R W : Type 0} (remaining : R → Option (List ℕ)) (contents : W → 
         }
 
         -- the last line is at fault, or an allocation failed
-        ended_at : (fault : EngineFault) → fault ≢ Write → HasFollowCause width (remaining (inner_of reader)) reader'' writer' fault
+        ended_at : (fault : EngineFault) → IsEndFault width far.bytes fault → fault ≢ Write
+            → HasFollowCause width (remaining (inner_of reader)) reader'' writer' fault
             → FollowsTrace rule width remaining contents reader reader'' writer writer' (Err fault)
-        ended_at fault no_write cause = record {
+        ended_at fault is no_write cause = record {
           written = tt;
-          above = λ other. (text, till_here (remaining (inner_of reader'')) fault read_all, far.wrote);
+          above = λ other. (text, till_here (remaining (inner_of reader'')) fault read_all (behind_last rule width far.bytes text fault whole is), far.wrote);
           write_fault = λ written. absurd (no_write cc);
           flushed = tt;
           flushed_above = λ other. far.flushed;
@@ -259,12 +261,12 @@ module _ {R W : Type 0} (remaining : R → Option (List ℕ)) (contents : W → 
             → FollowsTrace rule width remaining contents reader reader'' writer writer'' (Err fault)
         trace_ended writer'' (Trace fault) by =
             subst (λ (device : Device W). FollowsTrace rule width remaining contents reader reader'' writer device (Err (Trace fault))) (sym by.0)
-            (ended_at (Trace fault) (λ e. absurd cc)
+            (ended_at (Trace fault) by.1 (λ e. absurd cc)
             (all_of (λ input. length input < 2 ^ 64 → IsFirstFaultyLine trace_format (nothing_said_in (shape_of width default_capacity)) (lines_of input) fault) by.1))
         trace_ended writer'' (Cut fault) by = absurd by.1
         trace_ended writer'' OutOfMemory by =
             subst (λ (device : Device W). FollowsTrace rule width remaining contents reader reader'' writer device (Err OutOfMemory)) (sym by.0)
-            (ended_at OutOfMemory (λ e. absurd cc) tt)
+            (ended_at OutOfMemory tt (λ e. absurd cc) tt)
         trace_ended writer'' Read by = absurd by.1
         trace_ended writer'' Usage by = absurd by.1
         trace_ended writer'' Write by = record {

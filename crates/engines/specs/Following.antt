@@ -1,5 +1,5 @@
 -- What was written of a trace that is followed, and why no more was.
-use Rattle.std.specs.Prelude.{◌≡◌, ◌≢◌, ◌<◌, ◌≤◌, ◌^◌, ◌-◌, ◌⊎◌, ◌∷◌, ◌++◌, ℕ, List, [], Option, true, false, Result, Err, IfSome, IfErr, OnOk, length}
+use Rattle.std.specs.Prelude.{◌≡◌, ◌≢◌, ◌<◌, ◌≤◌, ◌^◌, ◌+◌, ◌-◌, ◌⊎◌, ◌∷◌, ◌++◌, ℕ, List, [], Option, true, false, Result, Err, IfSome, IfErr, OnOk, length}
 use Rattle.std.specs.List.{slice_split}
 use Rattle.std.specs.Io.KnownBytes.{Appends, Consumes, IsAtEnd}
 use Rattle.loss_rule.specs.declared.rule.LossRule.{LossRule}
@@ -28,14 +28,21 @@ HasFollowCause width known reader writer Read = (has_failed reader ≡ true) ⊎
 HasFollowCause width known reader writer Write = has_failed writer ≡ true
 HasFollowCause width known reader writer Usage = ⊥
 
+-- where a line is at fault, it is the one behind these lines
+abbrev pub IsBehind : List ℕ → List (List ℕ) → EngineFault → Type 0
+IsBehind bytes lines (Trace fault) = length bytes < 2 ^ 64 → fault.line ≡ length lines + 1
+IsBehind bytes lines _ = Unit {0}
+
 module _ (rule : LossRule) (width : Width) where
-  -- The first lines of some bytes were followed: each of them is ended by a line feed, and this is the text of all of them.
-  pub record IsTextOfFront (bytes text : List ℕ) : Type 0 where
+  -- The first lines of some bytes were followed: each of them is ended by a line feed, and this is the text of all of them; they are all above a line
+  -- that is at fault.
+  pub record IsTextOfFront (fault : EngineFault) (bytes text : List ℕ) : Type 0 where
     pub lines : List (List ℕ)
     pub below : List (List ℕ)
     pub some : 0 < length below
     pub parts : slice_split is_line_feed bytes ≡ lines ++ below
     pub followed : IsFollowedSoFar rule width lines text
+    pub behind : IsBehind bytes lines fault
 
   -- all lines of some bytes were followed that a line feed ends
   pub record IsTextOfWhole (bytes text : List ℕ) : Type 0 where
@@ -48,7 +55,7 @@ module _ (rule : LossRule) (width : Width) where
   pub record IsFollowedTill (known left : Option (List ℕ)) (fault : EngineFault) (text : List ℕ) : Type 0 where
     pub bytes : List ℕ
     pub read : Consumes known left bytes
-    pub front : IsTextOfFront bytes text
+    pub front : IsTextOfFront fault bytes text
     pub whole : fault ≡ Read → IsTextOfWhole bytes text
 
   -- **What following a trace promises**, whatever becomes of it: `remaining` are the bytes that a reader is known to have left, `contents` those that a

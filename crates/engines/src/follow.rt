@@ -7,6 +7,7 @@ ghost use Rattle.engines.specs.Inside.Following.{HasFollowedBytes, FollowsPiece}
 ghost use Rattle.engines.specs.Inside.Following.{FollowsWritten, FollowsEnd};
 ghost use Rattle.engines.specs.Inside.Following.{WritesPiece, ClosesFollowed, CannotClose};
 ghost use Rattle.engines.specs.Writing.{IsWritten};
+ghost use Rattle.text_lines.specs.Lines.{lines_of};
 ghost use Rattle.texts.specs.Follow.{end_text};
 
 use crate::device::Device;
@@ -60,13 +61,14 @@ impl Follower {
         Ok(())
     }
 
-    /// Takes a piece, and then puts what the receiver gave for it.
+    /// Takes a piece of one line at most, and then puts what the receiver gave for it.
     fn take_line<O: PutText>(
         &mut self,
         alloc: Global,
         piece: &[u8],
         out: &mut O,
     ) -> Result<(), EngineFault>
+        requires { length (lines_of piece.now) ≤ 1 }
         ensures { FollowsPiece O.after self.old out.old piece.now self.new out.new result }
     {
         self.lines.take_piece(alloc, piece, &mut self.input)?;

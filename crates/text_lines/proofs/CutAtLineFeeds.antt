@@ -1,5 +1,5 @@
 -- Bytes cut at their line feeds: whole lines, and what follows the last line feed.
-use Rattle.std.proofs.Common.{◌≡◌, ℕ, ◌+◌, ◌<◌, ◌≤◌, ◌==◌, Bool, true, false, cond, List, [], ◌∷◌, ◌++◌, length, take, drop, get_or, Some, refl, sym, ap, ◌∙◌, arith, add-one, append-nil, append_assoc, length-take}
+use Rattle.std.proofs.Common.{◌≡◌, ℕ, ◌+◌, ◌<◌, ◌≤◌, ◌==◌, Bool, true, false, cond, List, [], ◌∷◌, ◌++◌, length, take, drop, get_or, None, Some, length-append, refl, sym, ap, ◌∙◌, arith, add-one, append-nil, append_assoc, length-take}
 use Rattle.std.specs.Prelude.{position}
 use Rattle.std.specs.List.{slice_split, onto_first, sum_by}
 use Rattle.std.proofs.lemmas.Bool.{eqb-true, ne_eqb}
@@ -7,10 +7,10 @@ use Rattle.std.proofs.lemmas.List.{get_or-take, take-append-drop}
 use Rattle.std.proofs.lemmas.List.Quantifiers.{position-Some}
 use Rattle.std.proofs.lemmas.List.Sums.{sum_by-append, sum_by-cons, fails_before_first}
 use Rattle.std.proofs.lemmas.List.Splits.{slice_split_at, slice_split_none}
-use Rattle.std.proofs.Math.Seq.{drop-cons}
+use Rattle.std.proofs.Math.Seq.{drop-cons, take-append_seam}
 use Rattle.text_lines.specs.Lines.{line_feed, is_line_feed, lines_of, lines_of_parts}
 use Rattle.text_lines.specs.Inside.LineFeeds.{HasNoLineFeed, BeginsWithLine}
-use Rattle.text_lines.proofs.FirstBytes.{position-found}
+use Rattle.text_lines.proofs.FirstBytes.{position-found, position-none}
 
 -- ---- parts
 
@@ -116,7 +116,7 @@ lines_of_parts-cons : (part : List ℕ) (parts : List (List ℕ)) → (first : L
 lines_of_parts-cons part parts shape = rw shape.2 refl
 
 -- and so are several
-lines_of_parts-append : (front : List (List ℕ)) (first : List ℕ) (more : List (List ℕ)) → lines_of_parts (front ++ first ∷ more) ≡ front ++ lines_of_parts (first ∷ more)
+pub lines_of_parts-append : (front : List (List ℕ)) (first : List ℕ) (more : List (List ℕ)) → lines_of_parts (front ++ first ∷ more) ≡ front ++ lines_of_parts (first ∷ more)
 lines_of_parts-append [] first more = refl
 lines_of_parts-append (part ∷ []) first more = refl
 lines_of_parts-append (part ∷ other ∷ parts) first more = ap (λ lines. part ∷ lines) (lines_of_parts-append (other ∷ parts) first more)
@@ -151,6 +151,36 @@ BeginsWithLine-at text end is =
           let below : k < end = omega (arith, length-take end text) in
           rw (get_or-take end text k d below) (fails_before_first is_line_feed text k d (omega (arith, first.0)));
     }
+
+-- ---- a text of one line at most
+
+-- a text without a line feed
+few_of_one : (text : List ℕ) → HasNoLineFeed text → length (lines_of text) ≤ 1
+few_of_one [] none = omega arith
+few_of_one (byte ∷ text) none = omega (arith, ap length (lines_of-one (byte ∷ text) (omega arith) none))
+
+pub few_without : (text : List ℕ) → position is_line_feed text ≡ None → length (lines_of text) ≤ 1
+few_without text none = few_of_one text (position-none is_line_feed text none)
+
+-- a line with its line feed
+pub few_of_line : (text : List ℕ) (end : ℕ) → position is_line_feed text ≡ Some end → length (lines_of (take (end + 1) text)) ≤ 1
+few_of_line text end is = omega (arith, ap (λ bytes. length (lines_of bytes)) front, ap length (lines_of-line (take end text) [] begins.none)) where
+  begins : BeginsWithLine text (take end text) (drop (end + 1) text)
+  begins = BeginsWithLine-at text end is
+
+  line : List ℕ
+  line = take end text ++ line_feed ∷ []
+
+  long : length line ≡ end + 1
+  long =
+      let found = position-Some is_line_feed text end 0 is in
+      omega (arith, found.0, length-append (take end text) (line_feed ∷ []), length-take end text)
+
+  front : take (end + 1) text ≡ line
+  front =
+      let rest = drop (end + 1) text in
+      ap (λ bytes. take (end + 1) bytes) (begins.spelled ∙ sym (append_assoc (take end text) (line_feed ∷ []) rest))
+      ∙ ap (λ n. take n (line ++ rest)) (sym long) ∙ take-append_seam line rest
 
 -- ---- bytes that come one after another
 

@@ -1,5 +1,5 @@
 //! The lines of an input, numbered from 1, and the one walk over them.
-ghost use Rattle.std.specs.Prelude.{◌≡◌, ℕ, ◌+◌, ◌-◌, ◌^◌, ◌<◌, min, List, [], ◌∷◌, ◌++◌, length, position, OnOk, IfOk, IfErr, MatchOption};
+ghost use Rattle.std.specs.Prelude.{◌≡◌, ℕ, ◌+◌, ◌-◌, ◌^◌, ◌<◌, ◌≤◌, min, List, [], ◌∷◌, ◌++◌, length, position, OnOk, IfOk, IfErr, MatchOption};
 ghost use Rattle.text_lines.specs.Inside.LineFault.{IsLineFault, IsFaultAt};
 ghost use Rattle.text_lines.specs.Inside.LineFeeds.{HasNoLineFeed, BeginsWithLine};
 ghost use Rattle.text_lines.specs.Format.{Format, IsRead, IsReadingFault};
@@ -60,6 +60,7 @@ pub fn split_line(text: &[u8]) -> (&[u8], &[u8])
 /// what follows that.
 pub fn split_behind_line(text: &[u8]) -> (&[u8], &[u8])
     ensures all { text.now ≡ result.0.now ++ result.1.now }
+    ensures one { length (lines_of result.0.now) ≤ 1 }
     ensures shorter { 0 < length text.now → length result.1.now < length text.now }
 {
     match line_end(text) {

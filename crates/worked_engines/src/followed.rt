@@ -61,14 +61,10 @@ fn pieces_may_end_anywhere(rt: HostRuntime) -> Result<(), Fail> {
     Ok(())
 }
 
-/// How much of the text is printed where a trace is read so far: a frame once the line is whole that
-/// brings it.
-fn printed_after(count: usize) -> usize {
-    let lines = TRACE.as_bytes()[..count]
-        .iter()
-        .filter(|byte| **byte == b'\n')
-        .count();
-    match lines {
+/// How much of the text is printed where this front of the trace was read: a frame once the line is
+/// whole that brings it.
+fn printed_after(front: &[u8]) -> usize {
+    match front.iter().filter(|byte| **byte == b'\n').count() {
         0..=8 => 0,
         9 => FIRST_LENGTH,
         _ => FRAMES_LENGTH,
@@ -78,12 +74,12 @@ fn printed_after(count: usize) -> usize {
 #[test]
 fn all_is_written_of_the_lines_before_the_reader_fails(rt: HostRuntime) -> Result<(), Fail> {
     for count in 0..=TRACE.len() {
-        let front = &TRACE.as_bytes()[..count];
+        let front = TRACE.as_bytes().get(..count).unwrap_or_default();
         let reader = FitfulReader::new(front, Some(ErrorKind::BrokenPipe));
         let Followed { done, text } = follow(rt.alloc(), 4, reader)?;
         assert_eq!(rt; done, Err(EngineFault::Read));
-        let printed = &FOLLOWED.as_bytes()[..printed_after(count)];
-        assert!(rt; text.as_slice() == printed, "{count} bytes");
+        assert_eq!(rt; text.len(), printed_after(front), "{count} bytes");
+        assert!(rt; FOLLOWED.as_bytes().starts_with(&text), "{count} bytes");
     }
     Ok(())
 }
@@ -97,7 +93,8 @@ fn faulty_line_is_reported_behind_what_came_before(rt: HostRuntime) -> Result<()
         let rest = trace.as_slice();
         let Followed { done, text } = follow(rt.alloc(), 4, InPieces { rest, most })?;
         assert_eq!(rt; done, fault(11, TraceKind::SetupLate));
-        assert!(rt; text.as_slice() == &FOLLOWED.as_bytes()[..FRAMES_LENGTH]);
+        assert_eq!(rt; text.len(), FRAMES_LENGTH);
+        assert!(rt; FOLLOWED.as_bytes().starts_with(&text));
     }
     Ok(())
 }

@@ -48,7 +48,7 @@ FollowsPiece after follower out piece follower' out' result =
     (rule : LossRule) (width : Width) (bytes : List ℕ) (told : List Given) → HasFollowedBytes rule width bytes told follower
     → (given : List Given) × Puts after out (flat_map given_line given) out'
     × MatchResult result (λ _. HasFollowedBytes rule width (bytes ++ piece) (told ++ given) follower')
-    (λ fault. IsTextOfFront rule width (bytes ++ piece) (flat_map given_line (told ++ given)) × IsFollowFault width (bytes ++ piece) fault)
+    (λ fault. IsTextOfFront rule width fault (bytes ++ piece) (flat_map given_line (told ++ given)) × IsFollowFault width (bytes ++ piece) fault)
 
 -- why the last line was not followed, or the receiver not closed
 abbrev pub IsEndFault : Width → List ℕ → EngineFault → Type 0
@@ -74,7 +74,7 @@ module _ {W : Type 0} (contents : W → Option (List ℕ)) where
       (rule : LossRule) (width : Width) (bytes : List ℕ) (told : List Given) → HasFollowedBytes rule width bytes told follower
       → (given : List Given) × IsWritten contents (flat_map given_line given) writer writer' written
       × MatchResult taken (λ _. HasFollowedBytes rule width (bytes ++ piece) (told ++ given) follower')
-      (λ fault. IsTextOfFront rule width (bytes ++ piece) (flat_map given_line (told ++ given)) × IsFollowFault width (bytes ++ piece) fault)
+      (λ fault. IsTextOfFront rule width fault (bytes ++ piece) (flat_map given_line (told ++ given)) × IsFollowFault width (bytes ++ piece) fault)
 
   -- where following ended by this fault, this text was written or, where the writer failed, a front of it
   abbrev pub WritesTill : Device W → Device W → List ℕ → EngineFault → Type 0
@@ -95,7 +95,7 @@ module _ {W : Type 0} (contents : W → Option (List ℕ)) where
       (λ _. HasFollowedBytes rule width (bytes ++ piece) (told ++ given) follower'
       × Appends (contents (inner_of writer)) (contents (inner_of writer')) (flat_map given_line given) × IsLeftFlushed writer writer'
       × (has_failed writer' ≡ has_failed writer))
-      (λ fault. IsTextOfFront rule width (bytes ++ piece) (flat_map given_line (told ++ given)) × IsFollowFaultOr width (bytes ++ piece) fault
+      (λ fault. IsTextOfFront rule width fault (bytes ++ piece) (flat_map given_line (told ++ given)) × IsFollowFaultOr width (bytes ++ piece) fault
       × WritesTill writer writer' (flat_map given_line given) fault)
 
   -- by a fault at the end nothing was written or, where the writer failed, a front of the rest of the text

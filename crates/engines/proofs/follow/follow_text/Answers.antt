@@ -53,7 +53,7 @@ returns-in_err-take_piece g c =
     (trace_stopped g.R.Read.remaining g.W.Write.contents c.args.rule c.args.width c.args.reader.now c.args.writer.now c.loop.reader c.loop.writer c.loop.follower far
     c.read_some.new.reader (take c.in_ok-count.count c.deref.result.now)
     (subst (Consumes (g.R.Read.remaining (inner_of c.loop.reader)) (g.R.Read.remaining (inner_of c.read_some.new.reader))) (sym (ap (take c.in_ok-count.count) piece ∙ front_is))
-    c.in_ok-count.ensures.taken) c.take_piece.new.writer followed.0 followed.1.0 _ followed.1.1 followed.1.2)
+    c.in_ok-count.ensures.taken) c.take_piece.new.writer followed.0 _ followed.1.0 followed.1.1 followed.1.2)
 
 pub loop-preserved : goal.loop-preserved
 loop-preserved g c =

@@ -40,8 +40,8 @@ returns-in_err-take_line g c = λ rule width bytes told has.
       was.1 ++ took.0,
       put_both g.O.PutText.after c.args.out.now c.loop-rest.out c.take_line.new.out was.1 took.0 was.3 took.1,
       (
-        subst (λ (piece : List ℕ). IsTextOfFront rule width (bytes ++ piece) (flat_map given_line (told ++ (was.1 ++ took.0)))) (sym are)
-            (front_of_two rule width bytes was.0 line below told was.1 took.0 took.2.0),
+        subst (λ (piece : List ℕ). IsTextOfFront rule width c.in_err-take_line.field-0.0 (bytes ++ piece) (flat_map given_line (told ++ (was.1 ++ took.0)))) (sym are)
+            (front_of_two rule width c.in_err-take_line.field-0.0 bytes was.0 line below told was.1 took.0 took.2.0),
         subst (λ (piece : List ℕ). IsFollowFault width (bytes ++ piece) c.in_err-take_line.field-0.0) (sym are)
             (fault_of_two width bytes was.0 line below c.in_err-take_line.field-0.0 took.2.1),
       ),
