@@ -8,13 +8,15 @@
 //! - [`join_text`], [`cut_text`] and [`replay_text`] are the engines. Each reads its input to the
 //!   end, piece by piece, and only then writes its text, as its lines are made. [`replay_text_by`]
 //!   decides besides by a rule which segments are lost.
+//! - [`follow_text`] is the engine of `follow`, which writes what a line brings before it reads on.
 //! - [`read_lines`] reads an input piece by piece, and [`write_report`] writes a report in the room
 //!   that [`held_room`] gives, for the engine of `run`; [`write_text`] writes a whole text.
 //! - [`write_fault`] writes the line of a fault, and [`status`] is its exit status.
 //!
 //! What matters most: they write exactly the text that stands for the lines they read; or they
-//! report the first faulty line and its least kind of fault, and then write nothing. Where no line
-//! is at fault, `cut_text` reports the first fault of the frames and pieces.
+//! report the first faulty line and its least kind of fault, and then write nothing, but for
+//! `follow_text`, which has written the text of the lines above. Where no line is at fault,
+//! `cut_text` reports the first fault of the frames and pieces.
 //!
 //! `crates/uses/src/run_caller.rt` calls the receiver of `run` without a program, and learns which
 //! of a modem's frames the consumer of each flow took.

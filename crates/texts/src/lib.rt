@@ -17,6 +17,9 @@
 //!   are to be taken by, of a cut, of a join and of a trace; so the crate `commands` receives a
 //!   trace on threads. [`ReplayInput`] replays a trace as its lines are taken. [`put_cut`]
 //!   puts the lines of a cut, and [`put_report`] a report.
+//! - [`FollowInput`] follows a trace of up to 16 channels and 16,384 flows: what a receiver gives
+//!   for its lines is put as they are taken, and [`put_end`] puts what is left at its end. It and
+//!   `ReplayInput` are each a [`TraceInput`].
 //!
 //! The lines and fields of all these formats, and the faults of a line, are those of `text_lines`;
 //! those of its names that a caller needs are exported here too.
