@@ -1,5 +1,5 @@
 -- The second word, the words behind it, and a word that asks for help.
-use Rattle.std.proofs.Common.{◌≡◌, ℕ, zero, suc, ◌+◌, ◌-◌, ◌<◌, ◌≤◌, inl, inr, true, Option, Some, None, List, [], ◌∷◌, ◌++◌, length, get_or, slice_get, take, drop, refl, ap, sym, ◌∙◌, subst, arith}
+use Rattle.std.proofs.Common.{◌≡◌, ◌⊎◌, ℕ, zero, suc, ◌+◌, ◌-◌, ◌<◌, ◌≤◌, inl, inr, true, Option, Some, None, List, [], ◌∷◌, ◌++◌, length, get_or, slice_get, take, drop, refl, ap, sym, ◌∙◌, subst, arith}
 use Rattle.std.proofs.lemmas.Bool.{cases_lt}
 use Rattle.std.proofs.lemmas.List.{length-map, length-take, take_all}
 use Rattle.std.proofs.lemmas.Option.{same_Some, slice_get_within}
@@ -8,7 +8,7 @@ use Rattle.loss_rule.specs.declared.rule.LossRule.{LossRule}
 use Rattle.command_line.specs.declared.command.Command.{Command}
 use Rattle.command_line.specs.declared.command.Command.TheVariants.{Join, Cut, Replay, Run, Follow, Help}
 use Rattle.command_line.specs.Inside.Command.{AsksWithOptions}
-use Rattle.command_line.specs.Command.{IsCommandAlone, IsCommand, options_in, AsksToReplayBy, AsksForAnEngine, IsHelpWord, HasNoHelpWord, StandsBeforeHelp}
+use Rattle.command_line.specs.Command.{IsCommandAlone, IsCommand, options_in, AsksToReplayBy, AsksForAnEngine, HasWord, IsHelpWord, HasNoHelpWord, StandsBeforeHelp}
 
 -- of two words the second is a command's alone
 pub IsCommandAlone-two : {X : Type 0} (command : List ℕ) (text : X → List ℕ) (words : List X) (word : X) → 2 ≤ length words → length words < 3 → word ≡ get_or words 1 word
@@ -37,6 +37,28 @@ pub options_behind : {X : Type 0} (text : X → List ℕ) (words : List X) → 2
 options_behind text [] some = absurd (omega arith)
 options_behind text (name ∷ []) some = absurd (omega arith)
 options_behind text (name ∷ second ∷ more) some = ap (map text) (sym (take_all (length (name ∷ second ∷ more) - 2) more (omega arith)))
+
+-- one of some words is this one if the first is, or one of those behind it
+pub HasWord-first : {X : Type 0} (wanted : List ℕ) (text : X → List ℕ) (words : List X) (word : X) (shown : List ℕ) → 1 ≤ length words → word ≡ get_or words 0 word
+    → shown ≡ text word → HasWord wanted (map text words) ↔ ((shown ≡ wanted) ⊎ HasWord wanted (map text (take (length words - 1) (drop 1 words))))
+HasWord-first wanted text [] word shown some first shows = absurd (omega arith)
+HasWord-first wanted text (one ∷ more) word shown some first shows =
+    let whole = take_all (length (one ∷ more) - 1) more (omega arith) in
+    let same : shown ≡ text one = shows ∙ ap text first in (
+      λ has. elim has [
+        | inl is ↦ inl (same ∙ is)
+        | inr behind ↦ inr (subst (λ rest. HasWord wanted (map text rest)) (sym whole) behind)
+      ],
+      λ has. elim has [
+        | inl is ↦ inl (sym same ∙ is)
+        | inr behind ↦ inr (subst (λ rest. HasWord wanted (map text rest)) whole behind)
+      ],
+    )
+
+-- none of no words is
+pub HasWord-none : {X : Type 0} (wanted : List ℕ) (text : X → List ℕ) (words : List X) → length words < 1 → HasWord wanted (map text words) → ⊥
+HasWord-none wanted text [] none has = has
+HasWord-none wanted text (one ∷ more) none has = omega (arith, none)
 
 -- none of the words after the name and before this place asks for help
 abbrev pub HasNoneBefore : List (List ℕ) → ℕ → Type 0
@@ -104,7 +126,7 @@ AsksForAnEngine-with_options words Join asks = absurd asks
 AsksForAnEngine-with_options words (Cut first fill) asks = inr (inl asks.0)
 AsksForAnEngine-with_options words (Replay rule) asks = absurd asks
 AsksForAnEngine-with_options words (Run rule mailbox ring) asks = inr (inr (inr (inl (rule, asks.0))))
-AsksForAnEngine-with_options words (Follow rule channels) asks = inr (inr (inr (inr (rule, asks.0))))
+AsksForAnEngine-with_options words (Follow rule channels events) asks = inr (inr (inr (inr (rule, asks.0))))
 AsksForAnEngine-with_options words (Help text) asks = absurd asks
 
 -- so do words that ask to replay by some rule

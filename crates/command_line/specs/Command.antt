@@ -1,5 +1,5 @@
 -- Words that ask for what the program does, the program's name first.
-use Rattle.std.specs.Prelude.{◌≡◌, ◌<◌, ◌≤◌, ◌⊎◌, ℕ, List, [], ◌∷◌, ◌++◌, length, drop, codes, slice_get, Some}
+use Rattle.std.specs.Prelude.{◌≡◌, ◌<◌, ◌≤◌, ◌⊎◌, ◌↔◌, ℕ, Bool, IsTrue, List, [], ◌∷◌, ◌++◌, length, drop, codes, slice_get, Some}
 use Rattle.docsis_wire.specs.Limits.{sequence_modulus}
 use Rattle.loss_rule.specs.declared.rule.LossRule.{LossRule}
 use Rattle.command_line.specs.Losses.{HasNoLossesWord, AskForRule, AskForRuleAlone}
@@ -56,6 +56,15 @@ AsksToReplayBy rule words = IsCommand (codes "replay") words × AskForRuleAlone 
 abbrev pub AsksToFollow : LossRule → List (List ℕ) → Type 0
 AsksToFollow rule words = IsCommand (codes "follow") words × AskForRule rule (options_in words)
 
+-- one of the words is this one
+abbrev pub HasWord : List ℕ → List (List ℕ) → Type 0
+HasWord word [] = ⊥
+HasWord word (first ∷ more) = (first ≡ word) ⊎ HasWord word more
+
+-- options ask for events just if one of them is `--events`
+abbrev pub AskForEvents : Bool → List (List ℕ) → Type 0
+AskForEvents events options = IsTrue events ↔ HasWord (codes "--events") options
+
 -- the greatest number of channels of a trace that is followed
 abbrev pub channels_max : ℕ
 channels_max = 16
@@ -94,5 +103,6 @@ Asks words Join = AsksToJoin words
 Asks words (Cut first fill) = AsksToCut words × HasNoHelpWord words × (first < sequence_modulus)
 Asks words (Replay rule) = AsksToReplayBy rule words
 Asks words (Run rule mailbox ring) = AsksToRunBy rule words × HasNoHelpWord words × (1 ≤ mailbox) × (1 ≤ ring)
-Asks words (Follow rule channels) = AsksToFollow rule words × HasNoHelpWord words × (1 ≤ channels) × (channels ≤ channels_max)
+Asks words (Follow rule channels events) =
+    AsksToFollow rule words × HasNoHelpWord words × (1 ≤ channels) × (channels ≤ channels_max) × AskForEvents events (options_in words)
 Asks words (Help text) = AsksForHelp words

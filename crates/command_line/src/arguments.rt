@@ -39,7 +39,8 @@ channel of the flow has passed, since on each a later segment came; by slid, so
 is what has to leave the window for one that comes beyond it. Nothing is printed
 before the whole input was read and is without fault; but follow prints each
 frame and each request as soon as the line is read that brings it, also above a
-line that is at fault, and what was counted at the end.
+line that is at fault, and what was counted at the end. With --events it prints
+besides what became of each grant, burst and gap, and how its flow then stands.
 
 Exit status:
   0  done
@@ -102,14 +103,23 @@ fn run_command<'a>(alloc: Global) -> Result<Command<'a>, AllocError> {
         .arg(option(alloc, "ring", "N", ring))
 }
 
+/// The option of `follow` without a value.
+fn events_option<'a>(alloc: Global) -> Arg<'a> {
+    Arg::new(alloc, "events")
+        .long("events")
+        .action(ArgAction::SetTrue)
+        .help("Also print what becomes of each grant, burst and gap")
+}
+
 /// The command `follow` with its options.
 fn follow_command<'a>(alloc: Global) -> Result<Command<'a>, AllocError> {
     let channels = "Channels that the trace may have, 1 to 16 [default: 16]";
     let about = "Follows a trace, and prints what each flow gives as its lines are read";
-    let usage = "segrx follow [--losses RULE] [--channels N] < TRACE > FRAMES_AND_REQUESTS";
+    let usage = "segrx follow [--losses RULE] [--channels N] [--events] < TRACE > FRAMES";
     command(alloc, "follow", about, usage)
         .arg(losses_option(alloc))?
-        .arg(option(alloc, "channels", "N", channels))
+        .arg(option(alloc, "channels", "N", channels))?
+        .arg(events_option(alloc))
 }
 
 /// The program's own usage: that of each command.
@@ -117,7 +127,7 @@ const USAGE: &str = "segrx [join] < SEGMENTS > FRAMES
        segrx cut [--first N] [--fill zero|ones] < FRAMES_AND_PIECES > SEGMENTS
        segrx replay [--losses RULE] < TRACE > REPORT
        segrx run [--losses RULE] [--mailbox N] [--ring N] < TRACE > REPORT
-       segrx follow [--losses RULE] [--channels N] < TRACE > FRAMES_AND_REQUESTS";
+       segrx follow [--losses RULE] [--channels N] [--events] < TRACE > FRAMES";
 
 /// The commands of the program.
 pub fn command_line<'a>(alloc: Global) -> Result<Command<'a>, AllocError> {

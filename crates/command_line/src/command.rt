@@ -5,7 +5,7 @@ ghost use Rattle.text_lines.specs.Capacities.{default_capacity};
 ghost use Rattle.command_line.specs.declared.command.UsageFault.TheVariants.{OutOfMemory};
 ghost use Rattle.command_line.specs.Command.{IsCommandAlone, IsCommand, options_in, AsksToJoin};
 ghost use Rattle.command_line.specs.Command.{AsksToReplayBy, AsksToRunBy, AsksToRunByAlone};
-ghost use Rattle.command_line.specs.Command.{AsksToFollow, Asks};
+ghost use Rattle.command_line.specs.Command.{AsksToFollow, HasWord, AskForEvents, Asks};
 ghost use Rattle.command_line.specs.Command.{IsHelpWord, HasNoHelpWord, StandsBeforeHelp};
 ghost use Rattle.command_line.specs.Inside.Command.{AsksWithOptions};
 ghost use Rattle.command_line.specs.Inside.Options.{ReadsOptions, ReadsCount, ReadsCapacities, ReadsChannels};
@@ -50,12 +50,14 @@ pub enum Command {
         /// How many frames the ring of each flow has room for, its end mark included: 1 to 65,535.
         ring: u16,
     },
-    /// To follow a trace, and print what a receiver gives for it as its lines are read.
+    /// To follow a trace, and print what happens by its lines as they are read.
     Follow {
         /// By what losses are decided.
         rule: LossRule,
         /// How many channels the trace may have, 1 to 16.
         channels: u8,
+        /// Whether what becomes of each input and each decision is printed too.
+        events: bool,
     },
     /// To print this text, which says how the program is used.
     Help(String),
@@ -202,14 +204,29 @@ fn before_help<S: AsStr>(words: &[S]) -> Option<&[S]>
     None
 }
 
-/// Whether a word is the `--` that ends the options.
-fn ends_options<S: AsStr>(words: &[S]) -> bool {
-    for word in words {
-        if word.as_str() == "--" {
+/// Whether one of the words is this one.
+fn has_word<S: AsStr>(words: &[S], wanted: &str) -> bool
+    ensures { IsTrue result ↔ HasWord wanted.now (map S.text words.now) }
+{
+    let mut rest = words;
+    while let [word, more @ ..] = rest {
+        if word.as_str() == wanted {
             return true;
         }
+        rest = more;
     }
     false
+}
+
+/// Whether the words, the program's name first, ask for events, where they ask to follow.
+fn asked_events<S: AsStr>(words: &[S]) -> bool
+    ensures { IsCommand (codes "follow") (map S.text words.now)
+        → AskForEvents result (options_in (map S.text words.now)) }
+{
+    match options_of(words, "follow") {
+        Some(options) => has_word(options, "--events"),
+        None => false,
+    }
 }
 
 /// The first number and the fill that the options of `cut` ask for.
@@ -276,7 +293,7 @@ fn read_with_options<'a, S: AsStr>(alloc: Global, words: &'a [S]) -> Result<Comm
     let run_rule = asked_run(words);
     let follow_rule = asked_follow(words);
     let asked = cuts || run_rule.is_some() || follow_rule.is_some();
-    if !asked || ends_options(words) {
+    if !asked || has_word(words, "--") {
         return Err(UsageFault::Usage);
     }
     let matches = command_line(alloc)?.try_get_matches_from(words)?;
@@ -298,7 +315,12 @@ fn read_with_options<'a, S: AsStr>(alloc: Global, words: &'a [S]) -> Result<Comm
         && let Some(options) = matches.subcommand_matches("follow")
     {
         let channels = read_follow(options)?;
-        return Ok(Command::Follow { rule, channels });
+        let events = asked_events(words);
+        return Ok(Command::Follow {
+            rule,
+            channels,
+            events,
+        });
     }
     Err(UsageFault::Usage)
 }

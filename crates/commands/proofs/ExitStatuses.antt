@@ -1,5 +1,5 @@
 -- What the program's exit status says of its input, by what came of its words.
-use Rattle.std.proofs.Common.{◌≡◌, ◌≢◌, ◌⊎◌, inl, inr, ℕ, ◌<◌, List, Option, Some, None, Result, Ok, Err, IfSome, refl, ap, subst, arith}
+use Rattle.std.proofs.Common.{Bool, ◌≡◌, ◌≢◌, ◌⊎◌, inl, inr, ℕ, ◌<◌, List, Option, Some, None, Result, Ok, Err, IfSome, refl, ap, subst, arith}
 use Rattle.docsis_wire.specs.declared.pieces.CutFault.TheVariants as cut_fault
 use Rattle.engines.specs.declared.device.Device.{Device}
 use Rattle.engines.specs.declared.fault.EngineFault.{EngineFault}
@@ -100,13 +100,13 @@ follow_fault rule width (Some input) reader writer Write cause = says_nothing (H
 follow_fault rule width (Some input) reader writer Usage cause = absurd cause
 
 -- and after a trace was followed
-SaysOf-followed : {R W : Type 0} (remaining : R → Option (List ℕ)) (contents : W → Option (List ℕ)) (rule : LossRule) (width : Width) (reader reader' : Device R)
-    (writer writer' : Device W) (result : Result (Unit {0}) EngineFault) → FollowsTrace rule width remaining contents reader reader' writer writer' result
+SaysOf-followed : {R W : Type 0} (remaining : R → Option (List ℕ)) (contents : W → Option (List ℕ)) (rule : LossRule) (width : Width) (events : Bool) (reader reader' : Device R)
+    (writer writer' : Device W) (result : Result (Unit {0}) EngineFault) → FollowsTrace rule width events remaining contents reader reader' writer writer' result
     → IfSome (remaining (inner_of reader)) (SaysOf (HasFollowed rule) HasFollowFault (exit_status_of result))
-SaysOf-followed remaining contents rule width reader reader' writer writer' (Ok done) ran =
-    SaysOf-written (HasFollowed rule) (IsFollowed rule width) HasFollowFault (remaining (inner_of reader)) (contents (inner_of writer)) (contents (inner_of writer'))
-    (λ input text is. (width, text, is)) ran.written
-SaysOf-followed remaining contents rule width reader reader' writer writer' (Err fault) ran =
+SaysOf-followed remaining contents rule width events reader reader' writer writer' (Ok done) ran =
+    SaysOf-written (HasFollowed rule) (IsFollowed rule width events) HasFollowFault (remaining (inner_of reader)) (contents (inner_of writer)) (contents (inner_of writer'))
+    (λ input text is. (width, events, text, is)) ran.written
+SaysOf-followed remaining contents rule width events reader reader' writer writer' (Err fault) ran =
     follow_fault rule width (remaining (inner_of reader)) reader' writer' fault ran.cause
 
 -- words that ask to join, to replay or to run by a rule alone are known: whatever comes of them, it is not usage
@@ -189,7 +189,7 @@ SaysOfWords-outcome remaining contents words reader reader' writer writer' resul
       (obeyed.run_alone rule asks);
   follow = λ rule asks.
       elim (obeyed.follow rule asks) [
-        | inl ran ↦ SaysOf-followed remaining contents rule ran.0 reader reader' writer writer' result ran.2
+        | inl ran ↦ SaysOf-followed remaining contents rule ran.0 ran.1 reader reader' writer writer' result ran.4
         | inr refused ↦ SaysOf-above (HasFollowed rule) HasFollowFault (remaining (inner_of reader)) (exit_status_of result) (refused_status reader reader' writer writer' result refused)
       ];
   usage = λ asks. refused_status reader reader' writer writer' result (obeyed.nothing asks);

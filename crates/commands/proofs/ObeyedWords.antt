@@ -169,7 +169,7 @@ module _ {R W : Type 0} (remaining : R → Option (List ℕ)) (contents : W → 
 
   -- words that ask to follow a trace
   Obeys-follow : (rule : LossRule) (result : Result (Unit {0}) EngineFault) → AsksToFollow rule words → HasNoHelpWord words
-      → RunsFollow rule remaining contents reader reader' writer writer' result → ¬ AsksForNothing words
+      → RunsFollow rule words remaining contents reader reader' writer writer' result → ¬ AsksForNothing words
       → Obeys remaining contents words reader reader' writer writer' result
   Obeys-follow rule result asked no_help ran something = record {
     join = λ asks. absurd (join_is_another (codes "follow") join_is_not_follow words asks asked.0);
@@ -181,13 +181,13 @@ module _ {R W : Type 0} (remaining : R → Option (List ℕ)) (contents : W → 
     run_alone = λ other asks. absurd (commands_apart (codes "follow") (codes "run") follow_is_not_run words asked.0 asks.0);
     follow = λ other asks.
         let same : rule ≡ other = AskForRule-one (options_in words) rule other asked.1 asks.0.1 in
-        inl (subst (λ by. RunsFollow by remaining contents reader reader' writer writer' result) same ran);
+        inl (subst (λ by. RunsFollow by words remaining contents reader reader' writer writer' result) same ran);
     nothing = λ asks. absurd (something asks);
     help = λ other asks. absurd (asks no_help);
-    flushed = ran.2.flushed;
-    no_cause = OnOk-weaker result ran.2.no_cause;
-    read_fault = λ is. followed_fault result is ran.2.cause;
-    write_fault = λ is. followed_write result is ran.2.cause;
+    flushed = ran.4.flushed;
+    no_cause = OnOk-weaker result ran.4.no_cause;
+    read_fault = λ is. followed_fault result is ran.4.cause;
+    write_fault = λ is. followed_write result is ran.4.cause;
     read_first = λ none. absurd (none rule (asked, λ helps. absurd (no_help_asked helps)));
   } where
     OnOk-weaker : (result : Result (Unit {0}) EngineFault)
@@ -261,8 +261,8 @@ module _ {R W : Type 0} (remaining : R → Option (List ℕ)) (contents : W → 
       (performed_alone (Run rule mailbox ring) result ran runs)
       (λ other asks. absurd (commands_apart (codes "follow") (codes "run") follow_is_not_run words asks.0 asked.0.0))
       (λ nothing. nothing.0 (inr (inr (inr (inl (rule, asked.0)))))) (λ _. asked.1)
-  Obeys-performed (Follow rule channels) result replay_same run_same unread unwritten asked joins replays runs ran =
-      Obeys-follow rule result asked.0 asked.1 (ran.0, ran.2, ran.3) (λ nothing. nothing.0 (inr (inr (inr (inr (rule, asked.0))))))
+  Obeys-performed (Follow rule channels events) result replay_same run_same unread unwritten asked joins replays runs ran =
+      Obeys-follow rule result asked.0 asked.1 (ran.0, events, ran.2, asked.4, ran.3) (λ nothing. nothing.0 (inr (inr (inr (inr (rule, asked.0))))))
   Obeys-performed (Help text) result replay_same run_same unread unwritten asked joins replays runs ran =
       Obeys-help (string_bytes text) result unread unwritten (λ asks. let e = joins asks in absurd cc) (λ asks. asks.1 asked)
       (λ rule asks. let e = replays rule asks in absurd cc) (λ rule asks. asks.1 asked) (λ rule asks. let e = runs rule asks in absurd cc)

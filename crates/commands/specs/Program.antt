@@ -1,5 +1,5 @@
 -- What the program does with its arguments, and what its exit status says of its input.
-use Rattle.std.specs.Prelude.{◌≡◌, ◌≢◌, ◌⊎◌, ◌<◌, ◌≤◌, ◌^◌, ℕ, List, [], Option, Result, Ok, Err, true, false, IfErr, OnOk, OnErr, length}
+use Rattle.std.specs.Prelude.{◌≡◌, ◌≢◌, ◌⊎◌, ◌<◌, ◌≤◌, ◌^◌, ℕ, Bool, List, [], Option, Result, Ok, Err, true, false, IfErr, OnOk, OnErr, length}
 use Rattle.std.specs.Io.KnownBytes.{Appends}
 use Rattle.docsis_wire.specs.declared.pieces.FillByte.{FillByte}
 use Rattle.docsis_wire.specs.Limits.{sequence_modulus}
@@ -14,7 +14,7 @@ use Rattle.engines.specs.Device.{inner_of, has_failed, is_flushed, IsFresh}
 use Rattle.engines.specs.Transfer.{AppendsFront, IsLeftFlushed, IsReadFault, IsRead}
 use Rattle.engines.specs.Fault.{status_of, exit_status_of, fault_line}
 use Rattle.engines.specs.Engine.{engine_fault, RunsEngine}
-use Rattle.command_line.specs.Command.{AsksToJoin, AsksToCut, AsksToReplay, AsksToReplayBy, AsksToRun, AsksToRunBy, AsksToRunByAlone, AsksToFollow, AsksForAnEngine, AsksForHelp, HasNoHelpWord}
+use Rattle.command_line.specs.Command.{AsksToJoin, AsksToCut, AsksToReplay, AsksToReplayBy, AsksToRun, AsksToRunBy, AsksToRunByAlone, AsksToFollow, AskForEvents, options_in, AsksForAnEngine, AsksForHelp, HasNoHelpWord}
 use Rattle.flow_records.specs.Limits.{most_flows}
 use Rattle.receiver.specs.declared.width.Width.{Width}
 use Rattle.text_lines.specs.declared.fault.TextFault.TheVariants as text_fault
@@ -96,10 +96,11 @@ abbrev pub RunsRunAlone : {R W : Type 0} → LossRule → (R → Option (List �
 RunsRunAlone rule remaining contents reader reader' writer writer' result =
     RunsEngine remaining contents (IsRunTextBy rule default_capacity default_capacity) (IsReportFault default_capacity) reader reader' writer writer' result
 
--- a trace was followed by a loss rule, of as many flows as a receiver can have
-abbrev pub RunsFollow : {R W : Type 0} → LossRule → (R → Option (List ℕ)) → (W → Option (List ℕ)) → Device R → Device R → Device W → Device W → Result (Unit {0}) EngineFault → Type 0
-RunsFollow rule remaining contents reader reader' writer writer' result =
-    (width : Width) × (width.flows ≡ most_flows) × FollowsTrace rule width remaining contents reader reader' writer writer' result
+-- a trace was followed by a loss rule, of as many flows as a receiver can have, with events just if the words ask for them
+abbrev pub RunsFollow : {R W : Type 0} → LossRule → List (List ℕ) → (R → Option (List ℕ)) → (W → Option (List ℕ)) → Device R → Device R → Device W → Device W → Result (Unit {0}) EngineFault → Type 0
+RunsFollow rule words remaining contents reader reader' writer writer' result =
+    (width : Width) × (events : Bool) × (width.flows ≡ most_flows) × AskForEvents events (options_in words)
+    × FollowsTrace rule width events remaining contents reader reader' writer writer' result
 
 -- what comes of words, the program's name first, over a fresh reader and a fresh writer: `remaining` are the bytes that a reader is known
 -- to have left, `contents` those that a writer is known to hold
@@ -119,7 +120,7 @@ pub record Obeys {R W : Type 0} (remaining : R → Option (List ℕ)) (contents 
   pub run_alone : (rule : LossRule) → AsksToRunByAlone rule words → RunsRunAlone rule remaining contents reader reader' writer writer' result
   -- a trace is followed
   pub follow : (rule : LossRule) → AsksToFollowOnly rule words
-      → RunsFollow rule remaining contents reader reader' writer writer' result ⊎ IsRefused reader reader' writer writer' result
+      → RunsFollow rule words remaining contents reader reader' writer writer' result ⊎ IsRefused reader reader' writer writer' result
   pub nothing : AsksForNothing words → IsRefused reader reader' writer writer' result
   pub help : ¬ AsksToJoin words → ¬ HasNoHelpWord words → Helps contents reader reader' writer writer' result ⊎ IsRefused reader reader' writer writer' result
   -- where the work was done all that was written is flushed
@@ -191,7 +192,7 @@ HasRunReportBy rule input = (mailbox ring : ℕ) × (text : List ℕ) × (1 ≤ 
 
 -- some text may stand for a trace that is followed by a loss rule
 abbrev pub HasFollowed : LossRule → List ℕ → Type 0
-HasFollowed rule input = (width : Width) × (text : List ℕ) × IsFollowed rule width input text
+HasFollowed rule input = (width : Width) × (events : Bool) × (text : List ℕ) × IsFollowed rule width events input text
 
 -- a trace that is followed has this fault
 abbrev pub HasFollowFault : List ℕ → TextFault → Type 0

@@ -56,11 +56,15 @@ fn perform<T: Threads + Wait + Copy + Send + 'static, R: Read, W: Write>(
             };
             run_text_by(rule, alloc, rt, mailbox, ring, taps, reader, out)
         }
-        Command::Follow { rule, channels } => {
+        Command::Follow {
+            rule,
+            channels,
+            events,
+        } => {
             let Ok(width) = Width::new(channels, MOST_FLOWS) else {
                 return Err(EngineFault::Usage);
             };
-            follow_text(rule, width, alloc, reader, out)
+            follow_text(rule, width, events, alloc, reader, out)
         }
         Command::Help(text) => Ok(write_text(out, text.as_bytes())?),
     }

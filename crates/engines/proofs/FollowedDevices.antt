@@ -1,17 +1,17 @@
 -- What following a trace promises follows from what became of its pieces and of its end.
-use Rattle.std.proofs.Common.{◌≡◌, ◌≢◌, ℕ, ◌-◌, ◌^◌, ◌<◌, ◌≤◌, ◌⊎◌, inl, inr, Option, Some, None, Result, Ok, Err, true, false, List, [], ◌∷◌, ◌++◌, length, refl, sym, ap, subst, ◌∙◌, arith, append-nil, length-append}
+use Rattle.std.proofs.Common.{◌≡◌, ◌≢◌, ℕ, ◌-◌, ◌^◌, ◌<◌, ◌≤◌, ◌⊎◌, inl, inr, Option, Some, None, Result, Ok, Err, Bool, true, false, List, [], ◌∷◌, ◌++◌, length, refl, sym, ap, subst, ◌∙◌, arith, append-nil, length-append}
 use Rattle.std.specs.Prelude.{flat_map, IfSome, MatchResult}
 use Rattle.std.specs.Io.KnownBytes.{Appends, Keeps, Consumes, IsAtEnd}
 use Rattle.std.proofs.KnownBytes.{Appends-nil, Appends-trans, Consumes-nil, Consumes-trans, Consumes-kept, Consumes-all}
 use Rattle.std.proofs.lemmas.Grind.{flat_map-append}
-use Rattle.consumer.specs.declared.given.Given.{Given}
 use Rattle.loss_rule.specs.declared.rule.LossRule.{LossRule}
 use Rattle.receiver.specs.declared.width.Width.{Width}
 use Rattle.text_lines.specs.Capacities.{default_capacity}
 use Rattle.text_lines.specs.declared.fault.TraceFault.{TraceFault}
 use Rattle.text_lines.specs.Format.{no_lines, IsFirstFaultyLine}
 use Rattle.text_lines.specs.Lines.{lines_of}
-use Rattle.texts.specs.Follow.{given_line, IsFollowed, IsFollowedSoFar}
+use Rattle.texts.specs.Happened.{HappenedAt, HappenedBy}
+use Rattle.texts.specs.Follow.{told_lines, IsFollowed, IsFollowedSoFar}
 use Rattle.texts.specs.Trace.Line.{shape_of}
 use Rattle.texts.specs.Trace.Place.{nothing_said_in, trace_format}
 use Rattle.engines.specs.declared.device.Device.{Device}
@@ -23,7 +23,8 @@ use Rattle.engines.specs.Engine.{WritesText}
 use Rattle.engines.specs.Following.{IsBehind, IsTextOfFront, IsTextOfWhole, IsFollowedTill, HasFollowCause, FollowsTrace}
 use Rattle.engines.specs.Inside.Following.{IsEndFault, HasFollowedBytes, IsFollowFault, IsFollowFaultOr, WritesTill, EndsBy}
 use Rattle.engines.specs.Transfer.{AppendsFront, IsLeftFlushed}
-use Rattle.engines.proofs.FollowedLines.{text_so_far, front_of_whole, behind_last}
+use Rattle.engines.proofs.FollowedLines.{text_so_far, front_of_whole, behind_last, nothing_happened}
+use Rattle.engines.proofs.NumberedHappenings.{numbered_nothing}
 use Rattle.engines.proofs.WrittenText.{AppendsFront-behind}
 
 -- a writer was not used, or flushed, and then again
@@ -31,21 +32,21 @@ pub flushed_then : {W : Type 0} (a b c : Device W) → IsLeftFlushed a b → IsL
 flushed_then {W = W} a b c first (inl same) = subst (λ (device : Device W). IsLeftFlushed a device) (sym same) first
 flushed_then a b c first (inr flushed) = inr flushed
 
-module _ {R W : Type 0} (remaining : R → Option (List ℕ)) (contents : W → Option (List ℕ)) (rule : LossRule) (width : Width) where
-  -- So far these bytes were read and followed, and what was given for their lines was written and flushed.
+module _ {R W : Type 0} (remaining : R → Option (List ℕ)) (contents : W → Option (List ℕ)) (rule : LossRule) (width : Width) (events : Bool) where
+  -- So far these bytes were read and followed, and what happened by their lines was written and flushed.
   pub record FollowsSoFar (reader reader' : Device R) (writer writer' : Device W) (follower : Follower) : Type 0 where
     pub bytes : List ℕ
-    pub told : List Given
-    pub followed : HasFollowedBytes rule width bytes told follower
+    pub told : List HappenedAt
+    pub followed : HasFollowedBytes rule width events bytes told follower
     pub read : Consumes (remaining (inner_of reader)) (remaining (inner_of reader')) bytes
-    pub wrote : Appends (contents (inner_of writer)) (contents (inner_of writer')) (flat_map given_line told)
+    pub wrote : Appends (contents (inner_of writer)) (contents (inner_of writer')) (flat_map (told_lines events) told)
     pub flushed : IsLeftFlushed writer writer'
     pub sound : has_failed writer' ≡ has_failed writer
     pub read_sound : has_failed reader' ≡ has_failed reader
 
   module _ (reader : Device R) (writer : Device W) where
     -- nothing was read
-    pub far_nothing : (follower : Follower) → HasFollowedBytes rule width [] [] follower → FollowsSoFar reader reader writer writer follower
+    pub far_nothing : (follower : Follower) → HasFollowedBytes rule width events [] [] follower → FollowsSoFar reader reader writer writer follower
     far_nothing follower has = record {
       bytes = [];
       told = [];
@@ -58,7 +59,7 @@ module _ {R W : Type 0} (remaining : R → Option (List ℕ)) (contents : W → 
     }
 
     -- an allocation failed before anything was read
-    pub trace_refused : FollowsTrace rule width remaining contents reader reader writer writer (Err OutOfMemory)
+    pub trace_refused : FollowsTrace rule width events remaining contents reader reader writer writer (Err OutOfMemory)
     trace_refused = record {
       written = tt;
       above = λ other. ([], till, Appends-nil (contents (inner_of writer)));
@@ -68,16 +69,10 @@ module _ {R W : Type 0} (remaining : R → Option (List ℕ)) (contents : W → 
       cause = tt;
       no_cause = tt;
     } where
-      nothing : IsFollowedSoFar rule width [] []
-      nothing = record {
-        said = nothing_said_in (shape_of width default_capacity);
-        read = no_lines;
-        given = [];
-        is_given = inl (refl, refl);
-        printed = refl;
-      }
+      nothing : IsFollowedSoFar rule width events [] []
+      nothing = record { told = []; happened = nothing_happened rule width; numbered = numbered_nothing rule width (nothing_happened rule width); printed = refl }
 
-      till : IsFollowedTill rule width (remaining (inner_of reader)) (remaining (inner_of reader)) OutOfMemory []
+      till : IsFollowedTill rule width events (remaining (inner_of reader)) (remaining (inner_of reader)) OutOfMemory []
       till = record {
         bytes = [];
         read = Consumes-nil (remaining (inner_of reader));
@@ -87,19 +82,19 @@ module _ {R W : Type 0} (remaining : R → Option (List ℕ)) (contents : W → 
 
     module _ (reader' : Device R) (writer' : Device W) (follower : Follower) (far : FollowsSoFar reader reader' writer writer' follower) where
       abbrev text : List ℕ
-      text = flat_map given_line far.told
+      text = flat_map (told_lines events) far.told
 
-      whole : IsTextOfWhole rule width far.bytes text
-      whole = text_so_far rule width far.bytes far.told follower far.followed
+      whole : IsTextOfWhole rule width events far.bytes text
+      whole = text_so_far rule width events far.bytes far.told follower far.followed
 
       till_here : (left : Option (List ℕ)) (fault : EngineFault) → Consumes (remaining (inner_of reader)) left far.bytes → IsBehind far.bytes whole.lines fault
-          → IsFollowedTill rule width (remaining (inner_of reader)) left fault text
+          → IsFollowedTill rule width events (remaining (inner_of reader)) left fault text
       till_here left fault read behind =
-          record { bytes = far.bytes; read = read; front = front_of_whole rule width fault far.bytes text whole behind; whole = λ is. whole }
+          record { bytes = far.bytes; read = read; front = front_of_whole rule width events fault far.bytes text whole behind; whole = λ is. whole }
 
       -- the reader failed, or gave as much as can be counted
       pub trace_unread : (reader'' : Device R) → Keeps (remaining (inner_of reader')) (remaining (inner_of reader''))
-          → (has_failed reader'' ≡ true) ⊎ (2 ^ 64 - 1 ≤ given_of reader'') → FollowsTrace rule width remaining contents reader reader'' writer writer' (Err Read)
+          → (has_failed reader'' ≡ true) ⊎ (2 ^ 64 - 1 ≤ given_of reader'') → FollowsTrace rule width events remaining contents reader reader'' writer writer' (Err Read)
       trace_unread reader'' kept cause = record {
         written = tt;
         above = λ other. (
@@ -116,8 +111,8 @@ module _ {R W : Type 0} (remaining : R → Option (List ℕ)) (contents : W → 
       }
 
       -- one text was written, and another behind it
-      both_written : (more : List Given) → text ++ flat_map given_line more ≡ flat_map given_line (far.told ++ more)
-      both_written more = sym (flat_map-append given_line far.told more)
+      both_written : (more : List HappenedAt) → text ++ flat_map (told_lines events) more ≡ flat_map (told_lines events) (far.told ++ more)
+      both_written more = sym (flat_map-append (told_lines events) far.told more)
 
       module _ (reader'' : Device R) (piece : List ℕ) (read : Consumes (remaining (inner_of reader')) (remaining (inner_of reader'')) piece) where
         read_both : Consumes (remaining (inner_of reader)) (remaining (inner_of reader'')) (far.bytes ++ piece)
@@ -125,26 +120,26 @@ module _ {R W : Type 0} (remaining : R → Option (List ℕ)) (contents : W → 
             Consumes-trans (remaining (inner_of reader)) (remaining (inner_of reader')) (remaining (inner_of reader'')) far.bytes piece far.read read
 
         -- a piece was followed
-        pub far_more : (writer'' : Device W) (follower' : Follower) (given : List Given) → has_failed reader'' ≡ has_failed reader'
-            → HasFollowedBytes rule width (far.bytes ++ piece) (far.told ++ given) follower'
-            → Appends (contents (inner_of writer')) (contents (inner_of writer'')) (flat_map given_line given) → IsLeftFlushed writer' writer''
+        pub far_more : (writer'' : Device W) (follower' : Follower) (happened : List HappenedAt) → has_failed reader'' ≡ has_failed reader'
+            → HasFollowedBytes rule width events (far.bytes ++ piece) (far.told ++ happened) follower'
+            → Appends (contents (inner_of writer')) (contents (inner_of writer'')) (flat_map (told_lines events) happened) → IsLeftFlushed writer' writer''
             → has_failed writer'' ≡ has_failed writer' → FollowsSoFar reader reader'' writer writer'' follower'
-        far_more writer'' follower' given read_sound followed wrote flushed sound = record {
+        far_more writer'' follower' happened read_sound followed wrote flushed sound = record {
           bytes = far.bytes ++ piece;
-          told = far.told ++ given;
+          told = far.told ++ happened;
           followed = followed;
           read = read_both;
           wrote =
-              subst (λ (all : List ℕ). Appends (contents (inner_of writer)) (contents (inner_of writer'')) all) (both_written given)
-              (Appends-trans (contents (inner_of writer)) (contents (inner_of writer')) (contents (inner_of writer'')) text (flat_map given_line given) far.wrote wrote);
+              subst (λ (all : List ℕ). Appends (contents (inner_of writer)) (contents (inner_of writer'')) all) (both_written happened)
+              (Appends-trans (contents (inner_of writer)) (contents (inner_of writer')) (contents (inner_of writer'')) text (flat_map (told_lines events) happened) far.wrote wrote);
           flushed = flushed_then writer writer' writer'' far.flushed flushed;
           sound = sound ∙ far.sound;
           read_sound = read_sound ∙ far.read_sound;
         }
 
-        module _ (writer'' : Device W) (given : List Given) where
-          till_there : (fault : EngineFault) → IsTextOfFront rule width fault (far.bytes ++ piece) (flat_map given_line (far.told ++ given)) → fault ≢ Read
-              → IsFollowedTill rule width (remaining (inner_of reader)) (remaining (inner_of reader'')) fault (flat_map given_line (far.told ++ given))
+        module _ (writer'' : Device W) (happened : List HappenedAt) where
+          till_there : (fault : EngineFault) → IsTextOfFront rule width events fault (far.bytes ++ piece) (flat_map (told_lines events) (far.told ++ happened)) → fault ≢ Read
+              → IsFollowedTill rule width events (remaining (inner_of reader)) (remaining (inner_of reader'')) fault (flat_map (told_lines events) (far.told ++ happened))
           till_there fault front other = record { bytes = far.bytes ++ piece; read = read_both; front = front; whole = λ is. absurd (other is) }
 
           -- of what is known the first faulty line
@@ -167,17 +162,17 @@ module _ {R W : Type 0} (remaining : R → Option (List ℕ)) (contents : W → 
           cause_of Usage is = absurd is
 
           -- a line of the piece is at fault, or an allocation failed
-          stopped_at : (fault : EngineFault) → IsTextOfFront rule width fault (far.bytes ++ piece) (flat_map given_line (far.told ++ given))
+          stopped_at : (fault : EngineFault) → IsTextOfFront rule width events fault (far.bytes ++ piece) (flat_map (told_lines events) (far.told ++ happened))
               → fault ≢ Write → fault ≢ Read → IsFollowFault width (far.bytes ++ piece) fault
-              → Appends (contents (inner_of writer')) (contents (inner_of writer'')) (flat_map given_line given) × IsLeftFlushed writer' writer''
-              × (has_failed writer'' ≡ has_failed writer') → FollowsTrace rule width remaining contents reader reader'' writer writer'' (Err fault)
+              → Appends (contents (inner_of writer')) (contents (inner_of writer'')) (flat_map (told_lines events) happened) × IsLeftFlushed writer' writer''
+              × (has_failed writer'' ≡ has_failed writer') → FollowsTrace rule width events remaining contents reader reader'' writer writer'' (Err fault)
           stopped_at fault front no_write no_read is wrote = record {
             written = tt;
             above = λ other. (
-              flat_map given_line (far.told ++ given),
+              flat_map (told_lines events) (far.told ++ happened),
               till_there fault front no_read,
-              subst (λ (all : List ℕ). Appends (contents (inner_of writer)) (contents (inner_of writer'')) all) (both_written given)
-                  (Appends-trans (contents (inner_of writer)) (contents (inner_of writer')) (contents (inner_of writer'')) text (flat_map given_line given) far.wrote wrote.0),
+              subst (λ (all : List ℕ). Appends (contents (inner_of writer)) (contents (inner_of writer'')) all) (both_written happened)
+                  (Appends-trans (contents (inner_of writer)) (contents (inner_of writer')) (contents (inner_of writer'')) text (flat_map (told_lines events) happened) far.wrote wrote.0),
             );
             write_fault = λ written. absurd (no_write cc);
             flushed = tt;
@@ -186,9 +181,9 @@ module _ {R W : Type 0} (remaining : R → Option (List ℕ)) (contents : W → 
             no_cause = tt;
           }
 
-          pub trace_stopped : (fault : EngineFault) → IsTextOfFront rule width fault (far.bytes ++ piece) (flat_map given_line (far.told ++ given))
+          pub trace_stopped : (fault : EngineFault) → IsTextOfFront rule width events fault (far.bytes ++ piece) (flat_map (told_lines events) (far.told ++ happened))
               → IsFollowFaultOr contents width (far.bytes ++ piece) fault
-              → WritesTill contents writer' writer'' (flat_map given_line given) fault → FollowsTrace rule width remaining contents reader reader'' writer writer'' (Err fault)
+              → WritesTill contents writer' writer'' (flat_map (told_lines events) happened) fault → FollowsTrace rule width events remaining contents reader reader'' writer writer'' (Err fault)
           trace_stopped (Trace fault) front is wrote = stopped_at (Trace fault) front (λ e. absurd cc) (λ e. absurd cc) is wrote
           trace_stopped (Cut fault) front is wrote = absurd is
           trace_stopped OutOfMemory front is wrote = stopped_at OutOfMemory front (λ e. absurd cc) (λ e. absurd cc) is wrote
@@ -198,10 +193,10 @@ module _ {R W : Type 0} (remaining : R → Option (List ℕ)) (contents : W → 
             written = tt;
             above = λ other. absurd (other refl);
             write_fault = λ _. (
-              flat_map given_line (far.told ++ given),
+              flat_map (told_lines events) (far.told ++ happened),
               inr (till_there Write front (λ e. absurd cc)),
-              subst (λ (all : List ℕ). AppendsFront (contents (inner_of writer)) (contents (inner_of writer'')) all) (both_written given)
-                  (AppendsFront-behind (contents (inner_of writer)) (contents (inner_of writer')) (contents (inner_of writer'')) text (flat_map given_line given) far.wrote wrote.0),
+              subst (λ (all : List ℕ). AppendsFront (contents (inner_of writer)) (contents (inner_of writer'')) all) (both_written happened)
+                  (AppendsFront-behind (contents (inner_of writer)) (contents (inner_of writer')) (contents (inner_of writer'')) text (flat_map (told_lines events) happened) far.wrote wrote.0),
             );
             flushed = tt;
             flushed_above = λ other. absurd (other refl);
@@ -225,12 +220,12 @@ module _ {R W : Type 0} (remaining : R → Option (List ℕ)) (contents : W → 
 
         -- all was followed and written
         pub trace_followed : (writer'' : Device W) (done : Unit {0}) (rest : List ℕ) → has_failed reader ≡ false → has_failed writer ≡ false
-            → has_failed reader'' ≡ has_failed reader' → IsFollowed rule width far.bytes (text ++ rest)
+            → has_failed reader'' ≡ has_failed reader' → IsFollowed rule width events far.bytes (text ++ rest)
             → Appends (contents (inner_of writer')) (contents (inner_of writer'')) rest → IsLeftFlushed writer' writer'' → has_failed writer'' ≡ has_failed writer'
-            → FollowsTrace rule width remaining contents reader reader'' writer writer'' (Ok done)
+            → FollowsTrace rule width events remaining contents reader reader'' writer writer'' (Ok done)
         trace_followed writer'' done rest read_sound sound kept followed wrote flushed writes = record {
           written =
-              all_of (WritesText (IsFollowed rule width) (contents (inner_of writer)) (contents (inner_of writer''))) (
+              all_of (WritesText (IsFollowed rule width events) (contents (inner_of writer)) (contents (inner_of writer''))) (
                 text ++ rest,
                 followed,
                 Appends-trans (contents (inner_of writer)) (contents (inner_of writer')) (contents (inner_of writer'')) text rest far.wrote wrote,
@@ -246,10 +241,10 @@ module _ {R W : Type 0} (remaining : R → Option (List ℕ)) (contents : W → 
         -- the last line is at fault, or an allocation failed
         ended_at : (fault : EngineFault) → IsEndFault width far.bytes fault → fault ≢ Write
             → HasFollowCause width (remaining (inner_of reader)) reader'' writer' fault
-            → FollowsTrace rule width remaining contents reader reader'' writer writer' (Err fault)
+            → FollowsTrace rule width events remaining contents reader reader'' writer writer' (Err fault)
         ended_at fault is no_write cause = record {
           written = tt;
-          above = λ other. (text, till_here (remaining (inner_of reader'')) fault read_all (behind_last rule width far.bytes text fault whole is), far.wrote);
+          above = λ other. (text, till_here (remaining (inner_of reader'')) fault read_all (behind_last rule width events far.bytes text fault whole is), far.wrote);
           write_fault = λ written. absurd (no_write cc);
           flushed = tt;
           flushed_above = λ other. far.flushed;
@@ -257,15 +252,15 @@ module _ {R W : Type 0} (remaining : R → Option (List ℕ)) (contents : W → 
           no_cause = tt;
         }
 
-        pub trace_ended : (writer'' : Device W) (fault : EngineFault) → EndsBy contents rule width far.bytes far.told writer' writer'' fault
-            → FollowsTrace rule width remaining contents reader reader'' writer writer'' (Err fault)
+        pub trace_ended : (writer'' : Device W) (fault : EngineFault) → EndsBy contents rule width events far.bytes far.told writer' writer'' fault
+            → FollowsTrace rule width events remaining contents reader reader'' writer writer'' (Err fault)
         trace_ended writer'' (Trace fault) by =
-            subst (λ (device : Device W). FollowsTrace rule width remaining contents reader reader'' writer device (Err (Trace fault))) (sym by.0)
+            subst (λ (device : Device W). FollowsTrace rule width events remaining contents reader reader'' writer device (Err (Trace fault))) (sym by.0)
             (ended_at (Trace fault) by.1 (λ e. absurd cc)
             (all_of (λ input. length input < 2 ^ 64 → IsFirstFaultyLine trace_format (nothing_said_in (shape_of width default_capacity)) (lines_of input) fault) by.1))
         trace_ended writer'' (Cut fault) by = absurd by.1
         trace_ended writer'' OutOfMemory by =
-            subst (λ (device : Device W). FollowsTrace rule width remaining contents reader reader'' writer device (Err OutOfMemory)) (sym by.0)
+            subst (λ (device : Device W). FollowsTrace rule width events remaining contents reader reader'' writer device (Err OutOfMemory)) (sym by.0)
             (ended_at OutOfMemory tt (λ e. absurd cc) tt)
         trace_ended writer'' Read by = absurd by.1
         trace_ended writer'' Usage by = absurd by.1
@@ -274,7 +269,7 @@ module _ {R W : Type 0} (remaining : R → Option (List ℕ)) (contents : W → 
           above = λ other. absurd (other refl);
           write_fault = λ _. (
             text ++ by.0,
-            inl (all_of (λ input. IsFollowed rule width input (text ++ by.0)) by.1),
+            inl (all_of (λ input. IsFollowed rule width events input (text ++ by.0)) by.1),
             AppendsFront-behind (contents (inner_of writer)) (contents (inner_of writer')) (contents (inner_of writer'')) text by.0 far.wrote by.2,
           );
           flushed = tt;
@@ -287,9 +282,9 @@ module _ {R W : Type 0} (remaining : R → Option (List ℕ)) (contents : W → 
         pub trace_finished : (writer'' : Device W) (result : Result (Unit {0}) EngineFault) → has_failed reader ≡ false → has_failed writer ≡ false
             → has_failed reader'' ≡ has_failed reader'
             → MatchResult result
-            (λ _. (rest : List ℕ) × IsFollowed rule width far.bytes (text ++ rest)
+            (λ _. (rest : List ℕ) × IsFollowed rule width events far.bytes (text ++ rest)
             × Appends (contents (inner_of writer')) (contents (inner_of writer'')) rest × IsLeftFlushed writer' writer'' × (has_failed writer'' ≡ has_failed writer'))
-            (λ fault. EndsBy contents rule width far.bytes far.told writer' writer'' fault)
-            → FollowsTrace rule width remaining contents reader reader'' writer writer'' result
+            (λ fault. EndsBy contents rule width events far.bytes far.told writer' writer'' fault)
+            → FollowsTrace rule width events remaining contents reader reader'' writer writer'' result
         trace_finished writer'' (Ok done) read_sound sound kept ends = trace_followed writer'' done ends.0 read_sound sound kept ends.1 ends.2 ends.3 ends.4
         trace_finished writer'' (Err fault) read_sound sound kept ends = trace_ended writer'' fault ends

@@ -1,14 +1,12 @@
 -- What was followed of the lines of a trace.
-use Rattle.std.proofs.Common.{◌≡◌, ℕ, ◌+◌, ◌<◌, ◌≤◌, ◌==◌, ◌^◌, Bool, true, false, inl, inr, Option, Some, None, List, [], ◌∷◌, ◌++◌, length, refl, sym, ap, subst, ◌∙◌, arith, append-nil, append_assoc, length-append}
-use Rattle.std.specs.Prelude.{flat_map, if◌then◌else◌, Result, Ok, Err, MatchResult}
+use Rattle.std.proofs.Common.{◌≡◌, ℕ, ◌+◌, ◌<◌, ◌≤◌, ◌==◌, ◌^◌, ◌-◌, ◌⊎◌, Bool, true, false, inl, inr, Option, Some, None, List, [], ◌∷◌, ◌++◌, length, refl, sym, ap, subst, ◌∙◌, arith, append-nil, append_assoc, length-append}
+use Rattle.std.specs.Prelude.{map, flat_map, min, if◌then◌else◌, Result, Ok, Err, MatchResult}
 use Rattle.std.specs.Io.KnownBytes.{Appends}
 use Rattle.std.specs.List.{slice_split}
 use Rattle.std.proofs.lemmas.Grind.{flat_map-append}
-use Rattle.consumer.specs.declared.given.Given.{Given}
 use Rattle.loss_rule.specs.declared.rule.LossRule.{LossRule}
 use Rattle.receiver.specs.declared.width.Width.{Width}
 use Rattle.receiver.specs.HandedIn.{made_of}
-use Rattle.receiver.specs.Receiving.{StandsFor}
 use Rattle.text_lines.specs.Capacities.{default_capacity}
 use Rattle.text_lines.specs.declared.fault.ParseFault.TheVariants as parse
 use Rattle.text_lines.specs.declared.fault.TraceFault.{TraceFault}
@@ -21,10 +19,14 @@ use Rattle.text_lines.proofs.LinesTaken.{AreTaken-none, IsSettledFault-longer}
 use Rattle.text_lines.proofs.CutAtLineFeeds.{slice_split_shape, slice_split-append, lines_of_parts-append}
 use Rattle.text_lines.proofs.LinesReadOneWay.{read_without_fault}
 use Rattle.texts.proofs.OneTrace.{trace_is_determined}
-use Rattle.std.proofs.lemmas.Bool.{cases_lt}
+use Rattle.std.proofs.lemmas.Bool.{cases_lt, eqb-true, eqb-false}
 use Rattle.texts.specs.declared.follow.Followed.{Followed}
-use Rattle.texts.specs.AnyHeader.{any_header, no_check}
-use Rattle.texts.specs.Follow.{given_line, closed_lines, end_text, IsGivenFor, IsFollowed, IsFollowedTo, IsFollowedSoFar}
+use Rattle.texts.specs.declared.follow.happening.Happening.{Happening}
+use Rattle.texts.specs.declared.follow.happening.Happening.TheVariants.{Gave}
+use Rattle.consumer.specs.declared.given.Given.{Given}
+use Rattle.texts.specs.Happening.{given_line, happening_lines}
+use Rattle.texts.specs.Happened.{HasHappened, HasHappenedFor, HappenedBy, HappenedAt, happening_of, AreNumbered}
+use Rattle.texts.specs.Follow.{told_lines, closed_lines, end_text, IsFollowed, IsFollowedTo, IsFollowedSoFar}
 use Rattle.texts.specs.Trace.Line.{shape_of}
 use Rattle.texts.specs.Trace.Place.{Said, nothing_said_in, trace_format}
 use Rattle.texts.specs.Inside.Followed.{ReceiverUnderWay, HasFollowedLines, IsAllPut, with_told}
@@ -40,7 +42,8 @@ use Rattle.engines.specs.Engine.{engine_fault}
 use Rattle.engines.specs.Transfer.{IsLeftFlushed}
 use Rattle.engines.specs.Writing.{IsWritten}
 use Rattle.engines.specs.Following.{IsBehind, IsTextOfFront, IsTextOfWhole}
-use Rattle.engines.specs.Inside.Following.{HasFollowedSoFar, HasFollowedBytes, IsFollowFault, IsFollowFaultOr, IsEndFault, WritesTill, EndsBy}
+use Rattle.engines.proofs.NumberedHappenings.{at_line, all_of, lines_at, lines_given, within_more, one_front, few_parts, numbered_nothing, numbered_more}
+use Rattle.engines.specs.Inside.Following.{HasFollowedSoFar, HasFollowedBytes, AreWithin, IsLastLine, IsFollowFault, IsFollowFaultOr, IsEndFault, WritesTill, EndsBy}
 
 -- ---- what was taken, of one taker or of another that stands for as much
 
@@ -60,15 +63,15 @@ retaken format start S T a b follows progress bytes h = (
 )
 
 -- lines are read alike whatever was told before
-read_told : (more : List Given) {before after : TraceState (List Given)} {lines : List (List ℕ)} → IsRead taking_format before lines after
+read_told : (more : List Happening) {before after : TraceState (List Happening)} {lines : List (List ℕ)} → IsRead taking_format before lines after
     → IsRead taking_format (with_told before more) lines (with_told after more)
 read_told more no_lines = no_lines
 read_told more (skipped none read) = skipped none (read_told more read)
 read_told more (taken takes read) = taken (ap (λ told. told ++ more) takes.0, takes.1, takes.2, takes.3) (read_told more read)
 
 -- more is told of what was taken
-pub taken_told : {A B : Type 0} (rule : LossRule) (width : Width) (told more : List Given) (S : TraceState (List Given) → A → Type 0)
-    (T : TraceState (List Given) → B → Type 0) (a : A) (b : B) → ((state : TraceState (List Given)) → S state a → T (with_told state more) b)
+pub taken_told : {A B : Type 0} (rule : LossRule) (width : Width) (told more : List Happening) (S : TraceState (List Happening) → A → Type 0)
+    (T : TraceState (List Happening) → B → Type 0) (a : A) (b : B) → ((state : TraceState (List Happening)) → S state a → T (with_told state more) b)
     → (progress : Progress) (bytes : List ℕ) → HasTaken taking_format (nothing_taken told rule width) S a progress bytes
     → HasTaken taking_format (nothing_taken (told ++ more) rule width) T b progress bytes
 taken_told rule width told more S T a b follows progress bytes h = (
@@ -85,49 +88,68 @@ taken_told rule width told more S T a b follows progress bytes h = (
 
 -- ---- the text of what was followed
 
--- what was told is what was given
-is_given : (state : TraceState (List Given)) (width : Width) (rule : LossRule) (setup : SetupSoFar) (taker : Option ReceiverUnderWay)
-    → HasFollowedLines state width rule setup taker → IsAllPut taker → IsGivenFor state.rule state.width state.said state.state
-is_given state width rule setup None has put = inl (has.taken.1, has.taken.0)
-is_given state width rule setup (Some now) has put =
+-- nothing happens where no line was read
+pub nothing_happened : (rule : LossRule) (width : Width) → HappenedBy rule width [] []
+nothing_happened rule width = record { said = nothing_said_in (shape_of width default_capacity); read = no_lines; happened_for = inl (refl, refl) }
+
+-- what was told is what happened
+happened_for : (state : TraceState (List Happening)) (width : Width) (rule : LossRule) (setup : SetupSoFar) (taker : Option ReceiverUnderWay)
+    → HasFollowedLines state width rule setup taker → IsAllPut taker
+    → ((state.said.entries ≡ []) × (state.state ≡ [])) ⊎ HasHappenedFor state.rule state.width state.said state.state
+happened_for state width rule setup None has put = inl (has.taken.1, has.taken.0)
+happened_for state width rule setup (Some now) has put =
     let followed = has.taken.1 in
-    let all : followed.given ≡ state.state = followed.given_is put.1 ∙ ap (λ rest. state.state ++ rest) put.0 ∙ append-nil state.state in
     inr (record {
       setup = setup.setup;
       is_setup = record { flows = has.setup.flows; sids = has.setup.sids; mailbox = has.mailbox };
       handed = followed.handed;
       entries = followed.entries_are;
+      given = followed.given;
       receiver = now.receiver;
-      stands = subst (λ (given : List Given). StandsFor no_check now.receiver any_header (made_of state.rule state.width.channels setup.setup) followed.handed given) all followed.stands;
+      stands = followed.stands;
+      has_happened =
+          subst (λ (happened : List Happening). HasHappened (made_of state.rule state.width.channels setup.setup) followed.handed followed.given happened)
+          (ap (λ (rest : List Happening). state.state ++ rest) put.0 ∙ append-nil state.state) (followed.happened put.1);
     })
 
-module _ (rule : LossRule) (width : Width) where
+-- so where lines were taken
+pub happened_by : (rule : LossRule) (width : Width) (told : List Happening) (follower : Follower) (bytes : List ℕ)
+    → (took : HasTaken taking_format (nothing_taken told rule width) HasFollowedSoFar follower follower.lines bytes) → IsAllPut follower.input.taker
+    → HappenedBy rule width took.1.lines told
+happened_by rule width told follower bytes took put =
+    let are = took.1 in
+    let alone = read_alone are.read in
+    let happened = happened_for are.state follower.input.width follower.input.rule follower.input.setup follower.input.taker are.stands put in
+    record {
+      said = are.state.said;
+      read = alone.3;
+      happened_for =
+          subst (λ (told : List Happening). ((are.state.said.entries ≡ []) × (told ≡ [])) ⊎ HasHappenedFor rule width are.state.said told) alone.0
+          (subst (λ (by : LossRule). ((are.state.said.entries ≡ []) × (are.state.state ≡ [])) ⊎ HasHappenedFor by width are.state.said are.state.state) alone.1
+          (subst (λ (wide : Width). ((are.state.said.entries ≡ []) × (are.state.state ≡ [])) ⊎ HasHappenedFor are.state.rule wide are.state.said are.state.state) alone.2 happened));
+    }
+
+module _ (rule : LossRule) (width : Width) (events : Bool) where
   -- all whole lines of what was followed were told of
-  pub text_so_far : (bytes : List ℕ) (told : List Given) (follower : Follower) → HasFollowedBytes rule width bytes told follower
-      → IsTextOfWhole rule width bytes (flat_map given_line told)
+  pub text_so_far : (bytes : List ℕ) (told : List HappenedAt) (follower : Follower) → HasFollowedBytes rule width events bytes told follower
+      → IsTextOfWhole rule width events bytes (flat_map (told_lines events) told)
   text_so_far bytes told follower has =
       let are = has.taken.1 in
-      let alone = read_alone are.read in
-      let given = is_given are.state follower.input.width follower.input.rule follower.input.setup follower.input.taker are.stands has.put in
       record {
         lines = are.lines;
         rest = follower.lines.unfinished;
         parts = are.parts;
         followed = record {
-          said = are.state.said;
-          read = alone.3;
-          given = told;
-          is_given =
-              subst (λ (told : List Given). IsGivenFor rule width are.state.said told) alone.0
-              (subst (λ (by : LossRule). IsGivenFor by width are.state.said are.state.state) alone.1
-              (subst (λ (wide : Width). IsGivenFor are.state.rule wide are.state.said are.state.state) alone.2 given));
+          told = told;
+          happened = happened_by rule width (map happening_of told) follower bytes has.taken has.put;
+          numbered = has.numbered are.lines follower.lines.unfinished are.parts;
           printed = refl;
         };
       }
 
   -- they are its first lines
-  pub front_of_whole : (fault : EngineFault) (bytes text : List ℕ) → (is : IsTextOfWhole rule width bytes text) → IsBehind bytes is.lines fault
-      → IsTextOfFront rule width fault bytes text
+  pub front_of_whole : (fault : EngineFault) (bytes text : List ℕ) → (is : IsTextOfWhole rule width events bytes text) → IsBehind bytes is.lines fault
+      → IsTextOfFront rule width events fault bytes text
   front_of_whole fault bytes text is behind =
       record { lines = is.lines; below = is.rest ∷ []; some = omega arith; parts = is.parts; followed = is.followed; behind = behind }
 
@@ -147,7 +169,7 @@ module _ (rule : LossRule) (width : Width) where
 
   -- the first lines of some bytes are the first lines of more
   longer : (fault : EngineFault) (bytes more text : List ℕ) (lines below : List (List ℕ)) → 0 < length below → slice_split is_line_feed bytes ≡ lines ++ below
-      → IsFollowedSoFar rule width lines text → IsBehind (bytes ++ more) lines fault → IsTextOfFront rule width fault (bytes ++ more) text
+      → IsFollowedSoFar rule width events lines text → IsBehind (bytes ++ more) lines fault → IsTextOfFront rule width events fault (bytes ++ more) text
   longer fault bytes more text lines [] some parts followed behind = absurd (omega (arith, some))
   longer fault bytes more text lines (first ∷ others) some parts followed behind =
       let split = last_of first others in
@@ -168,8 +190,8 @@ module _ (rule : LossRule) (width : Width) where
       some_of [] last rest = omega arith
       some_of (one ∷ init) last rest = omega arith
 
-  pub front_longer : (fault : EngineFault) (bytes more text : List ℕ) → IsTextOfFront rule width fault bytes text
-      → IsTextOfFront rule width fault (bytes ++ more) text
+  pub front_longer : (fault : EngineFault) (bytes more text : List ℕ) → IsTextOfFront rule width events fault bytes text
+      → IsTextOfFront rule width events fault (bytes ++ more) text
   front_longer fault bytes more text is =
       longer fault bytes more text is.lines is.below is.some is.parts is.followed (behind_longer fault bytes more is.lines is.behind)
 
@@ -214,7 +236,7 @@ module _ (rule : LossRule) (width : Width) where
   few_more rest first (next ∷ others) few = omega (arith, few)
 
   -- so a fault of bytes that goes with it is one of the line behind those that were followed
-  pub behind_followed : (bytes piece text : List ℕ) (fault : TraceFault) (is : IsTextOfWhole rule width bytes text) → length (lines_of piece) ≤ 1
+  pub behind_followed : (bytes piece text : List ℕ) (fault : TraceFault) (is : IsTextOfWhole rule width events bytes text) → length (lines_of piece) ≤ 1
       → IsFirstFaultyLine trace_format (nothing_said_in (shape_of width default_capacity)) (lines_of (bytes ++ piece)) fault → fault.line ≡ length is.lines + 1
   behind_followed bytes piece text fault is few first =
       let next = slice_split_shape is_line_feed piece in
@@ -223,11 +245,11 @@ module _ (rule : LossRule) (width : Width) where
       ap lines_of_parts (slice_split-append is_line_feed bytes piece next.0 next.1 next.2 is.lines is.rest is.parts)
       ∙ lines_of_parts-append is.lines (is.rest ++ next.0) next.1 in
       let short = few_more is.rest next.0 next.1 (subst (λ (parts : List (List ℕ)). length (lines_of_parts parts) ≤ 1) next.2 few) in
-      is_next is.lines more is.followed.said fault is.followed.read
+      is_next is.lines more is.followed.happened.said fault is.followed.happened.read
       (subst (λ (lines : List (List ℕ)). IsFirstFaultyLine trace_format (nothing_said_in (shape_of width default_capacity)) lines fault) all first) short
 
   -- the line of a piece that is at fault
-  pub behind_piece : (bytes piece text : List ℕ) (fault : EngineFault) (is : IsTextOfWhole rule width bytes text) → length (lines_of piece) ≤ 1
+  pub behind_piece : (bytes piece text : List ℕ) (fault : EngineFault) (is : IsTextOfWhole rule width events bytes text) → length (lines_of piece) ≤ 1
       → IsFollowFault width (bytes ++ piece) fault → IsBehind (bytes ++ piece) is.lines fault
   behind_piece bytes piece text (Trace fault) is few settled = λ short.
       behind_followed bytes piece text fault is few
@@ -240,7 +262,7 @@ module _ (rule : LossRule) (width : Width) where
   behind_piece bytes piece text Usage is few settled = tt
 
   -- the last line that is at fault
-  pub behind_last : (bytes text : List ℕ) (fault : EngineFault) (is : IsTextOfWhole rule width bytes text) → IsEndFault width bytes fault
+  pub behind_last : (bytes text : List ℕ) (fault : EngineFault) (is : IsTextOfWhole rule width events bytes text) → IsEndFault width bytes fault
       → IsBehind bytes is.lines fault
   behind_last bytes text (Trace fault) is first = λ short.
       behind_followed bytes [] text fault is (omega arith)
@@ -255,7 +277,7 @@ module _ (rule : LossRule) (width : Width) where
 -- ---- why no more was followed
 
 -- a fault of the lines that are handed in is one of the lines
-pub settled_alone : (told : List Given) (rule : LossRule) (width : Width) (bytes : List ℕ) (fault : TraceFault)
+pub settled_alone : (told : List Happening) (rule : LossRule) (width : Width) (bytes : List ℕ) (fault : TraceFault)
     → IsSettledFault taking_format (nothing_taken told rule width) bytes (parse.Line fault)
     → IsSettledFault trace_format (nothing_said_in (shape_of width default_capacity)) bytes (parse.Line fault)
 settled_alone told rule width bytes fault settled = λ more. faulty_alone (nothing_taken told rule width) (lines_of (bytes ++ more)) fault (settled more)
@@ -263,22 +285,65 @@ settled_alone told rule width bytes fault settled = λ more. faulty_alone (nothi
 -- ---- a piece more
 
 -- nothing was handed in before the first line
-pub followed_nothing : (rule : LossRule) (width : Width) (follower : Follower) → follower.lines ≡ no_progress
-    → HasFollowedSoFar (nothing_taken [] rule width) follower → HasFollowedBytes rule width [] [] follower
-followed_nothing rule width follower none has = record {
+pub followed_nothing : (rule : LossRule) (width : Width) (events : Bool) (follower : Follower) → follower.events ≡ events → follower.lines ≡ no_progress
+    → HasFollowedSoFar (nothing_taken [] rule width) follower → HasFollowedBytes rule width events [] [] follower
+followed_nothing rule width events follower same none has = record {
+  events_are = same;
   taken =
       subst (λ (progress : Progress). HasTaken taking_format (nothing_taken [] rule width) HasFollowedSoFar follower progress []) (sym none)
       (refl, AreTaken-none taking_format (nothing_taken [] rule width) HasFollowedSoFar follower has);
+  within = tt;
+  numbered = λ lines rest parts. subst (λ (lines : List (List ℕ)). AreNumbered rule width lines []) (no_line lines rest parts) (numbered_nothing rule width (nothing_happened rule width));
   put = put_of follower.input.width follower.input.rule follower.input.setup follower.input.taker has;
 } where
+  no_line : (lines : List (List ℕ)) (rest : List ℕ) → [] ∷ [] ≡ lines ++ rest ∷ [] → [] ≡ lines
+  no_line [] rest parts = refl
+  no_line (line ∷ lines) rest parts = absurd (omega (arith, ap length parts, length-append lines (rest ∷ [])))
+
   put_of : (wide : Width) (by : LossRule) (setup : SetupSoFar) (taker : Option ReceiverUnderWay)
       → HasFollowedLines (nothing_taken [] rule width) wide by setup taker → IsAllPut taker
   put_of wide by setup None has = tt
   put_of wide by setup (Some now) has = absurd (omega (arith, has.taken.0))
 
+-- What was told after a piece of one line at most: what happened by its line, and nothing else.
+pub followed_line : (rule : LossRule) (width : Width) (events : Bool) (bytes piece : List ℕ) (told : List HappenedAt) (before after : Follower)
+    (happened : List Happening) (line : ℕ) → HasFollowedBytes rule width events bytes told before → length (lines_of piece) ≤ 1
+    → after.events ≡ before.events → line ≡ after.lines.count
+    → HasTaken taking_format (nothing_taken (map happening_of told ++ happened) rule width) HasFollowedSoFar after after.lines (bytes ++ piece)
+    → IsAllPut after.input.taker → HasFollowedBytes rule width events (bytes ++ piece) (told ++ at_line line happened) after
+followed_line rule width events bytes piece told before after happened line has few same is took put =
+    let was = has.taken.1 in
+    let now = took.1 in
+    let next = slice_split_shape is_line_feed piece in
+    let cut = slice_split-append is_line_feed bytes piece next.0 next.1 next.2 was.lines before.lines.unfinished was.parts in
+    let both : was.lines ++ ((before.lines.unfinished ++ next.0) ∷ next.1) ≡ now.lines ++ after.lines.unfinished ∷ [] = sym cut ∙ now.parts in
+    let long : length was.lines + 1 + length next.1 ≡ length now.lines + 1 =
+    omega (arith, ap length both, length-append was.lines ((before.lines.unfinished ++ next.0) ∷ next.1), length-append now.lines (after.lines.unfinished ∷ [])) in
+    let short : length next.1 ≤ 1 =
+    few_parts next.0 next.1 (subst (λ (parts : List (List ℕ)). length (lines_of_parts parts) ≤ 1) next.2 few) in
+    let told_now = told ++ at_line line happened in
+    let taken_now =
+    subst (λ (all : List Happening). HasTaken taking_format (nothing_taken all rule width) HasFollowedSoFar after after.lines (bytes ++ piece))
+    (sym (all_of told line happened)) took in
+    let by =
+    subst (λ (all : List Happening). HappenedBy rule width now.lines all) (sym (all_of told line happened))
+    (happened_by rule width (map happening_of told ++ happened) after (bytes ++ piece) took put) in
+    let numbered =
+    numbered_more rule width was.lines now.lines ((before.lines.unfinished ++ next.0) ∷ next.1) (after.lines.unfinished ∷ []) told before.lines.count line happened
+    (has.numbered was.lines before.lines.unfinished was.parts) has.within (omega (arith, is, was.counted, now.counted, long)) (is ∙ now.counted) both
+    (omega (arith, long)) (omega (arith, long, short)) by in
+    record {
+      events_are = same ∙ has.events_are;
+      taken = taken_now;
+      within = subst (λ (n : ℕ). AreWithin n told_now) is (within_more before.lines.count line told happened has.within (omega (arith, is, was.counted, now.counted, long)));
+      numbered = λ lines rest parts.
+          subst (λ (lines : List (List ℕ)). AreNumbered rule width lines told_now) (one_front now.lines lines after.lines.unfinished rest (sym now.parts ∙ parts)) numbered;
+      put = put;
+    }
+
 -- why a piece was not followed
-pub fault_of_piece : {Input : Type 0} (S : TraceState (List Given) → Input → Type 0) (input : Input) (rule : LossRule) (width : Width) (bytes piece : List ℕ)
-    (told : List Given) (progress : Progress) (fault : ParseFault) → HasTaken taking_format (nothing_taken told rule width) S input progress bytes
+pub fault_of_piece : {Input : Type 0} (S : TraceState (List Happening) → Input → Type 0) (input : Input) (rule : LossRule) (width : Width) (bytes piece : List ℕ)
+    (told : List Happening) (progress : Progress) (fault : ParseFault) → HasTaken taking_format (nothing_taken told rule width) S input progress bytes
     → IsPieceFault taking_format S input progress piece fault → IsFollowFault width (bytes ++ piece) (engine_fault (text_fault_of_parse fault))
 fault_of_piece S input rule width bytes piece told progress (parse.Line fault) was is = λ few.
     settled_alone told rule width (bytes ++ piece) fault (is (nothing_taken told rule width) bytes was (omega (arith, few, length-append bytes piece)))
@@ -296,26 +361,26 @@ fault_longer width bytes more Write is = absurd is
 fault_longer width bytes more Usage is = absurd is
 
 -- where nothing more was told of a piece of one line at most, the lines above were told of
-pub told_above : (rule : LossRule) (width : Width) (bytes piece : List ℕ) (told : List Given) (follower : Follower) (fault : EngineFault)
-    → HasFollowedBytes rule width bytes told follower → length (lines_of piece) ≤ 1 → IsFollowFault width (bytes ++ piece) fault
-    → IsTextOfFront rule width fault (bytes ++ piece) (flat_map given_line (told ++ []))
-told_above rule width bytes piece told follower fault has few is =
-    let whole = text_so_far rule width bytes told follower has in
-    subst (λ (given : List Given). IsTextOfFront rule width fault (bytes ++ piece) (flat_map given_line given)) (sym (append-nil told))
-    (longer rule width fault bytes piece (flat_map given_line told) whole.lines (whole.rest ∷ []) (omega arith) whole.parts whole.followed
-    (behind_piece rule width bytes piece (flat_map given_line told) fault whole few is))
+pub told_above : (rule : LossRule) (width : Width) (events : Bool) (bytes piece : List ℕ) (told : List HappenedAt) (follower : Follower) (fault : EngineFault)
+    → HasFollowedBytes rule width events bytes told follower → length (lines_of piece) ≤ 1 → IsFollowFault width (bytes ++ piece) fault
+    → IsTextOfFront rule width events fault (bytes ++ piece) (flat_map (told_lines events) (told ++ []))
+told_above rule width events bytes piece told follower fault has few is =
+    let whole = text_so_far rule width events bytes told follower has in
+    subst (λ (happened : List HappenedAt). IsTextOfFront rule width events fault (bytes ++ piece) (flat_map (told_lines events) happened)) (sym (append-nil told))
+    (longer rule width events fault bytes piece (flat_map (told_lines events) told) whole.lines (whole.rest ∷ []) (omega arith) whole.parts whole.followed
+    (behind_piece rule width events bytes piece (flat_map (told_lines events) told) fault whole few is))
 
 -- a front of bytes of which two pieces were followed
 in_four : (a b c d : List ℕ) → (a ++ b) ++ c ++ d ≡ a ++ (b ++ (c ++ d))
 in_four a b c d = append_assoc (a ++ b) c d ∙ append_assoc a b (c ++ d)
 
-pub front_of_two : (rule : LossRule) (width : Width) (fault : EngineFault) (bytes first second third : List ℕ) (told given more : List Given)
-    → IsTextOfFront rule width fault ((bytes ++ first) ++ second) (flat_map given_line ((told ++ given) ++ more))
-    → IsTextOfFront rule width fault (bytes ++ (first ++ (second ++ third))) (flat_map given_line (told ++ (given ++ more)))
-front_of_two rule width fault bytes first second third told given more is =
-    subst (λ (all : List Given). IsTextOfFront rule width fault (bytes ++ (first ++ (second ++ third))) (flat_map given_line all)) (append_assoc told given more)
-    (subst (λ (all : List ℕ). IsTextOfFront rule width fault all (flat_map given_line ((told ++ given) ++ more))) (in_four bytes first second third)
-    (front_longer rule width fault ((bytes ++ first) ++ second) third (flat_map given_line ((told ++ given) ++ more)) is))
+pub front_of_two : (rule : LossRule) (width : Width) (events : Bool) (fault : EngineFault) (bytes first second third : List ℕ) (told happened more : List HappenedAt)
+    → IsTextOfFront rule width events fault ((bytes ++ first) ++ second) (flat_map (told_lines events) ((told ++ happened) ++ more))
+    → IsTextOfFront rule width events fault (bytes ++ (first ++ (second ++ third))) (flat_map (told_lines events) (told ++ (happened ++ more)))
+front_of_two rule width events fault bytes first second third told happened more is =
+    subst (λ (all : List HappenedAt). IsTextOfFront rule width events fault (bytes ++ (first ++ (second ++ third))) (flat_map (told_lines events) all)) (append_assoc told happened more)
+    (subst (λ (all : List ℕ). IsTextOfFront rule width events fault all (flat_map (told_lines events) ((told ++ happened) ++ more))) (in_four bytes first second third)
+    (front_longer rule width events fault ((bytes ++ first) ++ second) third (flat_map (told_lines events) ((told ++ happened) ++ more)) is))
 
 pub fault_of_two : (width : Width) (bytes first second third : List ℕ) (fault : EngineFault) → IsFollowFault width ((bytes ++ first) ++ second) fault
     → IsFollowFault width (bytes ++ (first ++ (second ++ third))) fault
@@ -326,54 +391,136 @@ fault_of_two width bytes first second third fault is =
 -- ---- the end
 
 -- all lines were read, the last one with them, and the receiver was closed
-pub closes_followed : (rule : LossRule) (width : Width) (told : List Given) (bytes : List ℕ) (end : TraceState (List Given)) (followed : Followed)
+pub closes_followed : (rule : LossRule) (width : Width) (told : List Happening) (bytes : List ℕ) (end : TraceState (List Happening)) (followed : Followed)
     → IsRead taking_format (nothing_taken told rule width) (lines_of bytes) end → IsFollowedTo end.rule end.width end.said end.state followed
     → (said : Said) × IsRead trace_format (nothing_said_in (shape_of width default_capacity)) (lines_of bytes) said × IsFollowedTo rule width said told followed
 closes_followed rule width told bytes end followed read to =
     let alone = read_alone read in (
       end.said,
       alone.3,
-      subst (λ (told : List Given). IsFollowedTo rule width end.said told followed) alone.0
+      subst (λ (told : List Happening). IsFollowedTo rule width end.said told followed) alone.0
           (subst (λ (by : LossRule). IsFollowedTo by width end.said end.state followed) alone.1
           (subst (λ (wide : Width). IsFollowedTo end.rule wide end.said end.state followed) alone.2 to)),
     )
 
 -- why the last line was not read
-pub end_fault : (rule : LossRule) (width : Width) (told : List Given) (bytes : List ℕ) (fault : ParseFault)
+pub end_fault : (rule : LossRule) (width : Width) (told : List Happening) (bytes : List ℕ) (fault : ParseFault)
     → (length bytes < 2 ^ 64 → IsReadingFault taking_format (nothing_taken told rule width) (lines_of bytes) fault)
     → IsEndFault width bytes (engine_fault (text_fault_of_parse fault))
 end_fault rule width told bytes (parse.Line fault) is = λ few. faulty_alone (nothing_taken told rule width) (lines_of bytes) fault (is few)
 end_fault rule width told bytes parse.OutOfMemory is = tt
 
--- the text of all that was followed
-pub followed_text : (rule : LossRule) (width : Width) (bytes : List ℕ) (told : List Given) (end : Followed) (said : Said)
-    → IsRead trace_format (nothing_said_in (shape_of width default_capacity)) (lines_of bytes) said → IsFollowedTo rule width said told end
-    → IsFollowed rule width bytes (flat_map given_line told ++ end_text end)
-followed_text rule width bytes told end said read to = record {
-  said = said;
-  read = read;
-  setup = end.setup;
-  is_setup = to.setup;
-  handed = to.handed;
-  entries = to.entries;
-  given = told ++ end.given.items;
-  closed = end.closed;
-  received = to.received;
-  printed =
-      sym (append_assoc (flat_map given_line told) (flat_map given_line end.given.items) (closed_lines end.setup end.closed))
-      ∙ ap (λ (text : List ℕ). text ++ closed_lines end.setup end.closed) (sym (flat_map-append given_line told end.given.items));
-}
+-- the lines of some bytes: those that line feeds end, and what is behind the last of those if there is anything
+lines_with_last : (bytes : List ℕ) (lines : List (List ℕ)) (rest : List ℕ) → slice_split is_line_feed bytes ≡ lines ++ rest ∷ []
+    → lines_of bytes ≡ lines ++ (if length rest == 0 then [] else rest ∷ [])
+lines_with_last bytes lines rest parts = ap lines_of_parts parts ∙ lines_of_parts-append lines rest []
+
+-- the number of the last line
+pub last_is : (follower : Follower) (line : ℕ)
+    → ((length follower.lines.unfinished ≡ 0) × (line ≡ follower.lines.count))
+    ⊎ ((0 < length follower.lines.unfinished) × (line ≡ min (follower.lines.count + 1) (2 ^ 64 - 1))) → IsLastLine follower line
+last_is follower line is = λ rule width events bytes told has.
+    let are = has.taken.1 in
+    let all = lines_with_last bytes are.lines follower.lines.unfinished are.parts in
+    by_case are.lines follower.lines.unfinished follower.lines.count line are.counted is (ap length all)
+  where
+    by_case : (lines : List (List ℕ)) (rest : List ℕ) (count line : ℕ) {all : ℕ} → count ≡ min (length lines) (2 ^ 64 - 1)
+        → ((length rest ≡ 0) × (line ≡ count)) ⊎ ((0 < length rest) × (line ≡ min (count + 1) (2 ^ 64 - 1)))
+        → all ≡ length (lines ++ (if length rest == 0 then [] else rest ∷ [])) → line ≡ min all (2 ^ 64 - 1)
+    by_case lines rest count line {all} counted one is = by_flag (length rest == 0) refl one where
+      with_flag : (none : Bool) → (length rest == 0) ≡ none → all ≡ length (lines ++ (if none then [] else rest ∷ []))
+      with_flag none e = is ∙ ap (λ (none : Bool). length (lines ++ (if none then [] else rest ∷ []))) e
+
+      by_flag : (none : Bool) → (length rest == 0) ≡ none
+          → ((length rest ≡ 0) × (line ≡ count)) ⊎ ((0 < length rest) × (line ≡ min (count + 1) (2 ^ 64 - 1))) → line ≡ min all (2 ^ 64 - 1)
+      by_flag true e (inl empty) = omega (arith, counted, empty.1, with_flag true e, length-append lines [])
+      by_flag true e (inr some) = absurd (omega (arith, some.0, eqb-true (length rest) 0 e))
+      by_flag false e (inl empty) = absurd (eqb-false (length rest) 0 e empty.0)
+      by_flag false e (inr some) = omega (arith, counted, some.1, with_flag false e, length-append lines (rest ∷ []))
+
+-- the text of all that was followed, where this is the number of its last line
+pub followed_text : (rule : LossRule) (width : Width) (events : Bool) (bytes : List ℕ) (told : List HappenedAt) (follower : Follower) (line : ℕ) (end : Followed)
+    (said : Said) → HasFollowedBytes rule width events bytes told follower → IsLastLine follower line
+    → IsRead trace_format (nothing_said_in (shape_of width default_capacity)) (lines_of bytes) said → IsFollowedTo rule width said (map happening_of told) end
+    → IsFollowed rule width events bytes (flat_map (told_lines events) told ++ end_text events line end)
+followed_text rule width events bytes told follower line end said has last read to =
+    let are = has.taken.1 in
+    let number = last rule width events bytes told has in
+    let all = lines_with_last bytes are.lines follower.lines.unfinished are.parts in
+    let told_now = told ++ at_line line to.last in
+    let happened =
+    subst (λ (all : List Happening). HasHappened (made_of rule width.channels end.setup) to.handed to.given all) (sym (all_of told line to.last)) to.happened in
+    let short = one_at_most follower.lines.unfinished in
+    let long = ap length all ∙ length-append are.lines (if length follower.lines.unfinished == 0 then [] else follower.lines.unfinished ∷ []) in
+    record {
+      said = said;
+      read = read;
+      setup = end.setup;
+      is_setup = to.setup;
+      handed = to.handed;
+      entries = to.entries;
+      given = to.given;
+      told = told_now;
+      happened = happened;
+      numbered =
+          numbered_more rule width are.lines (lines_of bytes) (if length follower.lines.unfinished == 0 then [] else follower.lines.unfinished ∷ []) [] told
+          follower.lines.count line to.last (has.numbered are.lines follower.lines.unfinished are.parts) has.within (omega (arith, number, are.counted, long)) number
+          (sym all ∙ sym (append-nil (lines_of bytes))) (omega (arith, long)) (omega (arith, long, short))
+          (record {
+            said = said;
+            read = read;
+            happened_for =
+                inr (record {
+                  setup = end.setup;
+                  is_setup = to.setup;
+                  handed = to.handed;
+                  entries = to.entries;
+                  given = to.given;
+                  receiver = to.receiver;
+                  stands = to.stands;
+                  has_happened = happened;
+                });
+          });
+      rest = to.rest;
+      closed = end.closed;
+      received = to.received;
+      printed = printed_as events line told to.last to.rest end to.are;
+    }
+  where
+    one_at_most : (rest : List ℕ) → length (if length rest == 0 then [] else rest ∷ []) ≤ 1
+    one_at_most rest = by_flag (length rest == 0) where
+      by_flag : (none : Bool) → length (if none then [] else rest ∷ []) ≤ 1
+      by_flag true = omega arith
+      by_flag false = omega arith
+
+    printed_as : (events : Bool) (line : ℕ) (told : List HappenedAt) (last : List Happening) (rest : List Given) (end : Followed)
+        → end.happened.items ≡ last ++ map Gave rest
+        → flat_map (told_lines events) told ++ end_text events line end
+        ≡ flat_map (told_lines events) (told ++ at_line line last) ++ flat_map given_line rest ++ closed_lines end.setup end.closed
+    printed_as events line told last rest end are =
+        let closed = closed_lines end.setup end.closed in
+        let before = flat_map (told_lines events) told in
+        let lasts = flat_map (happening_lines events line) last in
+        let left : flat_map (happening_lines events line) end.happened.items ≡ lasts ++ flat_map given_line rest =
+        ap (flat_map (happening_lines events line)) are ∙ flat_map-append (happening_lines events line) last (map Gave rest)
+        ∙ ap (λ text. lasts ++ text) (lines_given events line rest) in
+        let all : flat_map (told_lines events) (told ++ at_line line last) ≡ before ++ lasts =
+        flat_map-append (told_lines events) told (at_line line last) ∙ ap (λ text. before ++ text) (lines_at events line last) in
+        ap (λ text. before ++ (text ++ closed)) left
+        ∙ sym (append_assoc before (lasts ++ flat_map given_line rest) closed)
+        ∙ ap (λ text. text ++ closed) (sym (append_assoc before lasts (flat_map given_line rest)))
+        ∙ ap (λ text. (text ++ flat_map given_line rest) ++ closed) (sym all)
 
 -- ---- a piece that is written
 
 -- however the lines of a piece were taken, a front of the bytes was followed where the writer failed
-pub front_either : (rule : LossRule) (width : Width) (bytes piece : List ℕ) (told : List Given) (follower : Follower) (taken : Result (Unit {0}) EngineFault)
-    → MatchResult taken (λ _. HasFollowedBytes rule width (bytes ++ piece) told follower)
-    (λ fault. IsTextOfFront rule width fault (bytes ++ piece) (flat_map given_line told) × IsFollowFault width (bytes ++ piece) fault)
-    → IsTextOfFront rule width Write (bytes ++ piece) (flat_map given_line told)
-front_either rule width bytes piece told follower (Ok done) followed =
-    front_of_whole rule width Write (bytes ++ piece) (flat_map given_line told) (text_so_far rule width (bytes ++ piece) told follower followed) tt
-front_either rule width bytes piece told follower (Err fault) stopped =
+pub front_either : (rule : LossRule) (width : Width) (events : Bool) (bytes piece : List ℕ) (told : List HappenedAt) (follower : Follower) (taken : Result (Unit {0}) EngineFault)
+    → MatchResult taken (λ _. HasFollowedBytes rule width events (bytes ++ piece) told follower)
+    (λ fault. IsTextOfFront rule width events fault (bytes ++ piece) (flat_map (told_lines events) told) × IsFollowFault width (bytes ++ piece) fault)
+    → IsTextOfFront rule width events Write (bytes ++ piece) (flat_map (told_lines events) told)
+front_either rule width events bytes piece told follower (Ok done) followed =
+    front_of_whole rule width events Write (bytes ++ piece) (flat_map (told_lines events) told) (text_so_far rule width events (bytes ++ piece) told follower followed) tt
+front_either rule width events bytes piece told follower (Err fault) stopped =
     let front = stopped.0 in
     record { lines = front.lines; below = front.below; some = front.some; parts = front.parts; followed = front.followed; behind = tt }
 
@@ -388,28 +535,28 @@ module _ {W : Type 0} (contents : W → Option (List ℕ)) (writer writer' : Dev
   stopped_by width bytes text done Write wrote is = absurd is
   stopped_by width bytes text done Usage wrote is = absurd is
 
-  -- what was given for the lines of a piece was written
-  pub piece_written : (rule : LossRule) (width : Width) (bytes piece : List ℕ) (told given : List Given) (follower : Follower)
-      (taken : Result (Unit {0}) EngineFault) (done : Unit {0}) → IsWritten contents (flat_map given_line given) writer writer' (Ok done)
-      → MatchResult taken (λ _. HasFollowedBytes rule width (bytes ++ piece) (told ++ given) follower)
-      (λ fault. IsTextOfFront rule width fault (bytes ++ piece) (flat_map given_line (told ++ given)) × IsFollowFault width (bytes ++ piece) fault)
+  -- what happened by the lines of a piece was written
+  pub piece_written : (rule : LossRule) (width : Width) (events : Bool) (bytes piece : List ℕ) (told happened : List HappenedAt) (follower : Follower)
+      (taken : Result (Unit {0}) EngineFault) (done : Unit {0}) → IsWritten contents (flat_map (told_lines events) happened) writer writer' (Ok done)
+      → MatchResult taken (λ _. HasFollowedBytes rule width events (bytes ++ piece) (told ++ happened) follower)
+      (λ fault. IsTextOfFront rule width events fault (bytes ++ piece) (flat_map (told_lines events) (told ++ happened)) × IsFollowFault width (bytes ++ piece) fault)
       → MatchResult taken
-      (λ _. HasFollowedBytes rule width (bytes ++ piece) (told ++ given) follower
-      × Appends (contents (inner_of writer)) (contents (inner_of writer')) (flat_map given_line given) × IsLeftFlushed writer writer'
+      (λ _. HasFollowedBytes rule width events (bytes ++ piece) (told ++ happened) follower
+      × Appends (contents (inner_of writer)) (contents (inner_of writer')) (flat_map (told_lines events) happened) × IsLeftFlushed writer writer'
       × (has_failed writer' ≡ has_failed writer))
-      (λ fault. IsTextOfFront rule width fault (bytes ++ piece) (flat_map given_line (told ++ given)) × IsFollowFaultOr contents width (bytes ++ piece) fault
-      × WritesTill contents writer writer' (flat_map given_line given) fault)
-  piece_written rule width bytes piece told given follower (Ok all) done wrote followed = (followed, wrote.written, wrote.left_flushed, wrote.sound)
-  piece_written rule width bytes piece told given follower (Err fault) done wrote stopped =
-      let both = stopped_by width (bytes ++ piece) (flat_map given_line given) done fault wrote stopped.1 in
+      (λ fault. IsTextOfFront rule width events fault (bytes ++ piece) (flat_map (told_lines events) (told ++ happened)) × IsFollowFaultOr contents width (bytes ++ piece) fault
+      × WritesTill contents writer writer' (flat_map (told_lines events) happened) fault)
+  piece_written rule width events bytes piece told happened follower (Ok all) done wrote followed = (followed, wrote.written, wrote.left_flushed, wrote.sound)
+  piece_written rule width events bytes piece told happened follower (Err fault) done wrote stopped =
+      let both = stopped_by width (bytes ++ piece) (flat_map (told_lines events) happened) done fault wrote stopped.1 in
       (stopped.0, both.0, both.1)
 
   -- the end of what was followed
-  pub ends_by : (rule : LossRule) (width : Width) (bytes : List ℕ) (told : List Given) (fault : EngineFault) → writer' ≡ writer → IsEndFault width bytes fault
-      → EndsBy contents rule width bytes told writer writer' fault
-  ends_by rule width bytes told (Trace fault) same is = (same, is)
-  ends_by rule width bytes told (Cut fault) same is = absurd is
-  ends_by rule width bytes told OutOfMemory same is = (same, tt)
-  ends_by rule width bytes told Read same is = absurd is
-  ends_by rule width bytes told Write same is = absurd is
-  ends_by rule width bytes told Usage same is = absurd is
+  pub ends_by : (rule : LossRule) (width : Width) (events : Bool) (bytes : List ℕ) (told : List HappenedAt) (fault : EngineFault) → writer' ≡ writer → IsEndFault width bytes fault
+      → EndsBy contents rule width events bytes told writer writer' fault
+  ends_by rule width events bytes told (Trace fault) same is = (same, is)
+  ends_by rule width events bytes told (Cut fault) same is = absurd is
+  ends_by rule width events bytes told OutOfMemory same is = (same, tt)
+  ends_by rule width events bytes told Read same is = absurd is
+  ends_by rule width events bytes told Write same is = absurd is
+  ends_by rule width events bytes told Usage same is = absurd is

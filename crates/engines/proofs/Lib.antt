@@ -6,5 +6,6 @@ pub mod EngineRan
 pub mod JoinedText
 pub mod CutText
 pub mod TraceText
+pub mod NumberedHappenings
 pub mod FollowedLines
 pub mod FollowedDevices

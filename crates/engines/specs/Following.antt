@@ -1,5 +1,5 @@
 -- What was written of a trace that is followed, and why no more was.
-use Rattle.std.specs.Prelude.{◌≡◌, ◌≢◌, ◌<◌, ◌≤◌, ◌^◌, ◌+◌, ◌-◌, ◌⊎◌, ◌∷◌, ◌++◌, ℕ, List, [], Option, true, false, Result, Err, IfSome, IfErr, OnOk, length}
+use Rattle.std.specs.Prelude.{◌≡◌, ◌≢◌, ◌<◌, ◌≤◌, ◌^◌, ◌+◌, ◌-◌, ◌⊎◌, ◌∷◌, ◌++◌, ℕ, Bool, List, [], Option, true, false, Result, Err, IfSome, IfErr, OnOk, length}
 use Rattle.std.specs.List.{slice_split}
 use Rattle.std.specs.Io.KnownBytes.{Appends, Consumes, IsAtEnd}
 use Rattle.loss_rule.specs.declared.rule.LossRule.{LossRule}
@@ -33,7 +33,7 @@ abbrev pub IsBehind : List ℕ → List (List ℕ) → EngineFault → Type 0
 IsBehind bytes lines (Trace fault) = length bytes < 2 ^ 64 → fault.line ≡ length lines + 1
 IsBehind bytes lines _ = Unit {0}
 
-module _ (rule : LossRule) (width : Width) where
+module _ (rule : LossRule) (width : Width) (events : Bool) where
   -- The first lines of some bytes were followed: each of them is ended by a line feed, and this is the text of all of them; they are all above a line
   -- that is at fault.
   pub record IsTextOfFront (fault : EngineFault) (bytes text : List ℕ) : Type 0 where
@@ -41,7 +41,7 @@ module _ (rule : LossRule) (width : Width) where
     pub below : List (List ℕ)
     pub some : 0 < length below
     pub parts : slice_split is_line_feed bytes ≡ lines ++ below
-    pub followed : IsFollowedSoFar rule width lines text
+    pub followed : IsFollowedSoFar rule width events lines text
     pub behind : IsBehind bytes lines fault
 
   -- all lines of some bytes were followed that a line feed ends
@@ -49,7 +49,7 @@ module _ (rule : LossRule) (width : Width) where
     pub lines : List (List ℕ)
     pub rest : List ℕ
     pub parts : slice_split is_line_feed bytes ≡ lines ++ rest ∷ []
-    pub followed : IsFollowedSoFar rule width lines text
+    pub followed : IsFollowedSoFar rule width events lines text
 
   -- What was read where a fault is reported, and the text of what was followed of it: where the reader failed, of all its lines.
   pub record IsFollowedTill (known left : Option (List ℕ)) (fault : EngineFault) (text : List ℕ) : Type 0 where
@@ -63,13 +63,13 @@ module _ (rule : LossRule) (width : Width) where
   pub record FollowsTrace {R W : Type 0} (remaining : R → Option (List ℕ)) (contents : W → Option (List ℕ))
       (reader reader' : Device R) (writer writer' : Device W) (result : Result (Unit {0}) EngineFault) : Type 0 where
     -- without a fault the text of all that the reader gave was written
-    pub written : OnOk result (IfSome (remaining (inner_of reader)) (WritesText (IsFollowed rule width) (contents (inner_of writer)) (contents (inner_of writer'))))
+    pub written : OnOk result (IfSome (remaining (inner_of reader)) (WritesText (IsFollowed rule width events) (contents (inner_of writer)) (contents (inner_of writer'))))
     -- **at whichever place of the input a fault ends it**, the text of the lines above was written
     pub above : IfErr result (λ fault. fault ≢ Write → (text : List ℕ)
         × IsFollowedTill (remaining (inner_of reader)) (remaining (inner_of reader')) fault text × Appends (contents (inner_of writer)) (contents (inner_of writer')) text)
     -- and where the writer failed, a front of such a text
     pub write_fault : result ≡ Err Write → (text : List ℕ)
-        × (IfSome (remaining (inner_of reader)) (λ input. IsFollowed rule width input text)
+        × (IfSome (remaining (inner_of reader)) (λ input. IsFollowed rule width events input text)
         ⊎ IsFollowedTill (remaining (inner_of reader)) (remaining (inner_of reader')) Write text)
         × AppendsFront (contents (inner_of writer)) (contents (inner_of writer')) text
     -- what was written is flushed, also where a line is at fault

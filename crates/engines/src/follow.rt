@@ -1,9 +1,10 @@
-//! The command `follow`: what a receiver gives for the lines of a trace is written as they are read.
+//! The command `follow`: what happens at a receiver by the lines of a trace is written as they are
+//! read.
 ghost use Rattle.std.specs.Prelude.{◌≡◌, ◌≤◌, ◌<◌, ◌+◌, ◌-◌, ◌^◌, [], length, min, take, true, IfOk, IfErr, OnErr};
 ghost use Rattle.std.specs.Io.KnownBytes.{Consumes, Keeps, IsAtEnd};
 ghost use Rattle.engines.specs.Device.{inner_of, has_failed, given_of, IsFresh};
 ghost use Rattle.engines.specs.Following.{FollowsTrace};
-ghost use Rattle.engines.specs.Inside.Following.{HasFollowedBytes, FollowsPiece};
+ghost use Rattle.engines.specs.Inside.Following.{HasFollowedBytes, FollowsPiece, IsLastLine};
 ghost use Rattle.engines.specs.Inside.Following.{FollowsWritten, FollowsEnd};
 ghost use Rattle.engines.specs.Inside.Following.{WritesPiece, ClosesFollowed, CannotClose};
 ghost use Rattle.engines.specs.Writing.{IsWritten};
@@ -29,21 +30,29 @@ const PIECE_BYTES: usize = 262_144;
 struct Follower {
     lines: LineReader,
     input: FollowInput,
+    /// Whether what became of inputs and decisions is told.
+    events: bool,
 }
 
 impl Follower {
     /// One that has read nothing.
-    fn new(alloc: Global, rule: LossRule, width: Width) -> Result<Follower, AllocError>
-        ensures { IfOk result (HasFollowedBytes rule width [] []) }
+    fn new(
+        alloc: Global,
+        rule: LossRule,
+        width: Width,
+        events: bool,
+    ) -> Result<Follower, AllocError>
+        ensures { IfOk result (HasFollowedBytes rule width events [] []) }
     {
         Ok(Follower {
             lines: LineReader::new(alloc),
             input: FollowInput::new(alloc, width, rule)?,
+            events,
         })
     }
 
-    /// Takes the lines of a piece one after another, and puts what the receiver gives for each
-    /// before the next is taken.
+    /// Takes the lines of a piece one after another, and puts what happens by each before the next
+    /// is taken.
     fn take_lines<O: PutText>(
         &mut self,
         alloc: Global,
@@ -61,7 +70,7 @@ impl Follower {
         Ok(())
     }
 
-    /// Takes a piece of one line at most, and then puts what the receiver gave for it.
+    /// Takes a piece of one line at most, and then puts what happened by it.
     fn take_line<O: PutText>(
         &mut self,
         alloc: Global,
@@ -72,12 +81,13 @@ impl Follower {
         ensures { FollowsPiece O.after self.old out.old piece.now self.new out.new result }
     {
         self.lines.take_piece(alloc, piece, &mut self.input)?;
-        self.input.put_given(out)?;
+        let line = self.lines.line_count();
+        self.input.put_happened(line, self.events, out)?;
         Ok(())
     }
 
-    /// Takes the lines of a piece, and writes what the receiver gives for them. It answers how that
-    /// went, and how the lines were taken. The room is empty.
+    /// Takes the lines of a piece, and writes what happens by them. It answers how that went, and how
+    /// the lines were taken. The room is empty.
     fn write_lines<W: Write>(
         &mut self,
         alloc: Global,
@@ -94,7 +104,7 @@ impl Follower {
         (text.finish(), taken)
     }
 
-    /// Takes the lines of a piece, writes what the receiver gives for them, and flushes.
+    /// Takes the lines of a piece, writes what happens by them, and flushes.
     fn take_piece<W: Write>(
         &mut self,
         alloc: Global,
@@ -111,12 +121,27 @@ impl Follower {
         taken
     }
 
+    /// The number of the last line, which may not be ended yet.
+    fn last_line(&self) -> u64
+        ensures { IsLastLine self.now result }
+    {
+        let ended = self.lines.line_count();
+        if self.lines.unfinished().is_empty() {
+            return ended;
+        }
+        ended.saturating_add(1)
+    }
+
     /// Takes the last line, which no line feed ends, and closes the receiver.
     fn close(self, alloc: Global) -> Result<Followed, EngineFault>
         ensures end { IfOk result (ClosesFollowed self) }
         ensures fault { IfErr result (CannotClose self) }
     {
-        let Follower { lines, mut input } = self;
+        let Follower {
+            lines,
+            mut input,
+            ..
+        } = self;
         lines.finish(alloc, &mut input)?;
         Ok(finish_follow(alloc, input)?)
     }
@@ -130,24 +155,29 @@ impl Follower {
     ) -> Result<(), EngineFault>
         ensures { FollowsEnd W.contents self writer.old writer.new result }
     {
+        let line = self.last_line();
+        let events = self.events;
         let end = self.close(alloc)?;
         room.clear();
-        write_end(&end, room, writer)?;
+        write_end(line, events, &end, room, writer)?;
         Ok(())
     }
 }
 
-/// Writes what is left to be written at the end of a trace that is followed. The room is empty.
+/// Writes what is left to be written at the end of a trace that is followed, whose last line has this
+/// number. The room is empty.
 fn write_end<W: Write>(
+    line: u64,
+    events: bool,
     end: &Followed,
     room: &mut Vec<u8>,
     writer: &mut Device<W>,
 ) -> Result<(), WriteFault>
     requires { room.old.items ≡ [] }
-    ensures { IsWritten W.contents (end_text end.now) writer.old writer.new result }
+    ensures { IsWritten W.contents (end_text events line end.now) writer.old writer.new result }
 {
     let mut text = TextWriter::new(writer, room);
-    put_end(&mut text, end);
+    put_end(&mut text, line, events, end);
     text.finish()
 }
 
@@ -174,29 +204,31 @@ fn read_some<R: Read>(reader: &mut Device<R>, room: &mut [u8]) -> Result<usize, 
 }
 
 /// Follows the trace that a reader gives, of a receiver of this width, where besides the decisions
-/// of the trace this rule decides which segments are lost: what the receiver gives for a line is
-/// written as soon as the line is read, and flushed before more is read. It reads without a limit,
-/// up to 2^64 - 1 bytes, and holds a piece of the input, a line, and what the receiver holds.
+/// of the trace this rule decides which segments are lost: what the receiver gives for a line, and
+/// with events also what became of its input or decision, is written as soon as the line is read, and
+/// flushed before more is read. It reads without a limit, up to 2^64 - 1 bytes, and holds a piece of
+/// the input, a line, and what the receiver holds.
 ///
 /// `Read`: the reader failed, or gave more. `Trace`: the first faulty line, any kind but `TooShort`
-/// and `PointerPast`. `OutOfMemory`: an allocation failed. Whichever comes, what the receiver gave
-/// for the lines before was written and flushed. `Write`: the writer failed, and a front of the text
-/// may have gone out.
+/// and `PointerPast`. `OutOfMemory`: an allocation failed. Whichever comes, what happened by the
+/// lines before was written and flushed. `Write`: the writer failed, and a front of the text may have
+/// gone out.
 pub fn follow_text<R: Read, W: Write>(
     rule: LossRule,
     width: Width,
+    events: bool,
     alloc: Global,
     reader: &mut Device<R>,
     writer: &mut Device<W>,
 ) -> Result<(), EngineFault>
     requires reader { IsFresh reader.old }
     requires writer { IsFresh writer.old }
-    ensures { FollowsTrace rule width R.remaining W.contents
+    ensures { FollowsTrace rule width events R.remaining W.contents
         reader.old reader.new writer.old writer.new result }
 {
     let mut piece = zeros(alloc, PIECE_BYTES)?;
     let mut room = held_room(alloc)?;
-    let mut follower = Follower::new(alloc, rule, width)?;
+    let mut follower = Follower::new(alloc, rule, width, events)?;
     for _ in 0..u64::MAX {
         let count = read_some(reader, &mut piece)?;
         if count == 0 {

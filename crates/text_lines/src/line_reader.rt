@@ -53,6 +53,13 @@ impl LineReader {
         &self.unfinished
     }
 
+    /// How many lines were taken, up to 2^64 − 1; those that have no fields count too.
+    pub fn line_count(&self) -> u64
+        ensures { result ≡ self.now.count }
+    {
+        self.count
+    }
+
     /// Takes each line that ends in this piece, the first one with what earlier pieces had of it.
     ///
     /// It reports the first faulty line by its number in the whole input, in which lines are

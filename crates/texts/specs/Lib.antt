@@ -5,5 +5,7 @@ pub mod Trace
 pub mod Report
 pub mod Replay
 pub mod Run
+pub mod Happening
+pub mod Happened
 pub mod Follow
 pub mod Inside

@@ -1,40 +1,49 @@
-//! The text of `follow`: what a receiver gives for the lines of a trace, as they are read.
+//! The text of `follow`: what happens at a receiver by the lines of a trace, as they are read.
 ghost use Rattle.std.specs.Prelude.{◌≡◌, List, OnOk, OnErr, IfOk};
-ghost use Rattle.consumer.specs.declared.given.Given.{Given};
 ghost use Rattle.text_lines.specs.Putting.{Puts};
 ghost use Rattle.texts.specs.Follow.{end_text, IsFollowedTo};
-ghost use Rattle.texts.specs.Inside.Followed.{HasFollowedLines, PutsGiven};
+ghost use Rattle.texts.specs.Inside.Followed.{HasFollowedLines, PutsHappened};
+ghost use Rattle.texts.specs.declared.follow.happening.Happening.{Happening};
 ghost use Rattle.texts.specs.Inside.TraceInput.{TraceState};
 
 use crate::trace::TraceInput;
-use consumer::Given;
-use lines::{put_closed, put_given};
+use lines::{put_closed, put_happened};
 use receiver::{Closed, Setup};
 use std::alloc::{AllocError, Global};
 use text_lines::PutText;
 
+mod event_lines;
 mod following;
-mod given_list;
+mod happening;
+mod happening_list;
 mod lines;
 
 pub use following::Following;
-pub use given_list::GivenList;
+pub use happening::{Happening, InputKind, InputName};
+pub use happening_list::HappeningList;
 
-/// The lines so far of a trace that is followed as they are read. What the receiver gave that
-/// wasn't put yet is held.
+/// The lines so far of a trace that is followed as they are read. What happened by them that wasn't
+/// put yet is held.
 pub type FollowInput = TraceInput<Following>;
 
 impl FollowInput {
-    /// Puts a line for each thing that the receiver gave and that wasn't put yet. It reports that
-    /// an allocation failed, for which something is not there that was given; then nothing is put.
-    pub fn put_given<O: PutText>(&mut self, out: &mut O) -> Result<(), AllocError>
-        ensures put { OnOk result (PutsGiven O.after self.old.width self.old.rule self.old.setup
-            self.old.taker out.old self.new.width self.new.rule self.new.setup self.new.taker
-            out.new) }
+    /// Puts the lines of all that happened and that wasn't put yet, which was by the line of the
+    /// trace with this number: of each frame and each request that the receiver gave, and with
+    /// events also of what became of inputs and decisions. It reports that an allocation failed, for
+    /// which something is not there that happened; then nothing is put.
+    pub fn put_happened<O: PutText>(
+        &mut self,
+        line: u64,
+        events: bool,
+        out: &mut O,
+    ) -> Result<(), AllocError>
+        ensures put { OnOk result (PutsHappened O.after line events
+            self.old.width self.old.rule self.old.setup self.old.taker out.old
+            self.new.width self.new.rule self.new.setup self.new.taker out.new) }
         ensures unchanged { OnErr result (out.new ≡ out.old) }
     {
         match &mut self.taker {
-            Some(following) => following.put_given(out),
+            Some(following) => following.put_happened(line, events, out),
             None => Ok(()),
         }
     }
@@ -45,32 +54,33 @@ impl FollowInput {
 pub struct Followed {
     /// The setup that its lines gave.
     pub setup: Setup,
-    /// What was given that wasn't put yet, in order.
-    pub given: Vec<Given>,
+    /// What happened that wasn't put yet, in order: what the receiver gave as it was closed comes
+    /// last.
+    pub happened: Vec<Happening>,
     /// What was counted of each flow and of each channel.
     pub closed: Closed,
 }
 
 /// Closes the receiver of a trace of which all lines were read.
 pub fn finish_follow(alloc: Global, lines: FollowInput) -> Result<Followed, AllocError>
-    ensures { IfOk result (λ end. (state : TraceState (List Given))
+    ensures { IfOk result (λ end. (state : TraceState (List Happening))
         → HasFollowedLines state lines.width lines.rule lines.setup lines.taker
         → IsFollowedTo state.rule state.width state.said state.state end) }
 {
     let (setup, following) = lines.finish(alloc)?;
-    let (given, closed) = following.finish(alloc)?;
+    let (happened, closed) = following.finish(alloc)?;
     Ok(Followed {
         setup,
-        given: given.finish()?,
+        happened: happened.finish()?,
         closed,
     })
 }
 
-/// Puts what is left to be put at the end of a trace that is followed: a line for each thing that
-/// was given, and those of what was counted.
-pub fn put_end<O: PutText>(out: &mut O, end: &Followed)
-    ensures { Puts O.after out.old (end_text end.now) out.new }
+/// Puts what is left to be put at the end of a trace that is followed, whose last line has this
+/// number: the lines of what happened, with events or without, and those of what was counted.
+pub fn put_end<O: PutText>(out: &mut O, line: u64, events: bool, end: &Followed)
+    ensures { Puts O.after out.old (end_text events line end.now) out.new }
 {
-    put_given(out, &end.given);
+    put_happened(out, line, events, &end.happened);
     put_closed(out, &end.setup, &end.closed);
 }

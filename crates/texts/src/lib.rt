@@ -18,8 +18,9 @@
 //!   trace on threads. [`ReplayInput`] replays a trace as its lines are taken. [`put_cut`]
 //!   puts the lines of a cut, and [`put_report`] a report.
 //! - [`FollowInput`] follows a trace of up to 16 channels and 16,384 flows: what a receiver gives
-//!   for its lines is put as they are taken, and [`put_end`] puts what is left at its end. It and
-//!   `ReplayInput` are each a [`TraceInput`].
+//!   for its lines is put as they are taken, and with events also what became of each input and each
+//!   decision; [`put_end`] puts what is left at its end. It and `ReplayInput` are each a
+//!   [`TraceInput`].
 //!
 //! The lines and fields of all these formats, and the faults of a line, are those of `text_lines`;
 //! those of its names that a caller needs are exported here too.
@@ -41,7 +42,10 @@ mod report_text;
 mod trace;
 
 pub use cut::{CutInput, cut_lines, put_cut};
-pub use follow::{FollowInput, Followed, Following, GivenList, finish_follow, put_end};
+pub use follow::{
+    FollowInput, Followed, Following, Happening, HappeningList, InputKind, InputName,
+    finish_follow, put_end,
+};
 pub use join::{JoinInput, join_lines};
 pub use replay::{ReplayInput, UnderWay, finish_replay, replay_lines, replay_lines_by};
 pub use report_lines::{put_flow_line, put_frame_line, put_lane_line, put_request_line};

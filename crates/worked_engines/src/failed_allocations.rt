@@ -125,7 +125,7 @@ fn follow_into(alloc: Global, text: &mut [u8]) -> Result<(), EngineFault> {
     let mut reader = Device::new(TRACE.as_bytes());
     let mut writer = Device::new(text);
     let rule = LossRule::Decided;
-    let done = follow_text(rule, Width::PROFILE, alloc, &mut reader, &mut writer);
+    let done = follow_text(rule, Width::PROFILE, false, alloc, &mut reader, &mut writer);
     reader.into_inner();
     writer.into_inner();
     done
@@ -325,16 +325,30 @@ fn running_program_is_refused(rt: HostRuntime) -> Result<(), Fail> {
 
 #[test]
 fn words_of_follow_are_refused(rt: HostRuntime) -> Result<(), Fail> {
-    let words = ["segrx", "follow", "--losses=slid", "--channels", "2"];
+    let words = [
+        "segrx",
+        "follow",
+        "--losses=slid",
+        "--channels",
+        "2",
+        "--events",
+    ];
     let mut read = read_words(rt.alloc(), &words);
     if let Err(UsageFault::OutOfMemory) = read {
         println!(rt; "refused")?;
         read = read_words(rt.alloc(), &words);
     }
     match read {
-        Ok(Command::Follow { rule, channels }) => {
+        Ok(
+            Command::Follow {
+                rule,
+                channels,
+                events,
+            },
+        ) => {
             assert_eq!(rt; rule, LossRule::PassedOrSlid);
             assert_eq!(rt; channels, 2);
+            assert!(rt; events);
         }
         _ => assert!(rt; false, "no follow"),
     }

@@ -34,10 +34,21 @@ struct Followed {
 
 /// Follows what a reader gives, of so many channels and two flows, by decisions alone.
 fn follow<R: Read + Drop>(alloc: Global, channels: u8, reader: R) -> Result<Followed, Fail> {
+    follow_by(alloc, channels, LossRule::Decided, false, reader)
+}
+
+/// Follows what a reader gives by this rule, with events or without.
+fn follow_by<R: Read + Drop>(
+    alloc: Global,
+    channels: u8,
+    rule: LossRule,
+    events: bool,
+    reader: R,
+) -> Result<Followed, Fail> {
     let width = Width::new(channels, 2)?;
     let mut reader = Device::new(reader);
     let mut writer = Device::new(Vec::<u8>::new(alloc));
-    let done = follow_text(LossRule::Decided, width, alloc, &mut reader, &mut writer);
+    let done = follow_text(rule, width, events, alloc, &mut reader, &mut writer);
     reader.into_inner();
     Ok(Followed {
         done,
@@ -131,6 +142,7 @@ fn writer_that_fails_is_reported(rt: HostRuntime) -> Result<(), Fail> {
         let done = follow_text(
             LossRule::Decided,
             Width::PROFILE,
+            false,
             rt.alloc(),
             &mut reader,
             &mut writer,
@@ -139,6 +151,64 @@ fn writer_that_fails_is_reported(rt: HostRuntime) -> Result<(), Fail> {
         writer.into_inner();
         assert_eq!(rt; done, Err(EngineFault::Write));
         assert!(rt; FOLLOWED.as_bytes().starts_with(&written), "{room} bytes");
+    }
+    Ok(())
+}
+
+/// The first of three segments is lost, which channel 1 passes and then channel 0; a line that is no
+/// input stands between. One grant is refused, one burst has none, and one segment comes twice.
+const LOSSY: &str = "\
+flow 100 8190 16 2
+sid 0 1 0
+
+sid 1 2 0
+grant 0 1 1 13
+grant 0 1 1 13
+grant 1 1 2 15
+grant 1 2 2 15
+burst 1 2 ok 8000fff800000000000000011111aa
+# the first number is lost
+burst 0 1 ok 8000000000000000000000021a
+burst 1 3 bad -
+burst 1 1 ok 8000fff800000000000000011111aa
+gap 0
+gap 0 3";
+
+/// What is printed of it by the rule `passed`, the last line without a line feed with it.
+const LOSSY_EVENTS: &str = "\
+line 5 grant 0 1 granted
+line 6 grant 0 1 refused 2 grant known
+line 7 grant 1 1 granted
+line 8 grant 1 2 granted
+line 9 flow 0 number 8191 kept
+line 9 flow 0 expects 8190 holds 1
+frame 0 000000011111aa
+line 11 flow 0 skips to 8191
+line 11 flow 0 number 0 kept
+line 11 flow 0 expects 1 holds 0
+line 12 burst 1 3 refused 6 no grant
+line 13 flow 0 number 8191 late
+line 13 flow 0 expects 1 holds 0
+line 14 flow 0 gap lost none
+line 14 flow 0 expects 1 holds 0
+line 15 flow 0 gap lost none
+line 15 flow 0 expects 1 holds 0
+flow 0 100 kept 2 late 1 repeat 0 beyond 0 lost 1 frames 1 skipped 0
+lane 0 admitted 1 refusals 1
+lane 1 admitted 2 refusals 1
+";
+
+#[test]
+fn events_say_what_became_of_each_line(rt: HostRuntime) -> Result<(), Fail> {
+    for most in 1..=LOSSY.len() {
+        let rest = LOSSY.as_bytes();
+        let pieces = InPieces { rest, most };
+        let Followed { done, text } = follow_by(rt.alloc(), 2, LossRule::Passed, true, pieces)?;
+        assert_eq!(rt; done, Ok(()));
+        assert!(rt;
+            text.as_slice() == LOSSY_EVENTS.as_bytes(),
+            "pieces of {most}"
+        );
     }
     Ok(())
 }

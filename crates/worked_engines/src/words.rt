@@ -11,7 +11,7 @@ enum Asked {
     Cut(u16, FillByte),
     Replay(LossRule),
     Run(LossRule, u16, u16),
-    Follow(LossRule, u8),
+    Follow(LossRule, u8, bool),
     Help,
     Fault(UsageFault),
 }
@@ -28,7 +28,13 @@ fn what_is_asked(alloc: Global, words: &[&str]) -> Asked {
                 ring,
             },
         ) => Asked::Run(rule, mailbox, ring),
-        Ok(Command::Follow { rule, channels }) => Asked::Follow(rule, channels),
+        Ok(
+            Command::Follow {
+                rule,
+                channels,
+                events,
+            },
+        ) => Asked::Follow(rule, channels, events),
         Ok(Command::Help(_)) => Asked::Help,
         Err(fault) => Asked::Fault(fault),
     }
@@ -38,7 +44,7 @@ fn what_is_asked(alloc: Global, words: &[&str]) -> Asked {
 const USAGE: Asked = Asked::Fault(UsageFault::Usage);
 
 /// Words, each with the name of its case, and what is asked for.
-const WORDS: [(&str, &[&str], Asked); 43] = [
+const WORDS: [(&str, &[&str], Asked); 46] = [
     ("no words at all", &[], Asked::Join),
     ("no command", &["segrx"], Asked::Join),
     ("join", &["segrx", "join"], Asked::Join),
@@ -162,18 +168,29 @@ const WORDS: [(&str, &[&str], Asked); 43] = [
     (
         "follow",
         &["segrx", "follow"],
-        Asked::Follow(LossRule::Decided, 16),
+        Asked::Follow(LossRule::Decided, 16, false),
     ),
     (
         "the options of follow",
         &["segrx", "follow", "--channels", "09", "--losses=slid"],
-        Asked::Follow(LossRule::PassedOrSlid, 9),
+        Asked::Follow(LossRule::PassedOrSlid, 9, false),
     ),
     (
         "one channel",
         &["segrx", "follow", "--channels=1"],
-        Asked::Follow(LossRule::Decided, 1),
+        Asked::Follow(LossRule::Decided, 1, false),
     ),
+    (
+        "events",
+        &["segrx", "follow", "--events", "--losses=passed"],
+        Asked::Follow(LossRule::Passed, 16, true),
+    ),
+    (
+        "events with a value",
+        &["segrx", "follow", "--events=yes"],
+        USAGE,
+    ),
+    ("events of run", &["segrx", "run", "--events"], USAGE),
     ("no channel", &["segrx", "follow", "--channels=0"], USAGE),
     (
         "a channel too many",

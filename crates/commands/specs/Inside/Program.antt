@@ -24,8 +24,8 @@ Performs remaining contents (Replay rule) reader reader' writer writer' result =
     RunsEngine remaining contents (IsReplayedBy rule) IsReplayFault reader reader' writer writer' result
 Performs remaining contents (Run rule mailbox ring) reader reader' writer writer' result =
     RunsEngine remaining contents (IsRunTextBy rule ring mailbox) (IsReportFault ring) reader reader' writer writer' result
-Performs remaining contents (Follow rule channels) reader reader' writer writer' result =
-    (width : Width) × (width.channels ≡ channels) × (width.flows ≡ most_flows) × FollowsTrace rule width remaining contents reader reader' writer writer' result
+Performs remaining contents (Follow rule channels events) reader reader' writer writer' result =
+    (width : Width) × (width.channels ≡ channels) × (width.flows ≡ most_flows) × FollowsTrace rule width events remaining contents reader reader' writer writer' result
 Performs remaining contents (Help text) reader reader' writer writer' result = WritesHelp contents (string_bytes text) reader reader' writer writer' result
 
 -- a cut begins with the number of a segment, a run has room in its mailboxes and rings, and a trace that is followed has a channel, and not too many
@@ -34,5 +34,5 @@ IsInRange Join = Unit {0}
 IsInRange (Cut first fill) = first < sequence_modulus
 IsInRange (Replay rule) = Unit {0}
 IsInRange (Run rule mailbox ring) = (1 ≤ mailbox) × (1 ≤ ring)
-IsInRange (Follow rule channels) = (1 ≤ channels) × (channels ≤ channels_max)
+IsInRange (Follow rule channels events) = (1 ≤ channels) × (channels ≤ channels_max)
 IsInRange (Help text) = Unit {0}

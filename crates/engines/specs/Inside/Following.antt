@@ -1,17 +1,19 @@
 -- How far a trace was followed.
-use Rattle.std.specs.Prelude.{◌≡◌, ◌<◌, ◌^◌, ◌++◌, ℕ, List, Option, true, Result, MatchResult, length, flat_map}
+use Rattle.std.specs.Prelude.{◌≡◌, ◌<◌, ◌≤◌, ◌^◌, ◌-◌, ◌∷◌, ◌++◌, min, ℕ, Bool, List, [], Option, true, Result, MatchResult, length, map, flat_map}
+use Rattle.std.specs.List.{slice_split}
 use Rattle.std.specs.Io.KnownBytes.{Appends}
-use Rattle.consumer.specs.declared.given.Given.{Given}
 use Rattle.loss_rule.specs.declared.rule.LossRule.{LossRule}
 use Rattle.receiver.specs.declared.width.Width.{Width}
 use Rattle.text_lines.specs.Capacities.{default_capacity}
 use Rattle.text_lines.specs.declared.fault.ParseFault.TheVariants as parse
 use Rattle.text_lines.specs.Format.{IsRead, IsFirstFaultyLine}
 use Rattle.text_lines.specs.LineReading.{HasTaken, IsSettledFault}
-use Rattle.text_lines.specs.Lines.{lines_of}
+use Rattle.text_lines.specs.Lines.{lines_of, is_line_feed}
 use Rattle.text_lines.specs.Putting.{Puts}
 use Rattle.texts.specs.declared.follow.Followed.{Followed}
-use Rattle.texts.specs.Follow.{given_line, IsFollowed, IsFollowedTo}
+use Rattle.texts.specs.declared.follow.happening.Happening.{Happening}
+use Rattle.texts.specs.Follow.{told_lines, IsFollowed, IsFollowedTo}
+use Rattle.texts.specs.Happened.{HappenedAt, happening_of, AreNumbered}
 use Rattle.texts.specs.Inside.Followed.{HasFollowedLines, IsAllPut}
 use Rattle.texts.specs.Trace.Line.{shape_of}
 use Rattle.texts.specs.Trace.Place.{Said, nothing_said_in, trace_format}
@@ -27,12 +29,21 @@ use Rattle.engines.specs.Transfer.{AppendsFront, IsLeftFlushed}
 use Rattle.engines.specs.Writing.{IsWritten}
 
 -- what is known of the lines so far, of which some was told
-abbrev pub HasFollowedSoFar : TraceState (List Given) → Follower → Type 0
+abbrev pub HasFollowedSoFar : TraceState (List Happening) → Follower → Type 0
 HasFollowedSoFar state follower = HasFollowedLines state follower.input.width follower.input.rule follower.input.setup follower.input.taker
 
--- These bytes were followed by this rule for this width: the lines that line feeds end were read, and all that was given for them was told.
-pub record HasFollowedBytes (rule : LossRule) (width : Width) (bytes : List ℕ) (told : List Given) (follower : Follower) : Type 0 where
-  pub taken : HasTaken taking_format (nothing_taken told rule width) HasFollowedSoFar follower follower.lines bytes
+-- none of this has a greater number than so many lines
+abbrev pub AreWithin : ℕ → List HappenedAt → Type 0
+AreWithin lines [] = Unit {0}
+AreWithin lines (one ∷ told) = (one.line ≤ lines) × AreWithin lines told
+
+-- These bytes were followed by this rule for this width: the lines that line feeds end were read, and all that happened by them was told, each thing by the
+-- number of its line.
+pub record HasFollowedBytes (rule : LossRule) (width : Width) (events : Bool) (bytes : List ℕ) (told : List HappenedAt) (follower : Follower) : Type 0 where
+  pub events_are : follower.events ≡ events
+  pub taken : HasTaken taking_format (nothing_taken (map happening_of told) rule width) HasFollowedSoFar follower follower.lines bytes
+  pub within : AreWithin follower.lines.count told
+  pub numbered : (lines : List (List ℕ)) (rest : List ℕ) → slice_split is_line_feed bytes ≡ lines ++ rest ∷ [] → AreNumbered rule width lines told
   pub put : IsAllPut follower.input.taker
 
 -- why no more of these bytes was followed, whatever comes behind them
@@ -42,13 +53,13 @@ IsFollowFault width bytes (Trace fault) =
 IsFollowFault width bytes OutOfMemory = Unit {0}
 IsFollowFault width bytes _ = ⊥
 
--- Whatever was followed and told, a piece was followed besides, and what was given for its lines was put: for all of them, or for those above a fault.
+-- Whatever was followed and told, a piece was followed besides, and what happened by its lines was put: for all of them, or for those above a fault.
 abbrev pub FollowsPiece : {T : Type 0} → (T → List ℕ → T → Type 0) → Follower → T → List ℕ → Follower → T → Result (Unit {0}) EngineFault → Type 0
 FollowsPiece after follower out piece follower' out' result =
-    (rule : LossRule) (width : Width) (bytes : List ℕ) (told : List Given) → HasFollowedBytes rule width bytes told follower
-    → (given : List Given) × Puts after out (flat_map given_line given) out'
-    × MatchResult result (λ _. HasFollowedBytes rule width (bytes ++ piece) (told ++ given) follower')
-    (λ fault. IsTextOfFront rule width fault (bytes ++ piece) (flat_map given_line (told ++ given)) × IsFollowFault width (bytes ++ piece) fault)
+    (rule : LossRule) (width : Width) (events : Bool) (bytes : List ℕ) (told : List HappenedAt) → HasFollowedBytes rule width events bytes told follower
+    → (more : List HappenedAt) × Puts after out (flat_map (told_lines events) more) out'
+    × MatchResult result (λ _. HasFollowedBytes rule width events (bytes ++ piece) (told ++ more) follower')
+    (λ fault. IsTextOfFront rule width events fault (bytes ++ piece) (flat_map (told_lines events) (told ++ more)) × IsFollowFault width (bytes ++ piece) fault)
 
 -- why the last line was not followed, or the receiver not closed
 abbrev pub IsEndFault : Width → List ℕ → EngineFault → Type 0
@@ -59,22 +70,28 @@ IsEndFault width bytes _ = ⊥
 
 abbrev pub CannotClose : Follower → EngineFault → Type 0
 CannotClose follower fault =
-    (rule : LossRule) (width : Width) (bytes : List ℕ) (told : List Given) → HasFollowedBytes rule width bytes told follower → IsEndFault width bytes fault
+    (rule : LossRule) (width : Width) (events : Bool) (bytes : List ℕ) (told : List HappenedAt) → HasFollowedBytes rule width events bytes told follower → IsEndFault width bytes fault
 
 -- whatever was followed, all lines were read, the last one with them, and the receiver was closed
 abbrev pub ClosesFollowed : Follower → Followed → Type 0
 ClosesFollowed follower end =
-    (rule : LossRule) (width : Width) (bytes : List ℕ) (told : List Given) → HasFollowedBytes rule width bytes told follower
-    → (said : Said) × IsRead trace_format (nothing_said_in (shape_of width default_capacity)) (lines_of bytes) said × IsFollowedTo rule width said told end
+    (rule : LossRule) (width : Width) (events : Bool) (bytes : List ℕ) (told : List HappenedAt) → HasFollowedBytes rule width events bytes told follower
+    → (said : Said) × IsRead trace_format (nothing_said_in (shape_of width default_capacity)) (lines_of bytes) said × IsFollowedTo rule width said (map happening_of told) end
+
+-- this is the number of the last line of whatever was followed, which may not be ended yet
+abbrev pub IsLastLine : Follower → ℕ → Type 0
+IsLastLine follower line =
+    (rule : LossRule) (width : Width) (events : Bool) (bytes : List ℕ) (told : List HappenedAt) → HasFollowedBytes rule width events bytes told follower
+    → line ≡ min (length (lines_of bytes)) (2 ^ 64 - 1)
 
 module _ {W : Type 0} (contents : W → Option (List ℕ)) where
-  -- Whatever was followed and told, a piece was followed besides, and what was given for its lines was written, or not.
+  -- Whatever was followed and told, a piece was followed besides, and what happened by its lines was written, or not.
   abbrev pub WritesPiece : Follower → Device W → List ℕ → Follower → Device W → Result (Unit {0}) WriteFault → Result (Unit {0}) EngineFault → Type 0
   WritesPiece follower writer piece follower' writer' written taken =
-      (rule : LossRule) (width : Width) (bytes : List ℕ) (told : List Given) → HasFollowedBytes rule width bytes told follower
-      → (given : List Given) × IsWritten contents (flat_map given_line given) writer writer' written
-      × MatchResult taken (λ _. HasFollowedBytes rule width (bytes ++ piece) (told ++ given) follower')
-      (λ fault. IsTextOfFront rule width fault (bytes ++ piece) (flat_map given_line (told ++ given)) × IsFollowFault width (bytes ++ piece) fault)
+      (rule : LossRule) (width : Width) (events : Bool) (bytes : List ℕ) (told : List HappenedAt) → HasFollowedBytes rule width events bytes told follower
+      → (more : List HappenedAt) × IsWritten contents (flat_map (told_lines events) more) writer writer' written
+      × MatchResult taken (λ _. HasFollowedBytes rule width events (bytes ++ piece) (told ++ more) follower')
+      (λ fault. IsTextOfFront rule width events fault (bytes ++ piece) (flat_map (told_lines events) (told ++ more)) × IsFollowFault width (bytes ++ piece) fault)
 
   -- where following ended by this fault, this text was written or, where the writer failed, a front of it
   abbrev pub WritesTill : Device W → Device W → List ℕ → EngineFault → Type 0
@@ -86,30 +103,30 @@ module _ {W : Type 0} (contents : W → Option (List ℕ)) where
   IsFollowFaultOr width bytes Write = Unit {0}
   IsFollowFaultOr width bytes fault = IsFollowFault width bytes fault
 
-  -- whatever was followed and told, a piece was followed besides, and what was given for its lines was written and flushed
+  -- whatever was followed and told, a piece was followed besides, and what happened by its lines was written and flushed
   abbrev pub FollowsWritten : Follower → Device W → List ℕ → Follower → Device W → Result (Unit {0}) EngineFault → Type 0
   FollowsWritten follower writer piece follower' writer' result =
-      (rule : LossRule) (width : Width) (bytes : List ℕ) (told : List Given) → HasFollowedBytes rule width bytes told follower
-      → (given : List Given)
+      (rule : LossRule) (width : Width) (events : Bool) (bytes : List ℕ) (told : List HappenedAt) → HasFollowedBytes rule width events bytes told follower
+      → (more : List HappenedAt)
       × MatchResult result
-      (λ _. HasFollowedBytes rule width (bytes ++ piece) (told ++ given) follower'
-      × Appends (contents (inner_of writer)) (contents (inner_of writer')) (flat_map given_line given) × IsLeftFlushed writer writer'
+      (λ _. HasFollowedBytes rule width events (bytes ++ piece) (told ++ more) follower'
+      × Appends (contents (inner_of writer)) (contents (inner_of writer')) (flat_map (told_lines events) more) × IsLeftFlushed writer writer'
       × (has_failed writer' ≡ has_failed writer))
-      (λ fault. IsTextOfFront rule width fault (bytes ++ piece) (flat_map given_line (told ++ given)) × IsFollowFaultOr width (bytes ++ piece) fault
-      × WritesTill writer writer' (flat_map given_line given) fault)
+      (λ fault. IsTextOfFront rule width events fault (bytes ++ piece) (flat_map (told_lines events) (told ++ more)) × IsFollowFaultOr width (bytes ++ piece) fault
+      × WritesTill writer writer' (flat_map (told_lines events) more) fault)
 
   -- by a fault at the end nothing was written or, where the writer failed, a front of the rest of the text
-  abbrev pub EndsBy : LossRule → Width → List ℕ → List Given → Device W → Device W → EngineFault → Type 0
-  EndsBy rule width bytes told writer writer' Write =
-      (rest : List ℕ) × IsFollowed rule width bytes (flat_map given_line told ++ rest)
+  abbrev pub EndsBy : LossRule → Width → Bool → List ℕ → List HappenedAt → Device W → Device W → EngineFault → Type 0
+  EndsBy rule width events bytes told writer writer' Write =
+      (rest : List ℕ) × IsFollowed rule width events bytes (flat_map (told_lines events) told ++ rest)
       × AppendsFront (contents (inner_of writer)) (contents (inner_of writer')) rest × (has_failed writer' ≡ true)
-  EndsBy rule width bytes told writer writer' fault = (writer' ≡ writer) × IsEndFault width bytes fault
+  EndsBy rule width events bytes told writer writer' fault = (writer' ≡ writer) × IsEndFault width bytes fault
 
   -- The end of some bytes that were followed and told of: the rest of their text was written; or, by a fault, nothing, or a front of it.
   abbrev pub FollowsEnd : Follower → Device W → Device W → Result (Unit {0}) EngineFault → Type 0
   FollowsEnd follower writer writer' result =
-      (rule : LossRule) (width : Width) (bytes : List ℕ) (told : List Given) → HasFollowedBytes rule width bytes told follower
+      (rule : LossRule) (width : Width) (events : Bool) (bytes : List ℕ) (told : List HappenedAt) → HasFollowedBytes rule width events bytes told follower
       → MatchResult result
-      (λ _. (rest : List ℕ) × IsFollowed rule width bytes (flat_map given_line told ++ rest)
+      (λ _. (rest : List ℕ) × IsFollowed rule width events bytes (flat_map (told_lines events) told ++ rest)
       × Appends (contents (inner_of writer)) (contents (inner_of writer')) rest × IsLeftFlushed writer writer' × (has_failed writer' ≡ has_failed writer))
-      (λ fault. EndsBy rule width bytes told writer writer' fault)
+      (λ fault. EndsBy rule width events bytes told writer writer' fault)

@@ -1,32 +1,37 @@
-//! A receiver under way to which what the lines of a trace say is handed in.
-ghost use Rattle.std.specs.Prelude.{◌≡◌, flat_map, true, List, IfOk, OnOk, OnErr};
-ghost use Rattle.consumer.specs.declared.given.Given.{Given};
+//! A receiver under way to which what the lines of a trace say is handed in, and what happens.
+ghost use Rattle.std.specs.Prelude.{◌≡◌, ◌≢◌, [], ◌∷◌, ◌++◌, flat_map, true, List, IfOk, OnOk, OnErr};
 ghost use Rattle.loss_rule.specs.declared.rule.LossRule.{LossRule};
 ghost use Rattle.receiver.specs.Entries.{Entry};
 ghost use Rattle.receiver.specs.HandedOrder.{flow_decision};
+ghost use Rattle.receiver.specs.Receiving.{IsReceiving};
 ghost use Rattle.receiver.specs.declared.setup.Setup.{Setup};
 ghost use Rattle.receiver.specs.declared.width.Width.{Width};
 ghost use Rattle.text_lines.specs.Putting.{Puts};
-ghost use Rattle.texts.specs.Follow.{given_line};
+ghost use Rattle.texts.specs.AnyHeader.{no_check};
+ghost use Rattle.texts.specs.Happening.{happening_lines};
 ghost use Rattle.texts.specs.Inside.Followed.{HasFollowed, EndsFollowing, IsNonePending};
+ghost use Rattle.texts.specs.Inside.Followed.{HasAdded, TellsStandingOf, TellsReply, TellsDecided};
+ghost use Rattle.texts.specs.declared.follow.happening.Happening.{Happening};
+ghost use Rattle.texts.specs.declared.follow.happening.Happening.TheVariants.{Took, Decided};
 
-use super::given_list::GivenList;
+use super::happening::{Happening, InputName};
+use super::happening_list::HappeningList;
 use crate::trace::TakeEntries;
 use bonded_flows::FlowDecision;
 use docsis_wire::NoCheck;
 use lane::Input;
 use loss_rule::LossRule;
-use receiver::{Closed, Decision, Receiver, Setup, Width};
+use receiver::{Closed, Decision, DecisionReply, Receiver, Reply, Setup, Width};
 use std::alloc::{AllocError, Global};
 use std::marker::Model;
 use text_lines::PutText;
 
-/// A receiver to which something may be handed in at any time, and what it gave that wasn't put
+/// A receiver to which something may be handed in at any time, and what happened that wasn't put
 /// yet. Contracts see both.
 #[derive(Drop)]
 pub struct Following {
     receiver: Receiver<NoCheck>,
-    given: GivenList,
+    happened: HappeningList,
 }
 
 impl Model for Following {
@@ -37,54 +42,114 @@ impl Model for Following {
     ghost use Rattle.receiver.specs.contracts.receiver.Receiver as receiver_type;
     ghost use Rattle.receiver.specs.declared.receiver.Receiver.{Receiver};
     ghost use Rattle.receiver.specs.Receiving.{IsReceiving};
-    ghost use Rattle.texts.specs.contracts.follow.given_list.GivenList as given_list_type;
-    ghost use Rattle.texts.specs.declared.follow.given_list.GivenList.{GivenList};
+    ghost use Rattle.texts.specs.contracts.follow.happening_list.HappeningList as happening_list_type;
+    ghost use Rattle.texts.specs.declared.follow.happening_list.HappeningList.{HappeningList};
     ghost use Rattle.texts.specs.Inside.Followed.{ReceiverUnderWay};
     ghost use Rattle.texts.specs.AnyHeader.{no_check};
 
     ghost Value = { ReceiverUnderWay };
 
-    ghost coded = { code_by (Receiver NoCheck × GivenList)
-        (coded× (receiver_type.the_row no_check_type.the_row).coded given_list_type.the_row.coded)
+    ghost coded = { code_by (Receiver NoCheck × HappeningList)
+        (coded× (receiver_type.the_row no_check_type.the_row).coded happening_list_type.the_row.coded)
         (λ value. (value.receiver, value.pending))
         (λ pair. record { receiver = pair.0; pending = pair.1 }) (λ _. refl) };
 
     ghost view = { λ following. record {
       receiver = following.receiver;
-      pending = following.given;
+      pending = following.happened;
     } };
 
     ghost invariant = { λ following. IsReceiving no_check following.receiver };
 }
 
 impl Following {
-    /// Puts a line for each thing that was given and not put yet.
-    pub fn put_given<O: PutText>(&mut self, out: &mut O) -> Result<(), AllocError>
-        ensures put { OnOk result
-            (Puts O.after out.old (flat_map given_line self.old.pending.given.items) out.new) }
+    /// Puts the lines of all that happened and wasn't put yet, which was by the line with this number,
+    /// with events or without.
+    pub fn put_happened<O: PutText>(
+        &mut self,
+        line: u64,
+        events: bool,
+        out: &mut O,
+    ) -> Result<(), AllocError>
+        ensures put { OnOk result (Puts O.after out.old
+            (flat_map (happening_lines events line) self.old.pending.happened.items) out.new) }
         ensures was_whole { OnOk result (self.old.pending.whole ≡ true) }
         ensures none { OnOk result (IsNonePending self.new) }
         ensures receiver { OnOk result (self.new.receiver ≡ self.old.receiver) }
         ensures unchanged { OnErr result (out.new ≡ out.old) }
     {
-        self.given.put(out)
+        self.happened.put(line, events, out)
     }
 
-    /// Closes the receiver: what it gave that wasn't put yet, and what was counted.
-    pub fn finish(self, alloc: Global) -> Result<(GivenList, Closed), AllocError>
-        ensures { IfOk result (λ end. (told : List Given) (rule : LossRule) (width : Width)
+    /// Closes the receiver: what happened that wasn't put yet, and what was counted.
+    pub fn finish(self, alloc: Global) -> Result<(HappeningList, Closed), AllocError>
+        ensures { IfOk result (λ end. (told : List Happening) (rule : LossRule) (width : Width)
             (setup : Setup) (entries : List Entry)
             → HasFollowed told rule width setup entries self
             → EndsFollowing told rule width setup entries end.0 end.1) }
     {
         let Following {
             receiver,
-            mut given,
+            mut happened,
         } = self;
-        match receiver.close(alloc, &mut given) {
-            Ok(closed) => Ok((given, closed)),
+        match receiver.close(alloc, &mut happened) {
+            Ok(closed) => Ok((happened, closed)),
             Err(_) => Err(AllocError),
         }
+    }
+}
+
+/// Adds how a flow of a receiver stands, if it has the flow.
+fn add_standing(receiver: &Receiver<NoCheck>, flow: usize, happened: &mut HappeningList)
+    requires { IsReceiving no_check receiver.now }
+    ensures { (told : List Happening) × TellsStandingOf receiver.now flow told
+        × HasAdded happened.old told happened.new }
+{
+    let Some(expected) = receiver.expected(flow) else {
+        return;
+    };
+    let Some(held) = receiver.held(flow) else {
+        return;
+    };
+    happened.add(Happening::Stands {
+        flow,
+        expected,
+        held,
+    });
+}
+
+/// Adds what became of an input that a receiver took, and how the flow stands to which a segment
+/// came.
+fn add_reply(
+    receiver: &Receiver<NoCheck>,
+    name: InputName,
+    reply: Reply,
+    happened: &mut HappeningList,
+)
+    requires { IsReceiving no_check receiver.now }
+    ensures { (told : List Happening) × TellsReply receiver.now reply told
+        × HasAdded happened.old (Took name reply ∷ told) happened.new }
+{
+    happened.add(Happening::Took { name, reply });
+    if let Reply::Admitted { flow, .. } = reply {
+        add_standing(receiver, flow, happened);
+    }
+}
+
+/// Adds what became of a decision, and how its flow stands if it was taken.
+fn add_decision_reply(
+    receiver: &Receiver<NoCheck>,
+    flow: usize,
+    reply: DecisionReply,
+    happened: &mut HappeningList,
+)
+    requires { IsReceiving no_check receiver.now }
+    ensures { (told : List Happening) × TellsDecided receiver.now flow reply told
+        × HasAdded happened.old (Decided flow reply ∷ told) happened.new }
+{
+    happened.add(Happening::Decided { flow, reply });
+    if let DecisionReply::Taken { .. } = reply {
+        add_standing(receiver, flow, happened);
     }
 }
 
@@ -101,7 +166,7 @@ fn decided_by(upto: Option<u16>) -> FlowDecision
 impl TakeEntries for Following {
     ghost use Rattle.std.specs.Prelude.{[], true};
 
-    ghost State = { List Given };
+    ghost State = { List Happening };
 
     ghost start = { [] };
 
@@ -120,7 +185,7 @@ impl TakeEntries for Following {
         };
         Ok(Following {
             receiver,
-            given: GivenList::new(alloc),
+            happened: HappeningList::new(alloc),
         })
     }
 
@@ -133,10 +198,14 @@ impl TakeEntries for Following {
     ) -> Result<Following, AllocError> {
         let Following {
             mut receiver,
-            mut given,
+            mut happened,
         } = self;
-        match receiver.take(alloc, usize::from(channel), input, &mut given) {
-            Ok(_) => Ok(Following { receiver, given }),
+        let name = InputName::of(channel, &input);
+        match receiver.take(alloc, usize::from(channel), input, &mut happened) {
+            Ok(reply) => {
+                add_reply(&receiver, name, reply, &mut happened);
+                Ok(Following { receiver, happened })
+            }
             Err(_) => Err(AllocError),
         }
     }
@@ -149,11 +218,14 @@ impl TakeEntries for Following {
     ) -> Result<Following, AllocError> {
         let Following {
             mut receiver,
-            mut given,
+            mut happened,
         } = self;
         let Decision { flow, upto } = decision;
-        match receiver.decide(alloc, flow, decided_by(upto), &mut given) {
-            Ok(_) => Ok(Following { receiver, given }),
+        match receiver.decide(alloc, flow, decided_by(upto), &mut happened) {
+            Ok(reply) => {
+                add_decision_reply(&receiver, flow, reply, &mut happened);
+                Ok(Following { receiver, happened })
+            }
             Err(_) => Err(AllocError),
         }
     }

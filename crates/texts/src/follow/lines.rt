@@ -1,9 +1,12 @@
 //! The lines of what is followed.
 ghost use Rattle.std.specs.Prelude.{flat_map};
 ghost use Rattle.text_lines.specs.Putting.{Puts};
-ghost use Rattle.texts.specs.Follow.{given_line, tally_line, closed_flow, closed_lines};
+ghost use Rattle.texts.specs.Follow.{tally_line, closed_flow, closed_lines};
+ghost use Rattle.texts.specs.Happening.{given_line, happening_lines};
 ghost use Rattle.texts.specs.Report.{numbered_lines};
 
+use super::event_lines::put_event;
+use super::happening::Happening;
 use crate::report_lines::{
     put_flow_line, put_frame_line, put_named, put_request_line, put_spaced, put_word,
 };
@@ -13,24 +16,37 @@ use receiver::{Closed, LaneTally, Setup};
 use text_lines::PutText;
 
 /// Puts the line of a frame or of a request.
-fn put_one<O: PutText>(out: &mut O, one: &Given)
-    ensures { Puts O.after out.old (given_line one.now) out.new }
+fn put_given<O: PutText>(out: &mut O, given: &Given)
+    ensures { Puts O.after out.old (given_line given.now) out.new }
 {
-    match one {
+    match given {
         Given::Frame { flow, frame } => put_frame_line(out, *flow, frame.as_slice()),
         Given::Asked(request) => put_request_line(out, request),
     }
 }
 
-/// Puts a line for each thing that was given.
-pub fn put_given<O: PutText>(out: &mut O, given: &[Given])
-    ensures { Puts O.after out.old (flat_map given_line given.now) out.new }
+/// Puts the lines of what happened by the line with this number, with events or without.
+fn put_one<O: PutText>(out: &mut O, line: u64, events: bool, one: &Happening)
+    ensures { Puts O.after out.old (happening_lines events line one.now) out.new }
 {
-    for one in given {
+    if let Happening::Gave(given) = one {
+        put_given(out, given);
+    }
+    if events {
+        put_event(out, line, one);
+    }
+}
+
+/// Puts the lines of all that happened by the line with this number, with events or without.
+pub fn put_happened<O: PutText>(out: &mut O, line: u64, events: bool, happened: &[Happening])
+    ensures { Puts O.after out.old
+        (flat_map (happening_lines events line) happened.now) out.new }
+{
+    for one in happened {
         if out.is_closed() {
             return;
         }
-        put_one(out, one);
+        put_one(out, line, events, one);
     }
 }
 

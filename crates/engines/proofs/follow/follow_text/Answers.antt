@@ -10,23 +10,23 @@ use Rattle.engines.proofs.follow.follow_text.Goals as goal
 pub returns-in_err-piece : goal.returns-in_err-piece
 returns-in_err-piece g c =
     let p = err_from_is_err_and c.from_residual.result c.from_residual.ensures.1 in
-    rw (p.1, p.2) (trace_refused g.R.Read.remaining g.W.Write.contents c.args.rule c.args.width c.args.reader.now c.args.writer.now)
+    rw (p.1, p.2) (trace_refused g.R.Read.remaining g.W.Write.contents c.args.rule c.args.width c.args.events c.args.reader.now c.args.writer.now)
 
 pub returns-in_err-room : goal.returns-in_err-room
 returns-in_err-room g c =
     let p = err_from_is_err_and c.from_residual-in_err-room.result c.from_residual-in_err-room.ensures.1 in
-    rw (p.1, p.2) (trace_refused g.R.Read.remaining g.W.Write.contents c.args.rule c.args.width c.args.reader.now c.args.writer.now)
+    rw (p.1, p.2) (trace_refused g.R.Read.remaining g.W.Write.contents c.args.rule c.args.width c.args.events c.args.reader.now c.args.writer.now)
 
 pub returns-in_err-follower : goal.returns-in_err-follower
 returns-in_err-follower g c =
     let p = err_from_is_err_and c.from_residual-in_err-follower.result c.from_residual-in_err-follower.ensures.1 in
-    rw (p.1, p.2) (trace_refused g.R.Read.remaining g.W.Write.contents c.args.rule c.args.width c.args.reader.now c.args.writer.now)
+    rw (p.1, p.2) (trace_refused g.R.Read.remaining g.W.Write.contents c.args.rule c.args.width c.args.events c.args.reader.now c.args.writer.now)
 
 pub returns-in_err-count : goal.returns-in_err-count
 returns-in_err-count g c =
     let p = err_from_is_err_and c.from_residual-in_err-count.result c.from_residual-in_err-count.ensures.1 in
     rw (p.1, p.2 ∙ c.in_err-count.ensures.only)
-    (trace_unread g.R.Read.remaining g.W.Write.contents c.args.rule c.args.width c.args.reader.now c.args.writer.now c.loop.reader c.loop.writer c.loop.follower
+    (trace_unread g.R.Read.remaining g.W.Write.contents c.args.rule c.args.width c.args.events c.args.reader.now c.args.writer.now c.loop.reader c.loop.writer c.loop.follower
     c.loop.invariant.far c.read_some.new.reader c.in_err-count.ensures.kept (inl c.in_err-count.ensures.failed))
 
 pub returns-then-count-eq0 : goal.returns-then-count-eq0
@@ -36,9 +36,9 @@ returns-then-count-eq0 g c =
     let read =
     subst (λ n. Consumes (g.R.Read.remaining (inner_of c.loop.reader)) (g.R.Read.remaining (inner_of c.read_some.new.reader)) (take n c.read_some.new.room)) none
     c.in_ok-count.ensures.taken in
-    trace_finished g.R.Read.remaining g.W.Write.contents c.args.rule c.args.width c.args.reader.now c.args.writer.now c.loop.reader c.loop.writer c.loop.follower far
+    trace_finished g.R.Read.remaining g.W.Write.contents c.args.rule c.args.width c.args.events c.args.reader.now c.args.writer.now c.loop.reader c.loop.writer c.loop.follower far
     c.read_some.new.reader read (c.in_ok-count.ensures.end none) c.finish.new.writer c.finish.result c.requires.reader.0 c.requires.writer.0 c.in_ok-count.ensures.sound
-    (c.finish.ensures c.args.rule c.args.width far.bytes far.told far.followed)
+    (c.finish.ensures c.args.rule c.args.width c.args.events far.bytes far.told far.followed)
 
 pub returns-in_err-take_piece : goal.returns-in_err-take_piece
 returns-in_err-take_piece g c =
@@ -48,9 +48,9 @@ returns-in_err-take_piece g c =
     let piece = c.deref.ensures.value in
     let front_is = of_room c.in_ok-count.count c.loop.piece.len front _ c.in_ok-count.ensures.within long in
     let p = err_from_is_err_and c.from_residual-in_err-take_piece.result c.from_residual-in_err-take_piece.ensures.1 in
-    let followed = c.in_err-take_piece.ensures c.args.rule c.args.width far.bytes far.told far.followed in
+    let followed = c.in_err-take_piece.ensures c.args.rule c.args.width c.args.events far.bytes far.told far.followed in
     rw (p.1, p.2)
-    (trace_stopped g.R.Read.remaining g.W.Write.contents c.args.rule c.args.width c.args.reader.now c.args.writer.now c.loop.reader c.loop.writer c.loop.follower far
+    (trace_stopped g.R.Read.remaining g.W.Write.contents c.args.rule c.args.width c.args.events c.args.reader.now c.args.writer.now c.loop.reader c.loop.writer c.loop.follower far
     c.read_some.new.reader (take c.in_ok-count.count c.deref.result.now)
     (subst (Consumes (g.R.Read.remaining (inner_of c.loop.reader)) (g.R.Read.remaining (inner_of c.read_some.new.reader))) (sym (ap (take c.in_ok-count.count) piece ∙ front_is))
     c.in_ok-count.ensures.taken) c.take_piece.new.writer followed.0 _ followed.1.0 followed.1.1 followed.1.2)
@@ -62,10 +62,10 @@ loop-preserved g c =
     let long : length front ≡ c.loop.piece.len = search rules in
     let piece = c.deref.ensures.value in
     let front_is = of_room c.in_ok-count.count c.loop.piece.len front _ c.in_ok-count.ensures.within long in
-    let followed = c.in_ok-take_piece.ensures c.args.rule c.args.width far.bytes far.told far.followed in
+    let followed = c.in_ok-take_piece.ensures c.args.rule c.args.width c.args.events far.bytes far.told far.followed in
     record {
       far =
-          far_more g.R.Read.remaining g.W.Write.contents c.args.rule c.args.width c.args.reader.now c.args.writer.now c.loop.reader c.loop.writer c.loop.follower far
+          far_more g.R.Read.remaining g.W.Write.contents c.args.rule c.args.width c.args.events c.args.reader.now c.args.writer.now c.loop.reader c.loop.writer c.loop.follower far
           c.read_some.new.reader (take c.in_ok-count.count c.deref.result.now)
           (subst (Consumes (g.R.Read.remaining (inner_of c.loop.reader)) (g.R.Read.remaining (inner_of c.read_some.new.reader)))
           (sym (ap (take c.in_ok-count.count) piece ∙ front_is)) c.in_ok-count.ensures.taken)
@@ -76,5 +76,5 @@ loop-preserved g c =
 
 pub returns : goal.returns
 returns g c =
-    trace_unread g.R.Read.remaining g.W.Write.contents c.args.rule c.args.width c.args.reader.now c.args.writer.now c.loop.reader c.loop.writer c.loop.follower
+    trace_unread g.R.Read.remaining g.W.Write.contents c.args.rule c.args.width c.args.events c.args.reader.now c.args.writer.now c.loop.reader c.loop.writer c.loop.follower
     c.loop.invariant.far c.loop.reader (Keeps-refl (g.R.Read.remaining (inner_of c.loop.reader))) (inr (search rules))

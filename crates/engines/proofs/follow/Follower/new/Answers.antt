@@ -1,5 +1,6 @@
+use Rattle.std.proofs.Common.{refl}
 use Rattle.engines.proofs.FollowedLines.{followed_nothing}
 use Rattle.engines.proofs.follow.Follower.new.Goals as goal
 
 pub returns : goal.returns
-returns c = followed_nothing c.args.rule c.args.width _ c.new.ensures c.in_ok-new.ensures
+returns c = followed_nothing c.args.rule c.args.width c.args.events _ refl c.new.ensures c.in_ok-new.ensures

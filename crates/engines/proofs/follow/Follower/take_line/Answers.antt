@@ -1,39 +1,50 @@
 -- A piece was followed, or none of it was told of.
-use Rattle.std.proofs.Common.{[]}
+use Rattle.std.proofs.Common.{ℕ, Bool, [], List, refl, sym, subst}
+use Rattle.std.specs.Prelude.{map, flat_map}
+use Rattle.text_lines.specs.Putting.{Puts}
+use Rattle.texts.specs.Happening.{happening_lines}
+use Rattle.texts.specs.Happened.{happening_of}
 use Rattle.std.proofs.lemmas.Result.{err_from_is_err_and}
 use Rattle.texts.proofs.PutLines.{puts-nothing}
 use Rattle.engines.specs.declared.fault.EngineFault.TheVariants.{OutOfMemory}
 use Rattle.engines.specs.Inside.Following.{HasFollowedSoFar}
-use Rattle.engines.proofs.FollowedLines.{retaken, taken_told, told_above, fault_of_piece}
+use Rattle.engines.proofs.NumberedHappenings.{at_line, lines_at}
+use Rattle.engines.proofs.FollowedLines.{retaken, taken_told, told_above, fault_of_piece, followed_line}
 use Rattle.engines.proofs.follow.Follower.take_line.Goals as goal
 
 pub returns-in_err-take_piece : goal.returns-in_err-take_piece
-returns-in_err-take_piece g c = λ rule width bytes told has.
+returns-in_err-take_piece g c = λ rule width events bytes told has.
     let p = err_from_is_err_and c.from_residual.result c.from_residual.ensures.1 in
     let fault =
-    fault_of_piece _ c.args.self.now.input rule width bytes c.args.piece.now told c.args.self.now.lines _
+    fault_of_piece _ c.args.self.now.input rule width bytes c.args.piece.now (map happening_of told) c.args.self.now.lines _
     (retaken _ _ HasFollowedSoFar _ c.args.self.now c.args.self.now.input (λ state stands. stands) _ bytes has.taken) c.in_err-take_piece.ensures.fault in
     rw (p.1, p.2) (
       [],
       puts-nothing g.O.PutText.after c.args.out.now,
       (
-        told_above rule width bytes c.args.piece.now told _ _ has c.requires fault,
+        told_above rule width events bytes c.args.piece.now told _ _ has c.requires fault,
         fault,
       ),
     )
 
-pub returns-in_err-put_given : goal.returns-in_err-put_given
-returns-in_err-put_given g c = λ rule width bytes told has.
-    let p = err_from_is_err_and c.from_residual-in_err-put_given.result c.from_residual-in_err-put_given.ensures.1 in
+pub returns-in_err-put_happened : goal.returns-in_err-put_happened
+returns-in_err-put_happened g c = λ rule width events bytes told has.
+    let p = err_from_is_err_and c.from_residual-in_err-put_happened.result c.from_residual-in_err-put_happened.ensures.1 in
     rw (p.1, p.2) (
       [],
-      rw c.in_err-put_given.ensures.unchanged (puts-nothing g.O.PutText.after c.args.out.now),
-      (told_above rule width bytes c.args.piece.now told _ OutOfMemory has c.requires tt, tt),
+      rw c.in_err-put_happened.ensures.unchanged (puts-nothing g.O.PutText.after c.args.out.now),
+      (told_above rule width events bytes c.args.piece.now told _ OutOfMemory has c.requires tt, tt),
     )
 
 pub returns : goal.returns
-returns g c = λ rule width bytes told has.
-    let put = c.in_ok-put_given.ensures.put in
+returns g c = λ rule width events bytes told has.
+    let put = c.in_ok-put_happened.ensures.put in
+    let line = c.line_count-line.result in
     let was = retaken _ _ HasFollowedSoFar _ c.args.self.now c.args.self.now.input (λ state stands. stands) c.args.self.now.lines bytes has.taken in
-    let taken = c.in_ok-take_piece.ensures.taken _ bytes was in
-    (put.given, put.put, record { taken = taken_told rule width told put.given _ _ _ _ (λ state stands. put.told state stands) _ _ taken; put = put.none })
+    let taken = c.in_ok-take_piece.ensures.taken _ bytes was in (
+      at_line line put.happened,
+      subst (λ (text : List ℕ). Puts g.O.PutText.after c.args.out.now text c.put_happened.new.out) (sym (lines_at events line put.happened))
+          (subst (λ (told_of : Bool). Puts g.O.PutText.after c.args.out.now (flat_map (happening_lines told_of line) put.happened) c.put_happened.new.out) has.events_are put.put),
+      followed_line rule width events bytes c.args.piece.now told c.args.self.now _ put.happened line has c.requires refl c.line_count-line.ensures
+          (taken_told rule width (map happening_of told) put.happened _ _ _ _ (λ state stands. put.told state stands) _ _ taken) put.none,
+    )

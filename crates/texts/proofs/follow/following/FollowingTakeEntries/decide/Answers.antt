@@ -1,21 +1,35 @@
 -- A decision was handed in.
-use Rattle.std.proofs.Common.{◌∷◌, [], sym, subst}
+use Rattle.std.proofs.Common.{◌≡◌, ◌++◌, ◌∷◌, [], Some, refl, sym, subst}
 use Rattle.bonded_flows.specs.declared.decision.FlowDecision.{FlowDecision}
 use Rattle.receiver.specs.Entries.{decided}
 use Rattle.receiver.specs.HandedIn as handed_in
-use Rattle.receiver.specs.HandedOrder.{handed_decision}
-use Rattle.receiver.specs.Receiving.{TakesMore}
+use Rattle.receiver.specs.HandedIn.{made_of}
+use Rattle.receiver.specs.Replaying.{entry_of, IsGapDecision}
 use Rattle.receiver.proofs.ReplayedEntries.{decision-recorded, decision-entry}
-use Rattle.texts.specs.AnyHeader.{no_check}
-use Rattle.texts.specs.Inside.Followed.{HasKept, ReceiverUnderWay, HasFollowed}
-use Rattle.texts.proofs.FollowedTrace.{followed_more}
+use Rattle.texts.specs.AnyHeader.{any_header}
+use Rattle.texts.specs.Inside.Followed.{ReceiverUnderWay, HasFollowed}
+use Rattle.texts.proofs.FollowedTrace.{followed_more, tells_decided, passed_over}
 use Rattle.texts.proofs.follow.following.FollowingTakeEntries.decide.Goals as goal
 
 pub returns-in-Ok : goal.returns-in-Ok
-returns-in-Ok c = λ told rule setup entries has.
+returns-in-Ok c = λ told rule setup entries was.
+    let has = subst (λ (now : ReceiverUnderWay). HasFollowed told rule c.args._width setup entries now) (sym c.self.view_is) was in
     let decision = c.args.decision in
-    followed_more told rule c.args._width setup entries _
-    (subst (λ (now : ReceiverUnderWay). HasFollowed told rule c.args._width setup entries now) (sym c.self.view_is) has)
-    c.decide.new.self c.decide.new.out (handed_decision decision) (decided decision) (decision-recorded decision) (decision-entry decision)
-    (subst (λ (what : FlowDecision). TakesMore HasKept no_check c.self.inside.receiver c.self.inside.given (handed_in.decided decision.flow what ∷ []) c.decide.new.self c.decide.new.out) c.decided_by.ensures
-    c.in-Ok.ensures.takes)
+    let takes = c.in-Ok.ensures.takes in
+    let one = handed_in.decided decision.flow c.decided_by.result in
+    let made = made_of rule c.args._width.channels setup in
+    let added = c.add_decision_reply.ensures in
+    followed_more told rule c.args._width setup entries _ has c.decide.new.self c.decide.new.out one (decided decision) _ c.add_decision_reply.new.happened
+    (subst IsGapDecision (sym c.decided_by.ensures) (decision-recorded decision))
+    (subst (λ (what : FlowDecision). entry_of (handed_in.decided decision.flow what) ≡ Some (decided decision)) (sym c.decided_by.ensures) (decision-entry decision)) takes
+    (record {
+      reply = c.in-Ok.reply;
+      passed_over = passed_over c.decide.result c.in-Ok.reply decision.flow _ _ c.decided_by.result c.in-Ok.is has.stands.flows.flow_count c.decide.ensures.passed_over;
+      rightly = c.in-Ok.ensures.told any_header made has.handed has.given has.stands;
+      standing = added.0;
+      stands =
+          tells_decided c.decide.new.self made (has.handed ++ one ∷ []) (has.given ++ takes.given_more)
+          (takes.stands any_header made has.handed has.given has.stands) decision.flow c.in-Ok.reply added.0 c.in-Ok.ensures.settled added.1;
+      are = refl;
+    })
+    added.2

@@ -1,17 +1,35 @@
 -- An input was handed in.
-use Rattle.std.proofs.Common.{ℕ, ◌<◌, Some, sym, ap, subst}
+use Rattle.std.proofs.Common.{ℕ, ◌<◌, ◌++◌, ◌∷◌, [], Some, sym, ap, subst, ◌∙◌}
 use Rattle.receiver.specs.Entries.{came}
 use Rattle.receiver.specs.HandedIn as handed_in
+use Rattle.receiver.specs.HandedIn.{made_of}
+use Rattle.texts.specs.declared.follow.happening.Happening.TheVariants.{Took}
+use Rattle.texts.specs.declared.follow.happening.InputName.{InputName}
+use Rattle.texts.specs.AnyHeader.{any_header}
+use Rattle.texts.specs.Happening.{name_of_input}
 use Rattle.texts.specs.Inside.Followed.{ReceiverUnderWay, HasFollowed}
-use Rattle.texts.proofs.FollowedTrace.{followed_more}
+use Rattle.texts.proofs.FollowedTrace.{followed_more, tells_after}
 use Rattle.texts.proofs.follow.following.FollowingTakeEntries.take.Goals as goal
 
 pub returns-in-Ok : goal.returns-in-Ok
-returns-in-Ok c = λ told rule setup entries has.
+returns-in-Ok c = λ told rule setup entries was.
+    let has = subst (λ (now : ReceiverUnderWay). HasFollowed told rule c.args._width setup entries now) (sym c.self.view_is) was in
     let replies = c.in-Ok.ensures.replies in
-    let input = c.args.input in
-    followed_more told rule c.args._width setup entries _
-    (subst (λ (now : ReceiverUnderWay). HasFollowed told rule c.args._width setup entries now) (sym c.self.view_is) has)
-    c.take.new.self c.take.new.out (handed_in.came c.from.result (record { input = input; answer = replies.answer })) (came c.args.channel input)
-    (subst (λ (channel : ℕ). channel < c.args._width.channels) (sym c.from.ensures) c.requires.channel) (ap (λ (channel : ℕ). Some (came channel input)) c.from.ensures)
+    let one = handed_in.came c.from.result (record { input = c.args.input; answer = replies.answer }) in
+    let made = made_of rule c.args._width.channels setup in
+    let stands = replies.takes.stands any_header made has.handed has.given has.stands in
+    let added = c.add_reply.ensures in
+    followed_more told rule c.args._width setup entries _ has c.take.new.self c.take.new.out one (came c.args.channel c.args.input) _ c.add_reply.new.happened
+    (subst (λ (channel : ℕ). channel < c.args._width.channels) (sym c.from.ensures) c.requires.channel) (ap (λ (channel : ℕ). Some (came channel c.args.input)) c.from.ensures)
     replies.takes
+    (record {
+      reply = c.in-Ok.reply;
+      says = replies.says;
+      rightly = replies.told any_header made has.handed has.given has.stands;
+      standing = added.0;
+      stands = tells_after c.take.new.self made (has.handed ++ one ∷ []) (has.given ++ replies.takes.given_more) stands c.in-Ok.reply added.0 c.in-Ok.ensures.settled added.1;
+      are =
+          ap (λ (name : InputName). Took name c.in-Ok.reply ∷ added.0)
+          (c.of-name.ensures ∙ ap (λ (channel : ℕ). name_of_input channel c.args.input) (sym c.from.ensures));
+    })
+    added.2
