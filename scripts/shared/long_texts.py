@@ -51,6 +51,23 @@ def longest(rng):
         yield one
 
 
+def join_lines(frames, chunk):
+    """Segments, one a line."""
+    for segment in segments(frames, chunk):
+        yield segment.hex().encode() + b"\n"
+
+
+def cut_lines(frames, chunk):
+    """Frames, each with a line for each piece of so many bytes that begins in it."""
+    place = begun = 0
+    for one in frames:
+        yield b"frame " + one.hex().encode() + b"\n"
+        place += len(one)
+        while place - begun >= chunk:
+            yield f"piece {chunk} 0\n".encode()
+            begun += chunk
+
+
 def flow_lines(count, window):
     """Flows, of which each has one SID on each channel, its index."""
     for flow in range(count):
