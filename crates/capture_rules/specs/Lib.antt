@@ -1,0 +1,4 @@
+pub mod Order
+pub mod Waiting
+pub mod Begin
+pub mod Held

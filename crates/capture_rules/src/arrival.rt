@@ -1,0 +1,25 @@
+//! A burst of a flow, when it comes and when it is handed on.
+ghost use Rattle.std.specs.Prelude.{◌<◌};
+ghost use Rattle.reorder.specs.Limits.{modulus};
+
+/// A burst of a flow that came.
+#[derive(Debug, Drop)]
+pub struct Arrival<T> {
+    /// When it came, in nanoseconds of the packets' clock.
+    pub time: u64,
+    /// The channel on which it came.
+    pub channel: usize,
+    /// The number of its segment, 0 to 8191.
+    pub number: u16,
+    /// What it brings.
+    pub item: T,
+    ghost in_range: { number < modulus },
+}
+
+/// A burst that is handed on.
+#[derive(Debug, Drop)]
+pub struct HandedOn<T> {
+    /// When it is: the time of the burst in whose place it is handed on.
+    pub time: u64,
+    pub arrival: Arrival<T>,
+}

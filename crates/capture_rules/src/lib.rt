@@ -1,0 +1,35 @@
+//! What becomes of the bursts of one flow in a capture, as far as times say it.
+//!
+//! A capture says when each burst came, but a receiver knows no time. So three rules of time stand
+//! before it, each for one flow. All times are nanoseconds of the packets' clock; an earlier one
+//! may stand after a later one.
+//!
+//! 1. [`ChannelOrder`]: an analyser may write two bursts of one channel the other way round. So each
+//!    [`Arrival`] waits, and of those that came on one channel within `reorder` the one of the least
+//!    number is [`HandedOn`] first.
+//! 2. [`Beginning`]: where the first number isn't known, and where after a silence a number comes
+//!    that doesn't lie ahead within the window, what is handed on is kept for 10 ms, and the flow
+//!    begins, or begins anew, at the least number of these ([`Begun`]).
+//! 3. [`HeldTimes`]: what was held for longer than `wait` says up to which number the flow skips.
+//!
+//! A flow's number that is expected, and the width of its window, are handed in. Nothing is said
+//! here of what a burst brings: it is a type parameter.
+//!
+//! What matters most: what is handed on is what the definition `Orders` says of all bursts that came
+//! and their times, nothing is lost and nothing doubled by it, and with times that don't go back
+//! only what came within `reorder` goes on waiting ([`laws`]).
+#![tactic(auto)]
+
+mod arrival;
+mod beginning;
+mod channel_order;
+mod held_time;
+mod held_times;
+pub mod laws;
+mod numbers;
+
+pub use arrival::{Arrival, HandedOn};
+pub use beginning::{BEGINNING, Beginning, Begun};
+pub use channel_order::ChannelOrder;
+pub use held_time::HeldTime;
+pub use held_times::HeldTimes;

@@ -1,0 +1,62 @@
+//! Each allocation is refused once: what was handed in is given back, and all is as it was.
+use capture_rules::{Arrival, Beginning, ChannelOrder, HandedOn, HeldTime, HeldTimes};
+use std::alloc::AllocError;
+use std::test::Fail;
+
+/// A burst that comes at time 0 on channel 0.
+fn arrival(number: u16) -> Arrival<u16> {
+    Arrival {
+        time: 0,
+        channel: 0,
+        number: number % 8192,
+        item: number,
+    }
+}
+
+#[test]
+fn a_burst_waits_the_next_time(rt: HostRuntime) -> Result<(), Fail> {
+    let mut order = ChannelOrder::new(rt.alloc(), 0);
+    for number in 0..20 {
+        if let Err(back) = order.push(arrival(number)) {
+            assert!(rt; order.len() == usize::from(number) && back.value.item == number);
+            order.push(back.value)?;
+        }
+        assert!(rt; order.len() == usize::from(number) + 1);
+    }
+    assert!(rt; order.next_left().is_some_and(|next| next.arrival.item == 0));
+    Ok(())
+}
+
+#[test]
+fn a_burst_is_kept_the_next_time(rt: HostRuntime) -> Result<(), Fail> {
+    let mut flow = Beginning::new(rt.alloc(), 0, false);
+    for number in 0..20 {
+        let one = HandedOn {
+            time: 0,
+            arrival: arrival(number),
+        };
+        if let Err(back) = flow.hand_on(one, 0, 1) {
+            assert!(rt; back.value.arrival.item == number);
+            assert!(rt; flow.hand_on(back.value, 0, 1)?.is_none());
+        }
+    }
+    assert!(rt;
+        flow.end(rt.alloc())
+            .is_some_and(|begun| begun.kept.len() == 20)
+    );
+    Ok(())
+}
+
+#[test]
+fn a_number_is_kept_the_next_time(rt: HostRuntime) -> Result<(), Fail> {
+    let mut held = HeldTimes::new(rt.alloc(), 0);
+    for number in 1..20 {
+        let one = HeldTime { number, time: 0 };
+        if held.keep(one) == Err(AllocError) {
+            assert!(rt; held.skip_to(1, 0) == number.checked_sub(1).filter(|last| *last > 0));
+            held.keep(one)?;
+        }
+        assert!(rt; held.skip_to(1, 0) == Some(number));
+    }
+    Ok(())
+}
