@@ -61,11 +61,71 @@ fn decode(word: &[u8]) -> Result<Vec<u8>, Fault> {
     Ok(bytes)
 }
 
-fn encode(bytes: &[u8], to: &mut Vec<u8>) {
-    let begin = to.len();
-    to.resize(begin + 2 * bytes.len(), 0);
-    for (pair, byte) in to[begin..].chunks_exact_mut(2).zip(bytes) {
-        pair.copy_from_slice(&PAIRS[*byte as usize]);
+/// Text that is written a piece at a time.
+struct Text {
+    piece: Vec<u8>,
+    out: io::StdoutLock<'static>,
+}
+
+impl Text {
+    fn new() -> Text {
+        let out = io::stdout().lock();
+        Text { piece: Vec::with_capacity(PIECE), out }
+    }
+
+    /// Puts bytes in hexadecimal and ends the line.
+    fn put_hex(&mut self, bytes: &[u8]) -> io::Result<()> {
+        self.put_digits(bytes)?;
+        self.write_all(b"\n")
+    }
+
+    fn put_digits(&mut self, bytes: &[u8]) -> io::Result<()> {
+        for part in bytes.chunks(PIECE / 2) {
+            if self.piece.len() + 2 * part.len() > PIECE {
+                self.flush()?;
+            }
+            let begin = self.piece.len();
+            self.piece.resize(begin + 2 * part.len(), 0);
+            for (pair, byte) in self.piece[begin..].chunks_exact_mut(2).zip(part) {
+                pair.copy_from_slice(&PAIRS[*byte as usize]);
+            }
+        }
+        Ok(())
+    }
+}
+
+impl Write for Text {
+    fn write(&mut self, bytes: &[u8]) -> io::Result<usize> {
+        if self.piece.len() + bytes.len() > PIECE {
+            self.flush()?;
+        }
+        self.piece.extend_from_slice(bytes);
+        Ok(bytes.len())
+    }
+
+    fn flush(&mut self) -> io::Result<()> {
+        self.out.write_all(&self.piece)?;
+        self.piece.clear();
+        Ok(())
+    }
+}
+
+/// Frames end to end, and where each ends.
+#[derive(Default)]
+struct Frames {
+    bytes: Vec<u8>,
+    ends: Vec<usize>,
+}
+
+impl Frames {
+    fn push(&mut self, frame: &[u8]) {
+        self.bytes.extend_from_slice(frame);
+        self.ends.push(self.bytes.len());
+    }
+
+    fn iter(&self) -> impl Iterator<Item = &[u8]> {
+        let begins = std::iter::once(0).chain(self.ends.iter().copied());
+        begins.zip(&self.ends).map(|(begin, end)| &self.bytes[begin..*end])
     }
 }
 
@@ -78,11 +138,7 @@ fn is_space(byte: &u8) -> bool {
 /// How many bytes a word at the front has.
 fn word_length(bytes: &[u8]) -> usize {
     let may_end = |part: &[u8]| part.iter().fold(false, |seen, byte| seen | (*byte <= b' '));
-    let whole = 32
-        * bytes
-            .chunks_exact(32)
-            .take_while(|part| !may_end(part))
-            .count();
+    let whole = 32 * bytes.chunks_exact(32).take_while(|part| !may_end(part)).count();
     let rest = &bytes[whole..];
     whole + rest.iter().position(is_space).unwrap_or(rest.len())
 }
@@ -121,9 +177,7 @@ fn number(word: Option<&[u8]>, most: u64) -> Result<u64, Fault> {
         if !byte.is_ascii_digit() {
             return Err("bad number".into());
         }
-        value = value
-            .saturating_mul(10)
-            .saturating_add(u64::from(byte - b'0'));
+        value = value.saturating_mul(10).saturating_add(u64::from(byte - b'0'));
     }
     if value > most {
         return Err("bad number".into());
@@ -159,13 +213,7 @@ impl Segment {
         if first.is_some() && pointer >= bytes.len() - 8 {
             return None;
         }
-        Some(Segment {
-            first,
-            number: place >> 3,
-            cluster: (place & 7) as u8,
-            units,
-            bytes,
-        })
+        Some(Segment { first, number: place >> 3, cluster: (place & 7) as u8, units, bytes })
     }
 }
 
@@ -252,18 +300,19 @@ impl Joiner {
 // `join` and `cut`.
 
 fn join() -> Result<(), Fault> {
-    let (mut joiner, mut out) = (Joiner::default(), Vec::new());
+    let (mut joiner, mut frames) = (Joiner::default(), Frames::default());
     each_line(|word, words| {
         let bytes = decode(word)?;
         ends(words)?;
         let segment = Segment::read(bytes).ok_or("no segment")?;
-        joiner.feed(&segment, &mut |frame| {
-            encode(frame, &mut out);
-            out.push(b'\n');
-        });
+        joiner.feed(&segment, &mut |frame| frames.push(frame));
         Ok(())
     })?;
-    Ok(io::stdout().write_all(&out)?)
+    let mut out = Text::new();
+    for frame in frames.iter() {
+        out.put_hex(frame)?;
+    }
+    Ok(out.flush()?)
 }
 
 fn cut() -> Result<(), Fault> {
@@ -286,13 +335,10 @@ fn cut() -> Result<(), Fault> {
         }
         ends(words)
     })?;
-    let (mut out, mut begun, mut next) = (Vec::new(), 0, 0);
+    let (mut out, mut begun, mut next) = (Text::new(), 0, 0);
     for (index, (data, fill)) in pieces.into_iter().enumerate() {
         let end = stream.len().min(begun + data);
-        let first = starts
-            .get(next)
-            .filter(|start| **start < end)
-            .map(|start| start - begun);
+        let first = starts.get(next).filter(|start| **start < end).map(|start| start - begun);
         while starts.get(next).is_some_and(|start| *start < end) {
             next += 1;
         }
@@ -303,17 +349,17 @@ fn cut() -> Result<(), Fault> {
         let pointer = first.map_or(0, |first| 0x8000 | first as u16);
         let place = ((index % 8192) as u16) << 3;
         let [[a, b], [c, d]] = [pointer.to_be_bytes(), place.to_be_bytes()];
-        encode(&[a, b, c, d, 0, 0, 0, 0], &mut out);
-        encode(&stream[begun..end], &mut out);
-        out.resize(out.len() + 2 * fill, b'0');
-        out.push(b'\n');
+        out.put_digits(&[a, b, c, d, 0, 0, 0, 0])?;
+        out.put_digits(&stream[begun..end])?;
+        out.put_hex(&vec![0; fill])?;
         begun = end;
     }
-    Ok(io::stdout().write_all(&out)?)
+    Ok(out.flush()?)
 }
 
 // Traces.
 
+#[derive(Default)]
 struct Flow {
     sfid: u64,
     clusters: u64,
@@ -328,9 +374,7 @@ struct Flow {
     repeat: u64,
     beyond: u64,
     lost: u64,
-    /// The frames end to end, and where each ends.
-    frames: Vec<u8>,
-    frame_ends: Vec<usize>,
+    frames: Frames,
 }
 
 impl Flow {
@@ -369,11 +413,8 @@ impl Flow {
 
     fn drain(&mut self) {
         while let Some(segment) = self.window[self.place].take() {
-            let (frames, frame_ends) = (&mut self.frames, &mut self.frame_ends);
-            self.joiner.feed(&segment, &mut |frame| {
-                frames.extend_from_slice(frame);
-                frame_ends.push(frames.len());
-            });
+            let frames = &mut self.frames;
+            self.joiner.feed(&segment, &mut |frame| frames.push(frame));
             self.held -= 1;
             self.step();
         }
@@ -406,16 +447,8 @@ impl Flow {
 }
 
 enum Input {
-    Grant {
-        number: u32,
-        sid: u16,
-        bytes: u64,
-    },
-    Burst {
-        number: u32,
-        is_right: bool,
-        bytes: Vec<u8>,
-    },
+    Grant { number: u32, sid: u16, bytes: u64 },
+    Burst { number: u32, is_right: bool, bytes: Vec<u8> },
 }
 
 /// What an admitted burst brings.
@@ -471,11 +504,7 @@ impl Lane {
                 self.grants.insert(number, (flow, clusters, bytes));
                 Ok(None)
             }
-            Input::Burst {
-                number,
-                is_right,
-                bytes,
-            } => {
+            Input::Burst { number, is_right, bytes } => {
                 let (flow, clusters, granted) = self.grants.remove(&number).ok_or(6)?;
                 if bytes.len() as u64 > granted {
                     return Err(7);
@@ -489,12 +518,7 @@ impl Lane {
                 let segment = Segment::read(bytes).ok_or(10)?;
                 let (cluster, units, number) = (segment.cluster, segment.units, segment.number);
                 if units > 0 && u64::from(cluster) < clusters {
-                    self.requests.push(Request {
-                        flow,
-                        cluster,
-                        units,
-                        number,
-                    });
+                    self.requests.push(Request { flow, cluster, units, number });
                 }
                 Ok(Some(Admitted { flow, segment }))
             }
@@ -511,10 +535,7 @@ enum TraceItem {
 fn item(kind: &[u8], words: &mut Words) -> Result<TraceItem, Fault> {
     if kind == b"gap" {
         let flow = number(words.next(), 63)? as usize;
-        let to = words
-            .next()
-            .map(|word| number(Some(word), 8191))
-            .transpose()?;
+        let to = words.next().map(|word| number(Some(word), 8191)).transpose()?;
         return Ok(TraceItem::Gap(flow, to.map(|to| to as u16)));
     }
     let channel = number(words.next(), 3)? as usize;
@@ -555,25 +576,8 @@ impl Setup {
         if self.flows.len() == 64 || self.sfids.insert(sfid, self.flows.len()).is_some() {
             return Err("flow given before".into());
         }
-        let (window, joiner) = ((0..width).map(|_| None).collect(), Joiner::default());
-        let (frames, frame_ends) = (Vec::new(), Vec::new());
-        let (kept, late, repeat, beyond, lost) = (0, 0, 0, 0, 0);
-        self.flows.push(Flow {
-            sfid,
-            clusters,
-            expected,
-            window,
-            place: 0,
-            held: 0,
-            joiner,
-            kept,
-            late,
-            repeat,
-            beyond,
-            lost,
-            frames,
-            frame_ends,
-        });
+        let window = (0..width).map(|_| None).collect();
+        self.flows.push(Flow { sfid, clusters, expected, window, ..Flow::default() });
         Ok(())
     }
 
@@ -582,10 +586,7 @@ impl Setup {
         let sid = number(words.next(), 16383)? as u16;
         let index = number(words.next(), 63)? as usize;
         let flow = self.flows.get(index).ok_or("unknown flow")?;
-        if self.sids[channel]
-            .insert(sid, (index, flow.clusters))
-            .is_some()
-        {
+        if self.sids[channel].insert(sid, (index, flow.clusters)).is_some() {
             return Err("sid given before".into());
         }
         Ok(())
@@ -634,39 +635,20 @@ fn each_item<S>(
 }
 
 fn report(flows: &[Flow], lanes: &[Lane]) -> Result<(), Fault> {
-    let mut out = Vec::new();
+    let mut out = Text::new();
     for (index, flow) in flows.iter().enumerate() {
-        let Flow {
-            sfid,
-            kept,
-            late,
-            repeat,
-            beyond,
-            lost,
-            ..
-        } = flow;
-        let (frames, skipped) = (flow.frame_ends.len(), flow.joiner.skipped);
-        write!(
-            out,
-            "flow {index} {sfid} kept {kept} late {late} repeat {repeat} beyond {beyond} "
-        )?;
-        writeln!(out, "lost {lost} frames {frames} skipped {skipped}")?;
-        let mut begin = 0;
-        for end in &flow.frame_ends {
+        let Flow { sfid, kept, late, repeat, beyond, lost, .. } = flow;
+        let (frames, skipped) = (flow.frames.ends.len(), flow.joiner.skipped);
+        write!(out, "flow {index} {sfid} kept {kept} late {late} repeat {repeat} ")?;
+        writeln!(out, "beyond {beyond} lost {lost} frames {frames} skipped {skipped}")?;
+        for frame in flow.frames.iter() {
             write!(out, "frame {index} ")?;
-            encode(&flow.frames[begin..*end], &mut out);
-            out.push(b'\n');
-            begin = *end;
+            out.put_hex(frame)?;
         }
     }
     for (channel, lane) in lanes.iter().enumerate() {
         for request in &lane.requests {
-            let Request {
-                flow,
-                cluster,
-                units,
-                number,
-            } = request;
+            let Request { flow, cluster, units, number } = request;
             writeln!(out, "request {channel} {flow} {cluster} {units} {number}")?;
         }
     }
@@ -675,13 +657,9 @@ fn report(flows: &[Flow], lanes: &[Lane]) -> Result<(), Fault> {
         for refusal in &lane.refused {
             write!(out, " {refusal}")?;
         }
-        out.extend_from_slice(if lane.refused.is_empty() {
-            b" -\n"
-        } else {
-            b"\n"
-        });
+        writeln!(out, "{}", if lane.refused.is_empty() { " -" } else { "" })?;
     }
-    Ok(io::stdout().write_all(&out)?)
+    Ok(out.flush()?)
 }
 
 fn decide(flows: &mut [Flow], flow: usize, to: Option<u16>) {
@@ -752,15 +730,8 @@ fn start(setup: Setup) -> Running {
         thread::spawn(move || serve_lane(lane, from, gaps))
     });
     let flows = thread::spawn(move || serve_flows(flows, comings));
-    let Ok(inputs) = inputs.try_into() else {
-        unreachable!()
-    };
-    Running {
-        inputs,
-        gaps,
-        lanes,
-        flows,
-    }
+    let Ok(inputs) = inputs.try_into() else { unreachable!() };
+    Running { inputs, gaps, lanes, flows }
 }
 
 fn run() -> Result<(), Fault> {
