@@ -1,11 +1,13 @@
 //! What the program's arguments ask for.
-ghost use Rattle.std.specs.Prelude.{◌≡◌, ◌<◌, ◌≤◌, ◌↔◌, map, codes, IsTrue, IfOk, MatchOption};
+ghost use Rattle.std.specs.Prelude.{◌≡◌, ◌<◌, ◌≤◌, ◌↔◌, ℕ, Bool, Some, List, map, codes, IsTrue};
+ghost use Rattle.std.specs.Prelude.{IfOk, MatchOption};
 ghost use Rattle.loss_rule.specs.declared.rule.LossRule.{LossRule};
 ghost use Rattle.text_lines.specs.Capacities.{default_capacity};
 ghost use Rattle.command_line.specs.declared.command.UsageFault.TheVariants.{OutOfMemory};
 ghost use Rattle.command_line.specs.Command.{IsCommandAlone, IsCommand, options_in, AsksToJoin};
 ghost use Rattle.command_line.specs.Command.{AsksToReplayBy, AsksToRunBy, AsksToRunByAlone};
-ghost use Rattle.command_line.specs.Command.{AsksToFollow, HasWord, AskForEvents, Asks};
+ghost use Rattle.command_line.specs.Command.{AsksToFollow, AreWithEvents, AsksToFollowAlone};
+ghost use Rattle.command_line.specs.Command.{HasWord, AskForEvents, channels_max, Asks};
 ghost use Rattle.command_line.specs.Command.{IsHelpWord, HasNoHelpWord, StandsBeforeHelp};
 ghost use Rattle.command_line.specs.Inside.Command.{AsksWithOptions};
 ghost use Rattle.command_line.specs.Inside.Options.{ReadsOptions, ReadsCount, ReadsCapacities, ReadsChannels};
@@ -184,6 +186,32 @@ fn asked_follow<S: AsStr>(words: &[S]) -> Option<LossRule>
     asked_rule(options_of(words, "follow")?)
 }
 
+/// The options beside `--events`, if that stands before or behind all others.
+fn beside_events<S: AsStr>(options: &[S]) -> Option<&[S]>
+    ensures { MatchOption result
+        ((rest : List (List ℕ)) → ¬ AreWithEvents (map S.text options.now) rest)
+        (λ rest. AreWithEvents (map S.text options.now) (map S.text rest.now)) }
+{
+    match options {
+        [first, rest @ ..] if first.as_str() == "--events" => Some(rest),
+        [rest @ .., last] if last.as_str() == "--events" => Some(rest),
+        _ => None,
+    }
+}
+
+/// The rule by which the words, the program's name first, ask to follow and whether with events,
+/// where they ask for nothing else.
+fn asked_follow_alone<S: AsStr>(words: &[S]) -> Option<(LossRule, bool)>
+    ensures { (rule : LossRule) (events : Bool)
+        → (result ≡ Some (rule, events)) ↔ AsksToFollowAlone rule events (map S.text words.now) }
+{
+    let options = options_of(words, "follow")?;
+    match beside_events(options) {
+        Some(rest) => Some((asked_rule_alone(rest)?, true)),
+        None => Some((asked_rule_alone(options)?, false)),
+    }
+}
+
 /// Whether a word asks for help.
 fn asks_for_help(word: &str) -> bool
     ensures { IsTrue result ↔ IsHelpWord word.now }
@@ -349,6 +377,9 @@ pub fn read_words<'a, S: AsStr>(alloc: Global, words: &'a [S]) -> Result<Command
         → AsksToReplayBy rule (map S.text words.now) → result ≡ Ok (Command.Replay rule) }
     ensures run { (rule : LossRule) → AsksToRunByAlone rule (map S.text words.now)
         → result ≡ Ok (Command.Run rule default_capacity default_capacity) }
+    ensures follow { (rule : LossRule) (events : Bool)
+        → AsksToFollowAlone rule events (map S.text words.now)
+        → result ≡ Ok (Command.Follow rule channels_max events) }
 {
     if asks_to_join(words) {
         return Ok(Command::Join);
@@ -361,6 +392,13 @@ pub fn read_words<'a, S: AsStr>(alloc: Global, words: &'a [S]) -> Result<Command
             rule,
             mailbox: DEFAULT_CAPACITY,
             ring: DEFAULT_CAPACITY,
+        });
+    }
+    if let Some((rule, events)) = asked_follow_alone(words) {
+        return Ok(Command::Follow {
+            rule,
+            channels: CHANNELS_MAX as u8,
+            events,
         });
     }
     let Some(before) = before_help(words) else {
