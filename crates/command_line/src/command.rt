@@ -5,8 +5,9 @@ ghost use Rattle.loss_rule.specs.declared.rule.LossRule.{LossRule};
 ghost use Rattle.text_lines.specs.Capacities.{default_capacity};
 ghost use Rattle.command_line.specs.declared.command.UsageFault.TheVariants.{OutOfMemory};
 ghost use Rattle.command_line.specs.Command.{IsCommandAlone, IsCommand, options_in, AsksToJoin};
-ghost use Rattle.command_line.specs.Command.{AsksToReplayBy, AsksToRunBy, AsksToRunByAlone};
-ghost use Rattle.command_line.specs.Command.{AsksToFollow, AreWithEvents, AsksToFollowAlone};
+ghost use Rattle.command_line.specs.Command.{AsksToReplayBy, AsksToRunByAlone};
+ghost use Rattle.command_line.specs.Losses.{AskForRule};
+ghost use Rattle.command_line.specs.Command.{AreWithEvents, AsksToFollowAlone};
 ghost use Rattle.command_line.specs.Command.{HasWord, AskForEvents, channels_max, Asks};
 ghost use Rattle.command_line.specs.Command.{IsHelpWord, HasNoHelpWord, StandsBeforeHelp};
 ghost use Rattle.command_line.specs.Inside.Command.{AsksWithOptions};
@@ -170,20 +171,13 @@ fn asked_run_alone<S: AsStr>(words: &[S]) -> Option<LossRule>
     asked_rule_alone(options_of(words, "run")?)
 }
 
-/// The rule by which the words, the program's name first, ask to run.
-fn asked_run<S: AsStr>(words: &[S]) -> Option<LossRule>
-    ensures { (rule : LossRule)
-        → (result ≡ Some rule) ↔ AsksToRunBy rule (map S.text words.now) }
+/// The rule by which the words, the program's name first, ask for this command.
+fn asked_rule_of<S: AsStr>(words: &[S], command: &str) -> Option<LossRule>
+    ensures { (rule : LossRule) → (result ≡ Some rule)
+        ↔ (IsCommand command.now (map S.text words.now)
+        × AskForRule rule (options_in (map S.text words.now))) }
 {
-    asked_rule(options_of(words, "run")?)
-}
-
-/// The rule by which the words, the program's name first, ask to follow.
-fn asked_follow<S: AsStr>(words: &[S]) -> Option<LossRule>
-    ensures { (rule : LossRule)
-        → (result ≡ Some rule) ↔ AsksToFollow rule (map S.text words.now) }
-{
-    asked_rule(options_of(words, "follow")?)
+    asked_rule(options_of(words, command)?)
 }
 
 /// The options beside `--events`, if that stands before or behind all others.
@@ -318,8 +312,8 @@ fn read_with_options<'a, S: AsStr>(alloc: Global, words: &'a [S]) -> Result<Comm
     ensures { IfOk result (AsksWithOptions (map S.text words.now)) }
 {
     let cuts = is_command(words, "cut");
-    let run_rule = asked_run(words);
-    let follow_rule = asked_follow(words);
+    let run_rule = asked_rule_of(words, "run");
+    let follow_rule = asked_rule_of(words, "follow");
     let asked = cuts || run_rule.is_some() || follow_rule.is_some();
     if !asked || has_word(words, "--") {
         return Err(UsageFault::Usage);
