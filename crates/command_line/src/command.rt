@@ -6,7 +6,7 @@ ghost use Rattle.text_lines.specs.Capacities.{default_capacity};
 ghost use Rattle.command_line.specs.declared.command.UsageFault.TheVariants.{OutOfMemory};
 ghost use Rattle.command_line.specs.Command.{IsCommandAlone, IsCommand, options_in, AsksToJoin};
 ghost use Rattle.command_line.specs.Command.{AsksToReplayBy, AsksToRunByAlone};
-ghost use Rattle.command_line.specs.Losses.{AskForRule};
+ghost use Rattle.command_line.specs.Losses.{AskForRule, AskForRuleAlone};
 ghost use Rattle.command_line.specs.Command.{AreWithEvents, AsksToFollowAlone};
 ghost use Rattle.command_line.specs.Command.{HasWord, AskForEvents, channels_max, Asks};
 ghost use Rattle.command_line.specs.Command.{IsHelpWord, HasNoHelpWord, StandsBeforeHelp};
@@ -155,20 +155,13 @@ fn is_command<S: AsStr>(words: &[S], command: &str) -> bool
     options_of(words, command).is_some()
 }
 
-/// The rule by which the words, the program's name first, ask to replay and for nothing else.
-fn asked_replay<S: AsStr>(words: &[S]) -> Option<LossRule>
-    ensures { (rule : LossRule)
-        → (result ≡ Some rule) ↔ AsksToReplayBy rule (map S.text words.now) }
+/// The rule by which the words, the program's name first, ask for this command and for nothing else.
+fn asked_rule_alone_of<S: AsStr>(words: &[S], command: &str) -> Option<LossRule>
+    ensures { (rule : LossRule) → (result ≡ Some rule)
+        ↔ (IsCommand command.now (map S.text words.now)
+        × AskForRuleAlone rule (options_in (map S.text words.now))) }
 {
-    asked_rule_alone(options_of(words, "replay")?)
-}
-
-/// The rule by which the words, the program's name first, ask to run and for nothing else.
-fn asked_run_alone<S: AsStr>(words: &[S]) -> Option<LossRule>
-    ensures { (rule : LossRule)
-        → (result ≡ Some rule) ↔ AsksToRunByAlone rule (map S.text words.now) }
-{
-    asked_rule_alone(options_of(words, "run")?)
+    asked_rule_alone(options_of(words, command)?)
 }
 
 /// The rule by which the words, the program's name first, ask for this command.
@@ -378,10 +371,10 @@ pub fn read_words<'a, S: AsStr>(alloc: Global, words: &'a [S]) -> Result<Command
     if asks_to_join(words) {
         return Ok(Command::Join);
     }
-    if let Some(rule) = asked_replay(words) {
+    if let Some(rule) = asked_rule_alone_of(words, "replay") {
         return Ok(Command::Replay { rule });
     }
-    if let Some(rule) = asked_run_alone(words) {
+    if let Some(rule) = asked_rule_alone_of(words, "run") {
         return Ok(Command::Run {
             rule,
             mailbox: DEFAULT_CAPACITY,
@@ -398,7 +391,7 @@ pub fn read_words<'a, S: AsStr>(alloc: Global, words: &'a [S]) -> Result<Command
     let Some(before) = before_help(words) else {
         return read_with_options(alloc, words);
     };
-    if !asks_to_join(before) && asked_replay(before).is_none() {
+    if !asks_to_join(before) && asked_rule_alone_of(before, "replay").is_none() {
         read_with_options(alloc, before)?;
     }
     Ok(Command::Help(help_text(alloc, words)?))
