@@ -1,5 +1,5 @@
 -- Which loss rule options ask for: one at most.
-use Rattle.std.proofs.Common.{◌≡◌, ◌≢◌, inl, inr, ℕ, ◌-◌, ◌<◌, ◌≤◌, Option, Some, None, List, [], ◌∷◌, ◌++◌, length, get_or, take, drop, refl, ap, sym, subst, ◌∙◌, arith}
+use Rattle.std.proofs.Common.{◌≡◌, ◌≢◌, inl, inr, ℕ, ◌-◌, ◌<◌, ◌≤◌, All, Option, Some, None, List, [], ◌∷◌, ◌++◌, length, get_or, take, drop, refl, ap, sym, subst, ◌∙◌, arith}
 use Rattle.std.specs.Prelude.{map, ◌↔◌}
 use Rattle.std.proofs.lemmas.Option.{same_Some}
 use Rattle.std.proofs.lemmas.List.{take_all}
@@ -133,7 +133,7 @@ name_without_dash Decided e = omega (arith, e)
 name_without_dash Passed e = omega (arith, e)
 name_without_dash PassedOrSlid e = omega (arith, e)
 
-no_losses_word : (rule : LossRule) (word : List ℕ) → word ≡ rule_name rule → ¬ IsLossesWord word
+pub no_losses_word : (rule : LossRule) (word : List ℕ) → word ≡ rule_name rule → ¬ IsLossesWord word
 no_losses_word rule word is (inl bare) = name_without_dash rule (ap (λ text. get_or text 0 0) (sym is ∙ bare))
 no_losses_word rule word is (inr with) = name_without_dash rule (ap (λ text. get_or text 0 0) (sym is ∙ with.1))
 
@@ -148,6 +148,15 @@ AskForRule-alone rule (option ∷ value ∷ []) alone =
       All-cons (λ w. ¬ IsLossesWord w) value [] (no_losses_word rule value alone.1) (All-nil (λ w. ¬ IsLossesWord w)),
     )
 AskForRule-alone rule (option ∷ value ∷ another ∷ more) alone = absurd alone
+
+-- each word of options that ask for a rule and for nothing else is the option, with its value or without, or the name of a rule
+pub each_alone : (P : List ℕ → Type 0) → ((rest : List ℕ) → P (losses_option ++ rest)) → ((rule : LossRule) → P (rule_name rule))
+    → (rule : LossRule) (options : List (List ℕ)) → AskForRuleAlone rule options → All P options
+each_alone P of_option of_name rule [] alone = All-nil P
+each_alone P of_option of_name rule (option ∷ []) alone = All-cons P option [] (subst P (sym alone) (of_option (61 ∷ rule_name rule))) (All-nil P)
+each_alone P of_option of_name rule (option ∷ value ∷ []) alone =
+    All-cons P option (value ∷ []) (subst P (sym alone.0) (of_option [])) (All-cons P value [] (subst P (sym alone.1) (of_name rule)) (All-nil P))
+each_alone P of_option of_name rule (option ∷ value ∷ another ∷ more) alone = absurd alone
 
 -- two options ask for nothing but the rule that the second names, where the first is the option
 pub AskForRuleAlone-two : {X : Type 0} (text : X → List ℕ) (options : List X) (option value : X) (result : Option LossRule) → 2 ≤ length options

@@ -1,28 +1,28 @@
--- Words that ask for a loss rule and for nothing else ask for no help.
-use Rattle.std.proofs.Common.{◌≡◌, ℕ, zero, suc, length, Some, List, [], ◌∷◌, ◌++◌, get_or, inl, inr, sym, ap, ◌∙◌, subst, arith}
+-- Words that ask for a loss rule and for events at most ask for no help.
+use Rattle.std.proofs.Common.{◌≡◌, ℕ, zero, suc, length, Some, All, Bool, true, false, List, [], ◌∷◌, ◌++◌, get_or, inl, inr, sym, ap, ◌∙◌, subst, arith}
 use Rattle.std.proofs.lemmas.Option.{same_Some}
+use Rattle.std.proofs.lemmas.List.Elements.{All-nil, All-cons, All-head, All-tail, All-push}
 use Rattle.std.specs.Prelude.{codes, slice_get}
 use Rattle.loss_rule.specs.declared.rule.LossRule.{LossRule}
 use Rattle.command_line.specs.Losses.{rule_name, losses_option, AskForRuleAlone}
-use Rattle.command_line.specs.Command.{IsCommand, options_in, AsksToReplayBy, AsksToRunByAlone, IsHelpWord, HasNoHelpWord}
-use Rattle.command_line.proofs.AskedRules.{name_without_dash}
+use Rattle.command_line.specs.Command.{IsCommand, options_in, events_option, AskToFollowAlone, AsksToReplayBy, AsksToRunByAlone, AsksToFollowAlone, IsHelpWord, HasNoHelpWord}
+use Rattle.command_line.proofs.AskedRules.{name_without_dash, each_alone}
 
 -- none of these words asks for help
 abbrev NoneHelps : List (List ℕ) → Type 0
-NoneHelps words = (k : ℕ) (word : List ℕ) → slice_get words k ≡ Some word → ¬ IsHelpWord word
+NoneHelps = All (λ word. ¬ IsHelpWord word)
 
-NoneHelps-nil : NoneHelps []
-NoneHelps-nil k word at = absurd cc
-
-NoneHelps-cons : (first : List ℕ) (words : List (List ℕ)) → ¬ IsHelpWord first → NoneHelps words → NoneHelps (first ∷ words)
-NoneHelps-cons first words other none zero word at = let is : first ≡ word = same_Some first word at in subst (λ w. ¬ IsHelpWord w) is other
-NoneHelps-cons first words other none (suc k) word at = none k word at
+none_at : (words : List (List ℕ)) (k : ℕ) (word : List ℕ) → NoneHelps words → slice_get words k ≡ Some word → ¬ IsHelpWord word
+none_at [] k word none at = absurd cc
+none_at (first ∷ words) zero word none at =
+    subst (λ (w : List ℕ). ¬ IsHelpWord w) (same_Some first word at) (All-head (λ w. ¬ IsHelpWord w) first words none)
+none_at (first ∷ words) (suc k) word none at = none_at words k word (All-tail (λ w. ¬ IsHelpWord w) first words none) at
 
 behind_name : (name : List ℕ) (words : List (List ℕ)) → NoneHelps words → HasNoHelpWord (name ∷ words)
 behind_name name words none zero word behind at = absurd (omega arith)
-behind_name name words none (suc k) word behind at = none k word at
+behind_name name words none (suc k) word behind at = none_at words k word none at
 
--- the words of the commands, of the option and of its value ask for none
+-- the words of the commands, of the options and of the rules ask for none
 no_help_in_replay : ¬ IsHelpWord (codes "replay")
 no_help_in_replay (inl short) = let e : 6 ≡ 2 = ap length short in omega (arith, e)
 no_help_in_replay (inr long) = let e : 114 ≡ 45 = ap (λ text. get_or text 0 0) long in omega (arith, e)
@@ -31,36 +31,50 @@ no_help_in_run : ¬ IsHelpWord (codes "run")
 no_help_in_run (inl short) = let e : 3 ≡ 2 = ap length short in omega (arith, e)
 no_help_in_run (inr long) = let e : 114 ≡ 45 = ap (λ text. get_or text 0 0) long in omega (arith, e)
 
-no_help_in_option : (word rest : List ℕ) → word ≡ losses_option ++ rest → ¬ IsHelpWord word
-no_help_in_option word rest is (inl short) = let e = ap length (sym is ∙ short) in omega (arith, e)
-no_help_in_option word rest is (inr long) = let e : 108 ≡ 104 = ap (λ text. get_or text 2 0) (sym is ∙ long) in omega (arith, e)
+no_help_in_follow : ¬ IsHelpWord (codes "follow")
+no_help_in_follow (inl short) = let e : 6 ≡ 2 = ap length short in omega (arith, e)
+no_help_in_follow (inr long) = let e : 102 ≡ 45 = ap (λ text. get_or text 0 0) long in omega (arith, e)
 
-no_help_in_rule : (rule : LossRule) (word : List ℕ) → word ≡ rule_name rule → ¬ IsHelpWord word
-no_help_in_rule rule word is (inl short) = name_without_dash rule (ap (λ text. get_or text 0 0) (sym is ∙ short))
-no_help_in_rule rule word is (inr long) = name_without_dash rule (ap (λ text. get_or text 0 0) (sym is ∙ long))
+no_help_in_events : ¬ IsHelpWord events_option
+no_help_in_events (inl short) = let e : 8 ≡ 2 = ap length short in omega (arith, e)
+no_help_in_events (inr long) = let e : 101 ≡ 104 = ap (λ text. get_or text 2 0) long in omega (arith, e)
 
--- so a command that is asked for by a rule alone has no word that asks for help
-commands_without_help : (command : List ℕ) → ¬ IsHelpWord command → (rule : LossRule) (words : List (List ℕ)) → IsCommand command words
-    → AskForRuleAlone rule (options_in words) → HasNoHelpWord words
-commands_without_help command other rule [] is alone = absurd is
-commands_without_help command other rule (name ∷ []) is alone = absurd is
-commands_without_help command other rule (name ∷ word ∷ []) is alone =
-    let none : ¬ IsHelpWord word = subst (λ w. ¬ IsHelpWord w) (sym is) other in
-    behind_name name (word ∷ []) (NoneHelps-cons word [] none NoneHelps-nil)
-commands_without_help command other rule (name ∷ word ∷ option ∷ []) is alone =
-    let none : ¬ IsHelpWord word = subst (λ w. ¬ IsHelpWord w) (sym is) other in
-    behind_name name (word ∷ option ∷ [])
-    (NoneHelps-cons word (option ∷ []) none (NoneHelps-cons option [] (no_help_in_option option (61 ∷ rule_name rule) alone) NoneHelps-nil))
-commands_without_help command other rule (name ∷ word ∷ option ∷ value ∷ []) is alone =
-    let none : ¬ IsHelpWord word = subst (λ w. ¬ IsHelpWord w) (sym is) other in
-    behind_name name (word ∷ option ∷ value ∷ [])
-    (NoneHelps-cons word (option ∷ value ∷ []) none
-    (NoneHelps-cons option (value ∷ []) (no_help_in_option option [] alone.0)
-    (NoneHelps-cons value [] (no_help_in_rule rule value alone.1) NoneHelps-nil)))
-commands_without_help command other rule (name ∷ word ∷ option ∷ value ∷ another ∷ more) is alone = absurd alone
+no_help_in_option : (rest : List ℕ) → ¬ IsHelpWord (losses_option ++ rest)
+no_help_in_option rest (inl short) = let e = ap length short in omega (arith, e)
+no_help_in_option rest (inr long) = let e : 108 ≡ 104 = ap (λ text. get_or text 2 0) long in omega (arith, e)
+
+no_help_in_rule : (rule : LossRule) → ¬ IsHelpWord (rule_name rule)
+no_help_in_rule rule (inl short) = name_without_dash rule (ap (λ text. get_or text 0 0) short)
+no_help_in_rule rule (inr long) = name_without_dash rule (ap (λ text. get_or text 0 0) long)
+
+no_help_alone : (rule : LossRule) (options : List (List ℕ)) → AskForRuleAlone rule options → NoneHelps options
+no_help_alone = each_alone (λ word. ¬ IsHelpWord word) no_help_in_option no_help_in_rule
+
+-- so a command has no word that asks for help where none of its options does
+commands_without_help : (command : List ℕ) → ¬ IsHelpWord command → (words : List (List ℕ)) → IsCommand command words → NoneHelps (options_in words)
+    → HasNoHelpWord words
+commands_without_help command other [] is none = absurd is
+commands_without_help command other (name ∷ []) is none = absurd is
+commands_without_help command other (name ∷ word ∷ options) is none =
+    behind_name name (word ∷ options) (All-cons (λ w. ¬ IsHelpWord w) word options (subst (λ (w : List ℕ). ¬ IsHelpWord w) (sym is) other) none)
 
 pub replays_without_help : (rule : LossRule) (words : List (List ℕ)) → AsksToReplayBy rule words → HasNoHelpWord words
-replays_without_help rule words replays = commands_without_help (codes "replay") no_help_in_replay rule words replays.0 replays.1
+replays_without_help rule words replays =
+    commands_without_help (codes "replay") no_help_in_replay words replays.0 (no_help_alone rule (options_in words) replays.1)
 
 pub runs_without_help : (rule : LossRule) (words : List (List ℕ)) → AsksToRunByAlone rule words → HasNoHelpWord words
-runs_without_help rule words runs = commands_without_help (codes "run") no_help_in_run rule words runs.0 runs.1
+runs_without_help rule words runs = commands_without_help (codes "run") no_help_in_run words runs.0 (no_help_alone rule (options_in words) runs.1)
+
+-- nor where one more is for events
+no_help_with_events : (rule : LossRule) (events : Bool) (options : List (List ℕ)) → AskToFollowAlone rule events options → NoneHelps options
+no_help_with_events rule false options alone = no_help_alone rule options alone
+no_help_with_events rule true options alone =
+    let none = no_help_alone rule alone.0 alone.2 in
+    elim alone.1 [
+      | inl before ↦ subst NoneHelps (sym before) (All-cons (λ w. ¬ IsHelpWord w) events_option alone.0 no_help_in_events none)
+      | inr behind ↦ subst NoneHelps (sym behind) (All-push (λ w. ¬ IsHelpWord w) alone.0 events_option none no_help_in_events)
+    ]
+
+pub follows_without_help : (rule : LossRule) (events : Bool) (words : List (List ℕ)) → AsksToFollowAlone rule events words → HasNoHelpWord words
+follows_without_help rule events words follows =
+    commands_without_help (codes "follow") no_help_in_follow words follows.0 (no_help_with_events rule events (options_in words) follows.1)

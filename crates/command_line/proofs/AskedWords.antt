@@ -134,3 +134,9 @@ pub AsksForAnEngine-replay : (words : List (List ℕ)) (result : Option LossRule
     → is_some result ≡ true → AsksForAnEngine words
 AsksForAnEngine-replay words None asked some = absurd cc
 AsksForAnEngine-replay words (Some rule) asked some = inr (inr (inl (rule, (asked rule).0 refl)))
+
+-- what some options are told to ask for, words are told to ask for that have them behind a command
+pub of_command : {A : Type 0} (command : List ℕ) (words options : List (List ℕ)) (Asks : List (List ℕ) → Type 0)
+    → IsCommand command words × (options_in words ≡ options) → A ↔ Asks options → A ↔ (IsCommand command words × Asks (options_in words))
+of_command command words options Asks found told =
+    (λ a. (found.0, subst Asks (sym found.1) (told.0 a)), λ asks. told.1 (subst Asks found.1 asks.1))

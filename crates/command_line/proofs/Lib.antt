@@ -1,4 +1,5 @@
 pub mod AskedWords
 pub mod AskedRules
 pub mod AskedWithoutHelp
+pub mod AskedEvents
 pub mod CommandsApart

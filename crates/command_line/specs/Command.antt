@@ -1,5 +1,5 @@
 -- Words that ask for what the program does, the program's name first.
-use Rattle.std.specs.Prelude.{◌≡◌, ◌<◌, ◌≤◌, ◌⊎◌, ◌↔◌, ℕ, Bool, IsTrue, List, [], ◌∷◌, ◌++◌, length, drop, codes, slice_get, Some}
+use Rattle.std.specs.Prelude.{◌≡◌, ◌<◌, ◌≤◌, ◌⊎◌, ◌↔◌, ℕ, Bool, true, false, IsTrue, List, [], ◌∷◌, ◌++◌, length, drop, codes, slice_get, Some}
 use Rattle.docsis_wire.specs.Limits.{sequence_modulus}
 use Rattle.loss_rule.specs.declared.rule.LossRule.{LossRule}
 use Rattle.command_line.specs.Losses.{HasNoLossesWord, AskForRule, AskForRuleAlone}
@@ -56,6 +56,22 @@ AsksToReplayBy rule words = IsCommand (codes "replay") words × AskForRuleAlone 
 abbrev pub AsksToFollow : LossRule → List (List ℕ) → Type 0
 AsksToFollow rule words = IsCommand (codes "follow") words × AskForRule rule (options_in words)
 
+-- the option for events
+abbrev pub events_option : List ℕ
+events_option = codes "--events"
+
+-- options are these and that option, which stands before or behind them
+abbrev pub AreWithEvents : List (List ℕ) → List (List ℕ) → Type 0
+AreWithEvents options rest = (options ≡ events_option ∷ rest) ⊎ (options ≡ rest ++ events_option ∷ [])
+
+-- so with no option besides the rule's and that for events, in any order
+abbrev pub AskToFollowAlone : LossRule → Bool → List (List ℕ) → Type 0
+AskToFollowAlone rule false options = AskForRuleAlone rule options
+AskToFollowAlone rule true options = (rest : List (List ℕ)) × AreWithEvents options rest × AskForRuleAlone rule rest
+
+abbrev pub AsksToFollowAlone : LossRule → Bool → List (List ℕ) → Type 0
+AsksToFollowAlone rule events words = IsCommand (codes "follow") words × AskToFollowAlone rule events (options_in words)
+
 -- one of the words is this one
 abbrev pub HasWord : List ℕ → List (List ℕ) → Type 0
 HasWord word [] = ⊥
@@ -63,7 +79,7 @@ HasWord word (first ∷ more) = (first ≡ word) ⊎ HasWord word more
 
 -- options ask for events just if one of them is `--events`
 abbrev pub AskForEvents : Bool → List (List ℕ) → Type 0
-AskForEvents events options = IsTrue events ↔ HasWord (codes "--events") options
+AskForEvents events options = IsTrue events ↔ HasWord events_option options
 
 -- the greatest number of channels of a trace that is followed
 abbrev pub channels_max : ℕ

@@ -1,11 +1,14 @@
 //! What the program's arguments ask for.
-ghost use Rattle.std.specs.Prelude.{◌≡◌, ◌<◌, ◌≤◌, ◌↔◌, map, codes, IsTrue, IfOk, MatchOption};
+ghost use Rattle.std.specs.Prelude.{◌≡◌, ◌<◌, ◌≤◌, ◌↔◌, ℕ, Bool, Some, List, map, codes, IsTrue};
+ghost use Rattle.std.specs.Prelude.{IfOk, MatchOption};
 ghost use Rattle.loss_rule.specs.declared.rule.LossRule.{LossRule};
 ghost use Rattle.text_lines.specs.Capacities.{default_capacity};
 ghost use Rattle.command_line.specs.declared.command.UsageFault.TheVariants.{OutOfMemory};
 ghost use Rattle.command_line.specs.Command.{IsCommandAlone, IsCommand, options_in, AsksToJoin};
-ghost use Rattle.command_line.specs.Command.{AsksToReplayBy, AsksToRunBy, AsksToRunByAlone};
-ghost use Rattle.command_line.specs.Command.{AsksToFollow, HasWord, AskForEvents, Asks};
+ghost use Rattle.command_line.specs.Command.{AsksToReplayBy, AsksToRunByAlone};
+ghost use Rattle.command_line.specs.Losses.{AskForRule, AskForRuleAlone};
+ghost use Rattle.command_line.specs.Command.{AreWithEvents, AsksToFollowAlone};
+ghost use Rattle.command_line.specs.Command.{HasWord, AskForEvents, channels_max, Asks};
 ghost use Rattle.command_line.specs.Command.{IsHelpWord, HasNoHelpWord, StandsBeforeHelp};
 ghost use Rattle.command_line.specs.Inside.Command.{AsksWithOptions};
 ghost use Rattle.command_line.specs.Inside.Options.{ReadsOptions, ReadsCount, ReadsCapacities, ReadsChannels};
@@ -152,36 +155,48 @@ fn is_command<S: AsStr>(words: &[S], command: &str) -> bool
     options_of(words, command).is_some()
 }
 
-/// The rule by which the words, the program's name first, ask to replay and for nothing else.
-fn asked_replay<S: AsStr>(words: &[S]) -> Option<LossRule>
-    ensures { (rule : LossRule)
-        → (result ≡ Some rule) ↔ AsksToReplayBy rule (map S.text words.now) }
+/// The rule by which the words, the program's name first, ask for this command and for nothing else.
+fn asked_rule_alone_of<S: AsStr>(words: &[S], command: &str) -> Option<LossRule>
+    ensures { (rule : LossRule) → (result ≡ Some rule)
+        ↔ (IsCommand command.now (map S.text words.now)
+        × AskForRuleAlone rule (options_in (map S.text words.now))) }
 {
-    asked_rule_alone(options_of(words, "replay")?)
+    asked_rule_alone(options_of(words, command)?)
 }
 
-/// The rule by which the words, the program's name first, ask to run and for nothing else.
-fn asked_run_alone<S: AsStr>(words: &[S]) -> Option<LossRule>
-    ensures { (rule : LossRule)
-        → (result ≡ Some rule) ↔ AsksToRunByAlone rule (map S.text words.now) }
+/// The rule by which the words, the program's name first, ask for this command.
+fn asked_rule_of<S: AsStr>(words: &[S], command: &str) -> Option<LossRule>
+    ensures { (rule : LossRule) → (result ≡ Some rule)
+        ↔ (IsCommand command.now (map S.text words.now)
+        × AskForRule rule (options_in (map S.text words.now))) }
 {
-    asked_rule_alone(options_of(words, "run")?)
+    asked_rule(options_of(words, command)?)
 }
 
-/// The rule by which the words, the program's name first, ask to run.
-fn asked_run<S: AsStr>(words: &[S]) -> Option<LossRule>
-    ensures { (rule : LossRule)
-        → (result ≡ Some rule) ↔ AsksToRunBy rule (map S.text words.now) }
+/// The options beside `--events`, if that stands before or behind all others.
+fn beside_events<S: AsStr>(options: &[S]) -> Option<&[S]>
+    ensures { MatchOption result
+        ((rest : List (List ℕ)) → ¬ AreWithEvents (map S.text options.now) rest)
+        (λ rest. AreWithEvents (map S.text options.now) (map S.text rest.now)) }
 {
-    asked_rule(options_of(words, "run")?)
+    match options {
+        [first, rest @ ..] if first.as_str() == "--events" => Some(rest),
+        [rest @ .., last] if last.as_str() == "--events" => Some(rest),
+        _ => None,
+    }
 }
 
-/// The rule by which the words, the program's name first, ask to follow.
-fn asked_follow<S: AsStr>(words: &[S]) -> Option<LossRule>
-    ensures { (rule : LossRule)
-        → (result ≡ Some rule) ↔ AsksToFollow rule (map S.text words.now) }
+/// The rule by which the words, the program's name first, ask to follow and whether with events,
+/// where they ask for nothing else.
+fn asked_follow_alone<S: AsStr>(words: &[S]) -> Option<(LossRule, bool)>
+    ensures { (rule : LossRule) (events : Bool)
+        → (result ≡ Some (rule, events)) ↔ AsksToFollowAlone rule events (map S.text words.now) }
 {
-    asked_rule(options_of(words, "follow")?)
+    let options = options_of(words, "follow")?;
+    match beside_events(options) {
+        Some(rest) => Some((asked_rule_alone(rest)?, true)),
+        None => Some((asked_rule_alone(options)?, false)),
+    }
 }
 
 /// Whether a word asks for help.
@@ -290,8 +305,8 @@ fn read_with_options<'a, S: AsStr>(alloc: Global, words: &'a [S]) -> Result<Comm
     ensures { IfOk result (AsksWithOptions (map S.text words.now)) }
 {
     let cuts = is_command(words, "cut");
-    let run_rule = asked_run(words);
-    let follow_rule = asked_follow(words);
+    let run_rule = asked_rule_of(words, "run");
+    let follow_rule = asked_rule_of(words, "follow");
     let asked = cuts || run_rule.is_some() || follow_rule.is_some();
     if !asked || has_word(words, "--") {
         return Err(UsageFault::Usage);
@@ -349,24 +364,34 @@ pub fn read_words<'a, S: AsStr>(alloc: Global, words: &'a [S]) -> Result<Command
         → AsksToReplayBy rule (map S.text words.now) → result ≡ Ok (Command.Replay rule) }
     ensures run { (rule : LossRule) → AsksToRunByAlone rule (map S.text words.now)
         → result ≡ Ok (Command.Run rule default_capacity default_capacity) }
+    ensures follow { (rule : LossRule) (events : Bool)
+        → AsksToFollowAlone rule events (map S.text words.now)
+        → result ≡ Ok (Command.Follow rule channels_max events) }
 {
     if asks_to_join(words) {
         return Ok(Command::Join);
     }
-    if let Some(rule) = asked_replay(words) {
+    if let Some(rule) = asked_rule_alone_of(words, "replay") {
         return Ok(Command::Replay { rule });
     }
-    if let Some(rule) = asked_run_alone(words) {
+    if let Some(rule) = asked_rule_alone_of(words, "run") {
         return Ok(Command::Run {
             rule,
             mailbox: DEFAULT_CAPACITY,
             ring: DEFAULT_CAPACITY,
         });
     }
+    if let Some((rule, events)) = asked_follow_alone(words) {
+        return Ok(Command::Follow {
+            rule,
+            channels: CHANNELS_MAX as u8,
+            events,
+        });
+    }
     let Some(before) = before_help(words) else {
         return read_with_options(alloc, words);
     };
-    if !asks_to_join(before) && asked_replay(before).is_none() {
+    if !asks_to_join(before) && asked_rule_alone_of(before, "replay").is_none() {
         read_with_options(alloc, before)?;
     }
     Ok(Command::Help(help_text(alloc, words)?))

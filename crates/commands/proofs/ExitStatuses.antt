@@ -17,7 +17,7 @@ use Rattle.receiver.specs.declared.width.Width.{Width}
 use Rattle.texts.specs.Follow.{IsFollowed}
 use Rattle.engines.specs.Fault.{status_of, exit_status_of}
 use Rattle.loss_rule.specs.declared.rule.LossRule.{LossRule}
-use Rattle.command_line.specs.Command.{AsksToJoin, AsksToReplay, AsksToReplayBy, AsksToRunByAlone}
+use Rattle.command_line.specs.Command.{AsksToJoin, AsksToReplay, AsksToReplayBy, AsksToRunByAlone, AsksToFollowAlone}
 use Rattle.engines.specs.Engine.{engine_fault, WritesText, IsFaultOfKnown, HasCause, RunsEngine}
 use Rattle.commands.specs.Program.{AsksToCutOnly, AsksToRunOnly, AsksToRunByOnly, AsksToFollowOnly, AsksForNothing, IsRefused, Obeys, RunsWords, IsStatus, HasJoinedText, HasCutText, HasReport, HasReportBy, HasRunReport, HasRunReportBy, HasRunFault, HasFollowed, HasFollowFault, SaysOf}
 
@@ -124,6 +124,18 @@ known_status remaining contents IsText IsFault reader reader' writer writer' (Er
 known_status remaining contents IsText IsFault reader reader' writer writer' (Err Write) ran e = omega (arith, e)
 known_status remaining contents IsText IsFault reader reader' writer writer' (Err Usage) ran e = ran.cause
 
+-- so are those that ask to follow with no option but a rule and events
+known_followed : {R W : Type 0} (remaining : R → Option (List ℕ)) (contents : W → Option (List ℕ)) (rule : LossRule) (width : Width) (events : Bool) (reader reader' : Device R)
+    (writer writer' : Device W) (result : Result (Unit {0}) EngineFault) → FollowsTrace rule width events remaining contents reader reader' writer writer' result
+    → exit_status_of result ≢ 2
+known_followed remaining contents rule width events reader reader' writer writer' (Ok done) ran e = omega (arith, e)
+known_followed remaining contents rule width events reader reader' writer writer' (Err (Trace fault)) ran e = omega (arith, e)
+known_followed remaining contents rule width events reader reader' writer writer' (Err (Cut fault)) ran e = ran.cause
+known_followed remaining contents rule width events reader reader' writer writer' (Err OutOfMemory) ran e = omega (arith, e)
+known_followed remaining contents rule width events reader reader' writer writer' (Err Read) ran e = omega (arith, e)
+known_followed remaining contents rule width events reader reader' writer writer' (Err Write) ran e = omega (arith, e)
+known_followed remaining contents rule width events reader reader' writer writer' (Err Usage) ran e = ran.cause
+
 -- the status of an outcome is one of the table
 IsStatus-outcome : (result : Result (Unit {0}) EngineFault) → IsStatus (exit_status_of result)
 IsStatus-outcome (Ok done) = inl refl
@@ -143,6 +155,7 @@ pub record SaysOfWords {R : Type 0} (remaining : R → Option (List ℕ)) (words
   pub run_by : (rule : LossRule) → AsksToRunByOnly rule words → IfSome (remaining reader) (SaysOf (HasRunReportBy rule) HasRunFault n)
   pub run_by_is_known : (rule : LossRule) → AsksToRunByAlone rule words → n ≢ 2
   pub follow : (rule : LossRule) → AsksToFollowOnly rule words → IfSome (remaining reader) (SaysOf (HasFollowed rule) HasFollowFault n)
+  pub follow_is_known : (rule : LossRule) (events : Bool) → AsksToFollowAlone rule events words → n ≢ 2
   pub usage : AsksForNothing words → (n ≡ 2) ⊎ (n ≡ 3)
 
 -- so does that of what came of them
@@ -192,6 +205,8 @@ SaysOfWords-outcome remaining contents words reader reader' writer writer' resul
         | inl ran ↦ SaysOf-followed remaining contents rule ran.0 ran.1 reader reader' writer writer' result ran.4
         | inr refused ↦ SaysOf-above (HasFollowed rule) HasFollowFault (remaining (inner_of reader)) (exit_status_of result) (refused_status reader reader' writer writer' result refused)
       ];
+  follow_is_known = λ rule events asks.
+      let ran = obeyed.follow_alone rule events asks in known_followed remaining contents rule ran.0 events reader reader' writer writer' result ran.3;
   usage = λ asks. refused_status reader reader' writer writer' result (obeyed.nothing asks);
 }
 

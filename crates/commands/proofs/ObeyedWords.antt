@@ -1,5 +1,5 @@
 -- What the step that obeys the words promises, by the command that they were read as.
-use Rattle.std.proofs.Common.{◌≡◌, ℕ, ◌≤◌, ◌^◌, ◌-◌, ◌⊎◌, true, false, List, [], ◌∷◌, length, Option, Some, Result, Ok, Err, OnOk, IfErr, inl, inr, refl, sym, ap, ◌∙◌, subst, arith}
+use Rattle.std.proofs.Common.{◌≡◌, ℕ, ◌≤◌, ◌^◌, ◌-◌, ◌⊎◌, Bool, true, false, List, [], ◌∷◌, length, Option, Some, Result, Ok, Err, OnOk, IfErr, inl, inr, refl, sym, ap, ◌∙◌, subst, arith}
 use Rattle.std.specs.Prelude.{string_bytes, codes, slice_get, IsErrAnd}
 use Rattle.docsis_wire.proofs.StreamPlaces.{slice_get-at}
 use Rattle.loss_rule.specs.declared.rule.LossRule.{LossRule}
@@ -22,14 +22,14 @@ use Rattle.engines.specs.Transfer.{IsReadFault}
 use Rattle.std.specs.Io.KnownBytes.{IsAtEnd}
 use Rattle.engines.specs.Fault.{usage_fault}
 use Rattle.engines.specs.Engine.{HasCause, RunsEngine}
-use Rattle.command_line.specs.Command.{options_in, AsksToJoin, AsksToReplay, AsksToReplayBy, AsksToRun, AsksToRunBy, AsksToRunByAlone, AsksToFollow, AsksForHelp, HasNoHelpWord, Asks}
+use Rattle.command_line.specs.Command.{options_in, AsksToJoin, AsksToReplay, AsksToReplayBy, AsksToRun, AsksToRunBy, AsksToRunByAlone, AsksToFollow, AsksToFollowAlone, channels_max, AsksForHelp, HasNoHelpWord, Asks}
 use Rattle.command_line.proofs.AskedRules.{AskForRule-one}
 use Rattle.command_line.proofs.AskedWithoutHelp.{replays_without_help}
 use Rattle.command_line.proofs.CommandsApart.{commands_apart, cut_is_not_run, cut_is_not_replay, replay_is_not_run, follow_is_not_cut, follow_is_not_run, follow_is_not_replay, join_is_another, join_is_not_cut, join_is_not_run, join_is_not_follow}
 use Rattle.engines.proofs.WeakerTexts.{RunsEngine-weaker}
 use Rattle.engines.specs.Following.{HasFollowCause}
 use Rattle.receiver.specs.declared.width.Width.{Width}
-use Rattle.commands.specs.Program.{AsksToCutOnly, AsksToRunOnly, AsksToRunByOnly, AsksToFollowOnly, AsksForNothing, RunsCut, RunsRun, RunsRunBy, RunsRunAlone, RunsFollow, WritesHelp, Obeys}
+use Rattle.commands.specs.Program.{AsksToCutOnly, AsksToRunOnly, AsksToRunByOnly, AsksToFollowOnly, AsksForNothing, RunsCut, RunsRun, RunsRunBy, RunsRunAlone, RunsFollow, RunsFollowAlone, WritesHelp, Obeys}
 use Rattle.commands.specs.Inside.Program.{Performs}
 
 -- where no rule is asked for, `Decided` is
@@ -82,8 +82,9 @@ module _ {R W : Type 0} (remaining : R → Option (List ℕ)) (contents : W → 
       → ((rule : LossRule) → AsksToRunByOnly rule words → RunsRunBy rule remaining contents reader reader' writer writer' result)
       → ((rule : LossRule) → AsksToRunByAlone rule words → RunsRunAlone rule remaining contents reader reader' writer writer' result)
       → ((rule : LossRule) → ¬ AsksToFollow rule words)
+      → ((rule : LossRule) (events : Bool) → AsksToFollowAlone rule events words → RunsFollowAlone rule events remaining contents reader reader' writer writer' result)
       → ¬ AsksForNothing words → (¬ AsksToJoin words → HasNoHelpWord words) → Obeys remaining contents words reader reader' writer writer' result
-  Obeys-engine IsText IsFault (Ok done) replay_same run_same ran joins cuts replays runs alone no_follow something no_help = record {
+  Obeys-engine IsText IsFault (Ok done) replay_same run_same ran joins cuts replays runs alone no_follow followed something no_help = record {
     join = joins;
     cut = λ asks. inl (cuts asks);
     replay = replayed_by_decisions (Ok done) replay_same replays;
@@ -92,6 +93,7 @@ module _ {R W : Type 0} (remaining : R → Option (List ℕ)) (contents : W → 
     run_by = λ rule asks. inl (runs rule asks);
     run_alone = alone;
     follow = λ rule asks. absurd (no_follow rule asks.0);
+    follow_alone = followed;
     nothing = λ asks. absurd (something asks);
     help = λ other asks. absurd (asks (no_help other));
     flushed = ran.flushed;
@@ -100,7 +102,7 @@ module _ {R W : Type 0} (remaining : R → Option (List ℕ)) (contents : W → 
     write_fault = λ is. absurd cc;
     read_first = λ _. tt;
   }
-  Obeys-engine IsText IsFault (Err fault) replay_same run_same ran joins cuts replays runs alone no_follow something no_help =
+  Obeys-engine IsText IsFault (Err fault) replay_same run_same ran joins cuts replays runs alone no_follow followed something no_help =
       let P : EngineFault → Type 0 = HasCause IsFault (remaining (inner_of reader)) reader' writer' in
       record {
         join = joins;
@@ -111,6 +113,7 @@ module _ {R W : Type 0} (remaining : R → Option (List ℕ)) (contents : W → 
         run_by = λ rule asks. inl (runs rule asks);
         run_alone = alone;
         follow = λ rule asks. absurd (no_follow rule asks.0);
+        follow_alone = followed;
         nothing = λ asks. absurd (something asks);
         help = λ other asks. absurd (asks (no_help other));
         flushed = tt;
@@ -123,9 +126,10 @@ module _ {R W : Type 0} (remaining : R → Option (List ℕ)) (contents : W → 
   -- so have those that ask for help, where its text is written
   Obeys-help : (text : List ℕ) (result : Result (Unit {0}) EngineFault) → IsFresh reader → IsFresh writer
       → ¬ AsksToJoin words → ¬ AsksToCutOnly words → ((rule : LossRule) → ¬ AsksToReplayBy rule words) → ((rule : LossRule) → ¬ AsksToRunByOnly rule words)
-      → ((rule : LossRule) → ¬ AsksToRunByAlone rule words) → ((rule : LossRule) → ¬ AsksToFollowOnly rule words) → ¬ AsksForNothing words → WritesHelp contents text reader reader' writer writer' result
+      → ((rule : LossRule) → ¬ AsksToRunByAlone rule words) → ((rule : LossRule) → ¬ AsksToFollowOnly rule words)
+      → ((rule : LossRule) (events : Bool) → ¬ AsksToFollowAlone rule events words) → ¬ AsksForNothing words → WritesHelp contents text reader reader' writer writer' result
       → Obeys remaining contents words reader reader' writer writer' result
-  Obeys-help text (Ok done) unread unwritten other no_cut no_replay no_run no_alone no_follow something wrote = record {
+  Obeys-help text (Ok done) unread unwritten other no_cut no_replay no_run no_alone no_follow no_follow_alone something wrote = record {
     join = λ asks. absurd (other asks);
     cut = λ asks. absurd (no_cut asks);
     replay = λ asks. absurd (no_replay Decided (replays_by_decisions words asks));
@@ -134,6 +138,7 @@ module _ {R W : Type 0} (remaining : R → Option (List ℕ)) (contents : W → 
     run_by = λ rule asks. absurd (no_run rule asks);
     run_alone = λ rule asks. absurd (no_alone rule asks);
     follow = λ rule asks. absurd (no_follow rule asks);
+    follow_alone = λ rule events asks. absurd (no_follow_alone rule events asks);
     nothing = λ asks. absurd (something asks);
     help = λ _ _. inl (text, wrote);
     flushed = wrote.left_flushed;
@@ -142,7 +147,7 @@ module _ {R W : Type 0} (remaining : R → Option (List ℕ)) (contents : W → 
     write_fault = λ is. absurd cc;
     read_first = λ _. tt;
   }
-  Obeys-help text (Err fault) unread unwritten other no_cut no_replay no_run no_alone no_follow something wrote = record {
+  Obeys-help text (Err fault) unread unwritten other no_cut no_replay no_run no_alone no_follow no_follow_alone something wrote = record {
     join = λ asks. absurd (other asks);
     cut = λ asks. absurd (no_cut asks);
     replay = λ asks. absurd (no_replay Decided (replays_by_decisions words asks));
@@ -151,6 +156,7 @@ module _ {R W : Type 0} (remaining : R → Option (List ℕ)) (contents : W → 
     run_by = λ rule asks. absurd (no_run rule asks);
     run_alone = λ rule asks. absurd (no_alone rule asks);
     follow = λ rule asks. absurd (no_follow rule asks);
+    follow_alone = λ rule events asks. absurd (no_follow_alone rule events asks);
     nothing = λ asks. absurd (something asks);
     help = λ _ _. inl (text, wrote);
     flushed = tt;
@@ -169,9 +175,10 @@ module _ {R W : Type 0} (remaining : R → Option (List ℕ)) (contents : W → 
 
   -- words that ask to follow a trace
   Obeys-follow : (rule : LossRule) (result : Result (Unit {0}) EngineFault) → AsksToFollow rule words → HasNoHelpWord words
-      → RunsFollow rule words remaining contents reader reader' writer writer' result → ¬ AsksForNothing words
-      → Obeys remaining contents words reader reader' writer writer' result
-  Obeys-follow rule result asked no_help ran something = record {
+      → RunsFollow rule words remaining contents reader reader' writer writer' result
+      → ((rule : LossRule) (events : Bool) → AsksToFollowAlone rule events words → RunsFollowAlone rule events remaining contents reader reader' writer writer' result)
+      → ¬ AsksForNothing words → Obeys remaining contents words reader reader' writer writer' result
+  Obeys-follow rule result asked no_help ran followed something = record {
     join = λ asks. absurd (join_is_another (codes "follow") join_is_not_follow words asks asked.0);
     cut = λ asks. absurd (commands_apart (codes "follow") (codes "cut") follow_is_not_cut words asked.0 asks.0);
     replay = λ asks. absurd (commands_apart (codes "follow") (codes "replay") follow_is_not_replay words asked.0 (replays_by_decisions words asks).0);
@@ -182,6 +189,7 @@ module _ {R W : Type 0} (remaining : R → Option (List ℕ)) (contents : W → 
     follow = λ other asks.
         let same : rule ≡ other = AskForRule-one (options_in words) rule other asked.1 asks.0.1 in
         inl (subst (λ by. RunsFollow by words remaining contents reader reader' writer writer' result) same ran);
+    follow_alone = followed;
     nothing = λ asks. absurd (something asks);
     help = λ other asks. absurd (asks no_help);
     flushed = ran.4.flushed;
@@ -219,28 +227,38 @@ module _ {R W : Type 0} (remaining : R → Option (List ℕ)) (contents : W → 
   performed_alone command result ran runs rule asks =
       subst (λ is. Performs remaining contents is reader reader' writer writer' result) (runs rule asks) ran
 
+  -- and one that was read as following with no option but a rule and events
+  performed_follow : (command : Command) (result : Result (Unit {0}) EngineFault) → Performs remaining contents command reader reader' writer writer' result
+      → ((rule : LossRule) (events : Bool) → AsksToFollowAlone rule events words → command ≡ Follow rule channels_max events)
+      → (rule : LossRule) (events : Bool) → AsksToFollowAlone rule events words → RunsFollowAlone rule events remaining contents reader reader' writer writer' result
+  performed_follow command result ran follows rule events asks =
+      subst (λ is. Performs remaining contents is reader reader' writer writer' result) (follows rule events asks) ran
+
   -- each command, where the words ask for it and for nothing else
   pub Obeys-performed : (command : Command) (result : Result (Unit {0}) EngineFault) → ReplaysByDecisions → RunsByDecisions
       → IsFresh reader → IsFresh writer → Asks words command → (AsksToJoin words → command ≡ Join)
       → ((rule : LossRule) → AsksToReplayBy rule words → command ≡ Replay rule)
       → ((rule : LossRule) → AsksToRunByAlone rule words → command ≡ Run rule default_capacity default_capacity)
+      → ((rule : LossRule) (events : Bool) → AsksToFollowAlone rule events words → command ≡ Follow rule channels_max events)
       → Performs remaining contents command reader reader' writer writer' result
       → Obeys remaining contents words reader reader' writer writer' result
-  Obeys-performed Join result replay_same run_same unread unwritten asked joins replays runs ran =
+  Obeys-performed Join result replay_same run_same unread unwritten asked joins replays runs follows ran =
       Obeys-engine IsJoined IsJoinFault result replay_same run_same ran (λ _. ran)
       (λ asks. absurd (join_is_another (codes "cut") join_is_not_cut words asked asks.0)) (λ rule asks. let e = replays rule asks in absurd cc)
       (λ rule asks. absurd (join_is_another (codes "run") join_is_not_run words asked asks.0.0)) (performed_alone Join result ran runs)
       (λ rule asks. absurd (join_is_another (codes "follow") join_is_not_follow words asked asks.0))
+      (performed_follow Join result ran follows)
       (λ nothing. nothing.0 (inl asked))
       (λ other. absurd (other asked))
-  Obeys-performed (Cut first fill) result replay_same run_same unread unwritten asked joins replays runs ran =
+  Obeys-performed (Cut first fill) result replay_same run_same unread unwritten asked joins replays runs follows ran =
       Obeys-engine (IsCutText first fill) IsCutFault result replay_same run_same ran
       (λ asks. absurd (join_is_another (codes "cut") join_is_not_cut words asks asked.0)) (λ _. (first, fill, asked.2, ran))
       (λ rule asks. let e = replays rule asks in absurd cc)
       (λ rule asks. absurd (commands_apart (codes "cut") (codes "run") cut_is_not_run words asked.0 asks.0.0)) (performed_alone (Cut first fill) result ran runs)
       (λ rule asks. absurd (commands_apart (codes "follow") (codes "cut") follow_is_not_cut words asks.0 asked.0))
+      (performed_follow (Cut first fill) result ran follows)
       (λ nothing. nothing.0 (inr (inl asked.0))) (λ _. asked.1)
-  Obeys-performed (Replay rule) result replay_same run_same unread unwritten asked joins replays runs ran =
+  Obeys-performed (Replay rule) result replay_same run_same unread unwritten asked joins replays runs follows ran =
       Obeys-engine (IsReplayedBy rule) IsReplayFault result replay_same run_same ran (λ asks. let e = joins asks in absurd cc)
       (λ asks. absurd (commands_apart (codes "cut") (codes "replay") cut_is_not_replay words asks.0 asked.0))
       (λ other asks.
@@ -249,8 +267,9 @@ module _ {R W : Type 0} (remaining : R → Option (List ℕ)) (contents : W → 
       subst (λ by. RunsEngine remaining contents (IsReplayedBy by) IsReplayFault reader reader' writer writer' result) same ran)
       (λ other asks. absurd (commands_apart (codes "replay") (codes "run") replay_is_not_run words asked.0 asks.0.0))
       (performed_alone (Replay rule) result ran runs)
-      (λ other asks. absurd (commands_apart (codes "follow") (codes "replay") follow_is_not_replay words asks.0 asked.0)) (λ nothing. nothing.0 (inr (inr (inl (rule, asked))))) (λ _. replays_without_help rule words asked)
-  Obeys-performed (Run rule mailbox ring) result replay_same run_same unread unwritten asked joins replays runs ran =
+      (λ other asks. absurd (commands_apart (codes "follow") (codes "replay") follow_is_not_replay words asks.0 asked.0))
+      (performed_follow (Replay rule) result ran follows) (λ nothing. nothing.0 (inr (inr (inl (rule, asked))))) (λ _. replays_without_help rule words asked)
+  Obeys-performed (Run rule mailbox ring) result replay_same run_same unread unwritten asked joins replays runs follows ran =
       Obeys-engine (IsRunTextBy rule ring mailbox) (IsReportFault ring) result replay_same run_same ran
       (λ asks. absurd (join_is_another (codes "run") join_is_not_run words asks asked.0.0))
       (λ asks. absurd (commands_apart (codes "cut") (codes "run") cut_is_not_run words asks.0 asked.0.0))
@@ -260,19 +279,22 @@ module _ {R W : Type 0} (remaining : R → Option (List ℕ)) (contents : W → 
       subst (λ by. RunsRunBy by remaining contents reader reader' writer writer' result) same (mailbox, ring, asked.2, asked.3, ran))
       (performed_alone (Run rule mailbox ring) result ran runs)
       (λ other asks. absurd (commands_apart (codes "follow") (codes "run") follow_is_not_run words asks.0 asked.0.0))
+      (performed_follow (Run rule mailbox ring) result ran follows)
       (λ nothing. nothing.0 (inr (inr (inr (inl (rule, asked.0)))))) (λ _. asked.1)
-  Obeys-performed (Follow rule channels events) result replay_same run_same unread unwritten asked joins replays runs ran =
-      Obeys-follow rule result asked.0 asked.1 (ran.0, events, ran.2, asked.4, ran.3) (λ nothing. nothing.0 (inr (inr (inr (inr (rule, asked.0))))))
-  Obeys-performed (Help text) result replay_same run_same unread unwritten asked joins replays runs ran =
+  Obeys-performed (Follow rule channels events) result replay_same run_same unread unwritten asked joins replays runs follows ran =
+      Obeys-follow rule result asked.0 asked.1 (ran.0, events, ran.2, asked.4, ran.3) (performed_follow (Follow rule channels events) result ran follows)
+      (λ nothing. nothing.0 (inr (inr (inr (inr (rule, asked.0))))))
+  Obeys-performed (Help text) result replay_same run_same unread unwritten asked joins replays runs follows ran =
       Obeys-help (string_bytes text) result unread unwritten (λ asks. let e = joins asks in absurd cc) (λ asks. asks.1 asked)
       (λ rule asks. let e = replays rule asks in absurd cc) (λ rule asks. asks.1 asked) (λ rule asks. let e = runs rule asks in absurd cc)
-      (λ rule asks. asks.1 asked) (λ nothing. nothing.1 asked) ran
+      (λ rule asks. asks.1 asked) (λ rule events asks. let e = follows rule events asks in absurd cc) (λ nothing. nothing.1 asked) ran
 
--- words that were refused ask neither to join nor to replay nor to run by a rule alone, and nothing is read or written
+-- words that were refused ask neither to join nor to replay, nor to run or to follow by a rule alone, and nothing is read or written
 pub Obeys-refused : {R W : Type 0} (remaining : R → Option (List ℕ)) (contents : W → Option (List ℕ)) (words : List (List ℕ)) (reader : Device R)
     (writer : Device W) (fault : UsageFault) → IsFresh reader → ¬ AsksToJoin words → ((rule : LossRule) → ¬ AsksToReplayBy rule words)
-    → ((rule : LossRule) → ¬ AsksToRunByAlone rule words) → Obeys remaining contents words reader reader writer writer (Err (usage_fault fault))
-Obeys-refused remaining contents words reader writer usage.Usage unread other no_replay no_alone = record {
+    → ((rule : LossRule) → ¬ AsksToRunByAlone rule words) → ((rule : LossRule) (events : Bool) → ¬ AsksToFollowAlone rule events words)
+    → Obeys remaining contents words reader reader writer writer (Err (usage_fault fault))
+Obeys-refused remaining contents words reader writer usage.Usage unread other no_replay no_alone no_follow = record {
   join = λ asks. absurd (other asks);
   cut = λ _. inr (record { fault = inl refl; unread = refl; unwritten = refl });
   replay = λ asks. absurd (no_replay Decided (replays_by_decisions words asks));
@@ -281,6 +303,7 @@ Obeys-refused remaining contents words reader writer usage.Usage unread other no
   run_by = λ rule _. inr (record { fault = inl refl; unread = refl; unwritten = refl });
   run_alone = λ rule asks. absurd (no_alone rule asks);
   follow = λ rule _. inr (record { fault = inl refl; unread = refl; unwritten = refl });
+  follow_alone = λ rule events asks. absurd (no_follow rule events asks);
   nothing = λ _. record { fault = inl refl; unread = refl; unwritten = refl };
   help = λ _ _. inr (record { fault = inl refl; unread = refl; unwritten = refl });
   flushed = tt;
@@ -289,7 +312,7 @@ Obeys-refused remaining contents words reader writer usage.Usage unread other no
   write_fault = λ is. absurd cc;
   read_first = λ _ _. (unread.0, omega (arith, unread.1));
 }
-Obeys-refused remaining contents words reader writer usage.OutOfMemory unread other no_replay no_alone = record {
+Obeys-refused remaining contents words reader writer usage.OutOfMemory unread other no_replay no_alone no_follow = record {
   join = λ asks. absurd (other asks);
   cut = λ _. inr (record { fault = inr refl; unread = refl; unwritten = refl });
   replay = λ asks. absurd (no_replay Decided (replays_by_decisions words asks));
@@ -298,6 +321,7 @@ Obeys-refused remaining contents words reader writer usage.OutOfMemory unread ot
   run_by = λ rule _. inr (record { fault = inr refl; unread = refl; unwritten = refl });
   run_alone = λ rule asks. absurd (no_alone rule asks);
   follow = λ rule _. inr (record { fault = inr refl; unread = refl; unwritten = refl });
+  follow_alone = λ rule events asks. absurd (no_follow rule events asks);
   nothing = λ _. record { fault = inr refl; unread = refl; unwritten = refl };
   help = λ _ _. inr (record { fault = inr refl; unread = refl; unwritten = refl });
   flushed = tt;

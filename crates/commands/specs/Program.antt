@@ -14,7 +14,7 @@ use Rattle.engines.specs.Device.{inner_of, has_failed, is_flushed, IsFresh}
 use Rattle.engines.specs.Transfer.{AppendsFront, IsLeftFlushed, IsReadFault, IsRead}
 use Rattle.engines.specs.Fault.{status_of, exit_status_of, fault_line}
 use Rattle.engines.specs.Engine.{engine_fault, RunsEngine}
-use Rattle.command_line.specs.Command.{AsksToJoin, AsksToCut, AsksToReplay, AsksToReplayBy, AsksToRun, AsksToRunBy, AsksToRunByAlone, AsksToFollow, AskForEvents, options_in, AsksForAnEngine, AsksForHelp, HasNoHelpWord}
+use Rattle.command_line.specs.Command.{AsksToJoin, AsksToCut, AsksToReplay, AsksToReplayBy, AsksToRun, AsksToRunBy, AsksToRunByAlone, AsksToFollow, AsksToFollowAlone, AskForEvents, channels_max, options_in, AsksForAnEngine, AsksForHelp, HasNoHelpWord}
 use Rattle.flow_records.specs.Limits.{most_flows}
 use Rattle.receiver.specs.declared.width.Width.{Width}
 use Rattle.text_lines.specs.declared.fault.TextFault.TheVariants as text_fault
@@ -102,6 +102,12 @@ RunsFollow rule words remaining contents reader reader' writer writer' result =
     (width : Width) × (events : Bool) × (width.flows ≡ most_flows) × AskForEvents events (options_in words)
     × FollowsTrace rule width events remaining contents reader reader' writer writer' result
 
+-- so where neither channels nor anything else is asked for, but a rule and events: of as many channels as it can have
+abbrev pub RunsFollowAlone : {R W : Type 0} → LossRule → Bool → (R → Option (List ℕ)) → (W → Option (List ℕ)) → Device R → Device R → Device W → Device W → Result (Unit {0}) EngineFault → Type 0
+RunsFollowAlone rule events remaining contents reader reader' writer writer' result =
+    (width : Width) × (width.channels ≡ channels_max) × (width.flows ≡ most_flows)
+    × FollowsTrace rule width events remaining contents reader reader' writer writer' result
+
 -- what comes of words, the program's name first, over a fresh reader and a fresh writer: `remaining` are the bytes that a reader is known
 -- to have left, `contents` those that a writer is known to hold
 pub record Obeys {R W : Type 0} (remaining : R → Option (List ℕ)) (contents : W → Option (List ℕ)) (words : List (List ℕ))
@@ -121,6 +127,8 @@ pub record Obeys {R W : Type 0} (remaining : R → Option (List ℕ)) (contents 
   -- a trace is followed
   pub follow : (rule : LossRule) → AsksToFollowOnly rule words
       → RunsFollow rule words remaining contents reader reader' writer writer' result ⊎ IsRefused reader reader' writer writer' result
+  -- and never refused where nothing but a rule and events is asked for
+  pub follow_alone : (rule : LossRule) (events : Bool) → AsksToFollowAlone rule events words → RunsFollowAlone rule events remaining contents reader reader' writer writer' result
   pub nothing : AsksForNothing words → IsRefused reader reader' writer writer' result
   pub help : ¬ AsksToJoin words → ¬ HasNoHelpWord words → Helps contents reader reader' writer writer' result ⊎ IsRefused reader reader' writer writer' result
   -- where the work was done all that was written is flushed

@@ -1,10 +1,11 @@
 //! The whole program, over any reader and any two writers.
-ghost use Rattle.std.specs.Prelude.{◌≡◌, ◌≢◌, ◌⊎◌, map, Result, IfSome};
+ghost use Rattle.std.specs.Prelude.{◌≡◌, ◌≢◌, ◌⊎◌, Bool, map, Result, IfSome};
 ghost use Rattle.loss_rule.specs.declared.rule.LossRule.{LossRule};
 ghost use Rattle.engines.specs.declared.fault.EngineFault.{EngineFault};
 ghost use Rattle.engines.specs.Device.{IsFresh};
 ghost use Rattle.engines.specs.Fault.{exit_status_of};
 ghost use Rattle.command_line.specs.Command.{AsksToJoin, AsksToReplay, AsksToReplayBy, AsksToRunByAlone};
+ghost use Rattle.command_line.specs.Command.{AsksToFollowAlone};
 ghost use Rattle.texts.specs.Join.{IsJoinFault};
 ghost use Rattle.texts.specs.Cut.{IsCutFault};
 ghost use Rattle.texts.specs.Replay.{IsReplayFault};
@@ -162,6 +163,8 @@ where
         → result ≢ 2 }
     ensures follow { (rule : LossRule) → AsksToFollowOnly rule (map S.text words.now)
         → IfSome (R.remaining reader) (SaysOf (HasFollowed rule) HasFollowFault result) }
+    ensures follow_is_known { (rule : LossRule) (events : Bool)
+        → AsksToFollowAlone rule events (map S.text words.now) → result ≢ 2 }
     ensures usage { AsksForNothing (map S.text words.now) → (result ≡ 2) ⊎ (result ≡ 3) }
 {
     let mut reader = Device::new(reader);

@@ -32,7 +32,7 @@ use Rattle.texts.specs.declared.follow.happening.Happening.TheVariants.{Gave, St
 use Rattle.texts.specs.declared.follow.happening_list.HappeningList.{HappeningList}
 use Rattle.texts.specs.AnyHeader.{any_header, no_check}
 use Rattle.texts.specs.Happened.{IsOfTrace, IsStanding, TellsStanding, TellsStandingAfter, TellsStandingDecided, Tells, HasHappened, one_more}
-use Rattle.texts.specs.Inside.Followed.{HasAdded, HasKept, TellsStandingIn, TellsStandingOf, TellsReply, TellsDecided, ReceiverUnderWay, HasFollowed, IsClosedAfter, EndsFollowing}
+use Rattle.texts.specs.Inside.Followed.{HasAdded, HasKept, TellsStandingIn, TellsStandingOf, TellsReply, TellsDecided, ReceiverUnderWay, HasFollowed, EndsFollowing}
 
 -- ---- how a flow stands
 

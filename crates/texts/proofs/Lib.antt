@@ -21,6 +21,10 @@ pub mod TraceSoFar
 pub mod SetupKept
 pub mod HandedLines
 pub mod FollowedTrace
+pub mod WiderRule
+pub mod WiderTrace
+pub mod GivenOfTrace
+pub mod FollowedAsReported
 pub mod Profile
 pub mod OneReport
 pub mod OneReplay

@@ -1,5 +1,5 @@
 -- What happens as a receiver is handed in what the lines of a trace say.
-use Rattle.std.specs.Prelude.{◌≡◌, ◌<◌, ◌↔◌, ◌⊎◌, ◌+◌, ◌-◌, ◌^◌, ◌∷◌, ◌&&◌, nat_lt, nat_le, ℕ, false, All, Option, Some, None, MatchOption, IfSome, List, [], ◌++◌, length, map, filter, filter_map, slice_get}
+use Rattle.std.specs.Prelude.{◌≡◌, ◌<◌, ◌↔◌, ◌⊎◌, ◌-◌, ◌^◌, ◌∷◌, ◌&&◌, nat_lt, nat_le, ℕ, false, All, MatchOption, IfSome, List, [], ◌++◌, length, map, filter, filter_map, slice_get}
 use Rattle.bonded_flows.specs.ByRule.{is_in_range}
 use Rattle.bonded_flows.specs.Slots.{held_in}
 use Rattle.bonded_flows.specs.Table.{TableSetup}

@@ -1,5 +1,5 @@
 -- What happens as a trace is followed, and its lines.
-use Rattle.std.specs.Prelude.{ℕ, Bool, true, false, if◌then◌else◌, Option, Some, None, List, [], ◌∷◌, ◌++◌, codes}
+use Rattle.std.specs.Prelude.{ℕ, Bool, if◌then◌else◌, Option, Some, None, List, [], ◌∷◌, ◌++◌, codes}
 use Rattle.consumer.specs.declared.given.Given.{Given}
 use Rattle.consumer.specs.declared.given.Given.TheVariants.{Frame, Asked}
 use Rattle.lane.specs.declared.input.Input.{Input}

@@ -8,4 +8,5 @@ pub mod Run
 pub mod Happening
 pub mod Happened
 pub mod Follow
+pub mod FollowedReport
 pub mod Inside

@@ -1,14 +1,24 @@
 //! The definitions of `join`, of `cut`, of `replay` and of traces determine their answers: an input
 //! has at most one text, or is at most one trace, has at most one first fault, and never both. So
 //! do those of `run`, but for the text, which may be one of several. A trace passes the checks of a
-//! receiver. Where decisions alone decide, the texts by the loss rule are those without one.
+//! receiver. Where decisions alone decide, the texts by the loss rule are those without one. What is
+//! given of a trace that is followed is what its report says.
 //!
 //! Each function states a law in its contract; its body is empty or only calls other laws.
-ghost use Rattle.std.specs.Prelude.{◌≡◌, ◌≢◌, ◌≤◌, ℕ, List, length, flat_map};
+ghost use Rattle.std.specs.Prelude.{◌≡◌, ◌≢◌, ◌≤◌, ◌++◌, ℕ, Bool, Some, List};
+ghost use Rattle.std.specs.Prelude.{length, map, filter_map, flat_map, slice_get};
+ghost use Rattle.ccf.specs.Filter.{FiltersTo};
+ghost use Rattle.consumer.specs.Given.{frames_of};
 ghost use Rattle.docsis_wire.specs.declared.pieces.FillByte.{FillByte};
 ghost use Rattle.docsis_wire.specs.declared.pieces.Piece.{Piece};
 ghost use Rattle.docsis_wire.specs.declared.segment.Segment.{Segment};
+ghost use Rattle.flow_records.specs.Limits.{flows_max};
+ghost use Rattle.flow_records.specs.declared.record.FlowRecord.{FlowRecord};
+ghost use Rattle.lane.specs.Limits.{channel_limit};
 ghost use Rattle.loss_rule.specs.declared.rule.LossRule.{LossRule};
+ghost use Rattle.loss_rule.specs.InOrder.{DecideSafely, IsAllCome};
+ghost use Rattle.receiver.specs.Modem.{ComeFromAModem};
+ghost use Rattle.receiver.specs.declared.width.Width.{Width};
 ghost use Rattle.receiver.specs.Items.{incoming_of};
 ghost use Rattle.receiver.specs.Faults.{CanReceive};
 ghost use Rattle.receiver.specs.AdmittedOrder.{input_counts, IsAdmittedOrder};
@@ -20,6 +30,10 @@ ghost use Rattle.text_lines.specs.declared.fault.ParseFault.{ParseFault};
 ghost use Rattle.text_lines.specs.declared.fault.TextFault.{TextFault};
 ghost use Rattle.texts.specs.declared.trace.Trace.{Trace};
 ghost use Rattle.texts.specs.AnyHeader.{any_header};
+ghost use Rattle.texts.specs.Follow.{IsFollowed};
+ghost use Rattle.texts.specs.FollowedReport.{given_in, followed_flow, came_of_trace};
+ghost use Rattle.texts.specs.FollowedReport.{IsGivenAsReported};
+ghost use Rattle.texts.specs.Happened.{happening_of};
 ghost use Rattle.texts.specs.Report.{report_text};
 ghost use Rattle.texts.specs.Join.{IsJoined, IsJoinFault};
 ghost use Rattle.texts.specs.Cut.{IsCutInto, IsCutText, IsCutFault, segment_line, cut_text_length};
@@ -145,6 +159,48 @@ pub fn replay_of_a_trace_is_the_text()
         → IsOutcomeBy rule any_header trace.setup (incoming_of trace.lists) order outcome
         → IsReplayedBy rule input (report_text outcome) }
 {}
+
+/// **What `follow` gives of a trace is what its report says**, where `replay` takes the trace too:
+/// of each flow its frames and of each channel its requests, in order, and what is counted of both.
+/// Of what it gave, just that is told before the receiver is closed which was given till then.
+pub fn followed_trace_gives_its_report()
+    ensures told { (rule : LossRule) (width : Width) (events : Bool) (input text : List ℕ)
+        → (is : IsFollowed rule width events input text)
+        → filter_map given_in (map happening_of is.told) ≡ is.given }
+    ensures reported { (rule : LossRule) (width : Width) (events : Bool)
+        (input text report : List ℕ)
+        → channel_limit ≤ width.channels → flows_max ≤ width.flows
+        → (is : IsFollowed rule width events input text)
+        → (by : IsReplayedBy rule input report)
+        → IsGivenAsReported by.outcome is.setup (is.given ++ is.rest) is.closed }
+{
+    lane::laws::lane_has_at_most_one_answer_to_each_input();
+    receiver::laws::lists_have_one_merge::<bool>();
+    receiver::laws::order_has_one_intake();
+    receiver::laws::segments_come_on_channels_of_their_flow();
+    bonded_flows::laws::what_came_to_a_flow_has_one_answer();
+}
+
+/// **What a flow gives of a trace that is followed is exactly the modem's frames all of whose
+/// segments came in**, in the modem's order: by a loss rule, and where what comes to the flow is of
+/// one lawful cut of the modem's frames, none twice, comes on each channel in the modem's order and
+/// falls into the window, and the decisions of the trace lose nothing that still comes.
+pub fn followed_flow_gives_the_frames_that_all_came()
+    ensures { (rule : LossRule) (width : Width) (events : Bool) (input text : List ℕ) (k : ℕ)
+        (flow_record : FlowRecord) (frames : List (List ℕ))
+        → rule ≢ LossRule.Decided
+        → (is : IsFollowed rule width events input text)
+        → slice_get is.setup.flows.items k ≡ Some flow_record
+        → (modem : ComeFromAModem rule any_header (followed_flow rule width is.setup k flow_record)
+        frames (came_of_trace rule width is.setup is.handed k flow_record))
+        → DecideSafely rule (followed_flow rule width is.setup k flow_record)
+        (came_of_trace rule width is.setup is.handed k flow_record) modem.index_at
+        → FiltersTo (IsAllCome frames modem.chunks
+        (came_of_trace rule width is.setup is.handed k flow_record) modem.index_at) frames
+        (frames_of k (is.given ++ is.rest)) }
+{
+    bonded_flows::laws::bonded_flow_gives_the_frames_that_all_came();
+}
 
 /// An input of `replay` or `run` has at most one first fault.
 pub fn report_has_one_fault()

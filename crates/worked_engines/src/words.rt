@@ -44,7 +44,7 @@ fn what_is_asked(alloc: Global, words: &[&str]) -> Asked {
 const USAGE: Asked = Asked::Fault(UsageFault::Usage);
 
 /// Words, each with the name of its case, and what is asked for.
-const WORDS: [(&str, &[&str], Asked); 46] = [
+const WORDS: [(&str, &[&str], Asked); 49] = [
     ("no words at all", &[], Asked::Join),
     ("no command", &["segrx"], Asked::Join),
     ("join", &["segrx", "join"], Asked::Join),
@@ -184,6 +184,21 @@ const WORDS: [(&str, &[&str], Asked); 46] = [
         "events",
         &["segrx", "follow", "--events", "--losses=passed"],
         Asked::Follow(LossRule::Passed, 16, true),
+    ),
+    (
+        "events alone",
+        &["segrx", "follow", "--events"],
+        Asked::Follow(LossRule::Decided, 16, true),
+    ),
+    (
+        "events behind a rule",
+        &["segrx", "follow", "--losses", "slid", "--events"],
+        Asked::Follow(LossRule::PassedOrSlid, 16, true),
+    ),
+    (
+        "events between a rule and its name",
+        &["segrx", "follow", "--losses", "--events", "slid"],
+        USAGE,
     ),
     (
         "events with a value",

@@ -1,56 +1,60 @@
 -- Words are read as what they ask for.
-use Rattle.std.proofs.Common.{◌≡◌, inl, ap, ◌∙◌, arith, refl}
+use Rattle.std.proofs.Common.{◌≡◌, Bool, Ok, inl, sym, ap, ◌∙◌, arith, refl}
+use Rattle.std.proofs.lemmas.Option.{same_Some}
 use Rattle.std.specs.Prelude.{map, not, codes}
-use Rattle.command_line.specs.Command.{options_in}
+use Rattle.loss_rule.specs.declared.rule.LossRule.{LossRule}
+use Rattle.command_line.specs.declared.command.Command.TheVariants.{Follow}
+use Rattle.command_line.specs.Command.{options_in, channels_max}
 use Rattle.command_line.proofs.AskedRules.{AskForRule-alone}
-use Rattle.command_line.proofs.AskedWithoutHelp.{runs_without_help}
-use Rattle.command_line.proofs.CommandsApart.{commands_apart, replay_is_not_run}
+use Rattle.command_line.proofs.AskedEvents.{AskForRule-follow, AskForEvents-alone}
+use Rattle.command_line.proofs.AskedWithoutHelp.{runs_without_help, follows_without_help}
+use Rattle.command_line.proofs.CommandsApart.{commands_apart, replay_is_not_run, follow_is_not_replay, follow_is_not_run}
 use Rattle.command_line.proofs.AskedWords.{AsksForAnEngine-with_options, AsksForAnEngine-replay}
 use Rattle.command_line.proofs.command.read_words.Goals as goal
 use Rattle.command_line.proofs.command.read_words.Goals.{then-not-asks_to_join+then-is_none+in_ok-read_with_options, else-not-asks_to_join}
 use Rattle.command_line.proofs.command.read_words.Goals.{else-not-asks_to_join-via-then-not-asks_to_join+else-is_none, else-not-asks_to_join-via-else-not-asks_to_join}
 
 pub returns-in-Some-clause-asked : goal.returns-in-Some-clause-asked
-returns-in-Some-clause-asked g c = (c.asked_replay.ensures c.in-Some.rule).0 c.in-Some.is
+returns-in-Some-clause-asked g c = (c.asked_rule_alone_of.ensures c.in-Some.rule).0 c.in-Some.is
 
 pub returns-in-Some-clause-replay : goal.returns-in-Some-clause-replay
-returns-in-Some-clause-replay g c = λ rule asks. cc ((c.asked_replay.ensures rule).1 asks, c.in-Some.is)
+returns-in-Some-clause-replay g c = λ rule asks. cc ((c.asked_rule_alone_of.ensures rule).1 asks, c.in-Some.is)
 
 pub returns-in-Some-clause-run : goal.returns-in-Some-clause-run
 returns-in-Some-clause-run g c = λ rule asks.
-    let replays = (c.asked_replay.ensures c.in-Some.rule).0 c.in-Some.is in
+    let replays = (c.asked_rule_alone_of.ensures c.in-Some.rule).0 c.in-Some.is in
     absurd (commands_apart (codes "replay") (codes "run") replay_is_not_run (map g.S.AsStr.text c.args.words.now) replays.0 asks.0)
 
-pub returns-in-Some-asked_run_alone-clause-asked : goal.returns-in-Some-asked_run_alone-clause-asked
-returns-in-Some-asked_run_alone-clause-asked g c =
+pub returns-in-Some-asked_rule_alone_of-clause-asked : goal.returns-in-Some-asked_rule_alone_of-clause-asked
+returns-in-Some-asked_rule_alone_of-clause-asked g c =
     let words = map g.S.AsStr.text c.args.words.now in
-    let rule = c.in-Some-asked_run_alone.rule in
-    let runs = (c.asked_run_alone.ensures rule).0 c.in-Some-asked_run_alone.is in
+    let rule = c.in-Some-asked_rule_alone_of.rule in
+    let runs = (c.asked_rule_alone_of-2.ensures rule).0 c.in-Some-asked_rule_alone_of.is in
     ((runs.0, AskForRule-alone rule (options_in words) runs.1), runs_without_help rule words runs, omega arith, omega arith)
 
-pub returns-in-Some-asked_run_alone-clause-replay : goal.returns-in-Some-asked_run_alone-clause-replay
-returns-in-Some-asked_run_alone-clause-replay g c = λ rule asks. absurd (c.in_default.not-Some rule ((c.asked_replay.ensures rule).1 asks))
+pub returns-in-Some-asked_rule_alone_of-clause-replay : goal.returns-in-Some-asked_rule_alone_of-clause-replay
+returns-in-Some-asked_rule_alone_of-clause-replay g c = λ rule asks. absurd (c.in_default.not-Some rule ((c.asked_rule_alone_of.ensures rule).1 asks))
 
-pub returns-in-Some-asked_run_alone-clause-run : goal.returns-in-Some-asked_run_alone-clause-run
-returns-in-Some-asked_run_alone-clause-run g c = λ rule asks. cc ((c.asked_run_alone.ensures rule).1 asks, c.in-Some-asked_run_alone.is)
+pub returns-in-Some-asked_rule_alone_of-clause-run : goal.returns-in-Some-asked_rule_alone_of-clause-run
+returns-in-Some-asked_rule_alone_of-clause-run g c = λ rule asks. cc ((c.asked_rule_alone_of-2.ensures rule).1 asks, c.in-Some-asked_rule_alone_of.is)
 
 pub returns-in_default-before_help-clause-run : goal.returns-in_default-before_help-clause-run
-returns-in_default-before_help-clause-run g c = λ rule asks. absurd (c.in_default-asked_run_alone.not-Some rule ((c.asked_run_alone.ensures rule).1 asks))
+returns-in_default-before_help-clause-run g c = λ rule asks. absurd (c.in_default-asked_rule_alone_of.not-Some rule ((c.asked_rule_alone_of-2.ensures rule).1 asks))
 
 pub returns-in_err-help_text-clause-run : goal.returns-in_err-help_text-clause-run
-returns-in_err-help_text-clause-run g c = λ rule asks. absurd (c.in_default-asked_run_alone.not-Some rule ((c.asked_run_alone.ensures rule).1 asks))
+returns-in_err-help_text-clause-run g c = λ rule asks. absurd (c.in_default-asked_rule_alone_of.not-Some rule ((c.asked_rule_alone_of-2.ensures rule).1 asks))
 
 pub returns-clause-run : goal.returns-clause-run
-returns-clause-run g c = λ rule asks. absurd (c.in_default-asked_run_alone.not-Some rule ((c.asked_run_alone.ensures rule).1 asks))
+returns-clause-run g c = λ rule asks. absurd (c.in_default-asked_rule_alone_of.not-Some rule ((c.asked_rule_alone_of-2.ensures rule).1 asks))
 
 pub returns-in_default-before_help-clause-replay : goal.returns-in_default-before_help-clause-replay
-returns-in_default-before_help-clause-replay g c = λ rule asks. absurd (c.in_default.not-Some rule ((c.asked_replay.ensures rule).1 asks))
+returns-in_default-before_help-clause-replay g c = λ rule asks. absurd (c.in_default.not-Some rule ((c.asked_rule_alone_of.ensures rule).1 asks))
 
 pub returns-in_err-help_text-clause-replay : goal.returns-in_err-help_text-clause-replay
-returns-in_err-help_text-clause-replay g c = λ rule asks. absurd (c.in_default.not-Some rule ((c.asked_replay.ensures rule).1 asks))
+returns-in_err-help_text-clause-replay g c = λ rule asks. absurd (c.in_default.not-Some rule ((c.asked_rule_alone_of.ensures rule).1 asks))
 
 pub returns-clause-replay : goal.returns-clause-replay
-returns-clause-replay g c = λ rule asks. absurd (c.in_default.not-Some rule ((c.asked_replay.ensures rule).1 asks))
+returns-clause-replay g c = λ rule asks. absurd (c.in_default.not-Some rule ((c.asked_rule_alone_of.ensures rule).1 asks))
 
 pub returns-clause-asked : goal.returns-clause-asked
 returns-clause-asked g c =
@@ -63,10 +67,57 @@ returns-clause-asked g c =
             | else-not-asks_to_join-via-then-not-asks_to_join+else-is_none v ↦ (
               before,
               c.in-Some-before_help.ensures,
-              AsksForAnEngine-replay before v.asked_replay-then-not-asks_to_join.result v.asked_replay-then-not-asks_to_join.ensures
+              AsksForAnEngine-replay before v.asked_rule_alone_of-then-not-asks_to_join.result v.asked_rule_alone_of-then-not-asks_to_join.ensures
                   (v.is_none.ensures ∙ ap (λ none. not none) v.if-is_none.false),
             )
             | else-not-asks_to_join-via-else-not-asks_to_join v ↦
                 (before, c.in-Some-before_help.ensures, inl (c.asks_to_join-2.ensures.0 v.if-not-asks_to_join.false))
           ]
     ]
+
+pub returns-in-Some-clause-follow : goal.returns-in-Some-clause-follow
+returns-in-Some-clause-follow g c = λ rule events asks.
+    let replays = (c.asked_rule_alone_of.ensures c.in-Some.rule).0 c.in-Some.is in
+    absurd (commands_apart (codes "follow") (codes "replay") follow_is_not_replay (map g.S.AsStr.text c.args.words.now) asks.0 replays.0)
+
+pub returns-in-Some-asked_rule_alone_of-clause-follow : goal.returns-in-Some-asked_rule_alone_of-clause-follow
+returns-in-Some-asked_rule_alone_of-clause-follow g c = λ rule events asks.
+    let runs = (c.asked_rule_alone_of-2.ensures c.in-Some-asked_rule_alone_of.rule).0 c.in-Some-asked_rule_alone_of.is in
+    absurd (commands_apart (codes "follow") (codes "run") follow_is_not_run (map g.S.AsStr.text c.args.words.now) asks.0 runs.0)
+
+pub returns-in-Some-asked_follow_alone-clause-asked : goal.returns-in-Some-asked_follow_alone-clause-asked
+returns-in-Some-asked_follow_alone-clause-asked g c =
+    let words = map g.S.AsStr.text c.args.words.now in
+    let rule = c.in-Some-asked_follow_alone.rule in
+    let events = c.in-Some-asked_follow_alone.events in
+    let follows = (c.asked_follow_alone.ensures rule events).0 c.in-Some-asked_follow_alone.is in (
+      (follows.0, AskForRule-follow rule events (options_in words) follows.1),
+      follows_without_help rule events words follows,
+      omega arith,
+      omega arith,
+      AskForEvents-alone rule events (options_in words) follows.1,
+    )
+
+pub returns-in-Some-asked_follow_alone-clause-replay : goal.returns-in-Some-asked_follow_alone-clause-replay
+returns-in-Some-asked_follow_alone-clause-replay g c = λ rule asks. absurd (c.in_default.not-Some rule ((c.asked_rule_alone_of.ensures rule).1 asks))
+
+pub returns-in-Some-asked_follow_alone-clause-run : goal.returns-in-Some-asked_follow_alone-clause-run
+returns-in-Some-asked_follow_alone-clause-run g c = λ rule asks. absurd (c.in_default-asked_rule_alone_of.not-Some rule ((c.asked_rule_alone_of-2.ensures rule).1 asks))
+
+pub returns-in-Some-asked_follow_alone-clause-follow : goal.returns-in-Some-asked_follow_alone-clause-follow
+returns-in-Some-asked_follow_alone-clause-follow g c = λ rule events asks.
+    let found = c.in-Some-asked_follow_alone in
+    let same = same_Some (found.rule, found.events) (rule, events) (sym found.is ∙ (c.asked_follow_alone.ensures rule events).1 asks) in
+    ap (λ (asked : LossRule × Bool). Ok (Follow asked.0 channels_max asked.1)) same
+
+pub returns-in_default-before_help-clause-follow : goal.returns-in_default-before_help-clause-follow
+returns-in_default-before_help-clause-follow g c = λ rule events asks.
+    absurd (c.in_default-asked_follow_alone.not-Some (rule, events) ((c.asked_follow_alone.ensures rule events).1 asks))
+
+pub returns-in_err-help_text-clause-follow : goal.returns-in_err-help_text-clause-follow
+returns-in_err-help_text-clause-follow g c = λ rule events asks.
+    absurd (c.in_default-asked_follow_alone.not-Some (rule, events) ((c.asked_follow_alone.ensures rule events).1 asks))
+
+pub returns-clause-follow : goal.returns-clause-follow
+returns-clause-follow g c = λ rule events asks.
+    absurd (c.in_default-asked_follow_alone.not-Some (rule, events) ((c.asked_follow_alone.ensures rule events).1 asks))

@@ -1,9 +1,9 @@
-use Rattle.std.proofs.Common.{◌≡◌}
+use Rattle.std.proofs.Common.{◌≡◌, Bool}
 use Rattle.std.specs.Prelude.{map}
 use Rattle.loss_rule.specs.declared.rule.LossRule.{LossRule}
-use Rattle.command_line.specs.declared.command.Command.TheVariants.{Join, Replay, Run}
+use Rattle.command_line.specs.declared.command.Command.TheVariants.{Join, Replay, Run, Follow}
 use Rattle.engines.specs.Fault.{usage_fault}
-use Rattle.command_line.specs.Command.{AsksToJoin, AsksToReplayBy, AsksToRunByAlone}
+use Rattle.command_line.specs.Command.{AsksToJoin, AsksToReplayBy, AsksToRunByAlone, AsksToFollowAlone, channels_max}
 use Rattle.text_lines.specs.Capacities.{default_capacity}
 use Rattle.commands.proofs.ObeyedWords.{Obeys-performed, Obeys-refused, is_fault}
 use Rattle.commands.proofs.whole_program.obey.Goals as goal
@@ -18,9 +18,12 @@ returns g c =
     let runs : (rule : LossRule) → AsksToRunByAlone rule words → c.in_ok-command.command ≡ Run rule default_capacity default_capacity =
     λ rule asks. cc (c.in_ok-command.was, c.read_words.ensures.run rule asks)
     in
+    let follows : (rule : LossRule) (events : Bool) → AsksToFollowAlone rule events words → c.in_ok-command.command ≡ Follow rule channels_max events =
+    λ rule events asks. cc (c.in_ok-command.was, c.read_words.ensures.follow rule events asks)
+    in
     Obeys-performed g.R.Read.remaining g.W.Write.contents words c.args.reader.now c.perform.new.reader c.args.out.now c.perform.new.out
     c.in_ok-command.command c.perform.result c.replay_by_decisions_alone_is_a_replay.ensures.replay c.run_by_decisions_alone_is_a_run.ensures.run
-    c.requires.reader c.requires.out c.in_ok-command.ensures.asked joins replays runs c.perform.ensures
+    c.requires.reader c.requires.out c.in_ok-command.ensures.asked joins replays runs follows c.perform.ensures
 
 pub returns-in_err-command : goal.returns-in_err-command
 returns-in_err-command g c =
@@ -32,5 +35,8 @@ returns-in_err-command g c =
     let no_alone : (rule : LossRule) → ¬ AsksToRunByAlone rule words =
     λ rule asks. absurd (cc (c.in_err-command.was, c.read_words.ensures.run rule asks))
     in
+    let no_follow : (rule : LossRule) (events : Bool) → ¬ AsksToFollowAlone rule events words =
+    λ rule events asks. absurd (cc (c.in_err-command.was, c.read_words.ensures.follow rule events asks))
+    in
     rw (is_fault (usage_fault c.in_err-command.field-0.0) c.from_residual.result c.from_residual.ensures.1)
-    (Obeys-refused g.R.Read.remaining g.W.Write.contents words c.args.reader.now c.args.out.now c.in_err-command.field-0.0 c.requires.reader no_join no_replay no_alone)
+    (Obeys-refused g.R.Read.remaining g.W.Write.contents words c.args.reader.now c.args.out.now c.in_err-command.field-0.0 c.requires.reader no_join no_replay no_alone no_follow)

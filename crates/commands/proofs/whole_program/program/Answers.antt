@@ -60,3 +60,6 @@ returns-clause-run_by_is_known g c = (SaysOfWords-run c.new-reader.ensures.inner
 
 pub returns-clause-follow : goal.returns-clause-follow
 returns-clause-follow g c = (SaysOfWords-run c.new-reader.ensures.inner c.run_words-status.ensures).follow
+
+pub returns-clause-follow_is_known : goal.returns-clause-follow_is_known
+returns-clause-follow_is_known g c = (SaysOfWords-run c.new-reader.ensures.inner c.run_words-status.ensures).follow_is_known

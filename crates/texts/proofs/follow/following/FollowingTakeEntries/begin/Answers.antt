@@ -1,5 +1,5 @@
 -- Nothing was handed in, and nothing happened.
-use Rattle.std.proofs.Common.{[], refl, sym, ap, subst, ◌++◌, ◌∙◌, List, rules}
+use Rattle.std.proofs.Common.{[], refl, sym, subst, List, rules}
 use Rattle.receiver.specs.HandedIn.{made_of}
 use Rattle.texts.specs.declared.follow.happening.Happening.{Happening}
 use Rattle.texts.specs.Happened.{HasHappened, nothing}
