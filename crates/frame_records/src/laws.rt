@@ -1,0 +1,26 @@
+//! What follows from the definitions alone.
+ghost use Rattle.std.specs.Prelude.{◌≡◌, ◌≤◌, ◌<◌, ◌^◌, ℕ, List, Some, length};
+ghost use Rattle.capture.specs.Fields.{last_value};
+ghost use Rattle.capture.specs.Numbers.{number_in};
+ghost use Rattle.capture.specs.Pcap.{FitsHeader, IsRecord};
+ghost use Rattle.frame_records.specs.declared.link.FrameLink.{FrameLink};
+ghost use Rattle.frame_records.specs.declared.origin.FrameOrigin.{FrameOrigin};
+ghost use Rattle.frame_records.specs.Frames.{file_header, frame_record, longest_frame, short_bytes, origin_fields};
+ghost use Rattle.capture.specs.Packet.{two_bytes};
+
+/// Header and records are such as a reader of pcap files gives back.
+pub fn frames_are_records()
+    ensures header { (link : FrameLink) → FitsHeader (file_header link) }
+    ensures records { (link : FrameLink) (time : ℕ) (origin : FrameOrigin) (frame : List ℕ)
+        → length frame ≤ longest_frame → IsRecord (frame_record link time origin frame) }
+{}
+
+/// The channel and the SID of a frame are found in its packet as those of a burst are.
+pub fn origins_are_found()
+    ensures channel { (origin : FrameOrigin)
+        → last_value 10 (origin_fields origin) ≡ Some (short_bytes origin.channel) }
+    ensures sid { (origin : FrameOrigin)
+        → last_value 11 (origin_fields origin) ≡ Some (two_bytes origin.sid) }
+    ensures channel_number { (n : ℕ) → n < 2 ^ 32 → number_in 4 (short_bytes n) ≡ Some n }
+    ensures sid_number { (n : ℕ) → n < 2 ^ 16 → number_in 4 (two_bytes n) ≡ Some n }
+{}
