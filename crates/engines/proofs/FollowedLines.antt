@@ -107,6 +107,7 @@ happened_for state width rule setup (Some now) has put =
       given = followed.given;
       receiver = now.receiver;
       stands = followed.stands;
+      settled = followed.settled;
       has_happened =
           subst (λ (happened : List Happening). HasHappened (made_of state.rule state.width.channels setup.setup) followed.handed followed.given happened)
           (ap (λ (rest : List Happening). state.state ++ rest) put.0 ∙ append-nil state.state) (followed.happened put.1);
@@ -478,6 +479,7 @@ followed_text rule width events bytes told follower line end said has last read 
                   given = to.given;
                   receiver = to.receiver;
                   stands = to.stands;
+                  settled = to.settled;
                   has_happened = happened;
                 });
           });

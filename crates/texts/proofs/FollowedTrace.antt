@@ -1,6 +1,7 @@
 -- What happened as what lines say was handed in.
-use Rattle.std.proofs.Common.{◌≡◌, ℕ, ◌<◌, ◌≤◌, ◌⊎◌, inl, inr, ◌++◌, ◌∷◌, [], Bool, Option, Some, None, List, length, get_or, refl, sym, ap, subst, ◌∙◌, append-nil, append_assoc, arith}
-use Rattle.std.specs.Prelude.{◌↔◌, ◌&&◌, nat_lt, false, Result, Ok, Err, MatchOption, IfSome, map, slice_get}
+use Rattle.std.proofs.Common.{◌≡◌, ℕ, ◌<◌, ◌≤◌, ◌⊎◌, inl, inr, ◌++◌, ◌∷◌, [], Bool, true, Option, Some, None, List, length, get_or, refl, sym, ap, subst, ◌∙◌, append-nil, append_assoc, arith}
+use Rattle.std.specs.Prelude.{◌≢◌, ◌↔◌, ◌&&◌, nat_lt, false, Result, Ok, Err, MatchOption, IfSome, OnOk, map, flat_map, slice_get}
+use Rattle.std.proofs.lemmas.Bool.{cases_eq}
 use Rattle.std.proofs.lemmas.List.Elements.{All-push, filter_map-append}
 use Rattle.std.proofs.lemmas.Option.{slice_get_cases, slice_get_past}
 use Rattle.std.specs.List.{cons_option}
@@ -9,7 +10,8 @@ use Rattle.bonded_flows.specs.declared.flow_slot.DecideFault.{DecideFault}
 use Rattle.bonded_flows.specs.ByRule.{is_in_range}
 use Rattle.bonded_flows.specs.declared.flow_slot.FlowSlot.{FlowSlot}
 use Rattle.bonded_flows.specs.Slots.{held_in}
-use Rattle.bonded_flows.specs.Table.{TableSetup}
+use Rattle.bonded_flows.specs.declared.flow_table.FlowTable.{FlowTable}
+use Rattle.bonded_flows.specs.Table.{TableSetup, OthersStay}
 use Rattle.consumer.specs.declared.given.Given.{Given}
 use Rattle.flow_records.specs.declared.record.FlowRecord.{FlowRecord}
 use Rattle.loss_rule.specs.declared.rule.LossRule.{LossRule}
@@ -17,6 +19,7 @@ use Rattle.receiver.specs.declared.closing.Closed.{Closed}
 use Rattle.receiver.specs.declared.receiver.Receiver.{Receiver}
 use Rattle.receiver.specs.declared.reply.Reply.{Reply}
 use Rattle.receiver.specs.declared.reply.Reply.TheVariants as reply
+use Rattle.receiver.specs.declared.reply.TakeError.{TakeError}
 use Rattle.receiver.specs.declared.reply.DecisionReply.{DecisionReply}
 use Rattle.receiver.specs.declared.reply.DecisionReply.TheVariants as decision_reply
 use Rattle.receiver.specs.declared.setup.Setup.{Setup}
@@ -25,14 +28,17 @@ use Rattle.docsis_wire.specs.declared.header_check.NoCheck.{NoCheck}
 use Rattle.receiver.specs.Entries.{Entry}
 use Rattle.receiver.specs.HandedIn.{HandedIn, made_of}
 use Rattle.receiver.specs.Received.{Closes}
-use Rattle.receiver.specs.Receiving.{StandsFor, TakesMore, IsSettledAt, FlowIsSettled, IsSettledIfTaken, IsNumberExpected}
+use Rattle.receiver.specs.Receiving.{StandsFor, TakesMore, IsSettledAt, FlowIsSettled, ChangesOneFlow, IsSettledIfTaken, IsNumberExpected}
 use Rattle.receiver.specs.Replaying.{entry_of}
 use Rattle.texts.specs.declared.follow.happening.Happening.{Happening}
 use Rattle.texts.specs.declared.follow.happening.Happening.TheVariants.{Gave, Stands}
 use Rattle.texts.specs.declared.follow.happening_list.HappeningList.{HappeningList}
 use Rattle.texts.specs.AnyHeader.{any_header, no_check}
 use Rattle.texts.specs.Happened.{IsOfTrace, IsStanding, TellsStanding, TellsStandingAfter, TellsStandingDecided, Tells, HasHappened, one_more}
-use Rattle.texts.specs.Inside.Followed.{HasAdded, HasKept, TellsStandingIn, TellsStandingOf, TellsReply, TellsDecided, ReceiverUnderWay, HasFollowed, EndsFollowing}
+use Rattle.text_lines.specs.Putting.{Puts}
+use Rattle.texts.specs.Happening.{happening_lines}
+use Rattle.texts.specs.Inside.SetupLines.{SetupSoFar}
+use Rattle.texts.specs.Inside.Followed.{HasAdded, HasKept, TellsStandingIn, TellsStandingOf, TellsReply, TellsDecided, ReceiverUnderWay, IsNonePending, HasFollowed, EndsFollowing, PutsHappened}
 
 -- ---- how a flow stands
 
@@ -79,6 +85,7 @@ module _ (receiver : Receiver NoCheck) (made : TableSetup) (handed : List Handed
         number = is.2 any_header made handed given flow_record stands is_record settled;
         receiver = receiver;
         stands = stands;
+        settled = settled;
         holds = subst (λ (known : Option FlowSlot). IfSome known (λ other. held_in slot ≡ held_in other)) (sym is_slot) refl;
       },
     )
@@ -106,6 +113,30 @@ module _ (receiver : Receiver NoCheck) (made : TableSetup) (handed : List Handed
       → TellsStandingDecided made handed given flow reply told
   tells_decided flow decision_reply.PassedOver told settled tells = tells
   tells_decided flow (decision_reply.Taken lost) told settled tells = tells_standing flow told settled tells
+
+-- ---- nothing is left to be done
+
+-- of any flow, where nothing was of any before, only one changed since, and nothing is left to be done of that
+others_settled : (receiver receiver' : Receiver NoCheck) (flow : ℕ) → ((k : ℕ) → IsSettledAt receiver k) → OthersStay receiver.flows flow receiver'.flows
+    → IsSettledAt receiver' flow → (k : ℕ) → IsSettledAt receiver' k
+others_settled receiver receiver' flow all others settled k = by_cases (cases_eq k flow) where
+  by_cases : (k ≡ flow) ⊎ (k ≢ flow) → IsSettledAt receiver' k
+  by_cases (inl same) = subst (λ (k : ℕ). IsSettledAt receiver' k) (sym same) settled
+  by_cases (inr other) = λ slot is. all k slot (sym (others k other) ∙ is)
+
+settled_after : (receiver receiver' : Receiver NoCheck) (reply : Reply) → ((k : ℕ) → IsSettledAt receiver k)
+    → ChangesOneFlow receiver.flows (Ok reply) receiver'.flows → FlowIsSettled receiver' reply → (k : ℕ) → IsSettledAt receiver' k
+settled_after receiver receiver' reply.Granted all same settled k = λ slot is. all k slot (subst (λ (flows : FlowTable NoCheck). slice_get flows.slots.items k ≡ Some slot) same is)
+settled_after receiver receiver' (reply.Refused refusal) all same settled k =
+    λ slot is. all k slot (subst (λ (flows : FlowTable NoCheck). slice_get flows.slots.items k ≡ Some slot) same is)
+settled_after receiver receiver' (reply.Admitted flow sequence told_of) all others settled k = others_settled receiver receiver' flow all others settled k
+
+pub settled_decided : (receiver receiver' : Receiver NoCheck) (flow : ℕ) (reply : DecisionReply) → ((k : ℕ) → IsSettledAt receiver k)
+    → (reply ≡ decision_reply.PassedOver → receiver' ≡ receiver) → OthersStay receiver.flows flow receiver'.flows → IsSettledIfTaken receiver' flow reply
+    → (k : ℕ) → IsSettledAt receiver' k
+settled_decided receiver receiver' flow decision_reply.PassedOver all same others settled k =
+    subst (λ (receiver : Receiver NoCheck). IsSettledAt receiver k) (sym (same refl)) (all k)
+settled_decided receiver receiver' flow (decision_reply.Taken lost) all same others settled k = others_settled receiver receiver' flow all others settled k
 
 -- ---- one thing more
 
@@ -138,16 +169,23 @@ module _ (told : List Happening) (rule : LossRule) (width : Width) (setup : Setu
       → HasKept now.pending given pending
   kept_besides given pending was_given = was_given now.pending [] (λ whole. (whole, sym (append-nil now.pending.happened.items)))
 
+  -- nothing is left to be done after an input
+  pub settled_by_input : (receiver : Receiver NoCheck) (result : Result Reply TakeError) (reply : Reply) → result ≡ Ok reply
+      → ChangesOneFlow now.receiver.flows result receiver.flows → FlowIsSettled receiver reply → (k : ℕ) → IsSettledAt receiver k
+  settled_by_input receiver result reply is changes =
+      settled_after now.receiver receiver reply has.settled (subst (λ result. ChangesOneFlow now.receiver.flows result receiver.flows) is changes)
+
   -- one thing more was handed in, and what became of it was told
   pub followed_more : (receiver : Receiver NoCheck) (between : HappeningList) (one : HandedIn) (entry : Entry) (new : List Happening) (pending : HappeningList)
       → IsOfTrace width.channels one → entry_of one ≡ Some entry
       → (takes : TakesMore HasKept no_check now.receiver now.pending (one ∷ []) receiver between)
-      → Tells made has.handed (has.given ++ takes.given_more) one new → HasAdded between new pending
+      → ((k : ℕ) → IsSettledAt receiver k) → Tells made has.handed (has.given ++ takes.given_more) one new → HasAdded between new pending
       → HasFollowed told rule width setup (entries ++ entry ∷ []) (record { receiver = receiver; pending = pending })
-  followed_more receiver between one entry new pending of_trace is takes tells added = record {
+  followed_more receiver between one entry new pending of_trace is takes settled tells added = record {
     handed = has.handed ++ one ∷ [];
     given = has.given ++ takes.given_more;
     stands = takes.stands any_header made has.handed has.given has.stands;
+    settled = settled;
     entries_are = record {
       each = All-push (IsOfTrace width.channels) has.handed one has.entries_are.each of_trace;
       are =
@@ -175,6 +213,7 @@ module _ (told : List Happening) (rule : LossRule) (width : Width) (setup : Setu
           given = has.given;
           receiver = now.receiver;
           stands = has.stands;
+          settled = has.settled;
           last = now.pending.happened.items;
           happened = has.happened kept.0;
           rest = closes.given_more;
@@ -182,3 +221,43 @@ module _ (told : List Happening) (rule : LossRule) (width : Width) (setup : Setu
           are = kept.1;
         };
   }
+
+-- ---- what was pending is put
+
+-- and was told then
+put_more : (told : List Happening) (rule : LossRule) (width : Width) (setup : Setup) (entries : List Entry) (now now' : ReceiverUnderWay)
+    → HasFollowed told rule width setup entries now → now'.receiver ≡ now.receiver → now.pending.whole ≡ true → IsNonePending now'
+    → HasFollowed (told ++ now.pending.happened.items) rule width setup entries now'
+put_more told rule width setup entries now now' has same whole none = record {
+  handed = has.handed;
+  given = has.given;
+  stands =
+      subst (λ (receiver : Receiver NoCheck). StandsFor no_check receiver any_header (made_of rule width.channels setup) has.handed has.given) (sym same) has.stands;
+  settled = subst (λ (receiver : Receiver NoCheck). (k : ℕ) → IsSettledAt receiver k) (sym same) has.settled;
+  entries_are = has.entries_are;
+  happened = λ _.
+      subst (λ (happened : List Happening). HasHappened (made_of rule width.channels setup) has.handed has.given happened)
+      (sym (ap (λ (rest : List Happening). (told ++ now.pending.happened.items) ++ rest) none.0 ∙ append-nil (told ++ now.pending.happened.items)))
+      (has.happened whole);
+}
+
+pub puts_happened : {T E : Type 0} (after : T → List ℕ → T → Type 0) (line : ℕ) (events : Bool) (width : Width) (rule : LossRule) (so_far : SetupSoFar)
+    (taker : Option ReceiverUnderWay) (now now' : ReceiverUnderWay) (out out' : T) (result : Result (Unit {0}) E) → taker ≡ Some now
+    → OnOk result (Puts after out (flat_map (happening_lines events line) now.pending.happened.items) out') → OnOk result (now.pending.whole ≡ true)
+    → OnOk result (IsNonePending now') → OnOk result (now'.receiver ≡ now.receiver)
+    → OnOk result (PutsHappened after line events width rule so_far taker out width rule so_far (Some now') out')
+puts_happened after line events width rule so_far taker now now' out out' (Err fault) is put whole none same = tt
+puts_happened after line events width rule so_far taker now now' out out' (Ok done) is put whole none same =
+    subst (λ (taker : Option ReceiverUnderWay). PutsHappened after line events width rule so_far taker out width rule so_far (Some now') out') (sym is)
+    (record {
+      happened = now.pending.happened.items;
+      put = put;
+      none = none;
+      told = λ state has. record {
+        width_is = has.width_is;
+        rule_is = has.rule_is;
+        setup = has.setup;
+        mailbox = has.mailbox;
+        taken = (has.taken.0, put_more state.state state.rule state.width so_far.setup state.said.entries now now' has.taken.1 same whole none);
+      };
+    })

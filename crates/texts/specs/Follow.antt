@@ -12,7 +12,7 @@ use Rattle.receiver.specs.declared.tally.LaneTally.{LaneTally}
 use Rattle.receiver.specs.declared.width.Width.{Width}
 use Rattle.receiver.specs.HandedIn.{HandedIn, made_of}
 use Rattle.receiver.specs.Received.{IsReceived}
-use Rattle.receiver.specs.Receiving.{StandsFor}
+use Rattle.receiver.specs.Receiving.{StandsFor, IsSettledAt}
 use Rattle.text_lines.specs.Capacities.{default_capacity}
 use Rattle.text_lines.specs.Format.{IsRead}
 use Rattle.text_lines.specs.Lines.{lines_of, line_feed}
@@ -68,6 +68,7 @@ pub record IsFollowedTo (rule : LossRule) (width : Width) (said : Said) (told : 
   pub given : List Given
   pub receiver : Receiver NoCheck
   pub stands : StandsFor no_check receiver any_header (made_of rule width.channels end.setup) handed given
+  pub settled : (k : ℕ) → IsSettledAt receiver k
   pub last : List Happening
   pub happened : HasHappened (made_of rule width.channels end.setup) handed given (told ++ last)
   pub rest : List Given

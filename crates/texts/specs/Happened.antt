@@ -18,7 +18,7 @@ use Rattle.receiver.specs.declared.setup.Setup.{Setup}
 use Rattle.receiver.specs.declared.width.Width.{Width}
 use Rattle.receiver.specs.Entries.{Entry}
 use Rattle.receiver.specs.HandedIn.{HandedIn, came, decided, restarted, made_of}
-use Rattle.receiver.specs.Receiving.{StandsFor, Says, IsToldRightly, IsLossToldRightly, IsNumberExpected}
+use Rattle.receiver.specs.Receiving.{StandsFor, IsSettledAt, Says, IsToldRightly, IsLossToldRightly, IsNumberExpected}
 use Rattle.receiver.specs.Replaying.{entry_of, IsGapDecision}
 use Rattle.text_lines.specs.Capacities.{default_capacity}
 use Rattle.text_lines.specs.Format.{IsRead}
@@ -46,11 +46,12 @@ pub record AreHandedIn (channels : ℕ) (entries : List Entry) (handed : List Ha
 -- ---- what is told of one thing that is handed in
 
 -- A flow with this record stands so after all this: it expects the number of the index that it expects, and holds as many segments as a receiver does that
--- stands for all this.
+-- stands for all this, once nothing of the flow is left to be done.
 pub record IsStanding (made : TableSetup) (handed : List HandedIn) (given : List Given) (flow : ℕ) (flow_record : FlowRecord) (expected held : ℕ) : Type 0 where
   pub number : IsNumberExpected made flow flow_record handed expected
   pub receiver : Receiver NoCheck
   pub stands : StandsFor no_check receiver any_header made handed given
+  pub settled : IsSettledAt receiver flow
   pub holds : IfSome (slice_get receiver.flows.slots.items flow) (λ slot. held ≡ held_in slot)
 
 -- how the flow with this index stands is told; and nothing if there is none
@@ -103,8 +104,8 @@ pub data HasHappened (made : TableSetup) : List HandedIn → List Given → List
 
 -- ---- what happens for the lines of a trace
 
--- What happened by this rule at a receiver of this width for what some lines say that came in: it has the setup that they give, and each entry was handed
--- in, in order. It is made with the first entry; before, nothing happens.
+-- What happened by this rule at a receiver of this width for what some lines say that came in: it has the setup that they give, each entry was handed in, in
+-- order, and nothing is left to be done, so that all was given that is whole. It is made with the first entry; before, nothing happens.
 pub record HasHappenedFor (rule : LossRule) (width : Width) (said : Said) (happened : List Happening) : Type 0 where
   pub setup : Setup
   pub is_setup : IsSetupOf said setup
@@ -113,6 +114,7 @@ pub record HasHappenedFor (rule : LossRule) (width : Width) (said : Said) (happe
   pub given : List Given
   pub receiver : Receiver NoCheck
   pub stands : StandsFor no_check receiver any_header (made_of rule width.channels setup) handed given
+  pub settled : (k : ℕ) → IsSettledAt receiver k
   pub has_happened : HasHappened (made_of rule width.channels setup) handed given happened
 
 -- what happened for these lines

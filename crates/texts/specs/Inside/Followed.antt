@@ -64,11 +64,12 @@ pub record ReceiverUnderWay : Type 0 where
   pub receiver : Receiver NoCheck
   pub pending : HappeningList
 
--- These entries were handed in, and all that happened was told or is pending.
+-- These entries were handed in, nothing is left to be done, and all that happened was told or is pending.
 pub record HasFollowed (told : List Happening) (rule : LossRule) (width : Width) (setup : Setup) (entries : List Entry) (now : ReceiverUnderWay) : Type 0 where
   pub handed : List HandedIn
   pub given : List Given
   pub stands : StandsFor no_check now.receiver any_header (made_of rule width.channels setup) handed given
+  pub settled : (k : ℕ) → IsSettledAt now.receiver k
   pub entries_are : AreHandedIn width.channels entries handed
   pub happened : now.pending.whole ≡ true → HasHappened (made_of rule width.channels setup) handed given (told ++ now.pending.happened.items)
 
@@ -81,6 +82,7 @@ pub record IsClosedAfter (told : List Happening) (rule : LossRule) (width : Widt
   pub given : List Given
   pub receiver : Receiver NoCheck
   pub stands : StandsFor no_check receiver any_header (made_of rule width.channels setup) handed given
+  pub settled : (k : ℕ) → IsSettledAt receiver k
   pub last : List Happening
   pub happened : HasHappened (made_of rule width.channels setup) handed given (told ++ last)
   pub rest : List Given

@@ -14,6 +14,7 @@ returns c = λ state has.
       given = closed.given;
       receiver = closed.receiver;
       stands = closed.stands;
+      settled = closed.settled;
       last = closed.last;
       happened = closed.happened;
       rest = closed.rest;

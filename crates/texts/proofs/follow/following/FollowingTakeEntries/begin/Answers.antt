@@ -10,6 +10,7 @@ returns c = record {
   handed = [];
   given = [];
   stands = c.in-Ok.ensures.stands;
+  settled = c.in-Ok.ensures.settled;
   entries_are = record { each = search rules; are = refl };
   happened = λ whole.
       subst (λ (happened : List Happening). HasHappened (made_of c.args.rule c.args.width.channels c.args.setup.now) [] [] happened) (sym c.new-2.ensures.none) nothing;

@@ -1,5 +1,6 @@
 -- A decision was handed in.
-use Rattle.std.proofs.Common.{◌≡◌, ◌++◌, ◌∷◌, [], Some, refl, sym, subst}
+use Rattle.std.proofs.Common.{◌≡◌, ◌++◌, ◌∷◌, [], Some, refl, sym, ap, subst, ◌∙◌}
+use Rattle.std.specs.Prelude.{Ok}
 use Rattle.bonded_flows.specs.declared.decision.FlowDecision.{FlowDecision}
 use Rattle.receiver.specs.Entries.{decided}
 use Rattle.receiver.specs.HandedIn as handed_in
@@ -8,7 +9,7 @@ use Rattle.receiver.specs.Replaying.{entry_of, IsGapDecision}
 use Rattle.receiver.proofs.ReplayedEntries.{decision-recorded, decision-entry}
 use Rattle.texts.specs.AnyHeader.{any_header}
 use Rattle.texts.specs.Inside.Followed.{ReceiverUnderWay, HasFollowed}
-use Rattle.texts.proofs.FollowedTrace.{followed_more, tells_decided, passed_over}
+use Rattle.texts.proofs.FollowedTrace.{followed_more, settled_decided, tells_decided, passed_over}
 use Rattle.texts.proofs.follow.following.FollowingTakeEntries.decide.Goals as goal
 
 pub returns-in-Ok : goal.returns-in-Ok
@@ -22,6 +23,8 @@ returns-in-Ok c = λ told rule setup entries was.
     followed_more told rule c.args._width setup entries _ has c.decide.new.self c.decide.new.out one (decided decision) _ c.add_decision_reply.new.happened
     (subst IsGapDecision (sym c.decided_by.ensures) (decision-recorded decision))
     (subst (λ (what : FlowDecision). entry_of (handed_in.decided decision.flow what) ≡ Some (decided decision)) (sym c.decided_by.ensures) (decision-entry decision)) takes
+    (settled_decided _ c.decide.new.self decision.flow c.in-Ok.reply has.settled
+    (λ passed. (c.decide.ensures.unchanged (c.in-Ok.is ∙ ap Ok passed)).0) c.decide.ensures.others c.in-Ok.ensures.settled)
     (record {
       reply = c.in-Ok.reply;
       passed_over = passed_over c.decide.result c.in-Ok.reply decision.flow _ _ c.decided_by.result c.in-Ok.is has.stands.flows.flow_count c.decide.ensures.passed_over;

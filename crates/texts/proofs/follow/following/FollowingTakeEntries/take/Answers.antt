@@ -8,7 +8,7 @@ use Rattle.texts.specs.declared.follow.happening.InputName.{InputName}
 use Rattle.texts.specs.AnyHeader.{any_header}
 use Rattle.texts.specs.Happening.{name_of_input}
 use Rattle.texts.specs.Inside.Followed.{ReceiverUnderWay, HasFollowed}
-use Rattle.texts.proofs.FollowedTrace.{followed_more, tells_after}
+use Rattle.texts.proofs.FollowedTrace.{followed_more, settled_by_input, tells_after}
 use Rattle.texts.proofs.follow.following.FollowingTakeEntries.take.Goals as goal
 
 pub returns-in-Ok : goal.returns-in-Ok
@@ -22,6 +22,7 @@ returns-in-Ok c = λ told rule setup entries was.
     followed_more told rule c.args._width setup entries _ has c.take.new.self c.take.new.out one (came c.args.channel c.args.input) _ c.add_reply.new.happened
     (subst (λ (channel : ℕ). channel < c.args._width.channels) (sym c.from.ensures) c.requires.channel) (ap (λ (channel : ℕ). Some (came channel c.args.input)) c.from.ensures)
     replies.takes
+    (settled_by_input told rule c.args._width setup entries _ has c.take.new.self c.take.result c.in-Ok.reply c.in-Ok.is c.take.ensures.others c.in-Ok.ensures.settled)
     (record {
       reply = c.in-Ok.reply;
       says = replies.says;
