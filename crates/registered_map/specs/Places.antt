@@ -1,5 +1,5 @@
 -- The places of flows and channels among those that were told, and the flow of a SID.
-use Rattle.std.specs.Prelude.{ℕ, max, ◌==◌, ◌&&◌, List, length, find, position, Option, Some, None, option_map, slice_get, slice_set}
+use Rattle.std.specs.Prelude.{ℕ, max, ◌==◌, ◌&&◌, List, find, position, Option, Some, None, option_map, slice_get, slice_set}
 use Rattle.std.specs.List.{position_or_len}
 use Rattle.registered_map.specs.declared.telling.RegisteredFlow.{RegisteredFlow}
 use Rattle.registered_map.specs.declared.telling.RegisteredChannel.{RegisteredChannel}

@@ -1,5 +1,4 @@
-use Rattle.std.proofs.Common.{◌-◌, None, length, get_or, take, sym, ap, ◌∙◌, arith}
-use Rattle.std.specs.Prelude.{fold}
+use Rattle.std.proofs.Common.{◌-◌, None, length, get_or, sym, ap, ◌∙◌, arith}
 use Rattle.std.proofs.lemmas.List.Sums.{fold_more}
 use Rattle.registrations.specs.declared.told.Told.{Told}
 use Rattle.registrations.specs.declared.told.Told.TheVariants.{Flow}

@@ -1,0 +1,15 @@
+//! The engines of the program `segrx` that read captures.
+//!
+//! [`map_capture`] reads a capture of any length to its end, piece by piece, and then writes the map
+//! that the registrations in it give. Of the capture it holds a piece, one record or block, the
+//! messages that are under way, and the map.
+//!
+//! What matters most: what is written is the text of the map of the messages that the records of the
+//! bytes read tell, by the definition `IsMapText`; or a fault is reported with how many records came
+//! before it, and then nothing was written.
+#![tactic(auto)]
+
+mod map_capture;
+mod map_reading;
+
+pub use map_capture::map_capture;
