@@ -1,12 +1,14 @@
 -- The map of a capture, and why there is none.
-use Rattle.std.specs.Prelude.{◌≡◌, ◌≢◌, ◌≤◌, ◌-◌, ◌^◌, ◌⊎◌, ℕ, List, ◌++◌, Option, true, false, Result, Err, IfSome, IfErr, OnOk}
+use Rattle.std.specs.Prelude.{◌≡◌, ◌≢◌, ◌≤◌, ◌-◌, ◌^◌, ◌⊎◌, ℕ, ◌==◌, List, [], ◌++◌, length, Option, true, false, Result, Err, IfSome, IfErr, OnOk, if◌then◌else◌}
 use Rattle.std.specs.Io.KnownBytes.{Keeps, IsAtEnd}
 use Rattle.capture.specs.PcapngBlocks.{CaptureParts}
 use Rattle.capture.specs.Captures.{HasCaptured, HasCaptureFault, IsWholeCapture}
 use Rattle.capture.specs.declared.capture_reader.CaptureReader.{CaptureReader}
 use Rattle.registrations.specs.declared.unfinished.Unfinished.{Unfinished}
-use Rattle.registered_map.specs.Registered.{CapturedMessage, registered}
+use Rattle.registered_map.specs.Registered.{CapturedMessage, Registered, registered}
 use Rattle.registered_map.specs.MapText.{map_text}
+use Rattle.seen_sids.specs.Seen.{Seen}
+use Rattle.seen_sids.specs.SeenText.{seen_text}
 use Rattle.engines.specs.declared.device.Device.{Device}
 use Rattle.engines.specs.declared.fault.EngineFault.{EngineFault}
 use Rattle.engines.specs.declared.fault.EngineFault.TheVariants.{Trace, Cut, Capture, OutOfMemory, Read, Write, Usage}
@@ -16,12 +18,17 @@ use Rattle.engines.specs.Engine.{WritesText, WritesFront}
 use Rattle.engines.specs.Transfer.{IsLeftFlushed}
 use Rattle.capture_engines.specs.Telling.{counted, TellAll}
 
+-- where no SID was added, what was seen stands above the map
+abbrev pub text_of : Registered → Seen → List ℕ
+text_of map seen = (if length map.sids == 0 then seen_text seen else []) ++ map_text map
+
 -- the text is the map of what these records tell
 pub record IsMapOf (records : List CaptureParts) (text : List ℕ) : Type 0 where
   pub end : Unfinished
   pub messages : List CapturedMessage
-  pub told : TellAll records end messages
-  pub text_is : text ≡ map_text (registered messages)
+  pub seen : Seen
+  pub told : TellAll records end messages seen
+  pub text_is : text ≡ text_of (registered messages) seen
 
 -- **The text is the map of the capture that these bytes are.**
 pub record IsMapText (input text : List ℕ) : Type 0 where

@@ -1,15 +1,19 @@
 //! What the records of a capture tell so far.
-ghost use Rattle.std.specs.Prelude.{◌≡◌, ◌<◌, [], length, IfOk, IfErr, OnOk};
+ghost use Rattle.std.specs.Prelude.{◌≡◌, [], IfOk, IfErr, OnOk};
 ghost use Rattle.capture.specs.SeenCapture.{capture_parts};
 ghost use Rattle.capture.specs.PcapReading.{MovesOn};
 ghost use Rattle.capture.specs.Captures.{IsWholeCapture};
 ghost use Rattle.engines.specs.declared.fault.EngineFault.TheVariants.{OutOfMemory};
-ghost use Rattle.capture_engines.specs.Inside.Reading.{HasMapped, TakesRecord, TakesPart, MapsSome, MapsPiece, CannotMap, EndsEarly};
+ghost use Rattle.registrations.specs.Part.{part_seen};
+ghost use Rattle.seen_sids.specs.Seen.{seen_in};
+ghost use Rattle.capture_engines.specs.Telling.{Counts, Shows};
+ghost use Rattle.capture_engines.specs.Inside.Reading.{HasMapped, TakesRecord, TakesMessage, TakesPart, MapsSome, MapsPiece, CannotMap, EndsEarly};
 
-use capture::{CaptureReader, CaptureRecord};
+use capture::{CaptureReader, CaptureRecord, read_burst};
 use engines::EngineFault;
 use registered_map::RegisteredMap;
-use registrations::{JoinFault, Part, Unfinished, part_in_capture};
+use registrations::{JoinFault, Part, Unfinished, read_part};
+use seen_sids::SeenSids;
 use std::alloc::Global;
 
 /// The link type of an XRA analyser's packets.
@@ -21,6 +25,7 @@ pub(crate) struct MapReading {
     pub(crate) reader: CaptureReader,
     pub(crate) unfinished: Unfinished,
     pub(crate) map: RegisteredMap,
+    pub(crate) seen: SeenSids,
     /// How many records came. It stays at its greatest value.
     pub(crate) records: u64,
 }
@@ -34,6 +39,7 @@ impl MapReading {
             reader: CaptureReader::new(),
             unfinished: Unfinished::new(alloc),
             map: RegisteredMap::new(alloc),
+            seen: SeenSids::new(alloc),
             records: 0,
         }
     }
@@ -68,17 +74,30 @@ impl MapReading {
         }
     }
 
-    /// Takes what a record tells.
+    /// Takes what a record tells and shows.
     fn take_record(&mut self, alloc: Global, given: &CaptureRecord) -> Result<(), EngineFault>
         ensures reader { self.new.reader ≡ self.old.reader }
         ensures taken { OnOk result (TakesRecord self.old (capture_parts given.now) self.new) }
         ensures only { IfErr result (λ fault. fault ≡ OutOfMemory) }
     {
         self.records = self.records.saturating_add(1);
-        if given.link_type != XRA {
+        if given.link_type != XRA || given.is_cut_short() {
             return Ok(());
         }
-        match part_in_capture(given) {
+        self.take_message(alloc, given)?;
+        self.take_burst(given)
+    }
+
+    /// Takes the part of a message that a record holds, and the message where it is whole.
+    fn take_message(&mut self, alloc: Global, given: &CaptureRecord) -> Result<(), EngineFault>
+        requires { Counts (capture_parts given.now) }
+        ensures reader { self.new.reader ≡ self.old.reader }
+        ensures seen { self.new.seen ≡ self.old.seen }
+        ensures records { self.new.records ≡ self.old.records }
+        ensures taken { OnOk result (TakesMessage self.old (capture_parts given.now) self.new) }
+        ensures only { IfErr result (λ fault. fault ≡ OutOfMemory) }
+    {
+        match read_part(&given.bytes) {
             Ok(part) => self.take_part(alloc, part, given.nanoseconds),
             Err(_) => Ok(()),
         }
@@ -92,14 +111,33 @@ impl MapReading {
         nanoseconds: u64,
     ) -> Result<(), EngineFault>
         ensures reader { self.new.reader ≡ self.old.reader }
+        ensures seen { self.new.seen ≡ self.old.seen }
         ensures records { self.new.records ≡ self.old.records }
-        ensures taken { OnOk result (TakesPart self.old (part_seen part.entry) nanoseconds self.new) }
+        ensures taken { OnOk result
+            (TakesPart self.old (part_seen part.entry) nanoseconds self.new) }
         ensures only { IfErr result (λ fault. fault ≡ OutOfMemory) }
     {
         match self.unfinished.take(alloc, part) {
             Ok(Some(message)) => Ok(self.map.take(alloc, &message, nanoseconds, self.records)?),
             Ok(None) => Ok(()),
             Err(JoinFault::OutOfMemory) => Err(EngineFault::OutOfMemory),
+            Err(_) => Ok(()),
+        }
+    }
+
+    /// Counts the burst that a record holds.
+    fn take_burst(&mut self, given: &CaptureRecord) -> Result<(), EngineFault>
+        requires { Counts (capture_parts given.now) }
+        ensures reader { self.new.reader ≡ self.old.reader }
+        ensures unfinished { self.new.unfinished ≡ self.old.unfinished }
+        ensures map { self.new.map ≡ self.old.map }
+        ensures records { self.new.records ≡ self.old.records }
+        ensures shown { OnOk result
+            (Shows (capture_parts given.now) (seen_in self.old.seen) (seen_in self.new.seen)) }
+        ensures only { IfErr result (λ fault. fault ≡ OutOfMemory) }
+    {
+        match read_burst(&given.bytes) {
+            Ok(burst) => Ok(self.seen.take(&burst)?),
             Err(_) => Ok(()),
         }
     }

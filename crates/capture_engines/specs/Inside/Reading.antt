@@ -9,18 +9,19 @@ use Rattle.registrations.specs.declared.joining.JoinFault.{JoinFault}
 use Rattle.registrations.specs.declared.joining.JoinFault.TheVariants as join
 use Rattle.registered_map.specs.Registered.{CapturedMessage, with_message, registered}
 use Rattle.registered_map.specs.Holding.{registered_in}
+use Rattle.seen_sids.specs.Seen.{seen_in}
 use Rattle.engines.specs.declared.device.Device.{Device}
 use Rattle.engines.specs.declared.fault.EngineFault.{EngineFault}
 use Rattle.engines.specs.declared.fault.EngineFault.TheVariants.{Capture, OutOfMemory, Read}
 use Rattle.engines.specs.Device.{has_failed, given_of}
-use Rattle.capture_engines.specs.Telling.{counted, completed, KeepsOthers, TellAll}
+use Rattle.capture_engines.specs.Telling.{counted, completed, KeepsOthers, Tells, TellAll}
 use Rattle.capture_engines.specs.Mapping.{IsFaultyCapture}
 use Rattle.capture_engines.specs.declared.map_reading.MapReading.{MapReading}
 
--- what these records tell was taken
+-- what these records tell and show was taken
 pub record HasTold (records : List CaptureParts) (reading : MapReading) : Type 0 where
   pub messages : List CapturedMessage
-  pub told : TellAll records reading.unfinished messages
+  pub told : TellAll records reading.unfinished messages (seen_in reading.seen)
   pub registered_is : registered_in reading.map ≡ registered messages
   pub count : reading.records ≡ counted records
 
@@ -36,6 +37,12 @@ pub data TakesPart (old : MapReading) (part : PartParts) (nanoseconds : ℕ) (ne
       → registered_in new.map ≡ fold with_message (registered_in old.map) (completed given nanoseconds old.records) → TakesPart old part nanoseconds new
   part_refused : (why : JoinFault) → why ≢ join.OutOfMemory → Refused old.unfinished new.unfinished part why
       → KeepsOthers old.unfinished new.unfinished part.modem → registered_in new.map ≡ registered_in old.map → TakesPart old part nanoseconds new
+
+-- so what a record tells
+pub record TakesMessage (old : MapReading) (one : CaptureParts) (new : MapReading) : Type 0 where
+  pub more : List CapturedMessage
+  pub tells : Tells one old.records old.unfinished new.unfinished more
+  pub registered_is : registered_in new.map ≡ fold with_message (registered_in old.map) more
 
 -- whatever records came, this one was taken
 abbrev pub TakesRecord : MapReading → CaptureParts → MapReading → Type 0
