@@ -10,7 +10,7 @@
 //! before it, and then nothing was written.
 #![tactic(auto)]
 
-mod map_capture;
 mod map_reading;
+mod mapping;
 
-pub use map_capture::map_capture;
+pub use mapping::map_capture;

@@ -4,7 +4,7 @@ use Rattle.std.proofs.lemmas.Option.{same_Some}
 use Rattle.std.specs.Prelude.{codes, slice_get}
 use Rattle.loss_rule.specs.declared.rule.LossRule.{LossRule}
 use Rattle.command_line.specs.Losses.{rule_name, losses_option, AskForRuleAlone}
-use Rattle.command_line.specs.Command.{IsCommand, options_in, AsksToReplayBy, AsksToRunByAlone, IsHelpWord, HasNoHelpWord}
+use Rattle.command_line.specs.Command.{IsCommand, options_in, AsksToReplayBy, AsksToRunByAlone, AsksToMap, IsHelpWord, HasNoHelpWord}
 use Rattle.command_line.proofs.AskedRules.{name_without_dash}
 
 -- none of these words asks for help
@@ -30,6 +30,10 @@ no_help_in_replay (inr long) = let e : 114 ≡ 45 = ap (λ text. get_or text 0 0
 no_help_in_run : ¬ IsHelpWord (codes "run")
 no_help_in_run (inl short) = let e : 3 ≡ 2 = ap length short in omega (arith, e)
 no_help_in_run (inr long) = let e : 114 ≡ 45 = ap (λ text. get_or text 0 0) long in omega (arith, e)
+
+no_help_in_map : ¬ IsHelpWord (codes "map")
+no_help_in_map (inl short) = let e : 3 ≡ 2 = ap length short in omega (arith, e)
+no_help_in_map (inr long) = let e : 109 ≡ 45 = ap (λ text. get_or text 0 0) long in omega (arith, e)
 
 no_help_in_option : (word rest : List ℕ) → word ≡ losses_option ++ rest → ¬ IsHelpWord word
 no_help_in_option word rest is (inl short) = let e = ap length (sym is ∙ short) in omega (arith, e)
@@ -64,3 +68,11 @@ replays_without_help rule words replays = commands_without_help (codes "replay")
 
 pub runs_without_help : (rule : LossRule) (words : List (List ℕ)) → AsksToRunByAlone rule words → HasNoHelpWord words
 runs_without_help rule words runs = commands_without_help (codes "run") no_help_in_run rule words runs.0 runs.1
+
+-- nor have words that ask for a map
+pub map_without_help : (words : List (List ℕ)) → AsksToMap words → HasNoHelpWord words
+map_without_help [] asks = absurd asks
+map_without_help (name ∷ []) asks = absurd asks
+map_without_help (name ∷ word ∷ []) asks =
+    behind_name name (word ∷ []) (NoneHelps-cons word [] (subst (λ w. ¬ IsHelpWord w) (sym asks) no_help_in_map) NoneHelps-nil)
+map_without_help (name ∷ word ∷ another ∷ more) asks = absurd asks

@@ -60,3 +60,9 @@ returns-clause-run_by_is_known g c = (SaysOfWords-run c.new-reader.ensures.inner
 
 pub returns-clause-follow : goal.returns-clause-follow
 returns-clause-follow g c = (SaysOfWords-run c.new-reader.ensures.inner c.run_words-status.ensures).follow
+
+pub returns-clause-map : goal.returns-clause-map
+returns-clause-map g c = (SaysOfWords-run c.new-reader.ensures.inner c.run_words-status.ensures).map
+
+pub returns-clause-map_is_known : goal.returns-clause-map_is_known
+returns-clause-map_is_known g c = (SaysOfWords-run c.new-reader.ensures.inner c.run_words-status.ensures).map_is_known
