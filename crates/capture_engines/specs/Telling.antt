@@ -1,5 +1,5 @@
 -- What the records of a capture tell of the SIDs of modems.
-use Rattle.std.specs.Prelude.{◌≡◌, ◌≢◌, ◌≤◌, ◌+◌, ◌-◌, ◌^◌, min, ℕ, List, [], ◌∷◌, ◌++◌, length, Option, Some, None, Ok}
+use Rattle.std.specs.Prelude.{◌≡◌, ◌≢◌, ◌≤◌, ◌-◌, ◌^◌, min, ℕ, List, [], ◌∷◌, ◌++◌, length, Option, Some, None, Ok}
 use Rattle.capture.specs.Packet.{Parts, packet_bytes}
 use Rattle.capture.specs.Burst.{BurstParts, burst_of}
 use Rattle.capture.specs.PcapngBlocks.{CaptureParts}

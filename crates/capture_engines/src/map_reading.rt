@@ -1,5 +1,5 @@
 //! What the records of a capture tell so far.
-ghost use Rattle.std.specs.Prelude.{◌≡◌, [], IfOk, IfErr, OnOk};
+ghost use Rattle.std.specs.Prelude.{◌≡◌, ◌≢◌, [], IfOk, IfErr, OnOk};
 ghost use Rattle.capture.specs.SeenCapture.{capture_parts};
 ghost use Rattle.capture.specs.PcapReading.{MovesOn};
 ghost use Rattle.capture.specs.Captures.{IsWholeCapture};
@@ -28,6 +28,17 @@ pub(crate) struct MapReading {
     pub(crate) seen: SeenSids,
     /// How many records came. It stays at its greatest value.
     pub(crate) records: u64,
+}
+
+/// What comes of a part that is refused: nothing, but where an allocation failed.
+fn after_refusal(fault: JoinFault) -> Result<(), EngineFault>
+    ensures other { OnOk result (fault ≢ JoinFault.OutOfMemory) }
+    ensures only { IfErr result (λ fault. fault ≡ OutOfMemory) }
+{
+    match fault {
+        JoinFault::OutOfMemory => Err(EngineFault::OutOfMemory),
+        _ => Ok(()),
+    }
 }
 
 impl MapReading {
@@ -120,8 +131,7 @@ impl MapReading {
         match self.unfinished.take(alloc, part) {
             Ok(Some(message)) => Ok(self.map.take(alloc, &message, nanoseconds, self.records)?),
             Ok(None) => Ok(()),
-            Err(JoinFault::OutOfMemory) => Err(EngineFault::OutOfMemory),
-            Err(_) => Ok(()),
+            Err(fault) => after_refusal(fault),
         }
     }
 
