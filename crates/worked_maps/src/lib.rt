@@ -6,6 +6,8 @@
 #![tactic(auto)]
 
 #[cfg(test)]
+mod captures;
+#[cfg(test)]
 mod registered;
 #[cfg(test)]
 mod seen;

@@ -21,6 +21,7 @@ const TIME: u64 = 1_000_000_001;
 
 /// Adds a SID, or deletes it.
 const ADD: u8 = 1;
+
 const DELETE: u8 = 2;
 
 /// The TLV 47 that tells a SID of a flow's cluster on a channel.
@@ -83,7 +84,10 @@ fn two_messages(alloc: Global) -> Result<RegisteredMap, AllocError> {
     let first = message(
         alloc,
         ACCEPTED,
-        &[told(100, 0, 17, 256, ADD), told(u32::MAX, 0, 255, 16_383, ADD)],
+        &[
+            told(100, 0, 17, 256, ADD),
+            told(u32::MAX, 0, 255, 16_383, ADD),
+        ],
     )?;
     map.take(alloc, &first, TIME, 7)?;
     let change = MessageName::DbcReq { transaction: 8 };

@@ -42,7 +42,8 @@ fn text_of(alloc: Global, seen: &SeenSids) -> Result<Vec<u8>, AllocError> {
 }
 
 /// The table of a flow on two channels and of one on a third, whose numbers begin again.
-const TEXT: &[u8] = b"# No registration tells the SID of a flow. What was seen of segments, by upstream channel and SID:\n\
+const TEXT: &[u8] =
+    b"# No registration tells the SID of a flow. What was seen of segments, by upstream channel and SID:\n\
     # channel 3, SID 291: segments 4, bad checks 1, numbers 8190 to 3\n\
     # channel 4, SID 65536: segments 3, bad checks 0, numbers 8191 to 4; a guess: of one flow with channel 3, SID 291\n\
     # channel 3, SID 7: segments 3, bad checks 0, numbers 8191 to 1\n\

@@ -21,7 +21,11 @@ fn a_refused_registration_tells_nothing(rt: HostRuntime) -> Result<(), Fail> {
 #[test]
 fn a_malformed_message_tells_nothing(rt: HostRuntime) -> Result<(), Fail> {
     let mut map = RegisteredMap::new(rt.alloc());
-    let malformed = message(rt.alloc(), ACCEPTED, &[told(1, 0, 1, 1, ADD), told(1, 0, 1, 1, 3)])?;
+    let malformed = message(
+        rt.alloc(),
+        ACCEPTED,
+        &[told(1, 0, 1, 1, ADD), told(1, 0, 1, 1, 3)],
+    )?;
     map.take(rt.alloc(), &malformed, TIME, 1)?;
     assert!(rt; map.is_empty());
     Ok(())
