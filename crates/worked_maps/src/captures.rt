@@ -10,6 +10,7 @@ use std::io::{Read, Write};
 use std::test::Fail;
 
 /// Gives some bytes, so many at once.
+#[derive(Drop)]
 struct InPieces<'a> {
     rest: &'a [u8],
     size: usize,
