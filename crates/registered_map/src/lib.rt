@@ -20,7 +20,6 @@
 #![tactic(auto)]
 
 mod flows;
-pub mod laws;
 mod map_text;
 mod registered_map;
 mod remarks;
