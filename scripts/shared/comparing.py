@@ -8,11 +8,14 @@ import sys
 from shared import arguments
 
 
-def read_arguments(head, count, jobs, what="trace"):
+def read_arguments(head, count, jobs, what="trace", add_more=None):
+    """The arguments of a comparison, and those that `add_more` adds to the parser."""
     parser = arguments.parser(head)
     arguments.add_count(parser, count, f"how many {what}s are generated")
     arguments.add_seed(parser, 1)
     arguments.add_jobs(parser, jobs, f"how many {what}s are compared at once")
+    if add_more is not None:
+        add_more(parser)
     return parser.parse_args()
 
 

@@ -5,7 +5,7 @@ use Rattle.std.proofs.lemmas.List.Elements.{All-nil, All-cons, All-head, All-tai
 use Rattle.std.specs.Prelude.{codes, slice_get}
 use Rattle.loss_rule.specs.declared.rule.LossRule.{LossRule}
 use Rattle.command_line.specs.Losses.{rule_name, losses_option, AskForRuleAlone}
-use Rattle.command_line.specs.Command.{IsCommand, options_in, events_option, AskToFollowAlone, AsksToReplayBy, AsksToRunByAlone, AsksToFollowAlone, IsHelpWord, HasNoHelpWord}
+use Rattle.command_line.specs.Command.{IsCommand, options_in, events_option, AskToFollowAlone, AsksToReplayBy, AsksToRunByAlone, AsksToFollowAlone, AsksToMap, IsHelpWord, HasNoHelpWord}
 use Rattle.command_line.proofs.AskedRules.{name_without_dash, each_alone}
 
 -- none of these words asks for help
@@ -34,6 +34,10 @@ no_help_in_run (inr long) = let e : 114 ≡ 45 = ap (λ text. get_or text 0 0) l
 no_help_in_follow : ¬ IsHelpWord (codes "follow")
 no_help_in_follow (inl short) = let e : 6 ≡ 2 = ap length short in omega (arith, e)
 no_help_in_follow (inr long) = let e : 102 ≡ 45 = ap (λ text. get_or text 0 0) long in omega (arith, e)
+
+no_help_in_map : ¬ IsHelpWord (codes "map")
+no_help_in_map (inl short) = let e : 3 ≡ 2 = ap length short in omega (arith, e)
+no_help_in_map (inr long) = let e : 109 ≡ 45 = ap (λ text. get_or text 0 0) long in omega (arith, e)
 
 no_help_in_events : ¬ IsHelpWord events_option
 no_help_in_events (inl short) = let e : 8 ≡ 2 = ap length short in omega (arith, e)
@@ -78,3 +82,11 @@ no_help_with_events rule true options alone =
 pub follows_without_help : (rule : LossRule) (events : Bool) (words : List (List ℕ)) → AsksToFollowAlone rule events words → HasNoHelpWord words
 follows_without_help rule events words follows =
     commands_without_help (codes "follow") no_help_in_follow words follows.0 (no_help_with_events rule events (options_in words) follows.1)
+
+-- nor have words that ask for a map
+pub map_without_help : (words : List (List ℕ)) → AsksToMap words → HasNoHelpWord words
+map_without_help [] asks = absurd asks
+map_without_help (name ∷ []) asks = absurd asks
+map_without_help (name ∷ word ∷ []) asks =
+    behind_name name (word ∷ []) (All-cons (λ w. ¬ IsHelpWord w) word [] (subst (λ (w : List ℕ). ¬ IsHelpWord w) (sym asks) no_help_in_map) (All-nil (λ w. ¬ IsHelpWord w)))
+map_without_help (name ∷ word ∷ another ∷ more) asks = absurd asks

@@ -6,7 +6,7 @@ use Rattle.std.proofs.lemmas.Option.{same_Some, slice_get_within}
 use Rattle.std.specs.Prelude.{map, is_some, ◌↔◌}
 use Rattle.loss_rule.specs.declared.rule.LossRule.{LossRule}
 use Rattle.command_line.specs.declared.command.Command.{Command}
-use Rattle.command_line.specs.declared.command.Command.TheVariants.{Join, Cut, Replay, Run, Follow, Help}
+use Rattle.command_line.specs.declared.command.Command.TheVariants.{Join, Cut, Replay, Run, Follow, Map, Help}
 use Rattle.command_line.specs.Inside.Command.{AsksWithOptions}
 use Rattle.command_line.specs.Command.{IsCommandAlone, IsCommand, options_in, AsksToReplayBy, AsksForAnEngine, HasWord, IsHelpWord, HasNoHelpWord, StandsBeforeHelp}
 
@@ -126,7 +126,8 @@ AsksForAnEngine-with_options words Join asks = absurd asks
 AsksForAnEngine-with_options words (Cut first fill) asks = inr (inl asks.0)
 AsksForAnEngine-with_options words (Replay rule) asks = absurd asks
 AsksForAnEngine-with_options words (Run rule mailbox ring) asks = inr (inr (inr (inl (rule, asks.0))))
-AsksForAnEngine-with_options words (Follow rule channels events) asks = inr (inr (inr (inr (rule, asks.0))))
+AsksForAnEngine-with_options words (Follow rule channels events) asks = inr (inr (inr (inr (inl (rule, asks.0)))))
+AsksForAnEngine-with_options words Map asks = absurd asks
 AsksForAnEngine-with_options words (Help text) asks = absurd asks
 
 -- so do words that ask to replay by some rule

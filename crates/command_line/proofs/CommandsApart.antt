@@ -1,7 +1,7 @@
 -- No words ask for two commands.
 use Rattle.std.proofs.Common.{◌≡◌, ◌≢◌, ℕ, length, List, [], ◌∷◌, get_or, sym, ap, ◌∙◌, arith}
 use Rattle.std.specs.Prelude.{codes}
-use Rattle.command_line.specs.Command.{IsCommand, AsksToJoin}
+use Rattle.command_line.specs.Command.{IsCommand, AsksToJoin, AsksToMap}
 
 -- no words begin with two commands
 pub commands_apart : (command other : List ℕ) → command ≢ other → (words : List (List ℕ)) → IsCommand command words → IsCommand other words → ⊥
@@ -25,6 +25,18 @@ follow_is_not_run e = let first : 102 ≡ 114 = ap (λ text. get_or text 0 0) e 
 pub follow_is_not_replay : codes "follow" ≢ codes "replay"
 follow_is_not_replay e = let first : 102 ≡ 114 = ap (λ text. get_or text 0 0) e in omega (arith, first)
 
+pub cut_is_not_map : codes "cut" ≢ codes "map"
+cut_is_not_map e = let first : 99 ≡ 109 = ap (λ text. get_or text 0 0) e in omega (arith, first)
+
+pub replay_is_not_map : codes "replay" ≢ codes "map"
+replay_is_not_map e = let first : 114 ≡ 109 = ap (λ text. get_or text 0 0) e in omega (arith, first)
+
+pub run_is_not_map : codes "run" ≢ codes "map"
+run_is_not_map e = let first : 114 ≡ 109 = ap (λ text. get_or text 0 0) e in omega (arith, first)
+
+pub follow_is_not_map : codes "follow" ≢ codes "map"
+follow_is_not_map e = let first : 102 ≡ 109 = ap (λ text. get_or text 0 0) e in omega (arith, first)
+
 -- or have different lengths
 pub replay_is_not_run : codes "replay" ≢ codes "run"
 replay_is_not_run e = let long : 6 ≡ 3 = ap length e in omega (arith, long)
@@ -41,6 +53,16 @@ join_is_not_cut e = let long : 4 ≡ 3 = ap length e in omega (arith, long)
 
 pub join_is_not_run : codes "join" ≢ codes "run"
 join_is_not_run e = let long : 4 ≡ 3 = ap length e in omega (arith, long)
+
+pub join_is_not_map : codes "join" ≢ codes "map"
+join_is_not_map e = let long : 4 ≡ 3 = ap length e in omega (arith, long)
+
+-- words that ask for a map begin with its command
+pub maps_alone : (words : List (List ℕ)) → AsksToMap words → IsCommand (codes "map") words
+maps_alone [] asks = absurd asks
+maps_alone (name ∷ []) asks = absurd asks
+maps_alone (name ∷ word ∷ []) asks = asks
+maps_alone (name ∷ word ∷ another ∷ more) asks = absurd asks
 
 pub join_is_not_follow : codes "join" ≢ codes "follow"
 join_is_not_follow e = let long : 4 ≡ 6 = ap length e in omega (arith, long)

@@ -4,7 +4,7 @@ use Rattle.docsis_wire.specs.Limits.{sequence_modulus}
 use Rattle.loss_rule.specs.declared.rule.LossRule.{LossRule}
 use Rattle.command_line.specs.Losses.{HasNoLossesWord, AskForRule, AskForRuleAlone}
 use Rattle.command_line.specs.declared.command.Command.{Command}
-use Rattle.command_line.specs.declared.command.Command.TheVariants.{Join, Cut, Replay, Run, Follow, Help}
+use Rattle.command_line.specs.declared.command.Command.TheVariants.{Join, Cut, Replay, Run, Follow, Map, Help}
 
 -- the command's word alone follows the name
 abbrev pub IsCommandAlone : List ℕ → List (List ℕ) → Type 0
@@ -72,6 +72,10 @@ AskToFollowAlone rule true options = (rest : List (List ℕ)) × AreWithEvents o
 abbrev pub AsksToFollowAlone : LossRule → Bool → List (List ℕ) → Type 0
 AsksToFollowAlone rule events words = IsCommand (codes "follow") words × AskToFollowAlone rule events (options_in words)
 
+-- for a map, the command's word alone follows the name
+abbrev pub AsksToMap : List (List ℕ) → Type 0
+AsksToMap words = IsCommandAlone (codes "map") words
+
 -- one of the words is this one
 abbrev pub HasWord : List ℕ → List (List ℕ) → Type 0
 HasWord word [] = ⊥
@@ -102,11 +106,11 @@ pub record StandsBeforeHelp (before words : List (List ℕ)) : Type 0 where
   pub help : IsHelpWord word
   pub first : HasNoHelpWord before
 
--- the words ask for an engine, to run, to replay or to follow by some loss rule, which is `Decided` where none is asked for
+-- the words ask for an engine, to run, to replay or to follow by some loss rule, which is `Decided` where none is asked for; or for a map
 abbrev pub AsksForAnEngine : List (List ℕ) → Type 0
 AsksForAnEngine words =
     AsksToJoin words ⊎ AsksToCut words ⊎ ((rule : LossRule) × AsksToReplayBy rule words) ⊎ ((rule : LossRule) × AsksToRunBy rule words)
-    ⊎ ((rule : LossRule) × AsksToFollow rule words)
+    ⊎ ((rule : LossRule) × AsksToFollow rule words) ⊎ AsksToMap words
 
 -- a word asks for help, and the words before it ask for an engine
 abbrev pub AsksForHelp : List (List ℕ) → Type 0
@@ -121,4 +125,5 @@ Asks words (Replay rule) = AsksToReplayBy rule words
 Asks words (Run rule mailbox ring) = AsksToRunBy rule words × HasNoHelpWord words × (1 ≤ mailbox) × (1 ≤ ring)
 Asks words (Follow rule channels events) =
     AsksToFollow rule words × HasNoHelpWord words × (1 ≤ channels) × (channels ≤ channels_max) × AskForEvents events (options_in words)
+Asks words Map = AsksToMap words
 Asks words (Help text) = AsksForHelp words

@@ -28,7 +28,8 @@ Lines of replay, run and follow, a trace of what came in on the channels:
                    the expected segment is lost, or all before that number
 Bytes are written as hexadecimal digits, two a byte, or as - for no bytes. Words
 are separated by spaces, tabs or carriage returns. A line without words, or that
-begins with #, is skipped. At most 268435456 bytes are read, by follow all.
+begins with #, is skipped. At most 268435456 bytes are read; follow and map read
+all.
 
 join prints one frame a line, and cut one segment a line. replay and run print a
 report of each flow with its frames, of the requests and of the channels. replay
@@ -42,9 +43,15 @@ frame and each request as soon as the line is read that brings it, also above a
 line that is at fault, and what was counted at the end. With --events it prints
 besides what became of each grant, burst and gap, and how its flow then stands.
 
+map reads a capture, pcap or pcapng, of packets of link type 273, to its end, and
+prints the map that the registrations in it give: lines flow, channel and sid,
+each below a comment that says which modem was told so, when and by what. Where
+there are none it prints as comments which SIDs carry segments.
+
 Exit status:
   0  done
-  1  a line of the input is at fault, or the frames cannot be cut that way
+  1  a line of the input or a capture is at fault, or the frames cannot be cut
+     that way
   2  the arguments are not understood
   3  out of memory
   4  reading or writing failed, or the input is too long
@@ -122,12 +129,19 @@ fn follow_command<'a>(alloc: Global) -> Result<Command<'a>, AllocError> {
         .arg(events_option(alloc))
 }
 
+/// The command `map`, which has no options.
+fn map_command<'a>(alloc: Global) -> Command<'a> {
+    let about = "Prints the map that the registrations in a capture give";
+    command(alloc, "map", about, "segrx map < CAPTURE > MAP")
+}
+
 /// The program's own usage: that of each command.
 const USAGE: &str = "segrx [join] < SEGMENTS > FRAMES
        segrx cut [--first N] [--fill zero|ones] < FRAMES_AND_PIECES > SEGMENTS
        segrx replay [--losses RULE] < TRACE > REPORT
        segrx run [--losses RULE] [--mailbox N] [--ring N] < TRACE > REPORT
-       segrx follow [--losses RULE] [--channels N] [--events] < TRACE > FRAMES";
+       segrx follow [--losses RULE] [--channels N] [--events] < TRACE > FRAMES
+       segrx map < CAPTURE > MAP";
 
 /// The commands of the program.
 pub fn command_line<'a>(alloc: Global) -> Result<Command<'a>, AllocError> {
@@ -140,5 +154,6 @@ pub fn command_line<'a>(alloc: Global) -> Result<Command<'a>, AllocError> {
         .subcommand(cut_command(alloc)?)?
         .subcommand(replay_command(alloc)?)?
         .subcommand(run_command(alloc)?)?
-        .subcommand(follow_command(alloc)?)
+        .subcommand(follow_command(alloc)?)?
+        .subcommand(map_command(alloc))
 }

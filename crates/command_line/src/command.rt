@@ -5,6 +5,7 @@ ghost use Rattle.loss_rule.specs.declared.rule.LossRule.{LossRule};
 ghost use Rattle.text_lines.specs.Capacities.{default_capacity};
 ghost use Rattle.command_line.specs.declared.command.UsageFault.TheVariants.{OutOfMemory};
 ghost use Rattle.command_line.specs.Command.{IsCommandAlone, IsCommand, options_in, AsksToJoin};
+ghost use Rattle.command_line.specs.Command.{AsksToMap, AsksForAnEngine};
 ghost use Rattle.command_line.specs.Command.{AsksToReplayBy, AsksToRunByAlone};
 ghost use Rattle.command_line.specs.Losses.{AskForRule, AskForRuleAlone};
 ghost use Rattle.command_line.specs.Command.{AreWithEvents, AsksToFollowAlone};
@@ -62,6 +63,8 @@ pub enum Command {
         /// Whether what becomes of each input and each decision is printed too.
         events: bool,
     },
+    /// To write the map that the registrations in a capture give.
+    Map,
     /// To print this text, which says how the program is used.
     Help(String),
 }
@@ -131,6 +134,13 @@ fn asks_to_join<S: AsStr>(words: &[S]) -> bool
         [] | [_] => true,
         _ => is_command_alone(words, "join"),
     }
+}
+
+/// Whether the words, the program's name first, ask for a map and for nothing else.
+fn asks_to_map<S: AsStr>(words: &[S]) -> bool
+    ensures { IsTrue result ↔ AsksToMap (map S.text words.now) }
+{
+    is_command_alone(words, "map")
 }
 
 /// The words behind this command, if the words, the program's name first, begin with it.
@@ -351,6 +361,14 @@ fn help_text<'a, S: AsStr>(alloc: Global, words: &'a [S]) -> Result<String, Usag
     Ok(error.to_string(alloc)?)
 }
 
+/// Whether the words, the program's name first, ask for what has no options or one alone, and for
+/// nothing else.
+fn asks_alone<S: AsStr>(words: &[S]) -> bool
+    ensures { IsTrue result → AsksForAnEngine (map S.text words.now) }
+{
+    asks_to_join(words) || asks_to_map(words) || asked_rule_alone_of(words, "replay").is_some()
+}
+
 /// What the program's words ask for, its name first. No words at all are read as its name alone.
 ///
 /// `-h` or `--help` asks for help, whatever follows it, where the words before it are lawful. Words
@@ -360,6 +378,7 @@ fn help_text<'a, S: AsStr>(alloc: Global, words: &'a [S]) -> Result<String, Usag
 pub fn read_words<'a, S: AsStr>(alloc: Global, words: &'a [S]) -> Result<Command, UsageFault>
     ensures asked { IfOk result (Asks (map S.text words.now)) }
     ensures join { AsksToJoin (map S.text words.now) → result ≡ Ok Command.Join }
+    ensures map { AsksToMap (map S.text words.now) → result ≡ Ok Command.Map }
     ensures replay { (rule : LossRule)
         → AsksToReplayBy rule (map S.text words.now) → result ≡ Ok (Command.Replay rule) }
     ensures run { (rule : LossRule) → AsksToRunByAlone rule (map S.text words.now)
@@ -370,6 +389,9 @@ pub fn read_words<'a, S: AsStr>(alloc: Global, words: &'a [S]) -> Result<Command
 {
     if asks_to_join(words) {
         return Ok(Command::Join);
+    }
+    if asks_to_map(words) {
+        return Ok(Command::Map);
     }
     if let Some(rule) = asked_rule_alone_of(words, "replay") {
         return Ok(Command::Replay { rule });
@@ -391,7 +413,7 @@ pub fn read_words<'a, S: AsStr>(alloc: Global, words: &'a [S]) -> Result<Command
     let Some(before) = before_help(words) else {
         return read_with_options(alloc, words);
     };
-    if !asks_to_join(before) && asked_rule_alone_of(before, "replay").is_none() {
+    if !asks_alone(before) {
         read_with_options(alloc, before)?;
     }
     Ok(Command::Help(help_text(alloc, words)?))

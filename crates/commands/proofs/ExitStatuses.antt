@@ -3,7 +3,7 @@ use Rattle.std.proofs.Common.{Bool, ◌≡◌, ◌≢◌, ◌⊎◌, inl, inr, �
 use Rattle.docsis_wire.specs.declared.pieces.CutFault.TheVariants as cut_fault
 use Rattle.engines.specs.declared.device.Device.{Device}
 use Rattle.engines.specs.declared.fault.EngineFault.{EngineFault}
-use Rattle.engines.specs.declared.fault.EngineFault.TheVariants.{Trace, Cut, OutOfMemory, Read, Write, Usage}
+use Rattle.engines.specs.declared.fault.EngineFault.TheVariants.{Trace, Cut, Capture, OutOfMemory, Read, Write, Usage}
 use Rattle.text_lines.specs.Capacities.{default_capacity}
 use Rattle.text_lines.specs.declared.fault.TextFault.{TextFault}
 use Rattle.text_lines.specs.declared.fault.TextFault.TheVariants as text_fault
@@ -17,9 +17,10 @@ use Rattle.receiver.specs.declared.width.Width.{Width}
 use Rattle.texts.specs.Follow.{IsFollowed}
 use Rattle.engines.specs.Fault.{status_of, exit_status_of}
 use Rattle.loss_rule.specs.declared.rule.LossRule.{LossRule}
-use Rattle.command_line.specs.Command.{AsksToJoin, AsksToReplay, AsksToReplayBy, AsksToRunByAlone, AsksToFollowAlone}
+use Rattle.command_line.specs.Command.{AsksToJoin, AsksToReplay, AsksToReplayBy, AsksToRunByAlone, AsksToFollowAlone, AsksToMap}
 use Rattle.engines.specs.Engine.{engine_fault, WritesText, IsFaultOfKnown, HasCause, RunsEngine}
-use Rattle.commands.specs.Program.{AsksToCutOnly, AsksToRunOnly, AsksToRunByOnly, AsksToFollowOnly, AsksForNothing, IsRefused, Obeys, RunsWords, IsStatus, HasJoinedText, HasCutText, HasReport, HasReportBy, HasRunReport, HasRunReportBy, HasRunFault, HasFollowed, HasFollowFault, SaysOf}
+use Rattle.capture_engines.specs.Mapping.{IsMapText, HasMapCause, MapsCapture}
+use Rattle.commands.specs.Program.{AsksToCutOnly, AsksToRunOnly, AsksToRunByOnly, AsksToFollowOnly, AsksForNothing, IsRefused, Obeys, RunsWords, IsStatus, HasJoinedText, HasCutText, HasReport, HasReportBy, HasRunReport, HasRunReportBy, HasRunFault, HasFollowed, HasFollowFault, SaysOf, SaysOfMap}
 
 -- a status other than 0 and 1 says nothing
 says_nothing : (HasText : List ℕ → Type 0) (IsFault : List ℕ → TextFault → Type 0) (status : ℕ) (input : List ℕ) → 1 < status → SaysOf HasText IsFault status input
@@ -44,6 +45,7 @@ SaysOf-fault HasText IsFault input reader writer OutOfMemory h = says_nothing Ha
 SaysOf-fault HasText IsFault input reader writer Read h = says_nothing HasText IsFault 4 input (omega arith)
 SaysOf-fault HasText IsFault input reader writer Write h = says_nothing HasText IsFault 4 input (omega arith)
 SaysOf-fault HasText IsFault input reader writer Usage h = absurd h
+SaysOf-fault HasText IsFault input reader writer (Capture fault) h = absurd h
 
 -- and of the input, where it is known
 SaysOf-known : {R W : Type 0} (HasText : List ℕ → Type 0) (IsFault : List ℕ → TextFault → Type 0) (known : Option (List ℕ)) (reader : Device R) (writer : Device W) (fault : EngineFault)
@@ -98,6 +100,7 @@ follow_fault rule width (Some input) reader writer OutOfMemory cause = says_noth
 follow_fault rule width (Some input) reader writer Read cause = says_nothing (HasFollowed rule) HasFollowFault 4 input (omega arith)
 follow_fault rule width (Some input) reader writer Write cause = says_nothing (HasFollowed rule) HasFollowFault 4 input (omega arith)
 follow_fault rule width (Some input) reader writer Usage cause = absurd cause
+follow_fault rule width (Some input) reader writer (Capture fault) cause = absurd cause
 
 -- and after a trace was followed
 SaysOf-followed : {R W : Type 0} (remaining : R → Option (List ℕ)) (contents : W → Option (List ℕ)) (rule : LossRule) (width : Width) (events : Bool) (reader reader' : Device R)
@@ -108,6 +111,44 @@ SaysOf-followed remaining contents rule width events reader reader' writer write
     (λ input text is. (width, events, text, is)) ran.written
 SaysOf-followed remaining contents rule width events reader reader' writer writer' (Err fault) ran =
     follow_fault rule width (remaining (inner_of reader)) reader' writer' fault ran.cause
+
+-- what the status says of a fault of a capture that is mapped
+map_says_nothing : (status : ℕ) (input : List ℕ) → 1 < status → SaysOfMap status input
+map_says_nothing status input more = record { done = λ e. absurd (omega (arith, more, e)); faulty = λ e. absurd (omega (arith, more, e)) }
+
+map_fault : {R W : Type 0} (known : Option (List ℕ)) (reader : Device R) (writer : Device W) (fault : EngineFault)
+    → HasMapCause known reader writer fault → IfSome known (SaysOfMap (status_of fault))
+map_fault None reader writer fault cause = tt
+map_fault (Some input) reader writer (Capture fault) cause = record { done = λ e. absurd (omega (arith, e)); faulty = λ _. (fault, cause) }
+map_fault (Some input) reader writer (Trace fault) cause = absurd cause
+map_fault (Some input) reader writer (Cut fault) cause = absurd cause
+map_fault (Some input) reader writer OutOfMemory cause = map_says_nothing 3 input (omega arith)
+map_fault (Some input) reader writer Read cause = map_says_nothing 4 input (omega arith)
+map_fault (Some input) reader writer Write cause = map_says_nothing 4 input (omega arith)
+map_fault (Some input) reader writer Usage cause = absurd cause
+
+-- and after one was mapped
+map_written : (known old new : Option (List ℕ)) → IfSome known (WritesText IsMapText old new) → IfSome known (SaysOfMap 0)
+map_written None old new written = tt
+map_written (Some input) old new written = record { done = λ _. (written.0, written.1); faulty = λ e. absurd (omega (arith, e)) }
+
+SaysOf-mapped : {R W : Type 0} (remaining : R → Option (List ℕ)) (contents : W → Option (List ℕ)) (reader reader' : Device R) (writer writer' : Device W)
+    (result : Result (Unit {0}) EngineFault) → MapsCapture remaining contents reader reader' writer writer' result
+    → IfSome (remaining (inner_of reader)) (SaysOfMap (exit_status_of result))
+SaysOf-mapped remaining contents reader reader' writer writer' (Ok done) ran =
+    map_written (remaining (inner_of reader)) (contents (inner_of writer)) (contents (inner_of writer')) ran.written
+SaysOf-mapped remaining contents reader reader' writer writer' (Err fault) ran = map_fault (remaining (inner_of reader)) reader' writer' fault ran.cause
+
+known_map : {R W : Type 0} (remaining : R → Option (List ℕ)) (contents : W → Option (List ℕ)) (reader reader' : Device R) (writer writer' : Device W)
+    (result : Result (Unit {0}) EngineFault) → MapsCapture remaining contents reader reader' writer writer' result → exit_status_of result ≢ 2
+known_map remaining contents reader reader' writer writer' (Ok done) ran e = omega (arith, e)
+known_map remaining contents reader reader' writer writer' (Err (Capture fault)) ran e = omega (arith, e)
+known_map remaining contents reader reader' writer writer' (Err (Trace fault)) ran e = omega (arith, e)
+known_map remaining contents reader reader' writer writer' (Err (Cut fault)) ran e = absurd ran.cause
+known_map remaining contents reader reader' writer writer' (Err OutOfMemory) ran e = omega (arith, e)
+known_map remaining contents reader reader' writer writer' (Err Read) ran e = omega (arith, e)
+known_map remaining contents reader reader' writer writer' (Err Write) ran e = omega (arith, e)
+known_map remaining contents reader reader' writer writer' (Err Usage) ran e = ran.cause
 
 -- words that ask to join, to replay or to run by a rule alone are known: whatever comes of them, it is not usage
 known_status : {R W : Type 0} (remaining : R → Option (List ℕ)) (contents : W → Option (List ℕ)) (IsText : List ℕ → List ℕ → Type 0) (IsFault : List ℕ → TextFault → Type 0)
@@ -123,6 +164,7 @@ known_status remaining contents IsText IsFault reader reader' writer writer' (Er
 known_status remaining contents IsText IsFault reader reader' writer writer' (Err Read) ran e = omega (arith, e)
 known_status remaining contents IsText IsFault reader reader' writer writer' (Err Write) ran e = omega (arith, e)
 known_status remaining contents IsText IsFault reader reader' writer writer' (Err Usage) ran e = ran.cause
+known_status remaining contents IsText IsFault reader reader' writer writer' (Err (Capture fault)) ran e = ran.cause
 
 -- so are those that ask to follow with no option but a rule and events
 known_followed : {R W : Type 0} (remaining : R → Option (List ℕ)) (contents : W → Option (List ℕ)) (rule : LossRule) (width : Width) (events : Bool) (reader reader' : Device R)
@@ -135,6 +177,7 @@ known_followed remaining contents rule width events reader reader' writer writer
 known_followed remaining contents rule width events reader reader' writer writer' (Err Read) ran e = omega (arith, e)
 known_followed remaining contents rule width events reader reader' writer writer' (Err Write) ran e = omega (arith, e)
 known_followed remaining contents rule width events reader reader' writer writer' (Err Usage) ran e = ran.cause
+known_followed remaining contents rule width events reader reader' writer writer' (Err (Capture fault)) ran e = ran.cause
 
 -- the status of an outcome is one of the table
 IsStatus-outcome : (result : Result (Unit {0}) EngineFault) → IsStatus (exit_status_of result)
@@ -156,6 +199,8 @@ pub record SaysOfWords {R : Type 0} (remaining : R → Option (List ℕ)) (words
   pub run_by_is_known : (rule : LossRule) → AsksToRunByAlone rule words → n ≢ 2
   pub follow : (rule : LossRule) → AsksToFollowOnly rule words → IfSome (remaining reader) (SaysOf (HasFollowed rule) HasFollowFault n)
   pub follow_is_known : (rule : LossRule) (events : Bool) → AsksToFollowAlone rule events words → n ≢ 2
+  pub map : AsksToMap words → IfSome (remaining reader) (SaysOfMap n)
+  pub map_is_known : AsksToMap words → n ≢ 2
   pub usage : AsksForNothing words → (n ≡ 2) ⊎ (n ≡ 3)
 
 -- so does that of what came of them
@@ -207,6 +252,8 @@ SaysOfWords-outcome remaining contents words reader reader' writer writer' resul
       ];
   follow_is_known = λ rule events asks.
       let ran = obeyed.follow_alone rule events asks in known_followed remaining contents rule ran.0 events reader reader' writer writer' result ran.3;
+  map = λ asks. SaysOf-mapped remaining contents reader reader' writer writer' result (obeyed.map asks);
+  map_is_known = λ asks. known_map remaining contents reader reader' writer writer' result (obeyed.map asks);
   usage = λ asks. refused_status reader reader' writer writer' result (obeyed.nothing asks);
 }
 

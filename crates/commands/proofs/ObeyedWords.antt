@@ -6,7 +6,7 @@ use Rattle.loss_rule.specs.declared.rule.LossRule.{LossRule}
 use Rattle.loss_rule.specs.declared.rule.LossRule.TheVariants.{Decided}
 use Rattle.engines.specs.declared.device.Device.{Device}
 use Rattle.command_line.specs.declared.command.Command.{Command}
-use Rattle.command_line.specs.declared.command.Command.TheVariants.{Join, Cut, Replay, Run, Follow, Help}
+use Rattle.command_line.specs.declared.command.Command.TheVariants.{Join, Cut, Replay, Run, Follow, Map, Help}
 use Rattle.command_line.specs.declared.command.UsageFault.{UsageFault}
 use Rattle.command_line.specs.declared.command.UsageFault.TheVariants as usage
 use Rattle.engines.specs.declared.fault.EngineFault.{EngineFault}
@@ -22,13 +22,14 @@ use Rattle.engines.specs.Transfer.{IsReadFault}
 use Rattle.std.specs.Io.KnownBytes.{IsAtEnd}
 use Rattle.engines.specs.Fault.{usage_fault}
 use Rattle.engines.specs.Engine.{HasCause, RunsEngine}
-use Rattle.command_line.specs.Command.{options_in, AsksToJoin, AsksToReplay, AsksToReplayBy, AsksToRun, AsksToRunBy, AsksToRunByAlone, AsksToFollow, AsksToFollowAlone, channels_max, AsksForHelp, HasNoHelpWord, Asks}
+use Rattle.command_line.specs.Command.{options_in, AsksToJoin, AsksToReplay, AsksToReplayBy, AsksToRun, AsksToRunBy, AsksToRunByAlone, AsksToFollow, AsksToFollowAlone, AsksToMap, channels_max, IsCommand, AsksForHelp, HasNoHelpWord, Asks}
 use Rattle.command_line.proofs.AskedRules.{AskForRule-one}
-use Rattle.command_line.proofs.AskedWithoutHelp.{replays_without_help}
-use Rattle.command_line.proofs.CommandsApart.{commands_apart, cut_is_not_run, cut_is_not_replay, replay_is_not_run, follow_is_not_cut, follow_is_not_run, follow_is_not_replay, join_is_another, join_is_not_cut, join_is_not_run, join_is_not_follow}
+use Rattle.command_line.proofs.AskedWithoutHelp.{replays_without_help, map_without_help}
+use Rattle.command_line.proofs.CommandsApart.{commands_apart, cut_is_not_run, cut_is_not_replay, replay_is_not_run, follow_is_not_cut, follow_is_not_run, follow_is_not_replay, cut_is_not_map, replay_is_not_map, run_is_not_map, follow_is_not_map, maps_alone, join_is_another, join_is_not_cut, join_is_not_run, join_is_not_follow, join_is_not_map}
 use Rattle.engines.proofs.WeakerTexts.{RunsEngine-weaker}
 use Rattle.engines.specs.Following.{HasFollowCause}
 use Rattle.receiver.specs.declared.width.Width.{Width}
+use Rattle.capture_engines.specs.Mapping.{HasMapCause, MapsCapture}
 use Rattle.commands.specs.Program.{AsksToCutOnly, AsksToRunOnly, AsksToRunByOnly, AsksToFollowOnly, AsksForNothing, RunsCut, RunsRun, RunsRunBy, RunsRunAlone, RunsFollow, RunsFollowAlone, WritesHelp, Obeys}
 use Rattle.commands.specs.Inside.Program.{Performs}
 
@@ -83,8 +84,9 @@ module _ {R W : Type 0} (remaining : R → Option (List ℕ)) (contents : W → 
       → ((rule : LossRule) → AsksToRunByAlone rule words → RunsRunAlone rule remaining contents reader reader' writer writer' result)
       → ((rule : LossRule) → ¬ AsksToFollow rule words)
       → ((rule : LossRule) (events : Bool) → AsksToFollowAlone rule events words → RunsFollowAlone rule events remaining contents reader reader' writer writer' result)
+      → ¬ AsksToMap words
       → ¬ AsksForNothing words → (¬ AsksToJoin words → HasNoHelpWord words) → Obeys remaining contents words reader reader' writer writer' result
-  Obeys-engine IsText IsFault (Ok done) replay_same run_same ran joins cuts replays runs alone no_follow followed something no_help = record {
+  Obeys-engine IsText IsFault (Ok done) replay_same run_same ran joins cuts replays runs alone no_follow followed no_map something no_help = record {
     join = joins;
     cut = λ asks. inl (cuts asks);
     replay = replayed_by_decisions (Ok done) replay_same replays;
@@ -94,15 +96,16 @@ module _ {R W : Type 0} (remaining : R → Option (List ℕ)) (contents : W → 
     run_alone = alone;
     follow = λ rule asks. absurd (no_follow rule asks.0);
     follow_alone = followed;
+    map = λ asks. absurd (no_map asks);
     nothing = λ asks. absurd (something asks);
     help = λ other asks. absurd (asks (no_help other));
     flushed = ran.flushed;
     no_cause = ran.no_cause.1;
     read_fault = λ is. absurd cc;
     write_fault = λ is. absurd cc;
-    read_first = λ _. tt;
+    read_first = λ _ _. tt;
   }
-  Obeys-engine IsText IsFault (Err fault) replay_same run_same ran joins cuts replays runs alone no_follow followed something no_help =
+  Obeys-engine IsText IsFault (Err fault) replay_same run_same ran joins cuts replays runs alone no_follow followed no_map something no_help =
       let P : EngineFault → Type 0 = HasCause IsFault (remaining (inner_of reader)) reader' writer' in
       record {
         join = joins;
@@ -114,22 +117,24 @@ module _ {R W : Type 0} (remaining : R → Option (List ℕ)) (contents : W → 
         run_alone = alone;
         follow = λ rule asks. absurd (no_follow rule asks.0);
         follow_alone = followed;
+        map = λ asks. absurd (no_map asks);
         nothing = λ asks. absurd (something asks);
         help = λ other asks. absurd (asks (no_help other));
         flushed = tt;
         no_cause = tt;
         read_fault = λ is. let same : fault ≡ Read = cc in subst P same ran.cause;
         write_fault = λ is. let same : fault ≡ Write = cc in subst P same ran.cause;
-        read_first = λ _ other. (ran.read_first other).0;
+        read_first = λ _ _ other. (ran.read_first other).0;
       }
 
   -- so have those that ask for help, where its text is written
   Obeys-help : (text : List ℕ) (result : Result (Unit {0}) EngineFault) → IsFresh reader → IsFresh writer
       → ¬ AsksToJoin words → ¬ AsksToCutOnly words → ((rule : LossRule) → ¬ AsksToReplayBy rule words) → ((rule : LossRule) → ¬ AsksToRunByOnly rule words)
       → ((rule : LossRule) → ¬ AsksToRunByAlone rule words) → ((rule : LossRule) → ¬ AsksToFollowOnly rule words)
-      → ((rule : LossRule) (events : Bool) → ¬ AsksToFollowAlone rule events words) → ¬ AsksForNothing words → WritesHelp contents text reader reader' writer writer' result
+      → ((rule : LossRule) (events : Bool) → ¬ AsksToFollowAlone rule events words) → ¬ AsksToMap words → ¬ AsksForNothing words
+      → WritesHelp contents text reader reader' writer writer' result
       → Obeys remaining contents words reader reader' writer writer' result
-  Obeys-help text (Ok done) unread unwritten other no_cut no_replay no_run no_alone no_follow no_follow_alone something wrote = record {
+  Obeys-help text (Ok done) unread unwritten other no_cut no_replay no_run no_alone no_follow no_follow_alone no_map something wrote = record {
     join = λ asks. absurd (other asks);
     cut = λ asks. absurd (no_cut asks);
     replay = λ asks. absurd (no_replay Decided (replays_by_decisions words asks));
@@ -139,15 +144,16 @@ module _ {R W : Type 0} (remaining : R → Option (List ℕ)) (contents : W → 
     run_alone = λ rule asks. absurd (no_alone rule asks);
     follow = λ rule asks. absurd (no_follow rule asks);
     follow_alone = λ rule events asks. absurd (no_follow_alone rule events asks);
+    map = λ asks. absurd (no_map asks);
     nothing = λ asks. absurd (something asks);
     help = λ _ _. inl (text, wrote);
     flushed = wrote.left_flushed;
     no_cause = wrote.writes.sound ∙ unwritten.0;
     read_fault = λ is. absurd cc;
     write_fault = λ is. absurd cc;
-    read_first = λ _. tt;
+    read_first = λ _ _. tt;
   }
-  Obeys-help text (Err fault) unread unwritten other no_cut no_replay no_run no_alone no_follow no_follow_alone something wrote = record {
+  Obeys-help text (Err fault) unread unwritten other no_cut no_replay no_run no_alone no_follow no_follow_alone no_map something wrote = record {
     join = λ asks. absurd (other asks);
     cut = λ asks. absurd (no_cut asks);
     replay = λ asks. absurd (no_replay Decided (replays_by_decisions words asks));
@@ -157,13 +163,14 @@ module _ {R W : Type 0} (remaining : R → Option (List ℕ)) (contents : W → 
     run_alone = λ rule asks. absurd (no_alone rule asks);
     follow = λ rule asks. absurd (no_follow rule asks);
     follow_alone = λ rule events asks. absurd (no_follow_alone rule events asks);
+    map = λ asks. absurd (no_map asks);
     nothing = λ asks. absurd (something asks);
     help = λ _ _. inl (text, wrote);
     flushed = tt;
     no_cause = tt;
     read_fault = λ is. absurd (cc wrote.only);
     write_fault = λ _. wrote.writes.failed;
-    read_first = λ _ _. rw wrote.unread (unread.0, omega (arith, unread.1));
+    read_first = λ _ _ _. rw wrote.unread (unread.0, omega (arith, unread.1));
   }
 
   -- the reader's part in a fault of what is followed
@@ -190,13 +197,14 @@ module _ {R W : Type 0} (remaining : R → Option (List ℕ)) (contents : W → 
         let same : rule ≡ other = AskForRule-one (options_in words) rule other asked.1 asks.0.1 in
         inl (subst (λ by. RunsFollow by words remaining contents reader reader' writer writer' result) same ran);
     follow_alone = followed;
+    map = λ asks. absurd (commands_apart (codes "follow") (codes "map") follow_is_not_map words asked.0 (maps_alone words asks));
     nothing = λ asks. absurd (something asks);
     help = λ other asks. absurd (asks no_help);
     flushed = ran.4.flushed;
     no_cause = OnOk-weaker result ran.4.no_cause;
     read_fault = λ is. followed_fault result is ran.4.cause;
     write_fault = λ is. followed_write result is ran.4.cause;
-    read_first = λ none. absurd (none rule (asked, λ helps. absurd (no_help_asked helps)));
+    read_first = λ none _. absurd (none rule (asked, λ helps. absurd (no_help_asked helps)));
   } where
     OnOk-weaker : (result : Result (Unit {0}) EngineFault)
         → OnOk result ((has_failed reader' ≡ false) × IsAtEnd (remaining (inner_of reader')) × (has_failed writer' ≡ false)) → OnOk result (has_failed writer' ≡ false)
@@ -220,6 +228,52 @@ module _ {R W : Type 0} (remaining : R → Option (List ℕ)) (contents : W → 
         no_help (length helps.0) stands.word stands.named (subst (λ all. slice_get all (length helps.0) ≡ Some stands.word) (sym stands.are)
         (slice_get-at helps.0 stands.word stands.after)) stands.help
 
+  -- words that ask for a map
+  Obeys-map : (result : Result (Unit {0}) EngineFault) → AsksToMap words → MapsCapture remaining contents reader reader' writer writer' result
+      → ¬ AsksForNothing words → Obeys remaining contents words reader reader' writer writer' result
+  Obeys-map result asked ran something = record {
+    join = λ asks. absurd (join_is_another (codes "map") join_is_not_map words asks maps);
+    cut = λ asks. absurd (commands_apart (codes "cut") (codes "map") cut_is_not_map words asks.0 maps);
+    replay = λ asks. absurd (commands_apart (codes "replay") (codes "map") replay_is_not_map words (replays_by_decisions words asks).0 maps);
+    run = λ asks. absurd (commands_apart (codes "run") (codes "map") run_is_not_map words asks.0.0 maps);
+    replay_by = λ rule asks. absurd (commands_apart (codes "replay") (codes "map") replay_is_not_map words asks.0 maps);
+    run_by = λ rule asks. absurd (commands_apart (codes "run") (codes "map") run_is_not_map words asks.0.0 maps);
+    run_alone = λ rule asks. absurd (commands_apart (codes "run") (codes "map") run_is_not_map words asks.0 maps);
+    follow = λ rule asks. absurd (commands_apart (codes "follow") (codes "map") follow_is_not_map words asks.0.0 maps);
+    follow_alone = λ rule events asks. absurd (commands_apart (codes "follow") (codes "map") follow_is_not_map words asks.0 maps);
+    map = λ _. ran;
+    nothing = λ asks. absurd (something asks);
+    help = λ other no_help. absurd (no_help (map_without_help words asked));
+    flushed = ran.flushed;
+    no_cause = OnOk-weaker result ran.no_cause;
+    read_fault = λ is. mapped_read result is ran.cause;
+    write_fault = λ is. mapped_write result is ran.cause;
+    read_first = λ _ no_map. absurd (no_map asked);
+  } where
+    maps : IsCommand (codes "map") words
+    maps = maps_alone words asked
+
+    OnOk-weaker : (result : Result (Unit {0}) EngineFault)
+        → OnOk result ((has_failed reader' ≡ false) × IsAtEnd (remaining (inner_of reader')) × (has_failed writer' ≡ false)) → OnOk result (has_failed writer' ≡ false)
+    OnOk-weaker (Ok done) is = is.2
+    OnOk-weaker (Err fault) is = tt
+
+    failed_or_long : (has_failed reader' ≡ true) ⊎ (2 ^ 64 - 1 ≤ given_of reader') → IsReadFault reader'
+    failed_or_long (inl failed) = inl failed
+    failed_or_long (inr many) = inr (omega (arith, many))
+
+    mapped_read : (result : Result (Unit {0}) EngineFault) → result ≡ Err Read → IfErr result (HasMapCause (remaining (inner_of reader)) reader' writer')
+        → IsReadFault reader'
+    mapped_read (Ok done) is cause = absurd cc
+    mapped_read (Err fault) is cause =
+        let same : fault ≡ Read = cc in failed_or_long (subst (HasMapCause (remaining (inner_of reader)) reader' writer') same cause)
+
+    mapped_write : (result : Result (Unit {0}) EngineFault) → result ≡ Err Write → IfErr result (HasMapCause (remaining (inner_of reader)) reader' writer')
+        → has_failed writer' ≡ true
+    mapped_write (Ok done) is cause = absurd cc
+    mapped_write (Err fault) is cause =
+        let same : fault ≡ Write = cc in subst (HasMapCause (remaining (inner_of reader)) reader' writer') same cause
+
   -- a command that was read as a run by a rule alone is that
   performed_alone : (command : Command) (result : Result (Unit {0}) EngineFault) → Performs remaining contents command reader reader' writer writer' result
       → ((rule : LossRule) → AsksToRunByAlone rule words → command ≡ Run rule default_capacity default_capacity)
@@ -236,29 +290,29 @@ module _ {R W : Type 0} (remaining : R → Option (List ℕ)) (contents : W → 
 
   -- each command, where the words ask for it and for nothing else
   pub Obeys-performed : (command : Command) (result : Result (Unit {0}) EngineFault) → ReplaysByDecisions → RunsByDecisions
-      → IsFresh reader → IsFresh writer → Asks words command → (AsksToJoin words → command ≡ Join)
+      → IsFresh reader → IsFresh writer → Asks words command → (AsksToJoin words → command ≡ Join) → (AsksToMap words → command ≡ Map)
       → ((rule : LossRule) → AsksToReplayBy rule words → command ≡ Replay rule)
       → ((rule : LossRule) → AsksToRunByAlone rule words → command ≡ Run rule default_capacity default_capacity)
       → ((rule : LossRule) (events : Bool) → AsksToFollowAlone rule events words → command ≡ Follow rule channels_max events)
       → Performs remaining contents command reader reader' writer writer' result
       → Obeys remaining contents words reader reader' writer writer' result
-  Obeys-performed Join result replay_same run_same unread unwritten asked joins replays runs follows ran =
+  Obeys-performed Join result replay_same run_same unread unwritten asked joins maps replays runs follows ran =
       Obeys-engine IsJoined IsJoinFault result replay_same run_same ran (λ _. ran)
       (λ asks. absurd (join_is_another (codes "cut") join_is_not_cut words asked asks.0)) (λ rule asks. let e = replays rule asks in absurd cc)
       (λ rule asks. absurd (join_is_another (codes "run") join_is_not_run words asked asks.0.0)) (performed_alone Join result ran runs)
-      (λ rule asks. absurd (join_is_another (codes "follow") join_is_not_follow words asked asks.0))
-      (performed_follow Join result ran follows)
+      (λ rule asks. absurd (join_is_another (codes "follow") join_is_not_follow words asked asks.0)) (performed_follow Join result ran follows)
+      (λ asks. let e = maps asks in absurd cc)
       (λ nothing. nothing.0 (inl asked))
       (λ other. absurd (other asked))
-  Obeys-performed (Cut first fill) result replay_same run_same unread unwritten asked joins replays runs follows ran =
+  Obeys-performed (Cut first fill) result replay_same run_same unread unwritten asked joins maps replays runs follows ran =
       Obeys-engine (IsCutText first fill) IsCutFault result replay_same run_same ran
       (λ asks. absurd (join_is_another (codes "cut") join_is_not_cut words asks asked.0)) (λ _. (first, fill, asked.2, ran))
       (λ rule asks. let e = replays rule asks in absurd cc)
       (λ rule asks. absurd (commands_apart (codes "cut") (codes "run") cut_is_not_run words asked.0 asks.0.0)) (performed_alone (Cut first fill) result ran runs)
-      (λ rule asks. absurd (commands_apart (codes "follow") (codes "cut") follow_is_not_cut words asks.0 asked.0))
-      (performed_follow (Cut first fill) result ran follows)
+      (λ rule asks. absurd (commands_apart (codes "follow") (codes "cut") follow_is_not_cut words asks.0 asked.0)) (performed_follow (Cut first fill) result ran follows)
+      (λ asks. let e = maps asks in absurd cc)
       (λ nothing. nothing.0 (inr (inl asked.0))) (λ _. asked.1)
-  Obeys-performed (Replay rule) result replay_same run_same unread unwritten asked joins replays runs follows ran =
+  Obeys-performed (Replay rule) result replay_same run_same unread unwritten asked joins maps replays runs follows ran =
       Obeys-engine (IsReplayedBy rule) IsReplayFault result replay_same run_same ran (λ asks. let e = joins asks in absurd cc)
       (λ asks. absurd (commands_apart (codes "cut") (codes "replay") cut_is_not_replay words asks.0 asked.0))
       (λ other asks.
@@ -267,9 +321,9 @@ module _ {R W : Type 0} (remaining : R → Option (List ℕ)) (contents : W → 
       subst (λ by. RunsEngine remaining contents (IsReplayedBy by) IsReplayFault reader reader' writer writer' result) same ran)
       (λ other asks. absurd (commands_apart (codes "replay") (codes "run") replay_is_not_run words asked.0 asks.0.0))
       (performed_alone (Replay rule) result ran runs)
-      (λ other asks. absurd (commands_apart (codes "follow") (codes "replay") follow_is_not_replay words asks.0 asked.0))
-      (performed_follow (Replay rule) result ran follows) (λ nothing. nothing.0 (inr (inr (inl (rule, asked))))) (λ _. replays_without_help rule words asked)
-  Obeys-performed (Run rule mailbox ring) result replay_same run_same unread unwritten asked joins replays runs follows ran =
+      (λ other asks. absurd (commands_apart (codes "follow") (codes "replay") follow_is_not_replay words asks.0 asked.0)) (performed_follow (Replay rule) result ran follows)
+      (λ asks. let e = maps asks in absurd cc) (λ nothing. nothing.0 (inr (inr (inl (rule, asked))))) (λ _. replays_without_help rule words asked)
+  Obeys-performed (Run rule mailbox ring) result replay_same run_same unread unwritten asked joins maps replays runs follows ran =
       Obeys-engine (IsRunTextBy rule ring mailbox) (IsReportFault ring) result replay_same run_same ran
       (λ asks. absurd (join_is_another (codes "run") join_is_not_run words asks asked.0.0))
       (λ asks. absurd (commands_apart (codes "cut") (codes "run") cut_is_not_run words asks.0 asked.0.0))
@@ -278,23 +332,26 @@ module _ {R W : Type 0} (remaining : R → Option (List ℕ)) (contents : W → 
       let same : rule ≡ other = AskForRule-one (options_in words) rule other asked.0.1 asks.0.1 in
       subst (λ by. RunsRunBy by remaining contents reader reader' writer writer' result) same (mailbox, ring, asked.2, asked.3, ran))
       (performed_alone (Run rule mailbox ring) result ran runs)
-      (λ other asks. absurd (commands_apart (codes "follow") (codes "run") follow_is_not_run words asks.0 asked.0.0))
-      (performed_follow (Run rule mailbox ring) result ran follows)
+      (λ other asks. absurd (commands_apart (codes "follow") (codes "run") follow_is_not_run words asks.0 asked.0.0)) (performed_follow (Run rule mailbox ring) result ran follows)
+      (λ asks. let e = maps asks in absurd cc)
       (λ nothing. nothing.0 (inr (inr (inr (inl (rule, asked.0)))))) (λ _. asked.1)
-  Obeys-performed (Follow rule channels events) result replay_same run_same unread unwritten asked joins replays runs follows ran =
+  Obeys-performed (Follow rule channels events) result replay_same run_same unread unwritten asked joins maps replays runs follows ran =
       Obeys-follow rule result asked.0 asked.1 (ran.0, events, ran.2, asked.4, ran.3) (performed_follow (Follow rule channels events) result ran follows)
-      (λ nothing. nothing.0 (inr (inr (inr (inr (rule, asked.0))))))
-  Obeys-performed (Help text) result replay_same run_same unread unwritten asked joins replays runs follows ran =
+      (λ nothing. nothing.0 (inr (inr (inr (inr (inl (rule, asked.0)))))))
+  Obeys-performed Map result replay_same run_same unread unwritten asked joins maps replays runs follows ran =
+      Obeys-map result asked ran (λ nothing. nothing.0 (inr (inr (inr (inr (inr asked))))))
+  Obeys-performed (Help text) result replay_same run_same unread unwritten asked joins maps replays runs follows ran =
       Obeys-help (string_bytes text) result unread unwritten (λ asks. let e = joins asks in absurd cc) (λ asks. asks.1 asked)
       (λ rule asks. let e = replays rule asks in absurd cc) (λ rule asks. asks.1 asked) (λ rule asks. let e = runs rule asks in absurd cc)
-      (λ rule asks. asks.1 asked) (λ rule events asks. let e = follows rule events asks in absurd cc) (λ nothing. nothing.1 asked) ran
+      (λ rule asks. asks.1 asked) (λ rule events asks. let e = follows rule events asks in absurd cc) (λ asks. let e = maps asks in absurd cc)
+      (λ nothing. nothing.1 asked) ran
 
--- words that were refused ask neither to join nor to replay, nor to run or to follow by a rule alone, and nothing is read or written
+-- words that were refused ask neither to join, nor for a map, nor to replay, nor to run or to follow by a rule alone, and nothing is read or written
 pub Obeys-refused : {R W : Type 0} (remaining : R → Option (List ℕ)) (contents : W → Option (List ℕ)) (words : List (List ℕ)) (reader : Device R)
     (writer : Device W) (fault : UsageFault) → IsFresh reader → ¬ AsksToJoin words → ((rule : LossRule) → ¬ AsksToReplayBy rule words)
-    → ((rule : LossRule) → ¬ AsksToRunByAlone rule words) → ((rule : LossRule) (events : Bool) → ¬ AsksToFollowAlone rule events words)
+    → ((rule : LossRule) → ¬ AsksToRunByAlone rule words) → ((rule : LossRule) (events : Bool) → ¬ AsksToFollowAlone rule events words) → ¬ AsksToMap words
     → Obeys remaining contents words reader reader writer writer (Err (usage_fault fault))
-Obeys-refused remaining contents words reader writer usage.Usage unread other no_replay no_alone no_follow = record {
+Obeys-refused remaining contents words reader writer usage.Usage unread other no_replay no_alone no_follow no_map = record {
   join = λ asks. absurd (other asks);
   cut = λ _. inr (record { fault = inl refl; unread = refl; unwritten = refl });
   replay = λ asks. absurd (no_replay Decided (replays_by_decisions words asks));
@@ -304,15 +361,16 @@ Obeys-refused remaining contents words reader writer usage.Usage unread other no
   run_alone = λ rule asks. absurd (no_alone rule asks);
   follow = λ rule _. inr (record { fault = inl refl; unread = refl; unwritten = refl });
   follow_alone = λ rule events asks. absurd (no_follow rule events asks);
+  map = λ asks. absurd (no_map asks);
   nothing = λ _. record { fault = inl refl; unread = refl; unwritten = refl };
   help = λ _ _. inr (record { fault = inl refl; unread = refl; unwritten = refl });
   flushed = tt;
   no_cause = tt;
   read_fault = λ is. absurd cc;
   write_fault = λ is. absurd cc;
-  read_first = λ _ _. (unread.0, omega (arith, unread.1));
+  read_first = λ _ _ _. (unread.0, omega (arith, unread.1));
 }
-Obeys-refused remaining contents words reader writer usage.OutOfMemory unread other no_replay no_alone no_follow = record {
+Obeys-refused remaining contents words reader writer usage.OutOfMemory unread other no_replay no_alone no_follow no_map = record {
   join = λ asks. absurd (other asks);
   cut = λ _. inr (record { fault = inr refl; unread = refl; unwritten = refl });
   replay = λ asks. absurd (no_replay Decided (replays_by_decisions words asks));
@@ -322,13 +380,14 @@ Obeys-refused remaining contents words reader writer usage.OutOfMemory unread ot
   run_alone = λ rule asks. absurd (no_alone rule asks);
   follow = λ rule _. inr (record { fault = inr refl; unread = refl; unwritten = refl });
   follow_alone = λ rule events asks. absurd (no_follow rule events asks);
+  map = λ asks. absurd (no_map asks);
   nothing = λ _. record { fault = inr refl; unread = refl; unwritten = refl };
   help = λ _ _. inr (record { fault = inr refl; unread = refl; unwritten = refl });
   flushed = tt;
   no_cause = tt;
   read_fault = λ is. absurd cc;
   write_fault = λ is. absurd cc;
-  read_first = λ _ _. (unread.0, omega (arith, unread.1));
+  read_first = λ _ _ _. (unread.0, omega (arith, unread.1));
 }
 
 -- an answer whose fault is this one

@@ -14,13 +14,15 @@ use Rattle.engines.specs.Device.{inner_of, has_failed, is_flushed, IsFresh}
 use Rattle.engines.specs.Transfer.{AppendsFront, IsLeftFlushed, IsReadFault, IsRead}
 use Rattle.engines.specs.Fault.{status_of, exit_status_of, fault_line}
 use Rattle.engines.specs.Engine.{engine_fault, RunsEngine}
-use Rattle.command_line.specs.Command.{AsksToJoin, AsksToCut, AsksToReplay, AsksToReplayBy, AsksToRun, AsksToRunBy, AsksToRunByAlone, AsksToFollow, AsksToFollowAlone, AskForEvents, channels_max, options_in, AsksForAnEngine, AsksForHelp, HasNoHelpWord}
+use Rattle.command_line.specs.Command.{AsksToJoin, AsksToCut, AsksToReplay, AsksToReplayBy, AsksToRun, AsksToRunBy, AsksToRunByAlone, AsksToFollow, AsksToFollowAlone, AsksToMap, AskForEvents, channels_max, options_in, AsksForAnEngine, AsksForHelp, HasNoHelpWord}
 use Rattle.flow_records.specs.Limits.{most_flows}
 use Rattle.receiver.specs.declared.width.Width.{Width}
 use Rattle.text_lines.specs.declared.fault.TextFault.TheVariants as text_fault
 use Rattle.text_lines.specs.Format.{IsFirstFaultyLine}
 use Rattle.text_lines.specs.Lines.{lines_of}
 use Rattle.engines.specs.Following.{FollowsTrace}
+use Rattle.engines.specs.declared.fault.PlacedFault.{PlacedFault}
+use Rattle.capture_engines.specs.Mapping.{IsMapText, IsFaultyCapture, MapsCapture}
 use Rattle.texts.specs.Follow.{IsFollowed}
 use Rattle.texts.specs.Trace.Line.{shape_of}
 use Rattle.texts.specs.Trace.Place.{nothing_said_in, trace_format}
@@ -129,6 +131,8 @@ pub record Obeys {R W : Type 0} (remaining : R → Option (List ℕ)) (contents 
       → RunsFollow rule words remaining contents reader reader' writer writer' result ⊎ IsRefused reader reader' writer writer' result
   -- and never refused where nothing but a rule and events is asked for
   pub follow_alone : (rule : LossRule) (events : Bool) → AsksToFollowAlone rule events words → RunsFollowAlone rule events remaining contents reader reader' writer writer' result
+  -- the map of a capture is written, which is never refused
+  pub map : AsksToMap words → MapsCapture remaining contents reader reader' writer writer' result
   pub nothing : AsksForNothing words → IsRefused reader reader' writer writer' result
   pub help : ¬ AsksToJoin words → ¬ HasNoHelpWord words → Helps contents reader reader' writer writer' result ⊎ IsRefused reader reader' writer writer' result
   -- where the work was done all that was written is flushed
@@ -137,8 +141,8 @@ pub record Obeys {R W : Type 0} (remaining : R → Option (List ℕ)) (contents 
   pub no_cause : OnOk result (has_failed writer' ≡ false)
   pub read_fault : result ≡ Err Read → IsReadFault reader'
   pub write_fault : result ≡ Err Write → has_failed writer' ≡ true
-  -- and but where a trace is followed no more is read than an engine reads
-  pub read_first : ((rule : LossRule) → ¬ AsksToFollowOnly rule words) → IfErr result (λ fault. fault ≢ Read → IsRead reader')
+  -- and but where a trace is followed or a capture mapped no more is read than an engine reads
+  pub read_first : ((rule : LossRule) → ¬ AsksToFollowOnly rule words) → ¬ AsksToMap words → IfErr result (λ fault. fault ≢ Read → IsRead reader')
 
 -- an outcome was reported: the line of its fault was written and flushed, or the writer failed and a front of it went out; without a fault
 -- the writer was not used
@@ -207,6 +211,11 @@ abbrev pub HasFollowFault : List ℕ → TextFault → Type 0
 HasFollowFault input (text_fault.Trace fault) =
     (width : Width) × (length input < 2 ^ 64 → IsFirstFaultyLine trace_format (nothing_said_in (shape_of width default_capacity)) (lines_of input) fault)
 HasFollowFault input _ = ⊥
+
+-- what a status says of a capture that is to be mapped: with 0 it has a map, with 1 a fault
+pub record SaysOfMap (status : ℕ) (input : List ℕ) : Type 0 where
+  pub done : status ≡ 0 → (text : List ℕ) × IsMapText input text
+  pub faulty : status ≡ 1 → (fault : PlacedFault) × IsFaultyCapture input fault
 
 -- an input of `run` has this fault
 abbrev pub HasRunFault : List ℕ → TextFault → Type 0

@@ -5,15 +5,16 @@ ghost use Rattle.engines.specs.declared.fault.EngineFault.{EngineFault};
 ghost use Rattle.engines.specs.Device.{IsFresh};
 ghost use Rattle.engines.specs.Fault.{exit_status_of};
 ghost use Rattle.command_line.specs.Command.{AsksToJoin, AsksToReplay, AsksToReplayBy, AsksToRunByAlone};
-ghost use Rattle.command_line.specs.Command.{AsksToFollowAlone};
+ghost use Rattle.command_line.specs.Command.{AsksToFollowAlone, AsksToMap};
 ghost use Rattle.texts.specs.Join.{IsJoinFault};
 ghost use Rattle.texts.specs.Cut.{IsCutFault};
 ghost use Rattle.texts.specs.Replay.{IsReplayFault};
 ghost use Rattle.commands.specs.Program.{AsksToCutOnly, AsksToRunOnly, AsksToRunByOnly, AsksToFollowOnly, AsksForNothing, Obeys, IsReported, RunsWords, ComesOf};
 ghost use Rattle.commands.specs.Inside.Program.{Performs, IsInRange};
-ghost use Rattle.commands.specs.Program.{IsStatus, HasJoinedText, HasCutText, HasReport, HasReportBy, HasRunReport, HasRunReportBy, HasRunFault, HasFollowed, HasFollowFault, SaysOf};
+ghost use Rattle.commands.specs.Program.{IsStatus, HasJoinedText, HasCutText, HasReport, HasReportBy, HasRunReport, HasRunReportBy, HasRunFault, HasFollowed, HasFollowFault, SaysOf, SaysOfMap};
 
 use crate::run::run_text_by;
+use capture_engines::map_capture;
 use engines::{
     Command, Device, EngineFault, cut_text, exit_status, follow_text, join_text, read_words,
     replay_text_by, write_fault, write_text,
@@ -67,6 +68,7 @@ fn perform<T: Threads + Wait + Copy + Send + 'static, R: Read, W: Write>(
             };
             follow_text(rule, width, events, alloc, reader, out)
         }
+        Command::Map => map_capture(alloc, reader, out),
         Command::Help(text) => Ok(write_text(out, text.as_bytes())?),
     }
 }
@@ -128,7 +130,7 @@ where
 }
 
 /// The whole program: it does what the words ask for, its name first, and answers the exit status:
-/// 0 where it was done, also for help, which goes to `out`; 1 for a fault of a line or of the cut,
+/// 0 where it was done, also for help, which goes to `out`; 1 for a fault of a line, of the cut or of a capture,
 /// 2 for usage, 3 for out of memory, 4 for a failed read or write. A fault's line goes to `err`.
 pub fn program<S, T, R, O, E>(alloc: Global, rt: T, words: &[S], reader: R, out: O, err: E) -> u8
 where
@@ -165,6 +167,9 @@ where
         → IfSome (R.remaining reader) (SaysOf (HasFollowed rule) HasFollowFault result) }
     ensures follow_is_known { (rule : LossRule) (events : Bool)
         → AsksToFollowAlone rule events (map S.text words.now) → result ≢ 2 }
+    ensures map { AsksToMap (map S.text words.now)
+        → IfSome (R.remaining reader) (SaysOfMap result) }
+    ensures map_is_known { AsksToMap (map S.text words.now) → result ≢ 2 }
     ensures usage { AsksForNothing (map S.text words.now) → (result ≡ 2) ⊎ (result ≡ 3) }
 {
     let mut reader = Device::new(reader);

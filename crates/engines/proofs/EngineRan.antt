@@ -9,7 +9,7 @@ use Rattle.text_lines.specs.Format.{Format}
 use Rattle.engines.specs.declared.device.Device.{Device}
 use Rattle.engines.specs.declared.fault.WriteFault.{WriteFault}
 use Rattle.engines.specs.declared.fault.EngineFault.{EngineFault}
-use Rattle.engines.specs.declared.fault.EngineFault.TheVariants.{Trace, Cut, OutOfMemory, Read, Write, Usage}
+use Rattle.engines.specs.declared.fault.EngineFault.TheVariants.{Trace, Cut, Capture, OutOfMemory, Read, Write, Usage}
 use Rattle.engines.specs.Device.{inner_of, has_failed, IsFresh}
 use Rattle.engines.specs.Engine.{engine_fault, WritesText, WritesFront, IsReadBefore, HasCause, RunsEngine}
 use Rattle.engines.specs.Transfer.{AppendsFront, IsReadToEnd}
@@ -29,6 +29,7 @@ module _ {R W : Type 0} (remaining : R → Option (List ℕ)) (contents : W → 
     cause_of_lines known reader writer Read cause = cause
     cause_of_lines known reader writer Write cause = absurd cause
     cause_of_lines known reader writer Usage cause = absurd cause
+    cause_of_lines known reader writer (Capture fault) cause = absurd cause
 
     no_write : (known : Option (List ℕ)) (reader : Device R) (fault : EngineFault) → HasLinesCause format start known reader fault → fault ≢ Write
     no_write known reader (Trace fault) cause is = cc
@@ -37,6 +38,7 @@ module _ {R W : Type 0} (remaining : R → Option (List ℕ)) (contents : W → 
     no_write known reader Read cause is = cc
     no_write known reader Write cause is = absurd cause
     no_write known reader Usage cause is = cc
+    no_write known reader (Capture fault) cause is = cc
 
     -- lines that were not read: nothing was written
     pub ran-unread : (reader reader' : Device R) (writer : Device W) (fault : EngineFault) → HasLinesCause format start (remaining (inner_of reader)) reader' fault

@@ -16,7 +16,7 @@ use Rattle.texts.specs.Trace.Line.{shape_of}
 use Rattle.texts.specs.Trace.Place.{nothing_said_in, trace_format}
 use Rattle.engines.specs.declared.device.Device.{Device}
 use Rattle.engines.specs.declared.fault.EngineFault.{EngineFault}
-use Rattle.engines.specs.declared.fault.EngineFault.TheVariants.{Trace, Cut, OutOfMemory, Read, Write, Usage}
+use Rattle.engines.specs.declared.fault.EngineFault.TheVariants.{Trace, Cut, Capture, OutOfMemory, Read, Write, Usage}
 use Rattle.engines.specs.declared.follow.Follower.{Follower}
 use Rattle.engines.specs.Device.{inner_of, has_failed, given_of}
 use Rattle.engines.specs.Engine.{WritesText}
@@ -160,6 +160,7 @@ module _ {R W : Type 0} (remaining : R → Option (List ℕ)) (contents : W → 
           cause_of Read is = absurd is
           cause_of Write is = absurd is
           cause_of Usage is = absurd is
+          cause_of (Capture fault) is = absurd is
 
           -- a line of the piece is at fault, or an allocation failed
           stopped_at : (fault : EngineFault) → IsTextOfFront rule width events fault (far.bytes ++ piece) (flat_map (told_lines events) (far.told ++ happened))
@@ -189,6 +190,7 @@ module _ {R W : Type 0} (remaining : R → Option (List ℕ)) (contents : W → 
           trace_stopped OutOfMemory front is wrote = stopped_at OutOfMemory front (λ e. absurd cc) (λ e. absurd cc) is wrote
           trace_stopped Read front is wrote = absurd is
           trace_stopped Usage front is wrote = absurd is
+          trace_stopped (Capture fault) front is wrote = absurd is
           trace_stopped Write front is wrote = record {
             written = tt;
             above = λ other. absurd (other refl);
@@ -264,6 +266,7 @@ module _ {R W : Type 0} (remaining : R → Option (List ℕ)) (contents : W → 
             (ended_at OutOfMemory tt (λ e. absurd cc) tt)
         trace_ended writer'' Read by = absurd by.1
         trace_ended writer'' Usage by = absurd by.1
+        trace_ended writer'' (Capture fault) by = absurd by.1
         trace_ended writer'' Write by = record {
           written = tt;
           above = λ other. absurd (other refl);

@@ -35,7 +35,7 @@ use Rattle.texts.specs.Inside.TraceInput.{TraceState, taking_format, nothing_tak
 use Rattle.texts.proofs.HandedLines.{read_alone, faulty_alone}
 use Rattle.engines.specs.declared.follow.Follower.{Follower}
 use Rattle.engines.specs.declared.fault.EngineFault.{EngineFault}
-use Rattle.engines.specs.declared.fault.EngineFault.TheVariants.{Trace, Cut, OutOfMemory, Read, Write, Usage}
+use Rattle.engines.specs.declared.fault.EngineFault.TheVariants.{Trace, Cut, Capture, OutOfMemory, Read, Write, Usage}
 use Rattle.engines.specs.declared.device.Device.{Device}
 use Rattle.engines.specs.Device.{inner_of, has_failed}
 use Rattle.engines.specs.Engine.{engine_fault}
@@ -162,6 +162,7 @@ module _ (rule : LossRule) (width : Width) (events : Bool) where
   behind_longer Read bytes more lines is = tt
   behind_longer Write bytes more lines is = tt
   behind_longer Usage bytes more lines is = tt
+  behind_longer (Capture fault) bytes more lines is = tt
 
   -- a list that isn't empty has a last element
   last_of : {A : Type 0} (first : A) (more : List A) → (init : List A) × (last : A) × (first ∷ more ≡ init ++ last ∷ [])
@@ -261,6 +262,7 @@ module _ (rule : LossRule) (width : Width) (events : Bool) where
   behind_piece bytes piece text Read is few settled = tt
   behind_piece bytes piece text Write is few settled = tt
   behind_piece bytes piece text Usage is few settled = tt
+  behind_piece bytes piece text (Capture fault) is few settled = tt
 
   -- the last line that is at fault
   pub behind_last : (bytes text : List ℕ) (fault : EngineFault) (is : IsTextOfWhole rule width events bytes text) → IsEndFault width bytes fault
@@ -274,6 +276,7 @@ module _ (rule : LossRule) (width : Width) (events : Bool) where
   behind_last bytes text Read is first = tt
   behind_last bytes text Write is first = tt
   behind_last bytes text Usage is first = tt
+  behind_last bytes text (Capture fault) is first = tt
 
 -- ---- why no more was followed
 
@@ -360,6 +363,7 @@ fault_longer width bytes more OutOfMemory is = tt
 fault_longer width bytes more Read is = absurd is
 fault_longer width bytes more Write is = absurd is
 fault_longer width bytes more Usage is = absurd is
+fault_longer width bytes more (Capture fault) is = absurd is
 
 -- where nothing more was told of a piece of one line at most, the lines above were told of
 pub told_above : (rule : LossRule) (width : Width) (events : Bool) (bytes piece : List ℕ) (told : List HappenedAt) (follower : Follower) (fault : EngineFault)
@@ -536,6 +540,7 @@ module _ {W : Type 0} (contents : W → Option (List ℕ)) (writer writer' : Dev
   stopped_by width bytes text done Read wrote is = absurd is
   stopped_by width bytes text done Write wrote is = absurd is
   stopped_by width bytes text done Usage wrote is = absurd is
+  stopped_by width bytes text done (Capture fault) wrote is = absurd is
 
   -- what happened by the lines of a piece was written
   pub piece_written : (rule : LossRule) (width : Width) (events : Bool) (bytes piece : List ℕ) (told happened : List HappenedAt) (follower : Follower)
@@ -562,3 +567,4 @@ module _ {W : Type 0} (contents : W → Option (List ℕ)) (writer writer' : Dev
   ends_by rule width events bytes told Read same is = absurd is
   ends_by rule width events bytes told Write same is = absurd is
   ends_by rule width events bytes told Usage same is = absurd is
+  ends_by rule width events bytes told (Capture fault) same is = absurd is

@@ -5,7 +5,7 @@ use Rattle.engines.specs.declared.device.Device.{Device}
 use Rattle.text_lines.specs.declared.fault.TextFault.{TextFault}
 use Rattle.text_lines.specs.declared.fault.TextFault.TheVariants as text_fault
 use Rattle.engines.specs.declared.fault.EngineFault.{EngineFault}
-use Rattle.engines.specs.declared.fault.EngineFault.TheVariants.{Trace, Cut, OutOfMemory, Read, Write, Usage}
+use Rattle.engines.specs.declared.fault.EngineFault.TheVariants.{Trace, Cut, Capture, OutOfMemory, Read, Write, Usage}
 use Rattle.engines.specs.Device.{inner_of, has_failed}
 use Rattle.engines.specs.Transfer.{AppendsFront, IsLeftFlushed, IsReadFault, IsRead, IsReadToEnd}
 
@@ -35,6 +35,7 @@ HasCause IsFaultOf known reader writer OutOfMemory = Unit {0}
 HasCause IsFaultOf known reader writer Read = IsReadFault reader
 HasCause IsFaultOf known reader writer Write = has_failed writer ≡ true
 HasCause IsFaultOf known reader writer Usage = ⊥
+HasCause IsFaultOf known reader writer (Capture fault) = ⊥
 
 -- how far a reader was read where a fault is reported: unless it is `Read`, the reader did not fail and gave no more than an engine reads,
 -- and unless an allocation failed it was read to its end

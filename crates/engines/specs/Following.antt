@@ -12,7 +12,7 @@ use Rattle.texts.specs.Trace.Line.{shape_of}
 use Rattle.texts.specs.Trace.Place.{nothing_said_in, trace_format}
 use Rattle.engines.specs.declared.device.Device.{Device}
 use Rattle.engines.specs.declared.fault.EngineFault.{EngineFault}
-use Rattle.engines.specs.declared.fault.EngineFault.TheVariants.{Trace, Cut, OutOfMemory, Read, Write, Usage}
+use Rattle.engines.specs.declared.fault.EngineFault.TheVariants.{Trace, Cut, Capture, OutOfMemory, Read, Write, Usage}
 use Rattle.engines.specs.Device.{inner_of, has_failed, given_of}
 use Rattle.engines.specs.Engine.{WritesText}
 use Rattle.engines.specs.Transfer.{AppendsFront, IsLeftFlushed}
@@ -27,6 +27,7 @@ HasFollowCause width known reader writer OutOfMemory = Unit {0}
 HasFollowCause width known reader writer Read = (has_failed reader ≡ true) ⊎ (2 ^ 64 - 1 ≤ given_of reader)
 HasFollowCause width known reader writer Write = has_failed writer ≡ true
 HasFollowCause width known reader writer Usage = ⊥
+HasFollowCause width known reader writer (Capture fault) = ⊥
 
 -- where a line is at fault, it is the one behind these lines
 abbrev pub IsBehind : List ℕ → List (List ℕ) → EngineFault → Type 0

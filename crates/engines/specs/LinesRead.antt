@@ -6,7 +6,7 @@ use Rattle.text_lines.specs.Format.{Format, IsRead, IsFirstFaultyLine}
 use Rattle.text_lines.specs.Lines.{lines_of}
 use Rattle.engines.specs.declared.device.Device.{Device}
 use Rattle.engines.specs.declared.fault.EngineFault.{EngineFault}
-use Rattle.engines.specs.declared.fault.EngineFault.TheVariants.{Trace, Cut, OutOfMemory, Read, Write, Usage}
+use Rattle.engines.specs.declared.fault.EngineFault.TheVariants.{Trace, Cut, Capture, OutOfMemory, Read, Write, Usage}
 use Rattle.engines.specs.Engine.{IsFaultOfKnown}
 use Rattle.engines.specs.Transfer.{IsReadFault}
 
@@ -33,3 +33,4 @@ HasLinesCause format start known reader OutOfMemory = Unit {0}
 HasLinesCause format start known reader Read = IsReadFault reader
 HasLinesCause format start known reader Write = ⊥
 HasLinesCause format start known reader Usage = ⊥
+HasLinesCause format start known reader (Capture fault) = ⊥

@@ -1,10 +1,11 @@
 //! The faults of the engines and of the program, and the exit status of each outcome.
 ghost use Rattle.std.specs.Prelude.{◌≡◌};
 ghost use Rattle.engines.specs.declared.fault.EngineFault.TheVariants.{OutOfMemory, Write};
-ghost use Rattle.engines.specs.Fault.{status_of, exit_status_of, usage_fault};
+ghost use Rattle.engines.specs.Fault.{status_of, exit_status_of, usage_fault, fault_of_capture};
 ghost use Rattle.text_lines.specs.Fault.{text_fault_of_parse};
 ghost use Rattle.engines.specs.Engine.{engine_fault};
 
+use capture::{CaptureFault, PcapFault, PcapngFault};
 use command_line::UsageFault;
 use docsis_wire::CutFault;
 use std::alloc::AllocError;
@@ -22,6 +23,9 @@ pub enum EngineFault {
     /// Frames cannot be cut into their pieces. Out of memory is reported as `OutOfMemory`.
     #[error(transparent)]
     Cut(CutFault),
+    /// A capture cannot be read. Out of memory is reported as `OutOfMemory`.
+    #[error(transparent)]
+    Capture(PlacedFault),
     /// An allocation failed, or a thread of `run` could not be started.
     #[error("out of memory")]
     OutOfMemory,
@@ -34,6 +38,28 @@ pub enum EngineFault {
     /// The program does not know its arguments.
     #[error("usage")]
     Usage,
+}
+
+/// The fault of a capture, and where it is.
+#[derive(Clone, Copy, Debug, PartialEq, Eq, Error)]
+#[error("after {records} records: {fault}")]
+pub struct PlacedFault {
+    /// How many records came before it. It stays at its greatest value.
+    pub records: u64,
+    pub fault: CaptureFault,
+}
+
+impl EngineFault {
+    /// The fault of an engine whose capture has this one behind so many records.
+    pub fn of_capture(fault: CaptureFault, records: u64) -> EngineFault
+        ensures { result ≡ fault_of_capture fault records }
+    {
+        match fault {
+            CaptureFault::Pcap(PcapFault::OutOfMemory)
+            | CaptureFault::Pcapng(PcapngFault::OutOfMemory) => EngineFault::OutOfMemory,
+            _ => EngineFault::Capture(PlacedFault { records, fault }),
+        }
+    }
 }
 
 impl From<AllocError> for EngineFault {
@@ -100,7 +126,7 @@ pub fn status(fault: &EngineFault) -> u8
 {
     match fault {
         EngineFault::OutOfMemory | EngineFault::Cut(CutFault::OutOfMemory) => 3,
-        EngineFault::Trace(_) | EngineFault::Cut(_) => 1,
+        EngineFault::Trace(_) | EngineFault::Cut(_) | EngineFault::Capture(_) => 1,
         EngineFault::Usage => 2,
         EngineFault::Read | EngineFault::Write => 4,
     }

@@ -1,8 +1,7 @@
 //! The command `follow`: what happens at a receiver by the lines of a trace is written as they are
 //! read.
-ghost use Rattle.std.specs.Prelude.{◌≡◌, ◌≤◌, ◌<◌, ◌+◌, ◌-◌, ◌^◌, [], length, min, take, true, IfOk, IfErr, OnErr};
-ghost use Rattle.std.specs.Io.KnownBytes.{Consumes, Keeps, IsAtEnd};
-ghost use Rattle.engines.specs.Device.{inner_of, has_failed, given_of, IsFresh};
+ghost use Rattle.std.specs.Prelude.{◌≡◌, ◌≤◌, [], length, IfOk, IfErr};
+ghost use Rattle.engines.specs.Device.{IsFresh};
 ghost use Rattle.engines.specs.Following.{FollowsTrace};
 ghost use Rattle.engines.specs.Inside.Following.{HasFollowedBytes, FollowsPiece, IsLastLine};
 ghost use Rattle.engines.specs.Inside.Following.{FollowsWritten, FollowsEnd};
@@ -14,7 +13,7 @@ ghost use Rattle.texts.specs.Follow.{end_text};
 use crate::device::Device;
 use crate::fault::{EngineFault, WriteFault};
 use crate::text_writer::{TextWriter, held_room};
-use crate::transfer::zeros;
+use crate::transfer::{read_some, zeros};
 use loss_rule::LossRule;
 use receiver::Width;
 use std::alloc::{AllocError, Global};
@@ -179,28 +178,6 @@ fn write_end<W: Write>(
     let mut text = TextWriter::new(writer, room);
     put_end(&mut text, line, events, end);
     text.finish()
-}
-
-/// Makes one read of a reader. It answers how many bytes it gave, at the front of the room: none
-/// only at its end.
-fn read_some<R: Read>(reader: &mut Device<R>, room: &mut [u8]) -> Result<usize, EngineFault>
-    requires room { 0 < length room.old }
-    ensures within { IfOk result (λ count. count ≤ length room.new) }
-    ensures taken { IfOk result (λ count. Consumes (R.remaining (inner_of reader.old))
-        (R.remaining (inner_of reader.new)) (take count room.new)) }
-    ensures end { IfOk result (λ count. count ≡ 0 → IsAtEnd (R.remaining (inner_of reader.new))) }
-    ensures given { IfOk result (λ count. given_of reader.new
-        ≡ min (given_of reader.old + count) (2 ^ 64 - 1)) }
-    ensures sound { IfOk result (λ _. has_failed reader.new ≡ has_failed reader.old) }
-    ensures failed { OnErr result (has_failed reader.new ≡ true) }
-    ensures kept { OnErr result (Keeps (R.remaining (inner_of reader.old))
-        (R.remaining (inner_of reader.new))) }
-    ensures only { IfErr result (λ fault. fault ≡ EngineFault.Read) }
-{
-    match reader.read(room) {
-        Ok(count) => Ok(count),
-        Err(_) => Err(EngineFault::Read),
-    }
 }
 
 /// Follows the trace that a reader gives, of a receiver of this width, where besides the decisions

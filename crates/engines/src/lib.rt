@@ -11,6 +11,8 @@
 //! - [`follow_text`] is the engine of `follow`, which writes what a line brings before it reads on.
 //! - [`read_lines`] reads an input piece by piece, and [`write_report`] writes a report in the room
 //!   that [`held_room`] gives, for the engine of `run`; [`write_text`] writes a whole text.
+//! - [`TextWriter`] writes a text as it is put, and [`read_some`] makes one read without a limit into
+//!   the room that [`zeros`] gives, for the engines of other crates.
 //! - [`write_fault`] writes the line of a fault, and [`status`] is its exit status.
 //!
 //! What matters most: they write exactly the text that stands for the lines they read; or they
@@ -36,11 +38,11 @@ mod transfer;
 pub use command_line::{Command, UsageFault, read_words};
 pub use cut::cut_text;
 pub use device::Device;
-pub use fault::{EngineFault, WriteFault, exit_status, status};
+pub use fault::{EngineFault, PlacedFault, WriteFault, exit_status, status};
 pub use fault_line::write_fault;
 pub use follow::follow_text;
 pub use join::join_text;
 pub use lines_read::read_lines;
 pub use replay::{replay_text, replay_text_by, write_report};
-pub use text_writer::held_room;
-pub use transfer::{INPUT_MAX, write_text};
+pub use text_writer::{TextWriter, held_room};
+pub use transfer::{INPUT_MAX, read_some, write_text, zeros};

@@ -28,7 +28,7 @@ enum Stage {
 /// Writes a text to a device as it is put. It takes no memory but the room that it is made with,
 /// which it borrows: the proof would not see a borrow of the device end in a value with memory.
 #[derive(Drop)]
-pub(crate) struct TextWriter<'a, W> {
+pub struct TextWriter<'a, W> {
     writer: &'a mut Device<W>,
     /// What was put last, and isn't written yet.
     held: &'a mut Vec<u8>,

@@ -3,13 +3,14 @@ use Rattle.std.specs.Prelude.{◌≡◌, ◌<◌, ◌≤◌, ℕ, List, Option, 
 use Rattle.docsis_wire.specs.Limits.{sequence_modulus}
 use Rattle.command_line.specs.Command.{channels_max}
 use Rattle.command_line.specs.declared.command.Command.{Command}
-use Rattle.command_line.specs.declared.command.Command.TheVariants.{Join, Cut, Replay, Run, Follow, Help}
+use Rattle.command_line.specs.declared.command.Command.TheVariants.{Join, Cut, Replay, Run, Follow, Map, Help}
 use Rattle.engines.specs.declared.device.Device.{Device}
 use Rattle.engines.specs.declared.fault.EngineFault.{EngineFault}
 use Rattle.engines.specs.Engine.{RunsEngine}
 use Rattle.engines.specs.Following.{FollowsTrace}
 use Rattle.flow_records.specs.Limits.{most_flows}
 use Rattle.receiver.specs.declared.width.Width.{Width}
+use Rattle.capture_engines.specs.Mapping.{MapsCapture}
 use Rattle.commands.specs.Program.{WritesHelp}
 use Rattle.texts.specs.Join.{IsJoined, IsJoinFault}
 use Rattle.texts.specs.Cut.{IsCutText, IsCutFault}
@@ -26,6 +27,7 @@ Performs remaining contents (Run rule mailbox ring) reader reader' writer writer
     RunsEngine remaining contents (IsRunTextBy rule ring mailbox) (IsReportFault ring) reader reader' writer writer' result
 Performs remaining contents (Follow rule channels events) reader reader' writer writer' result =
     (width : Width) × (width.channels ≡ channels) × (width.flows ≡ most_flows) × FollowsTrace rule width events remaining contents reader reader' writer writer' result
+Performs remaining contents Map reader reader' writer writer' result = MapsCapture remaining contents reader reader' writer writer' result
 Performs remaining contents (Help text) reader reader' writer writer' result = WritesHelp contents (string_bytes text) reader reader' writer writer' result
 
 -- a cut begins with the number of a segment, a run has room in its mailboxes and rings, and a trace that is followed has a channel, and not too many
@@ -35,4 +37,5 @@ IsInRange (Cut first fill) = first < sequence_modulus
 IsInRange (Replay rule) = Unit {0}
 IsInRange (Run rule mailbox ring) = (1 ≤ mailbox) × (1 ≤ ring)
 IsInRange (Follow rule channels events) = (1 ≤ channels) × (channels ≤ channels_max)
+IsInRange Map = Unit {0}
 IsInRange (Help text) = Unit {0}

@@ -9,10 +9,9 @@ use Rattle.command_line.proofs.AskedRules.{AskForRule-alone}
 use Rattle.command_line.proofs.AskedEvents.{AskForRule-follow, AskForEvents-alone}
 use Rattle.command_line.proofs.AskedWithoutHelp.{runs_without_help, follows_without_help}
 use Rattle.command_line.proofs.CommandsApart.{commands_apart, replay_is_not_run, follow_is_not_replay, follow_is_not_run}
-use Rattle.command_line.proofs.AskedWords.{AsksForAnEngine-with_options, AsksForAnEngine-replay}
+use Rattle.command_line.proofs.AskedWords.{AsksForAnEngine-with_options}
 use Rattle.command_line.proofs.command.read_words.Goals as goal
-use Rattle.command_line.proofs.command.read_words.Goals.{then-not-asks_to_join+then-is_none+in_ok-read_with_options, else-not-asks_to_join}
-use Rattle.command_line.proofs.command.read_words.Goals.{else-not-asks_to_join-via-then-not-asks_to_join+else-is_none, else-not-asks_to_join-via-else-not-asks_to_join}
+use Rattle.command_line.proofs.command.read_words.Goals.{then-not-asks_alone+in_ok-read_with_options+in-Help-1, then-not-asks_alone+in_ok-read_with_options+in-Join-1, else-not-asks_alone}
 
 pub returns-in-Some-clause-asked : goal.returns-in-Some-clause-asked
 returns-in-Some-clause-asked g c = (c.asked_rule_alone_of.ensures c.in-Some.rule).0 c.in-Some.is
@@ -59,20 +58,13 @@ returns-clause-replay g c = λ rule asks. absurd (c.in_default.not-Some rule ((c
 pub returns-clause-asked : goal.returns-clause-asked
 returns-clause-asked g c =
     let before = map g.S.AsStr.text c.in-Some-before_help.before.now in
-    elim c.if-not-asks_to_join.branch [
-      | then-not-asks_to_join+then-is_none+in_ok-read_with_options w ↦
+    elim c.if-not-asks_alone.branch [
+      | then-not-asks_alone+in_ok-read_with_options+in-Help-1 w ↦
           (before, c.in-Some-before_help.ensures, AsksForAnEngine-with_options before w.in_ok-read_with_options.field-0 w.in_ok-read_with_options.ensures)
-      | else-not-asks_to_join w ↦
-          elim w.else-not-asks_to_join.branch [
-            | else-not-asks_to_join-via-then-not-asks_to_join+else-is_none v ↦ (
-              before,
-              c.in-Some-before_help.ensures,
-              AsksForAnEngine-replay before v.asked_rule_alone_of-then-not-asks_to_join.result v.asked_rule_alone_of-then-not-asks_to_join.ensures
-                  (v.is_none.ensures ∙ ap (λ none. not none) v.if-is_none.false),
-            )
-            | else-not-asks_to_join-via-else-not-asks_to_join v ↦
-                (before, c.in-Some-before_help.ensures, inl (c.asks_to_join-2.ensures.0 v.if-not-asks_to_join.false))
-          ]
+      | then-not-asks_alone+in_ok-read_with_options+in-Join-1 w ↦
+          (before, c.in-Some-before_help.ensures, AsksForAnEngine-with_options before w.in_ok-read_with_options.field-0 w.in_ok-read_with_options.ensures)
+      | else-not-asks_alone w ↦
+          (before, c.in-Some-before_help.ensures, c.asks_alone.ensures w.if-not-asks_alone.false)
     ]
 
 pub returns-in-Some-clause-follow : goal.returns-in-Some-clause-follow
@@ -120,4 +112,14 @@ returns-in_err-help_text-clause-follow g c = λ rule events asks.
 
 pub returns-clause-follow : goal.returns-clause-follow
 returns-clause-follow g c = λ rule events asks.
+    absurd (c.in_default-asked_follow_alone.not-Some (rule, events) ((c.asked_follow_alone.ensures rule events).1 asks))
+
+pub returns-in_err-read_with_options-clause-run : goal.returns-in_err-read_with_options-clause-run
+returns-in_err-read_with_options-clause-run g c = λ rule asks. absurd (c.in_default-asked_rule_alone_of.not-Some rule ((c.asked_rule_alone_of-2.ensures rule).1 asks))
+
+pub returns-in_err-read_with_options-clause-replay : goal.returns-in_err-read_with_options-clause-replay
+returns-in_err-read_with_options-clause-replay g c = λ rule asks. absurd (c.in_default.not-Some rule ((c.asked_rule_alone_of.ensures rule).1 asks))
+
+pub returns-in_err-read_with_options-clause-follow : goal.returns-in_err-read_with_options-clause-follow
+returns-in_err-read_with_options-clause-follow g c = λ rule events asks.
     absurd (c.in_default-asked_follow_alone.not-Some (rule, events) ((c.asked_follow_alone.ensures rule events).1 asks))

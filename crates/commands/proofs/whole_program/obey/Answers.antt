@@ -1,9 +1,9 @@
 use Rattle.std.proofs.Common.{◌≡◌, Bool}
 use Rattle.std.specs.Prelude.{map}
 use Rattle.loss_rule.specs.declared.rule.LossRule.{LossRule}
-use Rattle.command_line.specs.declared.command.Command.TheVariants.{Join, Replay, Run, Follow}
+use Rattle.command_line.specs.declared.command.Command.TheVariants.{Join, Replay, Run, Follow, Map}
 use Rattle.engines.specs.Fault.{usage_fault}
-use Rattle.command_line.specs.Command.{AsksToJoin, AsksToReplayBy, AsksToRunByAlone, AsksToFollowAlone, channels_max}
+use Rattle.command_line.specs.Command.{AsksToJoin, AsksToReplayBy, AsksToRunByAlone, AsksToFollowAlone, AsksToMap, channels_max}
 use Rattle.text_lines.specs.Capacities.{default_capacity}
 use Rattle.commands.proofs.ObeyedWords.{Obeys-performed, Obeys-refused, is_fault}
 use Rattle.commands.proofs.whole_program.obey.Goals as goal
@@ -12,6 +12,7 @@ pub returns : goal.returns
 returns g c =
     let words = map g.S.AsStr.text c.args.words.now in
     let joins : AsksToJoin words → c.in_ok-command.command ≡ Join = λ asks. cc (c.in_ok-command.was, c.read_words.ensures.join asks) in
+    let maps : AsksToMap words → c.in_ok-command.command ≡ Map = λ asks. cc (c.in_ok-command.was, c.read_words.ensures.map asks) in
     let replays : (rule : LossRule) → AsksToReplayBy rule words → c.in_ok-command.command ≡ Replay rule =
     λ rule asks. cc (c.in_ok-command.was, c.read_words.ensures.replay rule asks)
     in
@@ -23,12 +24,13 @@ returns g c =
     in
     Obeys-performed g.R.Read.remaining g.W.Write.contents words c.args.reader.now c.perform.new.reader c.args.out.now c.perform.new.out
     c.in_ok-command.command c.perform.result c.replay_by_decisions_alone_is_a_replay.ensures.replay c.run_by_decisions_alone_is_a_run.ensures.run
-    c.requires.reader c.requires.out c.in_ok-command.ensures.asked joins replays runs follows c.perform.ensures
+    c.requires.reader c.requires.out c.in_ok-command.ensures.asked joins maps replays runs follows c.perform.ensures
 
 pub returns-in_err-command : goal.returns-in_err-command
 returns-in_err-command g c =
     let words = map g.S.AsStr.text c.args.words.now in
     let no_join : ¬ AsksToJoin words = λ asks. absurd (cc (c.in_err-command.was, c.read_words.ensures.join asks)) in
+    let no_map : ¬ AsksToMap words = λ asks. absurd (cc (c.in_err-command.was, c.read_words.ensures.map asks)) in
     let no_replay : (rule : LossRule) → ¬ AsksToReplayBy rule words =
     λ rule asks. absurd (cc (c.in_err-command.was, c.read_words.ensures.replay rule asks))
     in
@@ -39,4 +41,4 @@ returns-in_err-command g c =
     λ rule events asks. absurd (cc (c.in_err-command.was, c.read_words.ensures.follow rule events asks))
     in
     rw (is_fault (usage_fault c.in_err-command.field-0.0) c.from_residual.result c.from_residual.ensures.1)
-    (Obeys-refused g.R.Read.remaining g.W.Write.contents words c.args.reader.now c.args.out.now c.in_err-command.field-0.0 c.requires.reader no_join no_replay no_alone no_follow)
+    (Obeys-refused g.R.Read.remaining g.W.Write.contents words c.args.reader.now c.args.out.now c.in_err-command.field-0.0 c.requires.reader no_join no_replay no_alone no_follow no_map)

@@ -63,3 +63,9 @@ returns-clause-follow g c = (SaysOfWords-run c.new-reader.ensures.inner c.run_wo
 
 pub returns-clause-follow_is_known : goal.returns-clause-follow_is_known
 returns-clause-follow_is_known g c = (SaysOfWords-run c.new-reader.ensures.inner c.run_words-status.ensures).follow_is_known
+
+pub returns-clause-map : goal.returns-clause-map
+returns-clause-map g c = (SaysOfWords-run c.new-reader.ensures.inner c.run_words-status.ensures).map
+
+pub returns-clause-map_is_known : goal.returns-clause-map_is_known
+returns-clause-map_is_known g c = (SaysOfWords-run c.new-reader.ensures.inner c.run_words-status.ensures).map_is_known

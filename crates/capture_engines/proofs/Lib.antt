@@ -1,0 +1,4 @@
+pub mod Records
+pub mod Pieces
+pub mod ReadCapture
+pub mod MapRan

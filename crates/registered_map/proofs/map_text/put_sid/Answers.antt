@@ -1,0 +1,5 @@
+use Rattle.registered_map.proofs.PutLines.{puts-then}
+use Rattle.registered_map.proofs.map_text.put_sid.Goals as goal
+
+pub returns : goal.returns
+returns g c = rw (c.from.ensures, c.from-2.ensures, c.from-3.ensures) at (puts-then g.O.PutText.after (puts-then g.O.PutText.after (puts-then g.O.PutText.after (puts-then g.O.PutText.after (puts-then g.O.PutText.after c.put_comment.ensures c.put_word.ensures) c.put_spaced.ensures) c.put_spaced-2.ensures) c.put_spaced-3.ensures) c.put_word-2.ensures)

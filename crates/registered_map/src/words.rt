@@ -1,0 +1,95 @@
+//! The words of a map's lines.
+ghost use Rattle.std.specs.Prelude.{flat_map};
+ghost use Rattle.text_lines.specs.Putting.{Puts};
+ghost use Rattle.registered_map.specs.MapText.{spaced, colon_octet, modem_text, seconds_text, message_text, telling_text};
+
+use crate::telling::Telling;
+use itoa::Buffer;
+use registrations::MessageName;
+use text_lines::{PutText, put_hex, put_number};
+
+/// So many nanoseconds are a second.
+const SECOND: u64 = 1_000_000_000;
+
+/// Puts a word.
+pub(crate) fn put_word<O: PutText>(out: &mut O, word: &str)
+    ensures { Puts O.after out.old word.now out.new }
+{
+    out.put(word.as_bytes());
+}
+
+/// Puts a space and a number.
+pub(crate) fn put_spaced<O: PutText>(out: &mut O, number: u64)
+    ensures { Puts O.after out.old (spaced number) out.new }
+{
+    put_word(out, " ");
+    put_number(out, number);
+}
+
+/// Puts a colon and the two digits of an octet.
+fn put_colon_octet<O: PutText>(out: &mut O, octet: u8)
+    ensures { Puts O.after out.old (colon_octet octet) out.new }
+{
+    put_word(out, ":");
+    put_hex(out, &[octet]);
+}
+
+/// Puts octets, each behind a colon.
+fn put_colon_octets<O: PutText>(out: &mut O, octets: &[u8])
+    ensures { Puts O.after out.old (flat_map colon_octet octets.now) out.new }
+{
+    for octet in octets {
+        put_colon_octet(out, *octet);
+    }
+}
+
+/// Puts the address of a modem, of 48 bits.
+fn put_modem<O: PutText>(out: &mut O, modem: u64)
+    ensures { Puts O.after out.old (modem_text modem) out.new }
+{
+    let octets = modem.to_be_bytes();
+    put_hex(out, &octets[2..3]);
+    put_colon_octets(out, &octets[3..]);
+}
+
+/// Puts a time in seconds, with nine digits behind the point.
+fn put_seconds<O: PutText>(out: &mut O, nanoseconds: u64)
+    ensures { Puts O.after out.old (seconds_text nanoseconds) out.new }
+{
+    put_number(out, nanoseconds / SECOND);
+    put_word(out, ".");
+    let mut buffer = Buffer::new();
+    let (_, digits) = buffer
+        .format(SECOND + nanoseconds % SECOND)
+        .as_bytes()
+        .split_at(1);
+    out.put(digits);
+}
+
+/// Puts the name of a message.
+fn put_message<O: PutText>(out: &mut O, message: MessageName)
+    ensures { Puts O.after out.old (message_text message) out.new }
+{
+    match message {
+        MessageName::RegRspMp { .. } => put_word(out, "REG-RSP-MP"),
+        MessageName::DbcReq { transaction } => {
+            put_word(out, "DBC-REQ, transaction");
+            put_spaced(out, u64::from(transaction));
+        }
+    }
+}
+
+/// Puts by which message something was told.
+pub(crate) fn put_telling<O: PutText>(out: &mut O, telling: Telling)
+    ensures { Puts O.after out.old (telling_text telling) out.new }
+{
+    put_word(out, "modem ");
+    put_modem(out, telling.modem);
+    put_word(out, " at ");
+    put_seconds(out, telling.nanoseconds);
+    put_word(out, ", record");
+    put_spaced(out, telling.place);
+    put_word(out, ", by ");
+    put_message(out, telling.message);
+    put_word(out, "\n");
+}

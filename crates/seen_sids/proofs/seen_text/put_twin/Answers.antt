@@ -1,0 +1,5 @@
+use Rattle.seen_sids.proofs.PutLines.{puts-then}
+use Rattle.seen_sids.proofs.seen_text.put_twin.Goals as goal
+
+pub returns-in-Some : goal.returns-in-Some
+returns-in-Some g c = rw c.in-Some.is (puts-then g.O.PutText.after c.put_word.ensures c.put_sid.ensures)

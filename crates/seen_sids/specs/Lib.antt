@@ -1,0 +1,5 @@
+pub mod Places
+pub mod Rows
+pub mod Seen
+pub mod Guess
+pub mod SeenText
