@@ -113,7 +113,7 @@ module _ {R W : Type 0} (remaining : R → Option (List ℕ)) (contents : W → 
         run_by = λ rule asks. inl (runs rule asks);
         run_alone = alone;
         follow = λ rule asks. absurd (no_follow rule asks.0);
-    map = λ asks. absurd (no_map asks);
+        map = λ asks. absurd (no_map asks);
         nothing = λ asks. absurd (something asks);
         help = λ other asks. absurd (asks (no_help other));
         flushed = tt;
