@@ -32,9 +32,10 @@ fn file(alloc: Global, packets: &[&[u8]]) -> Result<Vec<u8>, Fail> {
     file.extend_from_slice(&[
         0xa1, 0xb2, 0x3c, 0x4d, 0, 2, 0, 4, 0, 0, 0, 0, 0, 0, 0, 0, 0, 4, 0, 0, 0, 0, 1, 0x11,
     ])?;
-    for (second, packet) in packets.iter().enumerate() {
-        let length = packet.len() as u32;
-        file.extend_from_slice(&(second as u32).to_be_bytes())?;
+    for (place, packet) in packets.iter().enumerate() {
+        let second = u32::try_from(place).map_err(|_| "too many packets")?;
+        let length = u32::try_from(packet.len()).map_err(|_| "a long packet")?;
+        file.extend_from_slice(&second.to_be_bytes())?;
         file.extend_from_slice(&1u32.to_be_bytes())?;
         file.extend_from_slice(&length.to_be_bytes())?;
         file.extend_from_slice(&length.to_be_bytes())?;
@@ -127,10 +128,12 @@ fn is_faulty(alloc: Global, bytes: &[u8], records: u64) -> bool {
 
 #[test]
 fn a_fault_says_how_many_records_came_before_it(rt: HostRuntime) -> Result<(), Fail> {
-    let bytes = file(rt.alloc(), &[burst(), whole()])?;
-    assert!(rt; is_faulty(rt.alloc(), &bytes[..bytes.len() - 1], 1));
+    let mut bytes = file(rt.alloc(), &[burst(), whole()])?;
+    bytes.pop();
+    assert!(rt; is_faulty(rt.alloc(), &bytes, 1));
     assert!(rt; is_faulty(rt.alloc(), &[], 0));
-    let (done, _) = mapped(rt.alloc(), &bytes[..24], 50);
+    bytes.truncate(24);
+    let (done, _) = mapped(rt.alloc(), &bytes, 50);
     assert!(rt; done.is_ok());
     Ok(())
 }
