@@ -1,0 +1,6 @@
+pub mod Taken
+pub mod Settled
+pub mod LetGo
+pub mod HandedIn
+pub mod HandedOnTo
+pub mod Waited

@@ -1,0 +1,3 @@
+pub mod Flow
+pub mod Seen
+pub mod Taking

@@ -1,0 +1,11 @@
+//! Bursts of a capture, handed in to a receiver.
+#![tactic(auto)]
+
+mod burst;
+mod fault;
+mod flow;
+mod taking;
+
+pub use burst::SoundBurst;
+pub use fault::FlowFault;
+pub use flow::CapturedFlow;
