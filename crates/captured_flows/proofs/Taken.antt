@@ -121,3 +121,12 @@ module _ {C O : Type 0} (accepts : C → List ℕ → Bool) (after : O → List 
     was_given = restarts.was_given;
     stands = λ check made handed given stands. (restarted flow first ∷ [], refl, restarts.stands check made handed given stands);
   }
+
+  -- a consumer that is told something, and given nothing
+  pub takes-told : (First : Spelled) (r r' : Receiver C) (o o' o'' : O) → TakesBy accepts after First r o r' o'
+      → ((start : O) (given : List Given) → after start given o' → after start given o'') → TakesBy accepts after First r o r' o''
+  takes-told First r r' o o' o'' takes told = record {
+    given_more = takes.given_more;
+    was_given = λ start given was. told start (given ++ takes.given_more) (takes.was_given start given was);
+    stands = takes.stands;
+  }

@@ -9,10 +9,10 @@ ghost use Rattle.captured_flows.specs.Flow.{IsHandedOn, PassesOn, Comes, EndsWai
 ghost use Rattle.captured_flows.specs.Taking.{IsAtHand, TakesBy};
 
 use crate::burst::SoundBurst;
+use crate::capture_consumer::CaptureConsumer;
 use crate::fault::FlowFault;
 use crate::taking::{expected, restart, skip, take};
 use capture_rules::{Arrival, Beginning, Begun, ChannelOrder, HandedOn, HeldTime, HeldTimes};
-use consumer::Consumer;
 use docsis_wire::HeaderCheck;
 use lane::Input;
 use receiver::{Receiver, Reply, SegmentVerdict};
@@ -28,7 +28,7 @@ pub struct CapturedFlow {
 }
 
 /// The flow skips to a number, and what then doesn't lie ahead is held no longer.
-fn skip_past<C: HeaderCheck + Drop, O: Consumer>(
+fn skip_past<C: HeaderCheck + Drop, O: CaptureConsumer>(
     alloc: Global,
     receiver: &mut Receiver<C>,
     flow: usize,
@@ -51,7 +51,7 @@ fn skip_past<C: HeaderCheck + Drop, O: Consumer>(
 }
 
 /// Where something is held for long, the flow skips to the last of that.
-fn let_go<C: HeaderCheck + Drop, O: Consumer>(
+fn let_go<C: HeaderCheck + Drop, O: CaptureConsumer>(
     alloc: Global,
     receiver: &mut Receiver<C>,
     flow: usize,
@@ -97,7 +97,7 @@ fn keep_if(held: &mut HeldTimes, is_kept: bool, one: HeldTime) -> Result<(), All
 }
 
 /// A burst is handed in, after what is held for long is let go.
-fn hand_in<C: HeaderCheck + Drop, O: Consumer>(
+fn hand_in<C: HeaderCheck + Drop, O: CaptureConsumer>(
     alloc: Global,
     receiver: &mut Receiver<C>,
     flow: usize,
@@ -114,6 +114,7 @@ fn hand_in<C: HeaderCheck + Drop, O: Consumer>(
     ensures wait { wait_of held.new ≡ wait_of held.old }
 {
     let_go(alloc, receiver, flow, held, one.time, out)?;
+    out.hand_in(flow, &one.arrival);
     let entry = HeldTime::of(&one);
     let channel = one.arrival.channel;
     let SoundBurst {
@@ -140,7 +141,7 @@ fn hand_in<C: HeaderCheck + Drop, O: Consumer>(
 }
 
 /// These bursts are handed in, one after another.
-fn hand_in_all<C: HeaderCheck + Drop, O: Consumer>(
+fn hand_in_all<C: HeaderCheck + Drop, O: CaptureConsumer>(
     alloc: Global,
     receiver: &mut Receiver<C>,
     flow: usize,
@@ -163,7 +164,7 @@ fn hand_in_all<C: HeaderCheck + Drop, O: Consumer>(
 }
 
 /// The flow begins, or begins anew: nothing is held, and what was kept is handed in.
-fn begin<C: HeaderCheck + Drop, O: Consumer>(
+fn begin<C: HeaderCheck + Drop, O: CaptureConsumer>(
     alloc: Global,
     receiver: &mut Receiver<C>,
     flow: usize,
@@ -186,7 +187,7 @@ fn begin<C: HeaderCheck + Drop, O: Consumer>(
 }
 
 /// A flow of which a beginning has ended begins, or begins anew.
-fn begin_if<C: HeaderCheck + Drop, O: Consumer>(
+fn begin_if<C: HeaderCheck + Drop, O: CaptureConsumer>(
     alloc: Global,
     receiver: &mut Receiver<C>,
     flow: usize,
@@ -212,7 +213,7 @@ fn begin_if<C: HeaderCheck + Drop, O: Consumer>(
 }
 
 /// After a silence what is held for long is let go.
-fn let_go_if<C: HeaderCheck + Drop, O: Consumer>(
+fn let_go_if<C: HeaderCheck + Drop, O: CaptureConsumer>(
     alloc: Global,
     receiver: &mut Receiver<C>,
     flow: usize,
@@ -238,7 +239,7 @@ fn let_go_if<C: HeaderCheck + Drop, O: Consumer>(
 }
 
 /// A burst that isn't kept is handed in.
-fn hand_in_if<C: HeaderCheck + Drop, O: Consumer>(
+fn hand_in_if<C: HeaderCheck + Drop, O: CaptureConsumer>(
     alloc: Global,
     receiver: &mut Receiver<C>,
     flow: usize,
@@ -267,7 +268,7 @@ impl CapturedFlow {
     ghost use Rattle.captured_flows.specs.Seen.{flow_seen, KeepsWaits};
 
     /// A burst is handed on.
-    fn hand_on<C: HeaderCheck + Drop, O: Consumer>(
+    fn hand_on<C: HeaderCheck + Drop, O: CaptureConsumer>(
         &mut self,
         alloc: Global,
         receiver: &mut Receiver<C>,
@@ -305,7 +306,7 @@ impl CapturedFlow {
     }
 
     /// What has waited long enough is handed on.
-    fn pass_on<C: HeaderCheck + Drop, O: Consumer>(
+    fn pass_on<C: HeaderCheck + Drop, O: CaptureConsumer>(
         &mut self,
         alloc: Global,
         receiver: &mut Receiver<C>,
@@ -329,7 +330,7 @@ impl CapturedFlow {
     }
 
     /// A burst comes: it waits, and what has waited long enough is handed on.
-    pub fn come<C: HeaderCheck + Drop, O: Consumer>(
+    pub fn come<C: HeaderCheck + Drop, O: CaptureConsumer>(
         &mut self,
         alloc: Global,
         receiver: &mut Receiver<C>,
@@ -353,7 +354,7 @@ impl CapturedFlow {
     }
 
     /// Nothing more comes: all that waits is handed on, and a beginning ends.
-    pub fn end_waiting<C: HeaderCheck + Drop, O: Consumer>(
+    pub fn end_waiting<C: HeaderCheck + Drop, O: CaptureConsumer>(
         &mut self,
         alloc: Global,
         receiver: &mut Receiver<C>,

@@ -2,7 +2,7 @@ use Rattle.std.proofs.Common.{Bool, subst}
 use Rattle.capture_rules.specs.Held.{held_by, wait_of}
 use Rattle.captured_flows.specs.Flow.{Holds}
 use Rattle.captured_flows.proofs.HandedIn.{holds-if, hands-in}
-use Rattle.captured_flows.proofs.Taken.{Nothing, Just, Then, takes-none, takes-as, takes-then, takes-expecting, takes-expected}
+use Rattle.captured_flows.proofs.Taken.{Nothing, Just, Then, takes-none, takes-as, takes-then, takes-expecting, takes-expected, takes-told}
 use Rattle.captured_flows.proofs.flow.hand_in.Goals as goal
 
 pub returns-clause-takes : goal.returns-clause-takes
@@ -16,7 +16,7 @@ returns-clause-takes g c =
     takes-as g.C.HeaderCheck.accepts g.O.Consumer.after _ _ r0 c.take-2.new.receiver o0 c.take-2.new.out
     (takes-expected g.C.HeaderCheck.accepts g.O.Consumer.after _ r0 c.take-2.new.receiver o0 c.take-2.new.out k c.in_ok-number.number
     (takes-then g.C.HeaderCheck.accepts g.O.Consumer.after _ _ r0 c.take.new.receiver c.take-2.new.receiver o0 c.take.new.out c.take-2.new.out
-    (takes-then g.C.HeaderCheck.accepts g.O.Consumer.after _ _ r0 c.let_go.new.receiver c.take.new.receiver o0 c.let_go.new.out c.take.new.out c.in_ok-let_go.ensures.takes c.in_ok-take.ensures.takes)
+    (takes-then g.C.HeaderCheck.accepts g.O.Consumer.after _ _ r0 c.let_go.new.receiver c.take.new.receiver o0 c.hand_in.new.self c.take.new.out (takes-told g.C.HeaderCheck.accepts g.O.Consumer.after _ r0 c.let_go.new.receiver o0 c.let_go.new.out c.hand_in.new.self c.in_ok-let_go.ensures.takes c.hand_in.ensures) c.in_ok-take.ensures.takes)
     c.in_ok-reply.ensures.takes)
     c.in_ok-number.ensures.expects)
     (λ made handed more spelled.
