@@ -4,3 +4,4 @@ pub mod LetGo
 pub mod HandedIn
 pub mod HandedOnTo
 pub mod Waited
+pub mod SidTable

@@ -3,11 +3,19 @@
 
 mod burst;
 mod capture_consumer;
+mod captured_burst;
+mod captured_flows;
 mod fault;
 mod flow;
+mod sids;
+mod burst_taken;
 mod taking;
+mod waits;
 
 pub use burst::SoundBurst;
 pub use capture_consumer::CaptureConsumer;
+pub use captured_burst::CapturedBurst;
 pub use fault::FlowFault;
 pub use flow::CapturedFlow;
+pub use burst_taken::BurstTaken;
+pub use waits::Waits;
