@@ -5,3 +5,4 @@ pub mod HandedIn
 pub mod HandedOnTo
 pub mod Waited
 pub mod SidTable
+pub mod Together

@@ -1,6 +1,6 @@
 -- One row more in a table of flows.
 use Rattle.std.proofs.Common.{◌≡◌, ℕ, ◌+◌, ◌*◌, ◌<◌, ◌≤◌, ◌⊎◌, ◌&&◌, ◌==◌, inl, inr, Bool, true, false, cond, Option, Some, None, List, [], ◌∷◌, ◌++◌, length, get_or, set, ◌≢◌, refl, ap, sym, subst, ◌∙◌, ⊎_elim, arith}
-use Rattle.std.specs.Prelude.{find, option_map, is_none}
+use Rattle.std.specs.Prelude.{find, option_map, is_some}
 use Rattle.std.specs.Option.{option_or}
 use Rattle.std.proofs.lemmas.Bool.{cases_eq, cond-true, cond-false, and_left, and_right, and_from, ne_eqb, eq-eqb}
 use Rattle.std.proofs.lemmas.List.Folds.{find-append}
@@ -63,9 +63,9 @@ module _ (rows : List MapSid) (table : List (Option ℕ)) (is_table : IsTableOf 
   asked-or_not channel sid =
       ⊎_elim
       (λ (same : row.channel ≡ channel). ⊎_elim
-          (λ (equal : row.sid ≡ sid). inl (same, equal))
-          (λ (other : row.sid ≡ sid → ⊥). inr (λ _ equal. other equal))
-          (cases_eq row.sid sid))
+      (λ (equal : row.sid ≡ sid). inl (same, equal))
+      (λ (other : row.sid ≡ sid → ⊥). inr (λ _ equal. other equal))
+      (cases_eq row.sid sid))
       (λ (other : row.channel ≡ channel → ⊥). inr (λ same _. other same))
       (cases_eq row.channel channel)
 
@@ -76,7 +76,7 @@ module _ (rows : List MapSid) (table : List (Option ℕ)) (is_table : IsTableOf 
       | inl same ↦
           let before : row_flow rows row.channel row.sid ≡ Some flow = sym (is_table.each row.channel row.sid in_range below) ∙ there in
           let own : get_or table (place_of row.channel row.sid) None ≡ row_flow (rows ++ row ∷ []) row.channel row.sid =
-              there ∙ sym (asked-before rows row row.channel row.sid flow before) in
+          there ∙ sym (asked-before rows row row.channel row.sid flow before) in
           subst (λ n. get_or table (place_of channel n) None ≡ row_flow (rows ++ row ∷ []) channel n) same.1
           (subst (λ n. get_or table (place_of n row.sid) None ≡ row_flow (rows ++ row ∷ []) n row.sid) same.0 own)
       | inr apart ↦ is_table.each channel sid c s ∙ sym (not-asked rows row channel sid (of_another row channel sid apart))
@@ -93,14 +93,14 @@ module _ (rows : List MapSid) (table : List (Option ℕ)) (is_table : IsTableOf 
           let many = is_table.many in
           let within : place_of row.channel row.sid < length table = omega (arith, in_range, below, many) in
           let own : get_or (set table (place_of row.channel row.sid) (Some row.flow)) (place_of row.channel row.sid) None ≡ row_flow (rows ++ row ∷ []) row.channel row.sid =
-              get_or-set_same table (place_of row.channel row.sid) (Some row.flow) None within
-              ∙ sym (asked-first rows row row.channel row.sid before (and_from (row.channel == row.channel) (row.sid == row.sid) (eq-eqb row.channel row.channel refl) (eq-eqb row.sid row.sid refl))) in
+          get_or-set_same table (place_of row.channel row.sid) (Some row.flow) None within
+          ∙ sym (asked-first rows row row.channel row.sid before (and_from (row.channel == row.channel) (row.sid == row.sid) (eq-eqb row.channel row.channel refl) (eq-eqb row.sid row.sid refl))) in
           let put = set table (place_of row.channel row.sid) (Some row.flow) in
           subst (λ n. get_or put (place_of channel n) None ≡ row_flow (rows ++ row ∷ []) channel n) same.1
           (subst (λ n. get_or put (place_of n row.sid) None ≡ row_flow (rows ++ row ∷ []) n row.sid) same.0 own)
       | inr apart ↦
           let elsewhere : place_of channel sid ≢ place_of row.channel row.sid =
-              λ same. let both = one-place row.channel channel row.sid sid below s (sym same) in apart both.0 both.1 in
+          λ same. let both = one-place row.channel channel row.sid sid below s (sym same) in apart both.0 both.1 in
           get_or-set_other table (place_of row.channel row.sid) (place_of channel sid) (Some row.flow) None elsewhere
           ∙ is_table.each channel sid c s ∙ sym (not-asked rows row channel sid (of_another row channel sid apart))
     ];
@@ -108,13 +108,13 @@ module _ (rows : List MapSid) (table : List (Option ℕ)) (is_table : IsTableOf 
 
 -- a table before the first row
 pub table-none : (table : List (Option ℕ)) → length table ≡ 262144 → ((k : ℕ) → get_or table k None ≡ None) → IsTableOf [] table
-table-none table many none = record { many = many; each = λ channel sid c s. none (place_of channel sid); }
+table-none table many none = record { many = many; each = λ channel sid c s. none (place_of channel sid) }
 
 -- what is no flow, and what is one
-pub is-none : (o : Option ℕ) → is_none o ≡ true → o ≡ None
+pub is-none : (o : Option ℕ) → is_some o ≡ false → o ≡ None
 is-none None is = refl
 is-none (Some x) is = absurd (cc)
 
-pub is-some : (o : Option ℕ) → is_none o ≡ false → (flow : ℕ) × (o ≡ Some flow)
+pub is-some : (o : Option ℕ) → is_some o ≡ true → (flow : ℕ) × (o ≡ Some flow)
 is-some None is = absurd (cc)
 is-some (Some x) is = (x, refl)

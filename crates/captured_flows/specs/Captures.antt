@@ -58,6 +58,7 @@ module _ (map : CaptureMap) (made : TableSetup) (reorder wait : ℕ) where
         → SpellsBursts flows handed bursts first between → SpellsBurst between burst (handed ++ first) told later flows'
         → SpellsBursts flows handed (bursts ++ burst ∷ []) (first ++ later) flows'
 
+module _ (made : TableSetup) (reorder wait : ℕ) where
   -- **Nothing more comes** of the first n flows: of one after another all that waits is handed on, and its beginning ends.
   pub data EndsAll (flows : List FlowView) (handed : List HandedIn) : ℕ → List HandedIn → List FlowView → Type 0 where
     none_ends : EndsAll flows handed 0 [] flows

@@ -17,7 +17,7 @@ use Rattle.capture_rules.specs.declared.arrival.HandedOn.{HandedOn}
 use Rattle.capture_rules.specs.declared.held_time.HeldTime.{HeldTime}
 use Rattle.capture_rules.specs.declared.beginning.Begun.{Begun}
 use Rattle.capture_rules.specs.Order.{HandsOn, HandsOnAll}
-use Rattle.capture_rules.specs.Begin.{BeginningView, IsEnded, is_over, is_beginning, is_silent, after_end, after_hand_on, to_hand_in}
+use Rattle.capture_rules.specs.Begin.{BeginningView, nothing_handed_on, IsEnded, is_over, is_beginning, is_silent, after_end, after_hand_on, to_hand_in}
 use Rattle.capture_rules.specs.Held.{IsSkip, still_ahead}
 use Rattle.captured_flows.specs.declared.burst.SoundBurst.{SoundBurst}
 
@@ -54,6 +54,10 @@ pub record FlowView : Type 0 where
   pub waiting : List (Arrival SoundBurst)
   pub beginning : BeginningView SoundBurst
   pub held : List HeldTime
+
+-- nothing of it came yet
+abbrev pub flow_begun : ℕ → Bool → ℕ → FlowView
+flow_begun window is_begun wait = record { window = window; waiting = []; beginning = nothing_handed_on wait is_begun; held = [] }
 
 -- a beginning ends, if it is to end
 pub data EndsIf (is_to_end : Bool) (beginning : BeginningView SoundBurst) : Option (Begun SoundBurst) → BeginningView SoundBurst → Type 0 where

@@ -6,3 +6,4 @@ pub mod Sids
 pub mod SidFlows
 pub mod Captures
 pub mod Together
+pub mod Capturing

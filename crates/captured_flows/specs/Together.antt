@@ -3,22 +3,16 @@ use Rattle.std.specs.Prelude.{◌≡◌, ℕ, Some, List, map, slice_get, slice_
 use Rattle.bonded_flows.specs.Table.{TableSetup}
 use Rattle.receiver.specs.HandedIn.{HandedIn}
 use Rattle.capture_rules.specs.declared.arrival.Arrival.{Arrival}
-use Rattle.capture_rules.specs.Waiting.{reorder_of}
-use Rattle.capture_rules.specs.Held.{wait_of}
 use Rattle.captured_flows.specs.declared.burst.SoundBurst.{SoundBurst}
 use Rattle.captured_flows.specs.declared.waits.Waits.{Waits}
 use Rattle.captured_flows.specs.declared.flow.CapturedFlow.{CapturedFlow}
 use Rattle.captured_flows.specs.Flow.{FlowView, Comes, EndsWaiting}
-use Rattle.captured_flows.specs.Seen.{flow_seen}
+use Rattle.captured_flows.specs.Seen.{flow_seen, HasWaits}
 
 abbrev pub views_of : List CapturedFlow → List FlowView
 views_of flows = map flow_seen flows
 
 -- all their bursts wait and are held so long
-pub record HasWaits (waits : Waits) (flow : CapturedFlow) : Type 0 where
-  pub wait : wait_of flow.held ≡ waits.wait
-  pub reorder : reorder_of flow.order ≡ waits.reorder
-
 abbrev pub HaveWaits : Waits → List CapturedFlow → Type 0
 HaveWaits waits flows = (k : ℕ) (flow : CapturedFlow) → slice_get flows k ≡ Some flow → HasWaits waits flow
 

@@ -37,7 +37,10 @@ pub(crate) fn granted_to(burst: &CapturedBurst) -> u32
 }
 
 /// The burst as it waits, if its lane will admit it; otherwise the burst.
-pub(crate) fn sound(channel: usize, burst: CapturedBurst) -> Result<Arrival<SoundBurst>, CapturedBurst>
+pub(crate) fn sound(
+    channel: usize,
+    burst: CapturedBurst,
+) -> Result<Arrival<SoundBurst>, CapturedBurst>
     ensures sound { IfOk result (IsSound channel burst) }
     ensures unsound { IfErr result (λ back. back ≡ burst) }
     ensures why { IfErr result (λ _. IsUnsound burst) }

@@ -5,13 +5,14 @@ ghost use Rattle.capture_rules.specs.Begin.{beginning_seen};
 ghost use Rattle.capture_rules.specs.Held.{held_by, wait_of};
 ghost use Rattle.capture_rules.specs.Waiting.{reorder_of};
 ghost use Rattle.captured_flows.specs.Flow.{Skips, LetsGo, HandsIn, HandsInAll, Begins, BeginsIf, LetsGoIf, HandsInIf, says_kept};
-ghost use Rattle.captured_flows.specs.Flow.{IsHandedOn, PassesOn, Comes, EndsWaiting};
+ghost use Rattle.captured_flows.specs.Flow.{IsHandedOn, PassesOn, Comes, EndsWaiting, flow_begun};
 ghost use Rattle.captured_flows.specs.Taking.{IsAtHand, TakesBy};
 
 use crate::burst::SoundBurst;
 use crate::capture_consumer::CaptureConsumer;
 use crate::fault::FlowFault;
 use crate::taking::{expected, restart, skip, take};
+use crate::waits::Waits;
 use capture_rules::{Arrival, Beginning, Begun, ChannelOrder, HandedOn, HeldTime, HeldTimes};
 use docsis_wire::HeaderCheck;
 use lane::Input;
@@ -265,7 +266,20 @@ fn hand_in_if<C: HeaderCheck + Drop, O: CaptureConsumer>(
 }
 
 impl CapturedFlow {
-    ghost use Rattle.captured_flows.specs.Seen.{flow_seen, KeepsWaits};
+    ghost use Rattle.captured_flows.specs.Seen.{flow_seen, KeepsWaits, HasWaits};
+
+    /// Nothing of the flow came yet. Its window has this width, and its first number is known or isn't.
+    pub fn new(alloc: Global, window: u16, is_begun: bool, waits: Waits) -> CapturedFlow
+        ensures seen { flow_seen result ≡ flow_begun window is_begun waits.wait }
+        ensures waits { HasWaits waits result }
+    {
+        CapturedFlow {
+            window,
+            order: ChannelOrder::new(alloc, waits.reorder),
+            beginning: Beginning::new(alloc, waits.wait, is_begun),
+            held: HeldTimes::new(alloc, waits.wait),
+        }
+    }
 
     /// A burst is handed on.
     fn hand_on<C: HeaderCheck + Drop, O: CaptureConsumer>(
