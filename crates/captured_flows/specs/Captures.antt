@@ -6,6 +6,11 @@ use Rattle.lane.specs.declared.input.Input.{Input}
 use Rattle.lane.specs.declared.input.Input.TheVariants.{Grant, Burst}
 use Rattle.bonded_flows.specs.Table.{TableSetup}
 use Rattle.receiver.specs.declared.reply.Reply.{Reply}
+use Rattle.loss_rule.specs.declared.rule.LossRule.{LossRule}
+use Rattle.receiver.specs.declared.setup.Setup.{Setup}
+use Rattle.receiver.specs.declared.setup.SetupError.{SetupError}
+use Rattle.receiver.specs.declared.setup.SetupError.TheVariants as setup_error
+use Rattle.receiver.specs.Widths.{IsSetupErrorWithin}
 use Rattle.receiver.specs.HandedIn.{HandedIn}
 use Rattle.capture_map.specs.declared.map.CaptureMap.{CaptureMap}
 use Rattle.capture_map.specs.declared.map.MapFlow.{MapFlow}
@@ -37,18 +42,18 @@ pub record IsRefused (channel : ℕ) (burst : CapturedBurst) (answered : Reply) 
 
 -- **With this map**, where a receiver is made with this, bursts wait for `reorder`, and what is held for longer than `wait` is let go. In what follows
 -- `handed` is what was handed in before, and `more` what is handed in then.
-module _ (map : CaptureMap) (made : TableSetup) (reorder wait : ℕ) where
+module _ (capture_map : CaptureMap) (made : TableSetup) (reorder wait : ℕ) where
   -- **A burst comes**: one of an upstream channel or a service identifier that the map doesn't have is passed over; one that its lane refuses is handed in
   -- at once, and its flow never sees it; any other comes to its flow.
   pub data SpellsBurst (flows : List FlowView) (burst : CapturedBurst) (handed : List HandedIn) : BurstTaken → List HandedIn → List FlowView → Type 0 where
-    of_no_channel : channel_of map.channels.items burst.channel ≡ None → SpellsBurst flows burst handed taken.UnknownChannel [] flows
-    of_no_flow : (channel : ℕ) → channel_of map.channels.items burst.channel ≡ Some channel → flow_of map.sids.items channel burst.sid ≡ None
+    of_no_channel : channel_of capture_map.channels.items burst.channel ≡ None → SpellsBurst flows burst handed taken.UnknownChannel [] flows
+    of_no_flow : (channel : ℕ) → channel_of capture_map.channels.items burst.channel ≡ Some channel → flow_of capture_map.sids.items channel burst.sid ≡ None
         → SpellsBurst flows burst handed taken.UnknownSid [] flows
-    is_refused : {more : List HandedIn} (channel flow : ℕ) (answered : Reply) → channel_of map.channels.items burst.channel ≡ Some channel
-        → flow_of map.sids.items channel burst.sid ≡ Some flow → IsUnsound burst → IsRefused channel burst answered made handed more
+    is_refused : {more : List HandedIn} (channel flow : ℕ) (answered : Reply) → channel_of capture_map.channels.items burst.channel ≡ Some channel
+        → flow_of capture_map.sids.items channel burst.sid ≡ Some flow → IsUnsound burst → IsRefused channel burst answered made handed more
         → SpellsBurst flows burst handed (taken.Refused answered) more flows
-    comes : {more : List HandedIn} (channel k : ℕ) (one : Arrival SoundBurst) (flow flow' : FlowView) → channel_of map.channels.items burst.channel ≡ Some channel
-        → flow_of map.sids.items channel burst.sid ≡ Some k → IsSound channel burst one → slice_get flows k ≡ Some flow
+    comes : {more : List HandedIn} (channel k : ℕ) (one : Arrival SoundBurst) (flow flow' : FlowView) → channel_of capture_map.channels.items burst.channel ≡ Some channel
+        → flow_of capture_map.sids.items channel burst.sid ≡ Some k → IsSound channel burst one → slice_get flows k ≡ Some flow
         → Comes made wait k reorder one flow handed more flow' → SpellsBurst flows burst handed (taken.Waits k) more (slice_set flows k flow')
 
   -- **Bursts come one after another.**
@@ -74,3 +79,15 @@ record_of flow = record { sfid = flow.sfid; first = unwrap_or flow.first 0; wind
 
 abbrev pub row_of : MapSid → SidRow
 row_of row = record { channel = row.channel; sid = row.sid; flow = row.flow }
+
+-- what a receiver of 16 channels is made with, of a map
+abbrev pub made_from : LossRule → CaptureMap → TableSetup
+made_from rule capture_map =
+    record { rule = rule; records = map record_of capture_map.flows.items; channels = 16; rows = map row_of capture_map.sids.items }
+
+-- a fault of what a receiver is set up with, of a map; of a failed allocation nothing follows
+abbrev pub IsFaultOf : CaptureMap → SetupError → Type 0
+IsFaultOf capture_map setup_error.OutOfMemory = Unit {0}
+IsFaultOf capture_map error =
+    (setup : Setup) × (setup.flows.items ≡ map record_of capture_map.flows.items) × (setup.sids.items ≡ map row_of capture_map.sids.items)
+    × IsSetupErrorWithin 16 16384 setup error

@@ -1,9 +1,9 @@
 //! The bursts of a capture with a map, handed in to a receiver.
-ghost use Rattle.std.specs.Prelude.{◌≡◌, ◌<◌, ◌∷◌, [], ℕ, List, IfOk, OnOk, map, length};
+ghost use Rattle.std.specs.Prelude.{◌≡◌, [], IfOk, IfErr, map, length};
 ghost use Rattle.receiver.specs.Receiving.{IsReceiving};
 ghost use Rattle.captured_flows.specs.Taking.{IsAtHand, TakesBy};
 ghost use Rattle.captured_flows.specs.Captures.{IsRefused, EndsAll};
-ghost use Rattle.captured_flows.specs.Together.{HaveWaits, ComesAt, EndsAt, views_of};
+ghost use Rattle.captured_flows.specs.Together.{HaveWaits, ComesAt, EndsAt, views_of, view_begun};
 
 use crate::burst::SoundBurst;
 use crate::burst_taken::BurstTaken;
@@ -11,6 +11,7 @@ use crate::capture_consumer::CaptureConsumer;
 use crate::captured_burst::{CapturedBurst, granted_to, sound};
 use crate::fault::FlowFault;
 use crate::flow::CapturedFlow;
+use crate::setup::{flows_of, receiver_of, setup_of};
 use crate::sids::{SidFlows, channel_of};
 use crate::taking::take;
 use crate::waits::Waits;
@@ -18,7 +19,8 @@ use capture_map::CaptureMap;
 use capture_rules::Arrival;
 use docsis_wire::HeaderCheck;
 use lane::Input;
-use receiver::{Receiver, Reply};
+use loss_rule::LossRule;
+use receiver::{Receiver, Reply, SetupError};
 use std::alloc::Global;
 
 /// A burst that its lane refuses is handed in at once.
@@ -136,7 +138,40 @@ pub struct CapturedFlows<C> {
 }
 
 impl<C: HeaderCheck + Drop> CapturedFlows<C> {
-    ghost use Rattle.captured_flows.specs.Capturing.{IsCapturing, SpellsNext, EndsWaitingOfAll};
+    ghost use Rattle.captured_flows.specs.Capturing.{IsCapturing, SpellsNext, EndsWaitingOfAll, views_in};
+    ghost use Rattle.captured_flows.specs.Captures.{made_from, IsFaultOf};
+    ghost use Rattle.receiver.specs.Receiving.{StandsFor};
+
+    /// The flows of this map, of which nothing came yet, before a receiver of 16 channels that goes by
+    /// this rule of losses. A fault is one of the setup that the map makes.
+    pub fn new(
+        alloc: Global,
+        capture_map: CaptureMap,
+        rule: LossRule,
+        waits: Waits,
+        check: C,
+    ) -> Result<CapturedFlows<C>, SetupError>
+        ensures stands { IfOk result (λ captured. StandsFor C.accepts captured.receiver
+            (C.accepts check) (made_from rule capture_map) [] []) }
+        ensures views { IfOk result (λ captured. views_in captured
+            ≡ map (view_begun waits) capture_map.flows.items) }
+        ensures capturing { IfOk result (IsCapturing C.accepts) }
+        ensures map { IfOk result (λ captured. captured.map ≡ capture_map) }
+        ensures waits { IfOk result (λ captured. captured.waits ≡ waits) }
+        ensures fault { IfErr result (IsFaultOf capture_map) }
+    {
+        let setup = setup_of(alloc, &capture_map)?;
+        let receiver = receiver_of(alloc, &setup, rule, check)?;
+        let sids = SidFlows::new(alloc, &capture_map.sids)?;
+        let flows = flows_of(alloc, &capture_map.flows, waits)?;
+        Ok(CapturedFlows {
+            receiver,
+            flows,
+            sids,
+            map: capture_map,
+            waits,
+        })
+    }
 
     /// A burst comes. It is passed over, handed in at once where its lane refuses it, or comes to its
     /// flow. After a fault nothing more is to be taken, and [`CapturedFlows::into_receiver`] gives

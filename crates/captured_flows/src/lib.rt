@@ -8,6 +8,7 @@ mod captured_burst;
 mod captured_flows;
 mod fault;
 mod flow;
+mod setup;
 mod sids;
 mod taking;
 mod waits;
