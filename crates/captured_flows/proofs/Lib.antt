@@ -6,3 +6,4 @@ pub mod HandedOnTo
 pub mod Waited
 pub mod SidTable
 pub mod Together
+pub mod MapFaults

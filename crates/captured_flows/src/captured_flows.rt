@@ -161,7 +161,10 @@ impl<C: HeaderCheck + Drop> CapturedFlows<C> {
         ensures fault { IfErr result (IsFaultOf capture_map) }
     {
         let setup = setup_of(alloc, &capture_map)?;
-        let receiver = receiver_of(alloc, &setup, rule, check)?;
+        let receiver = match receiver_of(alloc, &setup, rule, check) {
+            Ok(receiver) => receiver,
+            Err(error) => return Err(error),
+        };
         let sids = SidFlows::new(alloc, &capture_map.sids)?;
         let flows = flows_of(alloc, &capture_map.flows, waits)?;
         Ok(CapturedFlows {
