@@ -1,5 +1,5 @@
 -- A burst is handed on.
-use Rattle.std.proofs.Common.{◌≡◌, ℕ, Bool, true, false, Option, Some, None, is_some, List, [], ◌∷◌, ◌++◌, refl, ap, sym, subst, ◌∙◌, append_assoc}
+use Rattle.std.proofs.Common.{◌≡◌, ℕ, Bool, Option, Some, None, is_some, List, ◌++◌, ap, sym, subst, ◌∙◌, append_assoc}
 use Rattle.std.specs.Prelude.{IfSome, IfNone, OnSome}
 use Rattle.bonded_flows.specs.Table.{TableSetup}
 use Rattle.receiver.specs.HandedIn.{HandedIn}

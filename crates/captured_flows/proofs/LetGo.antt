@@ -4,8 +4,7 @@ use Rattle.bonded_flows.specs.Table.{TableSetup}
 use Rattle.receiver.specs.HandedIn.{HandedIn}
 use Rattle.capture_rules.specs.declared.held_time.HeldTime.{HeldTime}
 use Rattle.capture_rules.specs.Held.{IsSkip}
-use Rattle.captured_flows.specs.Flow.{Expects, LetsGo, none_is_old, BeginsIf, goes_on, LetsGoIf, not_silent, HandsInIf, is_kept_then}
-use Rattle.captured_flows.specs.Flow.{Next}
+use Rattle.captured_flows.specs.Flow.{Expects, LetsGo, none_is_old}
 
 pub lets_go-none : (made : TableSetup) (wait k now : ℕ) (held : List HeldTime) (handed more : List HandedIn) (expected : ℕ) → Expects made k handed expected
     → IsSkip wait now expected held None → more ≡ [] → LetsGo made wait k now held handed more held

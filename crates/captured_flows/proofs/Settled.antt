@@ -1,5 +1,5 @@
 -- Of no flow something is left to be done.
-use Rattle.std.proofs.Common.{◌≡◌, ◌≢◌, ℕ, Some, Ok, slice_get, refl, sym, subst, ap, ◌∙◌, ⊎_elim}
+use Rattle.std.proofs.Common.{◌≡◌, ◌≢◌, ℕ, Ok, refl, sym, subst, ap, ◌∙◌, ⊎_elim}
 use Rattle.std.proofs.lemmas.Bool.{cases_eq}
 use Rattle.bonded_flows.specs.declared.flow_table.FlowTable.{FlowTable}
 use Rattle.bonded_flows.specs.declared.flow_slot.FlowSlot.{FlowSlot}
@@ -9,7 +9,7 @@ use Rattle.receiver.specs.declared.reply.Reply.{Reply}
 use Rattle.receiver.specs.declared.reply.Reply.TheVariants as reply
 use Rattle.receiver.specs.declared.reply.DecisionReply.{DecisionReply}
 use Rattle.receiver.specs.declared.reply.DecisionReply.TheVariants as decision_reply
-use Rattle.receiver.specs.Receiving.{IsSettledAt, IsSettledIfTaken, ChangesOneFlow, FlowIsSettled}
+use Rattle.receiver.specs.Receiving.{IsSettledIfTaken, ChangesOneFlow, FlowIsSettled}
 
 module _ {C : Type 0} where
   -- of no flow of the table

@@ -1,5 +1,5 @@
 -- One of the flows of a capture changes.
-use Rattle.std.proofs.Common.{◌≡◌, ℕ, zero, suc, ◌<◌, ◌⊎◌, inl, inr, Some, List, [], ◌∷◌, ◌++◌, ◌+◌, length, map, slice_get, set, get_or, take, refl, ap, sym, subst, ◌∙◌, ⊎_elim}
+use Rattle.std.proofs.Common.{◌≡◌, ℕ, zero, suc, ◌<◌, ◌⊎◌, inl, inr, Some, List, [], ◌∷◌, ◌++◌, ◌+◌, length, map, slice_get, set, get_or, take, ap, sym, subst, ◌∙◌, ⊎_elim}
 use Rattle.std.specs.Prelude.{option_map}
 use Rattle.std.proofs.lemmas.List.{map-set, map-append, map_more}
 use Rattle.std.proofs.lemmas.Option.{same_Some, slice_get-map}

@@ -1,5 +1,5 @@
 -- What the bursts of a capture with a map spell: what is handed in to a receiver, in order.
-use Rattle.std.specs.Prelude.{◌≡◌, ℕ, ◌+◌, suc, Option, Some, None, List, [], ◌∷◌, ◌++◌, map, slice_get, slice_set, unwrap_or}
+use Rattle.std.specs.Prelude.{◌≡◌, ℕ, ◌+◌, Some, None, List, [], ◌∷◌, ◌++◌, map, slice_get, slice_set, unwrap_or}
 use Rattle.flow_records.specs.declared.record.FlowRecord.{FlowRecord}
 use Rattle.lane.specs.declared.sids.SidRow.{SidRow}
 use Rattle.lane.specs.declared.input.Input.{Input}

@@ -7,7 +7,7 @@ use Rattle.captured_flows.specs.declared.burst_taken.BurstTaken.{BurstTaken}
 use Rattle.captured_flows.specs.declared.captured_flows.CapturedFlows.{CapturedFlows}
 use Rattle.captured_flows.specs.Flow.{FlowView}
 use Rattle.captured_flows.specs.SidFlows.{HasFlowsOf}
-use Rattle.captured_flows.specs.Captures.{SpellsBurst, EndsAll}
+use Rattle.captured_flows.specs.Captures.{SpellsBurst, SpellsBursts, EndsAll}
 use Rattle.captured_flows.specs.Taking.{IsAtHand}
 use Rattle.captured_flows.specs.Together.{HaveWaits, views_of}
 
@@ -26,6 +26,11 @@ module _ {C : Type 0} where
   abbrev pub SpellsNext : CapturedFlows C → CapturedBurst → BurstTaken → CapturedFlows C → TableSetup → List HandedIn → List HandedIn → Type 0
   SpellsNext old burst told new made handed more =
       SpellsBurst old.map made old.waits.reorder old.waits.wait (views_in old) burst handed told more (views_in new)
+
+  -- what bursts spell that come one after another
+  abbrev pub SpellsAll : CapturedFlows C → List CapturedBurst → CapturedFlows C → TableSetup → List HandedIn → List HandedIn → Type 0
+  SpellsAll old bursts new made handed more =
+      SpellsBursts old.map made old.waits.reorder old.waits.wait (views_in old) handed bursts more (views_in new)
 
   -- and what the end spells
   abbrev pub EndsWaitingOfAll : CapturedFlows C → CapturedFlows C → TableSetup → List HandedIn → List HandedIn → Type 0

@@ -1,5 +1,5 @@
 -- What the bursts of one flow in a capture spell: what is handed in to a receiver, in order.
-use Rattle.std.specs.Prelude.{◌≡◌, ℕ, Bool, true, false, Option, Some, None, Ok, Err, List, [], ◌∷◌, ◌++◌, slice_get, if◌then◌else◌}
+use Rattle.std.specs.Prelude.{◌≡◌, ℕ, Bool, true, false, Option, Some, None, List, [], ◌∷◌, ◌++◌, slice_get}
 use Rattle.flow_records.specs.declared.record.FlowRecord.{FlowRecord}
 use Rattle.lane.specs.declared.input.Input.{Input}
 use Rattle.lane.specs.declared.input.Input.TheVariants.{Grant, Burst}

@@ -1,5 +1,5 @@
 -- The channel of an upstream channel id, and the flow of a service identifier of a channel.
-use Rattle.std.specs.Prelude.{◌≡◌, ℕ, ◌+◌, ◌*◌, ◌<◌, ◌==◌, ◌&&◌, nat_lt, Bool, Option, Some, None, List, [], ◌∷◌, ◌++◌, find, length, slice_index_or, option_map, if◌then◌else◌}
+use Rattle.std.specs.Prelude.{◌≡◌, ℕ, ◌+◌, ◌*◌, ◌<◌, ◌==◌, ◌&&◌, nat_lt, Bool, Option, None, List, find, length, slice_index_or, option_map, if◌then◌else◌}
 use Rattle.capture_map.specs.declared.map.MapChannel.{MapChannel}
 use Rattle.capture_map.specs.declared.map.MapSid.{MapSid}
 

@@ -1,5 +1,5 @@
 -- Which bursts of a capture their lanes will admit.
-use Rattle.std.specs.Prelude.{◌≡◌, ℕ, ◌<◌, ◌≤◌, ◌⊎◌, ◌-◌, ◌^◌, Bool, true, false, List, length, take, min, max}
+use Rattle.std.specs.Prelude.{◌≡◌, ℕ, ◌<◌, ◌≤◌, true, false, List, length, take, min, max}
 use Rattle.docsis_wire.specs.declared.header.SegmentHeader.{SegmentHeader}
 use Rattle.docsis_wire.specs.Header.{header_bytes}
 use Rattle.docsis_wire.specs.Limits.{header_length}

@@ -138,7 +138,7 @@ pub struct CapturedFlows<C> {
 }
 
 impl<C: HeaderCheck + Drop> CapturedFlows<C> {
-    ghost use Rattle.captured_flows.specs.Capturing.{IsCapturing, SpellsNext, EndsWaitingOfAll, views_in};
+    ghost use Rattle.captured_flows.specs.Capturing.{IsCapturing, SpellsNext, SpellsAll, EndsWaitingOfAll, views_in};
     ghost use Rattle.captured_flows.specs.Captures.{made_from, IsFaultOf};
     ghost use Rattle.receiver.specs.Receiving.{StandsFor};
 
@@ -220,6 +220,28 @@ impl<C: HeaderCheck + Drop> CapturedFlows<C> {
                 Ok(BurstTaken::Refused(reply))
             }
         }
+    }
+
+    /// Bursts come one after another, up to the first that isn't taken to the end.
+    pub fn take_all<O: CaptureConsumer>(
+        &mut self,
+        alloc: Global,
+        bursts: Vec<CapturedBurst>,
+        out: &mut O,
+    ) -> Result<(), FlowFault>
+        requires capturing { IsCapturing C.accepts self.old }
+        ensures takes { IfOk result (λ _. TakesBy C.accepts O.after
+            (SpellsAll self.old bursts.items self.new) self.old.receiver out.old
+            self.new.receiver out.new) }
+        ensures capturing { IfOk result (λ _. IsCapturing C.accepts self.new) }
+        ensures receiving { IsReceiving C.accepts self.new.receiver }
+        ensures map { self.new.map ≡ self.old.map }
+        ensures waits { self.new.waits ≡ self.old.waits }
+    {
+        for burst in bursts {
+            self.take(alloc, burst, out)?;
+        }
+        Ok(())
     }
 
     /// Nothing more comes: of each flow, one after another, all that waits is handed on, and a

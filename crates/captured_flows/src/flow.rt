@@ -21,7 +21,7 @@ use std::alloc::{AllocError, Global};
 
 /// A flow whose bursts wait, are kept until it begins, or are held by the receiver.
 #[derive(Drop)]
-pub struct CapturedFlow {
+pub(crate) struct CapturedFlow {
     pub(crate) window: u16,
     pub(crate) order: ChannelOrder<SoundBurst>,
     pub(crate) beginning: Beginning<SoundBurst>,
@@ -269,7 +269,7 @@ impl CapturedFlow {
     ghost use Rattle.captured_flows.specs.Seen.{flow_seen, KeepsWaits, HasWaits};
 
     /// Nothing of the flow came yet. Its window has this width, and its first number is known or isn't.
-    pub fn new(alloc: Global, window: u16, is_begun: bool, waits: Waits) -> CapturedFlow
+    pub(crate) fn new(alloc: Global, window: u16, is_begun: bool, waits: Waits) -> CapturedFlow
         ensures seen { flow_seen result ≡ flow_begun window is_begun waits.wait }
         ensures waits { HasWaits waits result }
     {
@@ -344,7 +344,7 @@ impl CapturedFlow {
     }
 
     /// A burst comes: it waits, and what has waited long enough is handed on.
-    pub fn come<C: HeaderCheck + Drop, O: CaptureConsumer>(
+    pub(crate) fn come<C: HeaderCheck + Drop, O: CaptureConsumer>(
         &mut self,
         alloc: Global,
         receiver: &mut Receiver<C>,
@@ -368,7 +368,7 @@ impl CapturedFlow {
     }
 
     /// Nothing more comes: all that waits is handed on, and a beginning ends.
-    pub fn end_waiting<C: HeaderCheck + Drop, O: CaptureConsumer>(
+    pub(crate) fn end_waiting<C: HeaderCheck + Drop, O: CaptureConsumer>(
         &mut self,
         alloc: Global,
         receiver: &mut Receiver<C>,

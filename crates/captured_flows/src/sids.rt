@@ -21,7 +21,7 @@ pub(crate) fn channel_of(channels: &[MapChannel], id: u32) -> Option<u8>
 
 /// The flow of each service identifier of 16 channels: a table of a megabyte.
 #[derive(Drop)]
-pub struct SidFlows {
+pub(crate) struct SidFlows {
     flows: Vec<Option<u16>>,
 }
 

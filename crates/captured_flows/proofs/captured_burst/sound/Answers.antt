@@ -1,6 +1,5 @@
-use Rattle.std.proofs.Common.{◌≡◌, ◌<◌, ◌≤◌, ◌⊎◌, inl, inr, refl, sym, subst, ap, ◌∙◌, length, List, ℕ, Ok, Err, take}
+use Rattle.std.proofs.Common.{◌<◌, ◌≤◌, inl, inr, refl, sym, subst, ap, ◌∙◌, length, List, ℕ, take}
 use Rattle.std.proofs.lemmas.Bool.{cases_lt}
-use Rattle.docsis_wire.specs.Header.{header_bytes}
 use Rattle.docsis_wire.specs.Limits.{header_length}
 use Rattle.docsis_wire.specs.SegmentBytes.{PointsPast}
 use Rattle.lane.specs.Limits.{grant_max}

@@ -1,10 +1,10 @@
-use Rattle.std.proofs.Common.{◌≡◌, ℕ, ◌+◌, List, length, sym, subst, arith}
+use Rattle.std.proofs.Common.{◌≡◌, ℕ, List, length, sym, subst, arith}
 use Rattle.receiver.specs.HandedIn.{HandedIn}
 use Rattle.captured_flows.specs.Captures.{EndsAll, none_ends}
 use Rattle.captured_flows.specs.Together.{views_of}
 use Rattle.captured_flows.specs.Taking.{TakesBy}
 use Rattle.captured_flows.proofs.Together.{ends-more}
-use Rattle.captured_flows.proofs.Taken.{Nothing, Just, Then, takes-none, takes-as, takes-then, takes-expecting, takes-expected}
+use Rattle.captured_flows.proofs.Taken.{Nothing, takes-none, takes-as, takes-then}
 use Rattle.captured_flows.proofs.captured_flows.end_all.Goals as goal
 
 pub loop-k-init : goal.loop-k-init

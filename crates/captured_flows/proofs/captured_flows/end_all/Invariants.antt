@@ -1,5 +1,4 @@
 -- The flows so far have ended.
-use Rattle.std.proofs.Common.{◌≡◌, length}
 use Rattle.captured_flows.specs.Captures.{EndsAll}
 use Rattle.captured_flows.specs.Together.{HaveWaits, views_of}
 use Rattle.captured_flows.specs.Taking.{IsAtHand, TakesBy}

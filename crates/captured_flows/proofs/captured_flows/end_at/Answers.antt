@@ -1,11 +1,11 @@
-use Rattle.std.proofs.Common.{◌≡◌, ℕ, Some, length, slice_get, get_or, subst}
+use Rattle.std.proofs.Common.{◌≡◌, ℕ, Some, slice_get, get_or, subst}
 use Rattle.std.proofs.lemmas.Option.{slice_get-get_or}
 use Rattle.capture_rules.specs.Waiting.{reorder_of}
 use Rattle.captured_flows.specs.Seen.{flow_seen}
 use Rattle.captured_flows.specs.Flow.{EndsWaiting}
 use Rattle.captured_flows.specs.Taking.{TakesBy}
 use Rattle.captured_flows.proofs.Together.{waits-kept, waits-set, view-at, views-set}
-use Rattle.captured_flows.proofs.Taken.{Nothing, Just, Then, takes-none, takes-as, takes-then, takes-expecting, takes-expected}
+use Rattle.captured_flows.proofs.Taken.{takes-as}
 use Rattle.captured_flows.proofs.captured_flows.end_at.Goals as goal
 
 pub returns-in_err-end_waiting-clause-waits : goal.returns-in_err-end_waiting-clause-waits

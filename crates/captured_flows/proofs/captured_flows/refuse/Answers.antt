@@ -1,7 +1,7 @@
 use Rattle.std.proofs.Common.{ℕ, subst}
 use Rattle.lane.specs.declared.input.Input.TheVariants.{Grant}
 use Rattle.captured_flows.specs.Flow.{IsInput}
-use Rattle.captured_flows.proofs.Taken.{Nothing, Just, Then, takes-none, takes-as, takes-then, takes-expecting, takes-expected}
+use Rattle.captured_flows.proofs.Taken.{takes-as, takes-then}
 use Rattle.captured_flows.proofs.captured_flows.refuse.Goals as goal
 
 pub returns-clause-takes : goal.returns-clause-takes

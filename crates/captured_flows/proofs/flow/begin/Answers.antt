@@ -1,10 +1,10 @@
-use Rattle.std.proofs.Common.{ℕ, List, ◌∷◌, ◌++◌, [], ap, sym, subst, ◌∙◌}
+use Rattle.std.proofs.Common.{ℕ, List, ◌∷◌, ◌++◌, [], ap, subst, ◌∙◌}
 use Rattle.receiver.specs.HandedIn.{HandedIn, restarted}
 use Rattle.capture_rules.specs.declared.held_time.HeldTime.{HeldTime}
 use Rattle.capture_rules.specs.Held.{held_by, wait_of}
 use Rattle.captured_flows.specs.Flow.{HandsInAll}
 use Rattle.captured_flows.specs.Taking.{TakesBy}
-use Rattle.captured_flows.proofs.Taken.{Nothing, Just, Then, takes-none, takes-as, takes-then, takes-expecting, takes-expected}
+use Rattle.captured_flows.proofs.Taken.{Just, takes-as, takes-then}
 use Rattle.captured_flows.proofs.flow.begin.Goals as goal
 
 pub returns-clause-takes : goal.returns-clause-takes

@@ -4,7 +4,7 @@ use Rattle.capture_rules.specs.declared.beginning.Begun.{Begun}
 use Rattle.capture_rules.specs.Held.{held_by, wait_of}
 use Rattle.captured_flows.specs.declared.burst.SoundBurst.{SoundBurst}
 use Rattle.captured_flows.specs.Flow.{BeginsIf, goes_on, begins}
-use Rattle.captured_flows.proofs.Taken.{Nothing, Just, Then, takes-none, takes-as, takes-then, takes-expecting, takes-expected}
+use Rattle.captured_flows.proofs.Taken.{Nothing, takes-none, takes-as}
 use Rattle.captured_flows.proofs.flow.begin_if.Goals as goal
 
 pub returns-in_ok-begin-in-Some-clause-takes : goal.returns-in_ok-begin-in-Some-clause-takes

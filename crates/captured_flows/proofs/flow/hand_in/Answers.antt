@@ -2,7 +2,7 @@ use Rattle.std.proofs.Common.{Bool, subst}
 use Rattle.capture_rules.specs.Held.{held_by, wait_of}
 use Rattle.captured_flows.specs.Flow.{Holds}
 use Rattle.captured_flows.proofs.HandedIn.{holds-if, hands-in}
-use Rattle.captured_flows.proofs.Taken.{Nothing, Just, Then, takes-none, takes-as, takes-then, takes-expecting, takes-expected, takes-told}
+use Rattle.captured_flows.proofs.Taken.{takes-as, takes-then, takes-expected, takes-told}
 use Rattle.captured_flows.proofs.flow.hand_in.Goals as goal
 
 pub returns-clause-takes : goal.returns-clause-takes

@@ -6,7 +6,7 @@ use Rattle.receiver.specs.HandedIn.{HandedIn}
 use Rattle.capture_rules.specs.Held.{held_by, wait_of}
 use Rattle.captured_flows.specs.Flow.{Next, HandsIn, HandsInAll, none, one_more}
 use Rattle.captured_flows.specs.Taking.{TakesBy}
-use Rattle.captured_flows.proofs.Taken.{Nothing, Just, Then, takes-none, takes-as, takes-then, takes-expecting, takes-expected}
+use Rattle.captured_flows.proofs.Taken.{Nothing, takes-none, takes-as, takes-then}
 use Rattle.captured_flows.proofs.flow.hand_in_all.Goals as goal
 
 pub loop-one-init : goal.loop-one-init

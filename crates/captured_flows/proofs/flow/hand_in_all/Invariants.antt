@@ -1,6 +1,5 @@
 -- The bursts so far are handed in.
 use Rattle.std.proofs.Common.{◌≡◌}
-use Rattle.receiver.specs.Receiving.{IsReceiving}
 use Rattle.capture_rules.specs.Held.{held_by, wait_of}
 use Rattle.captured_flows.specs.Flow.{HandsInAll}
 use Rattle.captured_flows.specs.Taking.{IsAtHand, TakesBy}

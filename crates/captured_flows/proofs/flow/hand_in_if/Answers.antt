@@ -2,7 +2,7 @@ use Rattle.std.proofs.Common.{Option, None, sym, subst, List}
 use Rattle.receiver.specs.HandedIn.{HandedIn}
 use Rattle.capture_rules.specs.Held.{held_by, wait_of}
 use Rattle.captured_flows.specs.Flow.{Next, HandsInIf, is_kept_then, is_handed_in}
-use Rattle.captured_flows.proofs.Taken.{Nothing, Just, Then, takes-none, takes-as, takes-then, takes-expecting, takes-expected}
+use Rattle.captured_flows.proofs.Taken.{Nothing, takes-none, takes-as}
 use Rattle.captured_flows.proofs.flow.hand_in_if.Goals as goal
 
 pub returns-in_ok-hand_in-in-Some-clause-takes : goal.returns-in_ok-hand_in-in-Some-clause-takes

@@ -1,4 +1,4 @@
-use Rattle.captured_flows.proofs.Taken.{Nothing, Just, Then, takes-none, takes-as, takes-then, takes-expecting, takes-expected}
+use Rattle.captured_flows.proofs.Taken.{Nothing, takes-none, takes-as, takes-expecting}
 use Rattle.capture_rules.specs.Held.{held_by, wait_of}
 use Rattle.captured_flows.specs.Flow.{some_is_old}
 use Rattle.captured_flows.proofs.LetGo.{lets_go-none}

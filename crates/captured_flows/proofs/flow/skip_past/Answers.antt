@@ -1,7 +1,7 @@
 use Rattle.std.proofs.Common.{[], ◌∷◌}
 use Rattle.bonded_flows.specs.declared.decision.FlowDecision.TheVariants.{SkipTo}
 use Rattle.receiver.specs.HandedIn.{decided}
-use Rattle.captured_flows.proofs.Taken.{Nothing, Just, Then, takes-none, takes-as, takes-then, takes-expecting, takes-expected}
+use Rattle.captured_flows.proofs.Taken.{Just, takes-as, takes-expected}
 use Rattle.captured_flows.proofs.flow.skip_past.Goals as goal
 
 pub returns-clause-takes : goal.returns-clause-takes

@@ -1,8 +1,7 @@
-use Rattle.std.proofs.Common.{Bool, None, get_or, ap, subst, sym, ◌∙◌, List, ◌≡◌, map, take, ◌+◌}
+use Rattle.std.proofs.Common.{Bool, None, get_or, ap, subst, sym, ◌∙◌}
 use Rattle.capture_map.specs.declared.map.MapFlow.{MapFlow}
-use Rattle.captured_flows.specs.declared.flow.CapturedFlow.{CapturedFlow}
 use Rattle.captured_flows.specs.Flow.{flow_begun}
-use Rattle.captured_flows.specs.Together.{HaveWaits, views_of, view_begun}
+use Rattle.captured_flows.specs.Together.{HaveWaits, views_of}
 use Rattle.captured_flows.proofs.Together.{waits-more, views-more}
 use Rattle.captured_flows.proofs.setup.flows_of.Goals as goal
 

@@ -1,6 +1,5 @@
-use Rattle.std.proofs.Common.{Ok, ap, ◌∙◌}
-use Rattle.captured_flows.proofs.Taken.{takes-list, takes-input, takes-restart}
-use Rattle.captured_flows.proofs.Settled.{rest-decided, rest-of_others, rest-replied}
+use Rattle.captured_flows.proofs.Taken.{takes-restart}
+use Rattle.captured_flows.proofs.Settled.{rest-of_others}
 use Rattle.captured_flows.proofs.taking.restart.Goals as goal
 
 pub returns-in-Ok-clause-takes : goal.returns-in-Ok-clause-takes

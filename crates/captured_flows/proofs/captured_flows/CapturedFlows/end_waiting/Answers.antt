@@ -4,7 +4,7 @@ use Rattle.std.proofs.lemmas.List.{with_items_is}
 use Rattle.captured_flows.specs.declared.flow.CapturedFlow.{CapturedFlow}
 use Rattle.captured_flows.specs.Captures.{EndsAll}
 use Rattle.captured_flows.specs.Together.{HaveWaits, views_of}
-use Rattle.captured_flows.proofs.Taken.{Nothing, Just, Then, takes-none, takes-as, takes-then, takes-expecting, takes-expected}
+use Rattle.captured_flows.proofs.Taken.{takes-as}
 use Rattle.captured_flows.proofs.captured_flows.CapturedFlows.end_waiting.Goals as goal
 
 pub returns-clause-takes : goal.returns-clause-takes

@@ -1,4 +1,4 @@
-use Rattle.std.proofs.Common.{◌≡◌, ℕ, Option, Some, List, [], length, sym, subst, ap, ◌∙◌, arith}
+use Rattle.std.proofs.Common.{◌≡◌, ℕ, Some, List, length, sym, subst, ap, ◌∙◌, arith}
 use Rattle.receiver.specs.HandedIn.{HandedIn}
 use Rattle.capture_map.specs.declared.map.MapChannel.{MapChannel}
 use Rattle.std.specs.Vec.{with_items}
@@ -11,7 +11,7 @@ use Rattle.captured_flows.specs.Flow.{FlowView}
 use Rattle.captured_flows.specs.Sids.{channel_of, flow_of}
 use Rattle.captured_flows.specs.Captures.{IsRefused, SpellsBurst, of_no_channel, of_no_flow, is_refused, comes}
 use Rattle.captured_flows.specs.Capturing.{views_in}
-use Rattle.captured_flows.proofs.Taken.{Nothing, Just, Then, takes-none, takes-as, takes-then, takes-expecting, takes-expected}
+use Rattle.captured_flows.proofs.Taken.{Nothing, takes-none, takes-as}
 use Rattle.captured_flows.proofs.captured_flows.CapturedFlows.take.Goals as goal
 
 pub returns-in_default-clause-takes : goal.returns-in_default-clause-takes

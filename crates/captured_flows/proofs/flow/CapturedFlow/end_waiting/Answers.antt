@@ -1,17 +1,16 @@
-use Rattle.std.proofs.Common.{◌≡◌, ℕ, ◌<◌, true, false, List, [], ◌∷◌, ◌++◌, length, refl, sym, subst, ◌∙◌}
+use Rattle.std.proofs.Common.{◌≡◌, ℕ, ◌<◌, List, [], ◌∷◌, ◌++◌, length, refl, sym, subst, ◌∙◌}
 use Rattle.receiver.specs.HandedIn.{HandedIn}
-use Rattle.capture_rules.specs.declared.arrival.Arrival.{Arrival}
 use Rattle.capture_rules.specs.declared.channel_order.ChannelOrder.{ChannelOrder}
 use Rattle.capture_rules.specs.Waiting.{waiting_in, reorder_of}
-use Rattle.capture_rules.specs.Order.{is_due, IsNext, HandsOn}
+use Rattle.capture_rules.specs.Order.{IsNext}
 use Rattle.capture_rules.specs.Begin.{beginning_seen, is_beginning}
 use Rattle.capture_rules.specs.Held.{held_by, wait_of}
 use Rattle.captured_flows.specs.declared.burst.SoundBurst.{SoundBurst}
-use Rattle.captured_flows.specs.Flow.{Next, IsHandedOn, AreHandedOn, no_more, next_one, BeginsIf}
+use Rattle.captured_flows.specs.Flow.{IsHandedOn, AreHandedOn, no_more, next_one, BeginsIf}
 use Rattle.captured_flows.specs.Taking.{TakesBy}
-use Rattle.captured_flows.proofs.Waited.{HandsOnAfter, HandsAllOnAfter, after-none, after-next, after-all, all-none, all-next, all-all, next-shorter, none-there}
+use Rattle.captured_flows.proofs.Waited.{HandsAllOnAfter, all-none, all-next, all-all, next-shorter, none-there}
 use Rattle.captured_flows.proofs.HandedOnTo.{ends-if}
-use Rattle.captured_flows.proofs.Taken.{Nothing, Just, Then, takes-none, takes-as, takes-then, takes-expecting, takes-expected}
+use Rattle.captured_flows.proofs.Taken.{Nothing, takes-none, takes-as, takes-then}
 use Rattle.captured_flows.proofs.flow.CapturedFlow.end_waiting.Goals as goal
 
 pub loop-next-init : goal.loop-next-init

@@ -4,7 +4,7 @@ use Rattle.capture_rules.specs.Held.{held_by, wait_of}
 use Rattle.captured_flows.specs.Flow.{Next, LetsGoIf, HandsInIf}
 use Rattle.captured_flows.specs.Taking.{TakesBy}
 use Rattle.captured_flows.proofs.HandedOnTo.{ends-if, handed_on-is}
-use Rattle.captured_flows.proofs.Taken.{Nothing, Just, Then, takes-none, takes-as, takes-then, takes-expecting, takes-expected}
+use Rattle.captured_flows.proofs.Taken.{takes-as, takes-then, takes-expecting}
 use Rattle.captured_flows.proofs.flow.CapturedFlow.hand_on.Goals as goal
 
 pub returns-clause-takes : goal.returns-clause-takes

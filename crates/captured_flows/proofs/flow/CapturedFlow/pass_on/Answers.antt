@@ -4,14 +4,13 @@ use Rattle.capture_rules.specs.declared.arrival.Arrival.{Arrival}
 use Rattle.capture_rules.specs.declared.channel_order.ChannelOrder.{ChannelOrder}
 use Rattle.capture_rules.specs.Waiting.{waiting_in, reorder_of}
 use Rattle.capture_rules.specs.Order.{is_due, IsNext, HandsOn}
-use Rattle.capture_rules.specs.Begin.{beginning_seen, is_beginning}
+use Rattle.capture_rules.specs.Begin.{beginning_seen}
 use Rattle.capture_rules.specs.Held.{held_by, wait_of}
 use Rattle.captured_flows.specs.declared.burst.SoundBurst.{SoundBurst}
-use Rattle.captured_flows.specs.Flow.{Next, IsHandedOn, AreHandedOn, no_more, next_one, BeginsIf}
+use Rattle.captured_flows.specs.Flow.{IsHandedOn, AreHandedOn, no_more, next_one}
 use Rattle.captured_flows.specs.Taking.{TakesBy}
-use Rattle.captured_flows.proofs.Waited.{HandsOnAfter, HandsAllOnAfter, after-none, after-next, after-all, all-none, all-next, all-all, next-shorter, none-there}
-use Rattle.captured_flows.proofs.HandedOnTo.{ends-if}
-use Rattle.captured_flows.proofs.Taken.{Nothing, Just, Then, takes-none, takes-as, takes-then, takes-expecting, takes-expected}
+use Rattle.captured_flows.proofs.Waited.{HandsOnAfter, after-none, after-next, after-all, next-shorter}
+use Rattle.captured_flows.proofs.Taken.{Nothing, takes-none, takes-as, takes-then}
 use Rattle.captured_flows.proofs.flow.CapturedFlow.pass_on.Goals as goal
 
 pub loop-next-init : goal.loop-next-init
