@@ -118,10 +118,11 @@ fn bursts_are_passed_over_refused_and_handed_in(rt: HostRuntime) -> Result<(), F
     assert!(rt; captured.take(alloc, stranger, &mut noted)? == BurstTaken::UnknownSid);
     let spoiled = captured.take(alloc, burst(alloc, 0, 100, 5, false)?, &mut noted)?;
     assert!(rt; matches!(spoiled, BurstTaken::Refused(Reply::Refused(_))));
-    for (time, number) in [(1, 6), (2, 5), (9, 7)] {
-        let told = captured.take(alloc, burst(alloc, time, 100, number, true)?, &mut noted)?;
-        assert!(rt; told == BurstTaken::Waits(0));
-    }
+    let first = captured.take(alloc, burst(alloc, 1, 100, 6, true)?, &mut noted)?;
+    let second = captured.take(alloc, burst(alloc, 2, 100, 5, true)?, &mut noted)?;
+    assert!(rt; first == BurstTaken::Waits(0) && second == BurstTaken::Waits(0));
+    let last = vec![in alloc; burst(alloc, 9, 100, 7, true)?]?;
+    captured.take_all(alloc, last, &mut noted)?;
     assert!(rt; noted.times.as_slice() == [2, 1].as_slice());
     captured.end_waiting(alloc, &mut noted)?;
     assert!(rt; noted.is_whole && noted.times.as_slice() == [2, 1, 9].as_slice());

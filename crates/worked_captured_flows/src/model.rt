@@ -3,7 +3,7 @@
 //! A case is a line of numbers: what is handed in, `=`, and what came of it.
 use crate::captures::{Noted, burst, map_of};
 use crate::model_cases::CASES;
-use captured_flows::{CapturedFlows, Waits};
+use captured_flows::{CapturedBurst, CapturedFlows, Waits};
 use docsis_wire::NoCheck;
 use loss_rule::LossRule;
 use std::alloc::{AllocError, Global};
@@ -27,6 +27,19 @@ fn rule_of(number: u64) -> LossRule {
     }
 }
 
+/// The bursts of a case, as (time, channel, number, check).
+fn bursts_of(alloc: Global, came: &[u64]) -> Result<Vec<CapturedBurst>, AllocError> {
+    let mut bursts = Vec::new(alloc);
+    for one in came.chunks_exact(4) {
+        if let [time, channel, number, check] = one {
+            let id = 100 + (*channel % 16) as u32;
+            let number = (*number % 8192) as u16;
+            bursts.push(burst(alloc, *time, id, number, *check == 1)?)?;
+        }
+    }
+    Ok(bursts)
+}
+
 /// What came of a case: the times of what was handed in, in order, and what was counted since the flow
 /// began last. It is nothing where something isn't as it ought to be.
 fn answer(alloc: Global, case: &[u64]) -> Result<Option<Vec<u64>>, Fail> {
@@ -46,17 +59,7 @@ fn answer(alloc: Global, case: &[u64]) -> Result<Option<Vec<u64>>, Fail> {
     )?;
     let mut captured = CapturedFlows::new(alloc, map, rule_of(*rule), waits, NoCheck)?;
     let mut noted = Noted::new(alloc);
-    for one in came.chunks_exact(4) {
-        if let [time, channel, number, check] = one {
-            let id = 100 + (*channel % 16) as u32;
-            let number = (*number % 8192) as u16;
-            captured.take(
-                alloc,
-                burst(alloc, *time, id, number, *check == 1)?,
-                &mut noted,
-            )?;
-        }
-    }
+    captured.take_all(alloc, bursts_of(alloc, came)?, &mut noted)?;
     captured.end_waiting(alloc, &mut noted)?;
     let Ok(closed) = captured.into_receiver().close(alloc, &mut noted) else {
         return Ok(None);
