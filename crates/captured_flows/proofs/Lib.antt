@@ -1,0 +1,9 @@
+pub mod Taken
+pub mod Settled
+pub mod LetGo
+pub mod HandedIn
+pub mod HandedOnTo
+pub mod Waited
+pub mod SidTable
+pub mod Together
+pub mod MapFaults

@@ -1,0 +1,81 @@
+use Rattle.std.proofs.Common.{◌≡◌, ℕ, ◌<◌, true, false, List, [], ◌∷◌, ◌++◌, length, refl, sym, subst, ◌∙◌}
+use Rattle.receiver.specs.HandedIn.{HandedIn}
+use Rattle.capture_rules.specs.declared.arrival.Arrival.{Arrival}
+use Rattle.capture_rules.specs.declared.channel_order.ChannelOrder.{ChannelOrder}
+use Rattle.capture_rules.specs.Waiting.{waiting_in, reorder_of}
+use Rattle.capture_rules.specs.Order.{is_due, IsNext, HandsOn}
+use Rattle.capture_rules.specs.Begin.{beginning_seen}
+use Rattle.capture_rules.specs.Held.{held_by, wait_of}
+use Rattle.captured_flows.specs.declared.burst.SoundBurst.{SoundBurst}
+use Rattle.captured_flows.specs.Flow.{IsHandedOn, AreHandedOn, no_more, next_one}
+use Rattle.captured_flows.specs.Taking.{TakesBy}
+use Rattle.captured_flows.proofs.Waited.{HandsOnAfter, after-none, after-next, after-all, next-shorter}
+use Rattle.captured_flows.proofs.Taken.{Nothing, takes-none, takes-as, takes-then}
+use Rattle.captured_flows.proofs.flow.CapturedFlow.pass_on.Goals as goal
+
+pub loop-next-init : goal.loop-next-init
+loop-next-init g c =
+    let flow = c.args.self.now in
+    let beginning = beginning_seen flow.beginning in
+    let held = held_by flow.held in
+    record {
+      due = [];
+      hands_on = after-none (reorder_of flow.order) c.args.now (waiting_in flow.order);
+      takes = takes-as g.C.HeaderCheck.accepts g.O.Consumer.after Nothing _ c.args.receiver.now c.args.receiver.now c.args.out.now c.args.out.now (takes-none g.C.HeaderCheck.accepts g.O.Consumer.after c.args.receiver.now c.args.out.now)
+          (λ made handed more none. subst (λ (m : List HandedIn). AreHandedOn made (wait_of flow.held) c.args.flow flow.window [] beginning held handed m beginning held) (sym none) no_more);
+      at_hand = c.requires.at_hand;
+      waits = record { window = refl; wait = refl; reorder = refl };
+    }
+
+pub loop-next-smaller : goal.loop-next-smaller
+loop-next-smaller g c =
+    subst (λ (o : ChannelOrder SoundBurst). length (waiting_in o) < length (waiting_in c.loop-next.self.order)) (sym c.hand_on.ensures.order)
+    (next-shorter (reorder_of c.loop-next.self.order) (waiting_in c.loop-next.self.order) (waiting_in c.next.new.self) c.in-Some.next c.in-Some.ensures.next)
+
+pub loop-next-preserved : goal.loop-next-preserved
+loop-next-preserved g c =
+    let flow = c.args.self.now in
+    let now = c.loop-next.self in
+    let after = c.hand_on.new.self in
+    let next = c.in-Some.next in
+    let k = c.args.flow in
+    let w = wait_of flow.held in
+    let so_far = c.loop-next.invariant in
+    let reorder = reorder_of flow.order in
+    let is_next : IsNext reorder (waiting_in now.order) next (waiting_in c.next.new.self) =
+    subst (λ n. IsNext n (waiting_in now.order) next (waiting_in c.next.new.self)) so_far.waits.reorder c.in-Some.ensures.next in
+    let at_wait = subst (λ (n : ℕ). TakesBy g.C.HeaderCheck.accepts g.O.Consumer.after (λ made handed more. IsHandedOn made n k now.window next (beginning_seen now.beginning) (held_by now.held) handed more (beginning_seen after.beginning) (held_by after.held))
+    c.loop-next.receiver c.loop-next.out c.hand_on.new.receiver c.hand_on.new.out) so_far.waits.wait c.in_ok-hand_on.ensures.takes in
+    let handed_on = subst (λ (n : ℕ). TakesBy g.C.HeaderCheck.accepts g.O.Consumer.after (λ made handed more. IsHandedOn made w k n next (beginning_seen now.beginning) (held_by now.held) handed more (beginning_seen after.beginning) (held_by after.held))
+    c.loop-next.receiver c.loop-next.out c.hand_on.new.receiver c.hand_on.new.out) so_far.waits.window at_wait in
+    record {
+      due = so_far.due ++ next ∷ [];
+      hands_on = subst (λ (o : ChannelOrder SoundBurst). HandsOnAfter reorder c.args.now (waiting_in flow.order) (so_far.due ++ next ∷ []) (waiting_in o)) (sym c.hand_on.ensures.order)
+          (after-next reorder c.args.now (waiting_in flow.order) (waiting_in now.order) (waiting_in c.next.new.self) so_far.due next so_far.hands_on (subst (λ n. is_due n c.args.now (waiting_in c.loop-next.self.order) ≡ true) so_far.waits.reorder (sym c.in-Some.ensures.due)) is_next);
+      takes = takes-as g.C.HeaderCheck.accepts g.O.Consumer.after _ _ c.args.receiver.now c.hand_on.new.receiver c.args.out.now c.hand_on.new.out
+          (takes-then g.C.HeaderCheck.accepts g.O.Consumer.after _ _ c.args.receiver.now c.loop-next.receiver c.hand_on.new.receiver c.args.out.now c.loop-next.out c.hand_on.new.out so_far.takes handed_on)
+          (λ made handed more spelled. subst (λ (m : List HandedIn). AreHandedOn made w k flow.window (so_far.due ++ next ∷ []) (beginning_seen flow.beginning) (held_by flow.held) handed m (beginning_seen after.beginning) (held_by after.held))
+          (sym spelled.4) (next_one spelled.2 spelled.3));
+      at_hand = c.in_ok-hand_on.ensures.at_hand;
+      waits = record {
+        window = c.hand_on.ensures.waits.window ∙ so_far.waits.window;
+        wait = c.hand_on.ensures.waits.wait ∙ so_far.waits.wait;
+        reorder = c.hand_on.ensures.waits.reorder ∙ c.next.ensures.reorder ∙ so_far.waits.reorder;
+      };
+    }
+
+pub returns-clause-takes : goal.returns-clause-takes
+returns-clause-takes g c =
+    let flow = c.args.self.now in
+    let so_far = c.loop-next.invariant in
+    let reorder = reorder_of flow.order in
+    let none : is_due reorder c.args.now (waiting_in c.loop-next.self.order) ≡ false =
+    subst (λ n. is_due n c.args.now (waiting_in c.loop-next.self.order) ≡ false) so_far.waits.reorder (sym c.in_default.ensures.due) in
+    takes-as g.C.HeaderCheck.accepts g.O.Consumer.after _ _ c.args.receiver.now c.loop-next.receiver c.args.out.now c.loop-next.out so_far.takes
+    (λ made handed more spelled. record {
+      due = so_far.due;
+      hands_on = subst (λ (ws : List (Arrival SoundBurst)). HandsOn reorder c.args.now (waiting_in flow.order) so_far.due ws) (sym c.in_default.ensures.unchanged)
+          (after-all reorder c.args.now (waiting_in flow.order) (waiting_in c.loop-next.self.order) so_far.due so_far.hands_on none);
+      handed_on = spelled;
+      window = so_far.waits.window;
+    })

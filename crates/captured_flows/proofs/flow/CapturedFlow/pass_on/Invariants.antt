@@ -1,0 +1,24 @@
+-- What was handed on so far.
+use Rattle.std.proofs.Common.{List, length}
+use Rattle.capture_rules.specs.Waiting.{waiting_in, reorder_of}
+use Rattle.capture_rules.specs.Begin.{beginning_seen}
+use Rattle.capture_rules.specs.Held.{held_by, wait_of}
+use Rattle.captured_flows.specs.Flow.{Next, AreHandedOn}
+use Rattle.captured_flows.specs.Seen.{KeepsWaits}
+use Rattle.captured_flows.specs.Taking.{IsAtHand, TakesBy}
+use Rattle.captured_flows.proofs.Waited.{HandsOnAfter}
+use Rattle.captured_flows.proofs.flow.CapturedFlow.pass_on.Given as goal
+
+abbrev pub invariant-loop-next : goal.invariant-loop-next
+invariant-loop-next g l = record {
+  due : List Next;
+  hands_on : HandsOnAfter (reorder_of l.fn.self.order) l.now (waiting_in l.fn.self.order) due (waiting_in l.self.order);
+  takes : TakesBy g.C.HeaderCheck.accepts g.O.Consumer.after
+      (λ made handed more. AreHandedOn made (wait_of l.fn.self.held) l.flow l.fn.self.window due (beginning_seen l.fn.self.beginning) (held_by l.fn.self.held) handed more (beginning_seen l.self.beginning) (held_by l.self.held))
+      l.fn.receiver l.fn.out l.receiver l.out;
+  at_hand : IsAtHand g.C.HeaderCheck.accepts l.receiver;
+  waits : KeepsWaits l.fn.self l.self;
+}
+
+abbrev pub decreases-loop-next : goal.decreases-loop-next
+decreases-loop-next g l = length (waiting_in l.self.order)

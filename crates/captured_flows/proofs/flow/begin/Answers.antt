@@ -1,0 +1,26 @@
+use Rattle.std.proofs.Common.{ℕ, List, ◌∷◌, ◌++◌, [], ap, subst, ◌∙◌}
+use Rattle.receiver.specs.HandedIn.{HandedIn, restarted}
+use Rattle.capture_rules.specs.declared.held_time.HeldTime.{HeldTime}
+use Rattle.capture_rules.specs.Held.{held_by, wait_of}
+use Rattle.captured_flows.specs.Flow.{HandsInAll}
+use Rattle.captured_flows.specs.Taking.{TakesBy}
+use Rattle.captured_flows.proofs.Taken.{Just, takes-as, takes-then}
+use Rattle.captured_flows.proofs.flow.begin.Goals as goal
+
+pub returns-clause-takes : goal.returns-clause-takes
+returns-clause-takes g c =
+    let k = c.args.flow in
+    let kept = c.args.begun.kept.items in
+    let left = held_by c.hand_in_all.new.held in
+    let from = restarted k c.args.begun.first ∷ [] in
+    let empty = subst (λ (h : List HeldTime). TakesBy g.C.HeaderCheck.accepts g.O.Consumer.after (λ made handed more. HandsInAll made (wait_of c.clear.new.self) k kept h handed more left)
+    c.restart.new.receiver c.restart.new.out c.hand_in_all.new.receiver c.hand_in_all.new.out) c.clear.ensures.none c.in_ok-hand_in_all.ensures.takes in
+    let all = subst (λ (n : ℕ). TakesBy g.C.HeaderCheck.accepts g.O.Consumer.after (λ made handed more. HandsInAll made n k kept [] handed more left)
+    c.restart.new.receiver c.restart.new.out c.hand_in_all.new.receiver c.hand_in_all.new.out) c.clear.ensures.wait empty in
+    takes-as g.C.HeaderCheck.accepts g.O.Consumer.after _ _ c.args.receiver.now c.hand_in_all.new.receiver c.args.out.now c.hand_in_all.new.out
+    (takes-then g.C.HeaderCheck.accepts g.O.Consumer.after (Just from) _ c.args.receiver.now c.restart.new.receiver c.hand_in_all.new.receiver c.args.out.now c.restart.new.out c.hand_in_all.new.out c.in_ok-restart.ensures.takes all)
+    (λ made handed more spelled. record {
+      later = spelled.1;
+      hands_in = subst (λ (m : List HandedIn). HandsInAll made (wait_of c.args.held.now) k kept [] (handed ++ m) spelled.1 left) spelled.2 spelled.3;
+      all = spelled.4 ∙ ap (λ (m : List HandedIn). m ++ spelled.1) spelled.2;
+    })

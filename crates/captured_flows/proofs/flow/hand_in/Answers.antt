@@ -1,0 +1,26 @@
+use Rattle.std.proofs.Common.{Bool, subst}
+use Rattle.capture_rules.specs.Held.{held_by, wait_of}
+use Rattle.captured_flows.specs.Flow.{Holds}
+use Rattle.captured_flows.proofs.HandedIn.{holds-if, hands-in}
+use Rattle.captured_flows.proofs.Taken.{takes-as, takes-then, takes-expected, takes-told}
+use Rattle.captured_flows.proofs.flow.hand_in.Goals as goal
+
+pub returns-clause-takes : goal.returns-clause-takes
+returns-clause-takes g c =
+    let r0 = c.args.receiver.now in
+    let o0 = c.args.out.now in
+    let k = c.args.flow in
+    let w = wait_of c.args.held.now in
+    let between = held_by c.let_go.new.held in
+    let holding = held_by c.keep_if.new.held in
+    takes-as g.C.HeaderCheck.accepts g.O.Consumer.after _ _ r0 c.take-2.new.receiver o0 c.take-2.new.out
+    (takes-expected g.C.HeaderCheck.accepts g.O.Consumer.after _ r0 c.take-2.new.receiver o0 c.take-2.new.out k c.in_ok-number.number
+    (takes-then g.C.HeaderCheck.accepts g.O.Consumer.after _ _ r0 c.take.new.receiver c.take-2.new.receiver o0 c.take.new.out c.take-2.new.out
+    (takes-then g.C.HeaderCheck.accepts g.O.Consumer.after _ _ r0 c.let_go.new.receiver c.take.new.receiver o0 c.hand_in.new.self c.take.new.out (takes-told g.C.HeaderCheck.accepts g.O.Consumer.after _ r0 c.let_go.new.receiver o0 c.let_go.new.out c.hand_in.new.self c.in_ok-let_go.ensures.takes c.hand_in.ensures) c.in_ok-take.ensures.takes)
+    c.in_ok-reply.ensures.takes)
+    c.in_ok-number.ensures.expects)
+    (λ made handed more spelled.
+    hands-in made w k c.args.one (held_by c.args.held.now) between holding (held_by c.pass.new.self) handed more c.in_ok-take.field-0 c.in_ok-reply.reply c.in_ok-number.number spelled.0 spelled.1
+    (subst (λ (b : Bool). Holds made w k c.args.one between b holding) c.says_kept.ensures
+    (holds-if made w k c.args.one c.of-entry.result between holding c.says_kept.result c.of-entry.ensures.number c.of-entry.ensures.time c.in_ok-keep_if.ensures.kept c.keep_if.ensures.not_kept))
+    c.pass.ensures.ahead)

@@ -1,0 +1,12 @@
+use Rattle.std.proofs.Common.{[], ◌∷◌}
+use Rattle.bonded_flows.specs.declared.decision.FlowDecision.TheVariants.{SkipTo}
+use Rattle.receiver.specs.HandedIn.{decided}
+use Rattle.captured_flows.proofs.Taken.{Just, takes-as, takes-expected}
+use Rattle.captured_flows.proofs.flow.skip_past.Goals as goal
+
+pub returns-clause-takes : goal.returns-clause-takes
+returns-clause-takes g c =
+    takes-as g.C.HeaderCheck.accepts g.O.Consumer.after _ _ c.args.receiver.now _ c.args.out.now _
+    (takes-expected g.C.HeaderCheck.accepts g.O.Consumer.after (Just (decided c.args.flow (SkipTo c.args.number) ∷ [])) c.args.receiver.now _ c.args.out.now _ c.args.flow c.in_ok-number.number
+    c.in_ok-skip.ensures.takes c.in_ok-number.ensures.expects)
+    (λ made handed more spelled. record { all = spelled.0; expected = c.in_ok-number.number; expects = spelled.1; left_is = c.pass.ensures.ahead })

@@ -1,0 +1,26 @@
+//! Why a burst isn't taken to the end.
+use std::alloc::{AllocError, AllocFailed};
+use thiserror::Error;
+
+/// Why a burst of a flow isn't taken to the end. After it nothing more is to be taken.
+#[derive(Clone, Copy, Debug, PartialEq, Eq, Error)]
+pub enum FlowFault {
+    /// The receiver has no such flow or no such channel.
+    #[error("the receiver has no such flow or channel")]
+    NotThere,
+    /// An allocation failed.
+    #[error("out of memory")]
+    OutOfMemory,
+}
+
+impl From<AllocError> for FlowFault {
+    fn from(_: AllocError) -> FlowFault {
+        FlowFault::OutOfMemory
+    }
+}
+
+impl<T: Drop> From<AllocFailed<T>> for FlowFault {
+    fn from(_: AllocFailed<T>) -> FlowFault {
+        FlowFault::OutOfMemory
+    }
+}
