@@ -31,8 +31,8 @@ use Rattle.texts.specs.declared.follow.happening.Happening.{Happening}
 use Rattle.texts.specs.declared.follow.happening.Happening.TheVariants.{Gave, Stands}
 use Rattle.texts.specs.declared.follow.happening_list.HappeningList.{HappeningList}
 use Rattle.texts.specs.AnyHeader.{any_header, no_check}
-use Rattle.texts.specs.Happened.{IsOfTrace, IsStanding, TellsStanding, TellsStandingAfter, TellsStandingDecided, Tells, HasHappened, one_more}
-use Rattle.texts.specs.Inside.Followed.{HasAdded, HasKept, TellsStandingIn, TellsStandingOf, TellsReply, TellsDecided, ReceiverUnderWay, HasFollowed, EndsFollowing}
+use Rattle.texts.specs.Happened.{IsOfTrace, IsStanding, TellsStanding, TellsStandingAfter, flow_admitted, flow_decided, Tells, HasHappened, one_more}
+use Rattle.texts.specs.Inside.Followed.{HasAdded, HasKept, TellsStandingIn, TellsStandingOf, TellsStandingIfAny, ReceiverUnderWay, HasFollowed, EndsFollowing}
 
 -- ---- how a flow stands
 
@@ -94,18 +94,22 @@ module _ (receiver : Receiver NoCheck) (made : TableSetup) (handed : List Handed
     by_cases (inl one) (inr past) = absurd (omega (arith, one.1, past.0, stands.flows.flow_count))
     by_cases (inr none) (inl slot) = absurd (omega (arith, none.0, slot.1, stands.flows.flow_count))
 
-  -- after an input
-  pub tells_after : (reply : Reply) (told : List Happening) → FlowIsSettled receiver reply → TellsReply receiver reply told
-      → TellsStandingAfter made handed given reply told
-  tells_after reply.Granted told settled tells = tells
-  tells_after (reply.Refused refusal) told settled tells = tells
-  tells_after (reply.Admitted flow sequence told_of) told settled tells = tells_standing flow told settled tells
+  -- the same of a flow, if there is one
+  pub tells_after : (flow : Option ℕ) (told : List Happening) → IfSome flow (IsSettledAt receiver) → TellsStandingIfAny receiver flow told
+      → TellsStandingAfter made handed given flow told
+  tells_after None told settled tells = tells
+  tells_after (Some flow) told settled tells = tells_standing flow told settled tells
 
-  -- after a decision
-  pub tells_decided : (flow : ℕ) (reply : DecisionReply) (told : List Happening) → IsSettledIfTaken receiver flow reply → TellsDecided receiver flow reply told
-      → TellsStandingDecided made handed given flow reply told
-  tells_decided flow decision_reply.PassedOver told settled tells = tells
-  tells_decided flow (decision_reply.Taken lost) told settled tells = tells_standing flow told settled tells
+-- the flow to which something came is settled
+pub settled_after : (receiver : Receiver NoCheck) (reply : Reply) → FlowIsSettled receiver reply → IfSome (flow_admitted reply) (IsSettledAt receiver)
+settled_after receiver reply.Granted settled = tt
+settled_after receiver (reply.Refused refusal) settled = tt
+settled_after receiver (reply.Admitted flow sequence told_of) settled = settled
+
+pub settled_decided : (receiver : Receiver NoCheck) (flow : ℕ) (reply : DecisionReply) → IsSettledIfTaken receiver flow reply
+    → IfSome (flow_decided flow reply) (IsSettledAt receiver)
+settled_decided receiver flow decision_reply.PassedOver settled = tt
+settled_decided receiver flow (decision_reply.Taken lost) settled = settled
 
 -- ---- one thing more
 
