@@ -34,11 +34,11 @@ use Rattle.texts.specs.declared.follow.happening.Happening.{Happening}
 use Rattle.texts.specs.declared.follow.happening.Happening.TheVariants.{Gave, Stands}
 use Rattle.texts.specs.declared.follow.happening_list.HappeningList.{HappeningList}
 use Rattle.texts.specs.AnyHeader.{any_header, no_check}
-use Rattle.texts.specs.Happened.{IsOfTrace, IsStanding, TellsStanding, TellsStandingAfter, TellsStandingDecided, Tells, HasHappened, one_more}
+use Rattle.texts.specs.Happened.{IsOfTrace, IsStanding, TellsStanding, TellsStandingAfter, flow_admitted, flow_decided, Tells, HasHappened, one_more}
 use Rattle.text_lines.specs.Putting.{Puts}
 use Rattle.texts.specs.Happening.{happening_lines}
 use Rattle.texts.specs.Inside.SetupLines.{SetupSoFar}
-use Rattle.texts.specs.Inside.Followed.{HasAdded, HasKept, TellsStandingIn, TellsStandingOf, TellsReply, TellsDecided, ReceiverUnderWay, IsNonePending, HasFollowed, EndsFollowing, PutsHappened}
+use Rattle.texts.specs.Inside.Followed.{HasAdded, HasKept, TellsStandingIn, TellsStandingOf, TellsStandingIfAny, ReceiverUnderWay, IsNonePending, HasFollowed, EndsFollowing, PutsHappened}
 
 -- ---- how a flow stands
 
@@ -101,18 +101,22 @@ module _ (receiver : Receiver NoCheck) (made : TableSetup) (handed : List Handed
     by_cases (inl one) (inr past) = absurd (omega (arith, one.1, past.0, stands.flows.flow_count))
     by_cases (inr none) (inl slot) = absurd (omega (arith, none.0, slot.1, stands.flows.flow_count))
 
-  -- after an input
-  pub tells_after : (reply : Reply) (told : List Happening) → FlowIsSettled receiver reply → TellsReply receiver reply told
-      → TellsStandingAfter made handed given reply told
-  tells_after reply.Granted told settled tells = tells
-  tells_after (reply.Refused refusal) told settled tells = tells
-  tells_after (reply.Admitted flow sequence told_of) told settled tells = tells_standing flow told settled tells
+  -- the same of a flow, if there is one
+  pub tells_after : (flow : Option ℕ) (told : List Happening) → IfSome flow (IsSettledAt receiver) → TellsStandingIfAny receiver flow told
+      → TellsStandingAfter made handed given flow told
+  tells_after None told settled tells = tells
+  tells_after (Some flow) told settled tells = tells_standing flow told settled tells
 
-  -- after a decision
-  pub tells_decided : (flow : ℕ) (reply : DecisionReply) (told : List Happening) → IsSettledIfTaken receiver flow reply → TellsDecided receiver flow reply told
-      → TellsStandingDecided made handed given flow reply told
-  tells_decided flow decision_reply.PassedOver told settled tells = tells
-  tells_decided flow (decision_reply.Taken lost) told settled tells = tells_standing flow told settled tells
+-- the flow to which something came is settled
+pub settled_after : (receiver : Receiver NoCheck) (reply : Reply) → FlowIsSettled receiver reply → IfSome (flow_admitted reply) (IsSettledAt receiver)
+settled_after receiver reply.Granted settled = tt
+settled_after receiver (reply.Refused refusal) settled = tt
+settled_after receiver (reply.Admitted flow sequence told_of) settled = settled
+
+pub settled_decided : (receiver : Receiver NoCheck) (flow : ℕ) (reply : DecisionReply) → IsSettledIfTaken receiver flow reply
+    → IfSome (flow_decided flow reply) (IsSettledAt receiver)
+settled_decided receiver flow decision_reply.PassedOver settled = tt
+settled_decided receiver flow (decision_reply.Taken lost) settled = settled
 
 -- ---- nothing is left to be done
 
@@ -124,19 +128,19 @@ others_settled receiver receiver' flow all others settled k = by_cases (cases_eq
   by_cases (inl same) = subst (λ (k : ℕ). IsSettledAt receiver' k) (sym same) settled
   by_cases (inr other) = λ slot is. all k slot (sym (others k other) ∙ is)
 
-settled_after : (receiver receiver' : Receiver NoCheck) (reply : Reply) → ((k : ℕ) → IsSettledAt receiver k)
+all_settled_after : (receiver receiver' : Receiver NoCheck) (reply : Reply) → ((k : ℕ) → IsSettledAt receiver k)
     → ChangesOneFlow receiver.flows (Ok reply) receiver'.flows → FlowIsSettled receiver' reply → (k : ℕ) → IsSettledAt receiver' k
-settled_after receiver receiver' reply.Granted all same settled k = λ slot is. all k slot (subst (λ (flows : FlowTable NoCheck). slice_get flows.slots.items k ≡ Some slot) same is)
-settled_after receiver receiver' (reply.Refused refusal) all same settled k =
+all_settled_after receiver receiver' reply.Granted all same settled k = λ slot is. all k slot (subst (λ (flows : FlowTable NoCheck). slice_get flows.slots.items k ≡ Some slot) same is)
+all_settled_after receiver receiver' (reply.Refused refusal) all same settled k =
     λ slot is. all k slot (subst (λ (flows : FlowTable NoCheck). slice_get flows.slots.items k ≡ Some slot) same is)
-settled_after receiver receiver' (reply.Admitted flow sequence told_of) all others settled k = others_settled receiver receiver' flow all others settled k
+all_settled_after receiver receiver' (reply.Admitted flow sequence told_of) all others settled k = others_settled receiver receiver' flow all others settled k
 
-pub settled_decided : (receiver receiver' : Receiver NoCheck) (flow : ℕ) (reply : DecisionReply) → ((k : ℕ) → IsSettledAt receiver k)
+pub all_settled_decided : (receiver receiver' : Receiver NoCheck) (flow : ℕ) (reply : DecisionReply) → ((k : ℕ) → IsSettledAt receiver k)
     → (reply ≡ decision_reply.PassedOver → receiver' ≡ receiver) → OthersStay receiver.flows flow receiver'.flows → IsSettledIfTaken receiver' flow reply
     → (k : ℕ) → IsSettledAt receiver' k
-settled_decided receiver receiver' flow decision_reply.PassedOver all same others settled k =
+all_settled_decided receiver receiver' flow decision_reply.PassedOver all same others settled k =
     subst (λ (receiver : Receiver NoCheck). IsSettledAt receiver k) (sym (same refl)) (all k)
-settled_decided receiver receiver' flow (decision_reply.Taken lost) all same others settled k = others_settled receiver receiver' flow all others settled k
+all_settled_decided receiver receiver' flow (decision_reply.Taken lost) all same others settled k = others_settled receiver receiver' flow all others settled k
 
 -- ---- one thing more
 
@@ -173,7 +177,7 @@ module _ (told : List Happening) (rule : LossRule) (width : Width) (setup : Setu
   pub settled_by_input : (receiver : Receiver NoCheck) (result : Result Reply TakeError) (reply : Reply) → result ≡ Ok reply
       → ChangesOneFlow now.receiver.flows result receiver.flows → FlowIsSettled receiver reply → (k : ℕ) → IsSettledAt receiver k
   settled_by_input receiver result reply is changes =
-      settled_after now.receiver receiver reply has.settled (subst (λ result. ChangesOneFlow now.receiver.flows result receiver.flows) is changes)
+      all_settled_after now.receiver receiver reply has.settled (subst (λ result. ChangesOneFlow now.receiver.flows result receiver.flows) is changes)
 
   -- one thing more was handed in, and what became of it was told
   pub followed_more : (receiver : Receiver NoCheck) (between : HappeningList) (one : HandedIn) (entry : Entry) (new : List Happening) (pending : HappeningList)

@@ -16,10 +16,6 @@ use Rattle.lane.specs.declared.admitted.Admitted.{Admitted}
 use Rattle.lane.specs.Report.{admitted_by}
 use Rattle.lane.specs.Limits.{channel_limit}
 use Rattle.loss_rule.specs.Rule.{Coming, on_channel, handed_in}
-use Rattle.receiver.specs.declared.reply.Reply.{Reply}
-use Rattle.receiver.specs.declared.reply.Reply.TheVariants as reply
-use Rattle.receiver.specs.declared.reply.DecisionReply.{DecisionReply}
-use Rattle.receiver.specs.declared.reply.DecisionReply.TheVariants as decision_reply
 use Rattle.receiver.specs.HandedIn.{HandedIn, came, decided, restarted, arrives_on, decides_of, flow_input_of, flow_inputs, answered_on}
 use Rattle.receiver.specs.Received.{GaveAllParts}
 use Rattle.receiver.specs.Replaying.{entry_of, IsRecorded}
@@ -27,7 +23,7 @@ use Rattle.receiver.proofs.TakenInOrder.{one-part_last, one-part_gave}
 use Rattle.texts.specs.declared.follow.happening.Happening.{Happening}
 use Rattle.texts.specs.declared.follow.happening.Happening.TheVariants.{Gave, Stands}
 use Rattle.texts.specs.FollowedReport.{given_in, came_to}
-use Rattle.texts.specs.Happened.{IsOfTrace, TellsStandingAfter, TellsStandingDecided, Tells, HasHappened, nothing, one_more}
+use Rattle.texts.specs.Happened.{IsOfTrace, TellsStandingAfter, flow_admitted, flow_decided, Tells, HasHappened, nothing, one_more}
 use Rattle.texts.proofs.TraceTags.{IsOfChannel}
 
 -- ---- of what happened the receiver gave just what it gave
@@ -42,23 +38,17 @@ none_in_standing : (flow : ℕ) (told : List Happening) (known : Option FlowReco
 none_in_standing flow told None P tells = ap (filter_map given_in) tells
 none_in_standing flow told (Some r) P tells = ap (filter_map given_in) tells.2
 
-none_after : (made : TableSetup) (handed : List HandedIn) (given : List Given) (of : Reply) (told : List Happening) → TellsStandingAfter made handed given of told
-    → filter_map given_in told ≡ []
-none_after made handed given reply.Granted told tells = ap (filter_map given_in) tells
-none_after made handed given (reply.Refused refusal) told tells = ap (filter_map given_in) tells
-none_after made handed given (reply.Admitted flow sequence told_of) told tells = none_in_standing flow told (slice_get made.records flow) _ tells
-
-none_decided : (made : TableSetup) (handed : List HandedIn) (given : List Given) (flow : ℕ) (of : DecisionReply) (told : List Happening)
-    → TellsStandingDecided made handed given flow of told → filter_map given_in told ≡ []
-none_decided made handed given flow decision_reply.PassedOver told tells = ap (filter_map given_in) tells
-none_decided made handed given flow (decision_reply.Taken lost) told tells = none_in_standing flow told (slice_get made.records flow) _ tells
+none_after : (made : TableSetup) (handed : List HandedIn) (given : List Given) (flow : Option ℕ) (told : List Happening)
+    → TellsStandingAfter made handed given flow told → filter_map given_in told ≡ []
+none_after made handed given None told tells = ap (filter_map given_in) tells
+none_after made handed given (Some flow) told tells = none_in_standing flow told (slice_get made.records flow) _ tells
 
 none_told : (made : TableSetup) (handed : List HandedIn) (given : List Given) (one : HandedIn) (told : List Happening) → Tells made handed given one told
     → filter_map given_in told ≡ []
 none_told made handed given (came channel one) told tells =
-    ap (filter_map given_in) tells.are ∙ none_after made (handed ++ came channel one ∷ []) given tells.reply tells.standing tells.stands
+    ap (filter_map given_in) tells.are ∙ none_after made (handed ++ came channel one ∷ []) given (flow_admitted tells.reply) tells.standing tells.stands
 none_told made handed given (decided flow decision) told tells =
-    ap (filter_map given_in) tells.are ∙ none_decided made (handed ++ decided flow decision ∷ []) given flow tells.reply tells.standing tells.stands
+    ap (filter_map given_in) tells.are ∙ none_after made (handed ++ decided flow decision ∷ []) given (flow_decided flow tells.reply) tells.standing tells.stands
 none_told made handed given (restarted flow first) told tells = absurd tells
 
 pub given_told : {made : TableSetup} {handed : List HandedIn} {given : List Given} {happened : List Happening} → HasHappened made handed given happened

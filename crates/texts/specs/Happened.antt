@@ -1,5 +1,5 @@
 -- What happens as a receiver is handed in what the lines of a trace say.
-use Rattle.std.specs.Prelude.{◌≡◌, ◌<◌, ◌↔◌, ◌⊎◌, ◌-◌, ◌^◌, ◌∷◌, ◌&&◌, nat_lt, nat_le, ℕ, false, All, MatchOption, IfSome, List, [], ◌++◌, length, map, filter, filter_map, slice_get}
+use Rattle.std.specs.Prelude.{◌≡◌, ◌<◌, ◌↔◌, ◌⊎◌, ◌-◌, ◌^◌, ◌∷◌, ◌&&◌, nat_lt, nat_le, ℕ, false, All, Option, Some, None, MatchOption, IfSome, List, [], ◌++◌, length, map, filter, filter_map, slice_get}
 use Rattle.bonded_flows.specs.ByRule.{is_in_range}
 use Rattle.bonded_flows.specs.Slots.{held_in}
 use Rattle.bonded_flows.specs.Table.{TableSetup}
@@ -60,16 +60,19 @@ TellsStanding made handed given flow told =
     MatchOption (slice_get made.records flow) (told ≡ [])
     (λ flow_record. (expected : ℕ) × (held : ℕ) × (told ≡ Stands flow expected held ∷ []) × IsStanding made handed given flow flow_record expected held)
 
--- how the flow stands is told to which a segment was admitted
-abbrev pub TellsStandingAfter : TableSetup → List HandedIn → List Given → Reply → List Happening → Type 0
-TellsStandingAfter made handed given reply.Granted told = told ≡ []
-TellsStandingAfter made handed given (reply.Refused refusal) told = told ≡ []
-TellsStandingAfter made handed given (reply.Admitted flow sequence told_of) told = TellsStanding made handed given flow told
+-- the flow to which a segment was admitted, or of which a decision was taken, if one was
+abbrev pub flow_admitted : Reply → Option ℕ
+flow_admitted reply.Granted = None
+flow_admitted (reply.Refused refusal) = None
+flow_admitted (reply.Admitted flow sequence told_of) = Some flow
 
--- so it is told of which a decision was taken
-abbrev pub TellsStandingDecided : TableSetup → List HandedIn → List Given → ℕ → DecisionReply → List Happening → Type 0
-TellsStandingDecided made handed given flow decision_reply.PassedOver told = told ≡ []
-TellsStandingDecided made handed given flow (decision_reply.Taken lost) told = TellsStanding made handed given flow told
+abbrev pub flow_decided : ℕ → DecisionReply → Option ℕ
+flow_decided flow decision_reply.PassedOver = None
+flow_decided flow (decision_reply.Taken lost) = Some flow
+
+-- how that flow stands is told, if there is one
+abbrev pub TellsStandingAfter : TableSetup → List HandedIn → List Given → Option ℕ → List Happening → Type 0
+TellsStandingAfter made handed given flow told = MatchOption flow (told ≡ []) (λ k. TellsStanding made handed given k told)
 
 -- Of an input that came after all this: its lane's answer, rightly what became of its segment, and then how its flow stands.
 pub record TellsInput (made : TableSetup) (handed : List HandedIn) (given : List Given) (channel : ℕ) (one : AnsweredInput) (told : List Happening) : Type 0 where
@@ -77,7 +80,7 @@ pub record TellsInput (made : TableSetup) (handed : List HandedIn) (given : List
   pub says : Says reply one.answer
   pub rightly : IsToldRightly made handed channel one.answer reply
   pub standing : List Happening
-  pub stands : TellsStandingAfter made (handed ++ came channel one ∷ []) given reply standing
+  pub stands : TellsStandingAfter made (handed ++ came channel one ∷ []) given (flow_admitted reply) standing
   pub are : told ≡ Took (name_of_input channel one.input) reply ∷ standing
 
 -- Of a decision that came after all this: whether it was passed over, rightly whether a segment is lost by it, and then how its flow stands.
@@ -86,7 +89,7 @@ pub record TellsDecision (made : TableSetup) (handed : List HandedIn) (given : L
   pub passed_over : reply ≡ decision_reply.PassedOver ↔ ((nat_lt flow (length made.records) && is_in_range decision) ≡ false)
   pub rightly : IsLossToldRightly made handed flow decision reply
   pub standing : List Happening
-  pub stands : TellsStandingDecided made (handed ++ decided flow decision ∷ []) given flow reply standing
+  pub stands : TellsStandingAfter made (handed ++ decided flow decision ∷ []) given (flow_decided flow reply) standing
   pub are : told ≡ Decided flow reply ∷ standing
 
 -- After all this, and after this one thing more, for which all this was given, this is told of it.

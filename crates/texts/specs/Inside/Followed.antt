@@ -9,10 +9,6 @@ use Rattle.flow_records.specs.declared.record.FlowRecord.{FlowRecord}
 use Rattle.loss_rule.specs.declared.rule.LossRule.{LossRule}
 use Rattle.receiver.specs.declared.closing.Closed.{Closed}
 use Rattle.receiver.specs.declared.receiver.Receiver.{Receiver}
-use Rattle.receiver.specs.declared.reply.Reply.{Reply}
-use Rattle.receiver.specs.declared.reply.Reply.TheVariants as reply
-use Rattle.receiver.specs.declared.reply.DecisionReply.{DecisionReply}
-use Rattle.receiver.specs.declared.reply.DecisionReply.TheVariants as decision_reply
 use Rattle.receiver.specs.declared.setup.Setup.{Setup}
 use Rattle.receiver.specs.declared.width.Width.{Width}
 use Rattle.receiver.specs.Entries.{Entry}
@@ -49,15 +45,9 @@ TellsStandingIn receiver flow told known =
 abbrev pub TellsStandingOf : Receiver NoCheck → ℕ → List Happening → Type 0
 TellsStandingOf receiver flow told = TellsStandingIn receiver flow told (slice_get receiver.flows.slots.items flow)
 
--- so it is told where a segment was admitted, or a decision taken
-abbrev pub TellsReply : Receiver NoCheck → Reply → List Happening → Type 0
-TellsReply receiver reply.Granted told = told ≡ []
-TellsReply receiver (reply.Refused refusal) told = told ≡ []
-TellsReply receiver (reply.Admitted flow sequence told_of) told = TellsStandingOf receiver flow told
-
-abbrev pub TellsDecided : Receiver NoCheck → ℕ → DecisionReply → List Happening → Type 0
-TellsDecided receiver flow decision_reply.PassedOver told = told ≡ []
-TellsDecided receiver flow (decision_reply.Taken lost) told = TellsStandingOf receiver flow told
+-- so it is told of this flow, if it is one
+abbrev pub TellsStandingIfAny : Receiver NoCheck → Option ℕ → List Happening → Type 0
+TellsStandingIfAny receiver flow told = MatchOption flow (told ≡ []) (λ k. TellsStandingOf receiver k told)
 
 -- a receiver, and what happened that wasn't put yet
 pub record ReceiverUnderWay : Type 0 where

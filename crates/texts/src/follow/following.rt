@@ -10,9 +10,9 @@ ghost use Rattle.text_lines.specs.Putting.{Puts};
 ghost use Rattle.texts.specs.AnyHeader.{no_check};
 ghost use Rattle.texts.specs.Happening.{happening_lines};
 ghost use Rattle.texts.specs.Inside.Followed.{HasFollowed, EndsFollowing, IsNonePending};
-ghost use Rattle.texts.specs.Inside.Followed.{HasAdded, TellsStandingOf, TellsReply, TellsDecided};
+ghost use Rattle.texts.specs.Happened.{flow_admitted, flow_decided};
+ghost use Rattle.texts.specs.Inside.Followed.{HasAdded, TellsStandingOf, TellsStandingIfAny};
 ghost use Rattle.texts.specs.declared.follow.happening.Happening.{Happening};
-ghost use Rattle.texts.specs.declared.follow.happening.Happening.TheVariants.{Took, Decided};
 
 use super::happening::{Happening, InputName};
 use super::happening_list::HappeningList;
@@ -118,37 +118,41 @@ fn add_standing(receiver: &Receiver<NoCheck>, flow: usize, happened: &mut Happen
     });
 }
 
-/// Adds what became of an input that a receiver took, and how the flow stands to which a segment
-/// came.
-fn add_reply(
-    receiver: &Receiver<NoCheck>,
-    name: InputName,
-    reply: Reply,
-    happened: &mut HappeningList,
-)
-    requires { IsReceiving no_check receiver.now }
-    ensures { (told : List Happening) × TellsReply receiver.now reply told
-        × HasAdded happened.old (Took name reply ∷ told) happened.new }
+/// The flow to which a segment was admitted, if one was.
+fn flow_admitted(reply: &Reply) -> Option<usize>
+    ensures { result ≡ flow_admitted reply.now }
 {
-    happened.add(Happening::Took { name, reply });
-    if let Reply::Admitted { flow, .. } = reply {
-        add_standing(receiver, flow, happened);
+    match reply {
+        Reply::Granted => None,
+        Reply::Refused(_) => None,
+        Reply::Admitted { flow, .. } => Some(*flow),
     }
 }
 
-/// Adds what became of a decision, and how its flow stands if it was taken.
-fn add_decision_reply(
+/// The flow of which a decision was taken, if it was.
+fn flow_decided(flow: usize, reply: &DecisionReply) -> Option<usize>
+    ensures { result ≡ flow_decided flow reply.now }
+{
+    match reply {
+        DecisionReply::PassedOver => None,
+        DecisionReply::Taken { .. } => Some(flow),
+    }
+}
+
+/// Adds what became of an input or of a decision, and how the flow stands to which it came, if it
+/// came to one.
+fn add_reply(
     receiver: &Receiver<NoCheck>,
-    flow: usize,
-    reply: DecisionReply,
+    one: Happening,
+    flow: Option<usize>,
     happened: &mut HappeningList,
 )
     requires { IsReceiving no_check receiver.now }
-    ensures { (told : List Happening) × TellsDecided receiver.now flow reply told
-        × HasAdded happened.old (Decided flow reply ∷ told) happened.new }
+    ensures { (told : List Happening) × TellsStandingIfAny receiver.now flow told
+        × HasAdded happened.old (one ∷ told) happened.new }
 {
-    happened.add(Happening::Decided { flow, reply });
-    if let DecisionReply::Taken { .. } = reply {
+    happened.add(one);
+    if let Some(flow) = flow {
         add_standing(receiver, flow, happened);
     }
 }
@@ -203,7 +207,9 @@ impl TakeEntries for Following {
         let name = InputName::of(channel, &input);
         match receiver.take(alloc, usize::from(channel), input, &mut happened) {
             Ok(reply) => {
-                add_reply(&receiver, name, reply, &mut happened);
+                let flow = flow_admitted(&reply);
+                let took = Happening::Took { name, reply };
+                add_reply(&receiver, took, flow, &mut happened);
                 Ok(Following { receiver, happened })
             }
             Err(_) => Err(AllocError),
@@ -223,7 +229,9 @@ impl TakeEntries for Following {
         let Decision { flow, upto } = decision;
         match receiver.decide(alloc, flow, decided_by(upto), &mut happened) {
             Ok(reply) => {
-                add_decision_reply(&receiver, flow, reply, &mut happened);
+                let taken_of = flow_decided(flow, &reply);
+                let decided = Happening::Decided { flow, reply };
+                add_reply(&receiver, decided, taken_of, &mut happened);
                 Ok(Following { receiver, happened })
             }
             Err(_) => Err(AllocError),

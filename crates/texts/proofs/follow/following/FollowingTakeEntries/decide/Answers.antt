@@ -1,5 +1,5 @@
 -- A decision was handed in.
-use Rattle.std.proofs.Common.{◌≡◌, ◌++◌, ◌∷◌, [], Some, refl, sym, ap, subst, ◌∙◌}
+use Rattle.std.proofs.Common.{◌≡◌, ℕ, ◌++◌, ◌∷◌, [], Option, Some, refl, sym, ap, subst, ◌∙◌}
 use Rattle.std.specs.Prelude.{Ok}
 use Rattle.bonded_flows.specs.declared.decision.FlowDecision.{FlowDecision}
 use Rattle.receiver.specs.Entries.{decided}
@@ -8,8 +8,9 @@ use Rattle.receiver.specs.HandedIn.{made_of}
 use Rattle.receiver.specs.Replaying.{entry_of, IsGapDecision}
 use Rattle.receiver.proofs.ReplayedEntries.{decision-recorded, decision-entry}
 use Rattle.texts.specs.AnyHeader.{any_header}
-use Rattle.texts.specs.Inside.Followed.{ReceiverUnderWay, HasFollowed}
-use Rattle.texts.proofs.FollowedTrace.{followed_more, settled_decided, tells_decided, passed_over}
+use Rattle.texts.specs.Happened.{flow_decided}
+use Rattle.texts.specs.Inside.Followed.{TellsStandingIfAny, ReceiverUnderWay, HasFollowed}
+use Rattle.texts.proofs.FollowedTrace.{followed_more, all_settled_decided, tells_after, settled_decided, passed_over}
 use Rattle.texts.proofs.follow.following.FollowingTakeEntries.decide.Goals as goal
 
 pub returns-in-Ok : goal.returns-in-Ok
@@ -19,11 +20,11 @@ returns-in-Ok c = λ told rule setup entries was.
     let takes = c.in-Ok.ensures.takes in
     let one = handed_in.decided decision.flow c.decided_by.result in
     let made = made_of rule c.args._width.channels setup in
-    let added = c.add_decision_reply.ensures in
-    followed_more told rule c.args._width setup entries _ has c.decide.new.self c.decide.new.out one (decided decision) _ c.add_decision_reply.new.happened
+    let added = c.add_reply.ensures in
+    followed_more told rule c.args._width setup entries _ has c.decide.new.self c.decide.new.out one (decided decision) _ c.add_reply.new.happened
     (subst IsGapDecision (sym c.decided_by.ensures) (decision-recorded decision))
     (subst (λ (what : FlowDecision). entry_of (handed_in.decided decision.flow what) ≡ Some (decided decision)) (sym c.decided_by.ensures) (decision-entry decision)) takes
-    (settled_decided _ c.decide.new.self decision.flow c.in-Ok.reply has.settled
+    (all_settled_decided _ c.decide.new.self decision.flow c.in-Ok.reply has.settled
     (λ passed. (c.decide.ensures.unchanged (c.in-Ok.is ∙ ap Ok passed)).0) c.decide.ensures.others c.in-Ok.ensures.settled)
     (record {
       reply = c.in-Ok.reply;
@@ -31,8 +32,10 @@ returns-in-Ok c = λ told rule setup entries was.
       rightly = c.in-Ok.ensures.told any_header made has.handed has.given has.stands;
       standing = added.0;
       stands =
-          tells_decided c.decide.new.self made (has.handed ++ one ∷ []) (has.given ++ takes.given_more)
-          (takes.stands any_header made has.handed has.given has.stands) decision.flow c.in-Ok.reply added.0 c.in-Ok.ensures.settled added.1;
+          tells_after c.decide.new.self made (has.handed ++ one ∷ []) (has.given ++ takes.given_more)
+          (takes.stands any_header made has.handed has.given has.stands) (flow_decided decision.flow c.in-Ok.reply) added.0
+          (settled_decided c.decide.new.self decision.flow c.in-Ok.reply c.in-Ok.ensures.settled)
+          (subst (λ (flow : Option ℕ). TellsStandingIfAny c.decide.new.self flow added.0) c.flow_decided-taken_of.ensures added.1);
       are = refl;
     })
     added.2

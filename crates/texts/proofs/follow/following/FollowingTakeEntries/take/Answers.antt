@@ -1,5 +1,5 @@
 -- An input was handed in.
-use Rattle.std.proofs.Common.{ℕ, ◌<◌, ◌++◌, ◌∷◌, [], Some, sym, ap, subst, ◌∙◌}
+use Rattle.std.proofs.Common.{ℕ, ◌<◌, ◌++◌, ◌∷◌, [], Option, Some, sym, ap, subst, ◌∙◌}
 use Rattle.receiver.specs.Entries.{came}
 use Rattle.receiver.specs.HandedIn as handed_in
 use Rattle.receiver.specs.HandedIn.{made_of}
@@ -7,8 +7,9 @@ use Rattle.texts.specs.declared.follow.happening.Happening.TheVariants.{Took}
 use Rattle.texts.specs.declared.follow.happening.InputName.{InputName}
 use Rattle.texts.specs.AnyHeader.{any_header}
 use Rattle.texts.specs.Happening.{name_of_input}
-use Rattle.texts.specs.Inside.Followed.{ReceiverUnderWay, HasFollowed}
-use Rattle.texts.proofs.FollowedTrace.{followed_more, settled_by_input, tells_after}
+use Rattle.texts.specs.Happened.{flow_admitted}
+use Rattle.texts.specs.Inside.Followed.{TellsStandingIfAny, ReceiverUnderWay, HasFollowed}
+use Rattle.texts.proofs.FollowedTrace.{followed_more, settled_by_input, tells_after, settled_after}
 use Rattle.texts.proofs.follow.following.FollowingTakeEntries.take.Goals as goal
 
 pub returns-in-Ok : goal.returns-in-Ok
@@ -28,7 +29,9 @@ returns-in-Ok c = λ told rule setup entries was.
       says = replies.says;
       rightly = replies.told any_header made has.handed has.given has.stands;
       standing = added.0;
-      stands = tells_after c.take.new.self made (has.handed ++ one ∷ []) (has.given ++ replies.takes.given_more) stands c.in-Ok.reply added.0 c.in-Ok.ensures.settled added.1;
+      stands = tells_after c.take.new.self made (has.handed ++ one ∷ []) (has.given ++ replies.takes.given_more) stands (flow_admitted c.in-Ok.reply) added.0
+          (settled_after c.take.new.self c.in-Ok.reply c.in-Ok.ensures.settled)
+          (subst (λ (flow : Option ℕ). TellsStandingIfAny c.take.new.self flow added.0) c.flow_admitted-flow.ensures added.1);
       are =
           ap (λ (name : InputName). Took name c.in-Ok.reply ∷ added.0)
           (c.of-name.ensures ∙ ap (λ (channel : ℕ). name_of_input channel c.args.input) (sym c.from.ensures));
