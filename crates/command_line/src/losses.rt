@@ -1,4 +1,4 @@
-//! The option `--losses` of `replay` and `run`: the rule by which losses are decided.
+//! The option `--losses` of `replay`, `run` and `follow`: the rule by which losses are decided.
 //!
 //! It is looked for in the words themselves, so that contracts can say by which rule a command runs;
 //! that the words are lawful otherwise is for `clap` to say.

@@ -29,7 +29,8 @@ pub enum EngineFault {
     /// An allocation failed, or a thread of `run` could not be started.
     #[error("out of memory")]
     OutOfMemory,
-    /// The reader failed, or gave more than 268,435,456 bytes.
+    /// The reader failed, or gave more than 268,435,456 bytes; to `follow` and `map`, more than
+    /// 2^64 - 2.
     #[error("read failed")]
     Read,
     /// The writer failed.

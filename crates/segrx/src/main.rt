@@ -2,9 +2,10 @@
 //! program.
 //!
 //! `replay` reads a trace of what came in on the channels and prints the report of what each flow
-//! gave; `run` does so too, with a thread for each channel. `join` reads one segment in hexadecimal
-//! a line and prints one frame a line. `cut` reads frames and pieces, one a line, and prints one
-//! segment a line.
+//! gave; `run` does so too, with a thread for each channel, and `follow` prints what comes of each
+//! line as it is read. `join` reads one segment in hexadecimal a line and prints one frame a line.
+//! `cut` reads frames and pieces, one a line, and prints one segment a line. `map` reads a capture
+//! and writes its map.
 //!
 //! It hands its arguments, its standard input and its two outputs to [`commands::program`], which is
 //! all of it over any reader and any two writers, and answers the exit status.
