@@ -1,4 +1,5 @@
-//! Captures of one flow that were made by chance, and what the plain reading says of them.
+//! Captures of one flow that were made by chance, and what the plain reading says of them:
+//! by scripts/plain-captured-flows.
 
 /// A case in each line.
 pub(crate) const CASES: &str = "\
