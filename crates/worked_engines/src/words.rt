@@ -12,6 +12,7 @@ enum Asked {
     Replay(LossRule),
     Run(LossRule, u16, u16),
     Follow(LossRule, u8, bool),
+    Map,
     Help,
     Fault(UsageFault),
 }
@@ -35,6 +36,7 @@ fn what_is_asked(alloc: Global, words: &[&str]) -> Asked {
                 events,
             },
         ) => Asked::Follow(rule, channels, events),
+        Ok(Command::Map) => Asked::Map,
         Ok(Command::Help(_)) => Asked::Help,
         Err(fault) => Asked::Fault(fault),
     }
@@ -44,10 +46,17 @@ fn what_is_asked(alloc: Global, words: &[&str]) -> Asked {
 const USAGE: Asked = Asked::Fault(UsageFault::Usage);
 
 /// Words, each with the name of its case, and what is asked for.
-const WORDS: [(&str, &[&str], Asked); 49] = [
+const WORDS: [(&str, &[&str], Asked); 52] = [
     ("no words at all", &[], Asked::Join),
     ("no command", &["segrx"], Asked::Join),
     ("join", &["segrx", "join"], Asked::Join),
+    ("map", &["segrx", "map"], Asked::Map),
+    ("help behind map", &["segrx", "map", "--help"], Asked::Help),
+    (
+        "an option of map",
+        &["segrx", "map", "--losses=slid"],
+        USAGE,
+    ),
     ("cut", &["segrx", "cut"], Asked::Cut(0, FillByte::Zero)),
     (
         "the options of cut",
