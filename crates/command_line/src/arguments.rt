@@ -43,10 +43,10 @@ frame and each request as soon as the line is read that brings it, also above a
 line that is at fault, and what was counted at the end. With --events it prints
 besides what became of each grant, burst and gap, and how its flow then stands.
 
-map reads a capture, pcap or pcapng, of packets of link type 273, to its end, and
-prints the map that the registrations in it give: lines flow, channel and sid,
-each below a comment that says which modem was told so, when and by what. Where
-there are none it prints as comments which SIDs carry segments.
+map reads a capture, pcap or pcapng, of packets of link type 273, to its end,
+and prints the map that the registrations in it give: lines flow, channel and
+sid, each below a comment that says which modem was told so, when and by what.
+Where there are none it prints as comments which SIDs carry segments.
 
 Exit status:
   0  done
