@@ -6,7 +6,7 @@ use Rattle.receiver.specs.HandedIn.{HandedIn}
 use Rattle.capture_rules.specs.declared.held_time.HeldTime.{HeldTime}
 use Rattle.capture_rules.specs.declared.beginning.Begun.{Begun}
 use Rattle.capture_rules.specs.Begin.{BeginningView, IsEnded, is_over, is_silent, after_end, after_hand_on, to_hand_in}
-use Rattle.captured_flows.specs.declared.burst.SoundBurst.{SoundBurst}
+use Rattle.captured_flows.specs.declared.sound_burst.SoundBurst.{SoundBurst}
 use Rattle.captured_flows.specs.Flow.{Next, Expects, EndsIf, goes_on_beginning, ends, BeginsIf, LetsGoIf, HandsInIf, IsHandedOn}
 use Rattle.captured_flows.proofs.Taken.{Then}
 

@@ -16,7 +16,7 @@ use Rattle.capture_map.specs.declared.map.CaptureMap.{CaptureMap}
 use Rattle.capture_map.specs.declared.map.MapFlow.{MapFlow}
 use Rattle.capture_map.specs.declared.map.MapSid.{MapSid}
 use Rattle.capture_rules.specs.declared.arrival.Arrival.{Arrival}
-use Rattle.captured_flows.specs.declared.burst.SoundBurst.{SoundBurst}
+use Rattle.captured_flows.specs.declared.sound_burst.SoundBurst.{SoundBurst}
 use Rattle.captured_flows.specs.declared.captured_burst.CapturedBurst.{CapturedBurst}
 use Rattle.captured_flows.specs.declared.burst_taken.BurstTaken.{BurstTaken}
 use Rattle.captured_flows.specs.declared.burst_taken.BurstTaken.TheVariants as taken

@@ -19,7 +19,7 @@ use Rattle.capture_rules.specs.declared.beginning.Begun.{Begun}
 use Rattle.capture_rules.specs.Order.{HandsOn, HandsOnAll}
 use Rattle.capture_rules.specs.Begin.{BeginningView, nothing_handed_on, IsEnded, is_over, is_beginning, is_silent, after_end, after_hand_on, to_hand_in}
 use Rattle.capture_rules.specs.Held.{IsSkip, still_ahead}
-use Rattle.captured_flows.specs.declared.burst.SoundBurst.{SoundBurst}
+use Rattle.captured_flows.specs.declared.sound_burst.SoundBurst.{SoundBurst}
 
 -- a burst that is handed on
 abbrev pub Next : Type 0

@@ -6,7 +6,7 @@ use Rattle.docsis_wire.specs.Limits.{header_length}
 use Rattle.docsis_wire.specs.SegmentBytes.{PointsPast}
 use Rattle.lane.specs.Limits.{grant_max}
 use Rattle.capture_rules.specs.declared.arrival.Arrival.{Arrival}
-use Rattle.captured_flows.specs.declared.burst.SoundBurst.{SoundBurst}
+use Rattle.captured_flows.specs.declared.sound_burst.SoundBurst.{SoundBurst}
 use Rattle.captured_flows.specs.declared.captured_burst.CapturedBurst.{CapturedBurst}
 
 -- How many bytes a burst's grant is taken to have: as many as are said, as the burst has, and 8, at least.

@@ -4,7 +4,7 @@ use Rattle.capture_map.specs.declared.map.MapFlow.{MapFlow}
 use Rattle.bonded_flows.specs.Table.{TableSetup}
 use Rattle.receiver.specs.HandedIn.{HandedIn}
 use Rattle.capture_rules.specs.declared.arrival.Arrival.{Arrival}
-use Rattle.captured_flows.specs.declared.burst.SoundBurst.{SoundBurst}
+use Rattle.captured_flows.specs.declared.sound_burst.SoundBurst.{SoundBurst}
 use Rattle.captured_flows.specs.declared.waits.Waits.{Waits}
 use Rattle.captured_flows.specs.declared.flow.CapturedFlow.{CapturedFlow}
 use Rattle.captured_flows.specs.Flow.{FlowView, flow_begun, Comes, EndsWaiting}

@@ -2,7 +2,7 @@
 ghost use Rattle.std.specs.Prelude.{List};
 ghost use Rattle.consumer.specs.declared.given.Given.{Given};
 
-use crate::burst::SoundBurst;
+use crate::sound_burst::SoundBurst;
 use capture_rules::Arrival;
 use consumer::Consumer;
 

@@ -2,7 +2,7 @@
 ghost use Rattle.std.specs.Prelude.{◌≡◌, ◌≤◌, IfOk, IfErr};
 ghost use Rattle.captured_flows.specs.Sound.{granted_to, IsSound, IsUnsound};
 
-use crate::burst::SoundBurst;
+use crate::sound_burst::SoundBurst;
 use capture_rules::Arrival;
 use docsis_wire::{Bytes, Segment};
 

@@ -5,14 +5,14 @@ ghost use Rattle.captured_flows.specs.Taking.{IsAtHand, TakesBy};
 ghost use Rattle.captured_flows.specs.Captures.{IsRefused, EndsAll};
 ghost use Rattle.captured_flows.specs.Together.{HaveWaits, ComesAt, EndsAt, views_of, view_begun};
 
-use crate::burst::SoundBurst;
 use crate::burst_taken::BurstTaken;
 use crate::capture_consumer::CaptureConsumer;
 use crate::captured_burst::{CapturedBurst, granted_to, sound};
-use crate::fault::FlowFault;
 use crate::flow::CapturedFlow;
+use crate::flow_fault::FlowFault;
 use crate::setup::{flows_of, receiver_of, setup_of};
 use crate::sids::{SidFlows, channel_of};
+use crate::sound_burst::SoundBurst;
 use crate::taking::take;
 use crate::waits::Waits;
 use capture_map::CaptureMap;

@@ -8,9 +8,9 @@ ghost use Rattle.captured_flows.specs.Flow.{Skips, LetsGo, HandsIn, HandsInAll, 
 ghost use Rattle.captured_flows.specs.Flow.{IsHandedOn, PassesOn, Comes, EndsWaiting, flow_begun};
 ghost use Rattle.captured_flows.specs.Taking.{IsAtHand, TakesBy};
 
-use crate::burst::SoundBurst;
 use crate::capture_consumer::CaptureConsumer;
-use crate::fault::FlowFault;
+use crate::flow_fault::FlowFault;
+use crate::sound_burst::SoundBurst;
 use crate::taking::{expected, restart, skip, take};
 use crate::waits::Waits;
 use capture_rules::{Arrival, Beginning, Begun, ChannelOrder, HandedOn, HeldTime, HeldTimes};

@@ -20,22 +20,22 @@
 //! receiver stands for it: so what was given is what the receiver's definitions give for it.
 #![tactic(auto)]
 
-mod burst;
 mod burst_taken;
 mod capture_consumer;
 mod captured_burst;
 mod captured_flows;
-mod fault;
 mod flow;
+mod flow_fault;
 mod setup;
 mod sids;
+mod sound_burst;
 mod taking;
 mod waits;
 
-pub use burst::SoundBurst;
 pub use burst_taken::BurstTaken;
 pub use capture_consumer::CaptureConsumer;
 pub use captured_burst::CapturedBurst;
 pub use captured_flows::CapturedFlows;
-pub use fault::FlowFault;
+pub use flow_fault::FlowFault;
+pub use sound_burst::SoundBurst;
 pub use waits::Waits;

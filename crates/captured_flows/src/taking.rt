@@ -7,7 +7,7 @@ ghost use Rattle.receiver.specs.Receiving.{IsReceiving};
 ghost use Rattle.captured_flows.specs.Flow.{IsInput};
 ghost use Rattle.captured_flows.specs.Taking.{IsAtHand, IsExpected, TakesBy};
 
-use crate::fault::FlowFault;
+use crate::flow_fault::FlowFault;
 use consumer::Consumer;
 use docsis_wire::HeaderCheck;
 use flow_core::FlowCounts;

@@ -5,7 +5,7 @@
 #![tactic(auto)]
 
 #[cfg(test)]
-mod captures;
+mod flows_of_captures;
 #[cfg(test)]
 mod model;
 #[cfg(test)]

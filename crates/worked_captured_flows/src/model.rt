@@ -1,7 +1,7 @@
 //! Captures of one flow that were made by chance, with what a model of the same rules says of them.
 //!
 //! A case is a line of numbers: what is handed in, `=`, and what came of it.
-use crate::captures::{Noted, burst, map_of};
+use crate::flows_of_captures::{Noted, burst, map_of};
 use crate::model_cases::CASES;
 use captured_flows::{CapturedBurst, CapturedFlows, Waits};
 use docsis_wire::NoCheck;

@@ -6,7 +6,7 @@
 #![tactic(auto)]
 
 #[cfg(test)]
-mod captures;
+mod mapped_captures;
 #[cfg(test)]
 mod registered;
 #[cfg(test)]

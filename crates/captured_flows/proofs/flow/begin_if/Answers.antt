@@ -2,7 +2,7 @@ use Rattle.std.proofs.Common.{Option, None, sym, subst, List}
 use Rattle.receiver.specs.HandedIn.{HandedIn}
 use Rattle.capture_rules.specs.declared.beginning.Begun.{Begun}
 use Rattle.capture_rules.specs.Held.{held_by, wait_of}
-use Rattle.captured_flows.specs.declared.burst.SoundBurst.{SoundBurst}
+use Rattle.captured_flows.specs.declared.sound_burst.SoundBurst.{SoundBurst}
 use Rattle.captured_flows.specs.Flow.{BeginsIf, goes_on, begins}
 use Rattle.captured_flows.proofs.Taken.{Nothing, takes-none, takes-as}
 use Rattle.captured_flows.proofs.flow.begin_if.Goals as goal

@@ -2,7 +2,7 @@ use Rattle.std.proofs.Common.{ℕ, List, subst}
 use Rattle.capture_rules.specs.declared.arrival.Arrival.{Arrival}
 use Rattle.capture_rules.specs.Begin.{beginning_seen}
 use Rattle.capture_rules.specs.Held.{held_by, wait_of}
-use Rattle.captured_flows.specs.declared.burst.SoundBurst.{SoundBurst}
+use Rattle.captured_flows.specs.declared.sound_burst.SoundBurst.{SoundBurst}
 use Rattle.captured_flows.specs.Flow.{PassesOn}
 use Rattle.captured_flows.specs.Seen.{flow_seen}
 use Rattle.captured_flows.specs.Taking.{TakesBy}

@@ -5,7 +5,7 @@ use Rattle.capture_rules.specs.Waiting.{waiting_in, reorder_of}
 use Rattle.capture_rules.specs.Order.{IsNext}
 use Rattle.capture_rules.specs.Begin.{beginning_seen, is_beginning}
 use Rattle.capture_rules.specs.Held.{held_by, wait_of}
-use Rattle.captured_flows.specs.declared.burst.SoundBurst.{SoundBurst}
+use Rattle.captured_flows.specs.declared.sound_burst.SoundBurst.{SoundBurst}
 use Rattle.captured_flows.specs.Flow.{IsHandedOn, AreHandedOn, no_more, next_one, BeginsIf}
 use Rattle.captured_flows.specs.Taking.{TakesBy}
 use Rattle.captured_flows.proofs.Waited.{HandsAllOnAfter, all-none, all-next, all-all, next-shorter, none-there}

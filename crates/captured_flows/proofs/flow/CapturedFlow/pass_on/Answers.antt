@@ -6,7 +6,7 @@ use Rattle.capture_rules.specs.Waiting.{waiting_in, reorder_of}
 use Rattle.capture_rules.specs.Order.{is_due, IsNext, HandsOn}
 use Rattle.capture_rules.specs.Begin.{beginning_seen}
 use Rattle.capture_rules.specs.Held.{held_by, wait_of}
-use Rattle.captured_flows.specs.declared.burst.SoundBurst.{SoundBurst}
+use Rattle.captured_flows.specs.declared.sound_burst.SoundBurst.{SoundBurst}
 use Rattle.captured_flows.specs.Flow.{IsHandedOn, AreHandedOn, no_more, next_one}
 use Rattle.captured_flows.specs.Taking.{TakesBy}
 use Rattle.captured_flows.proofs.Waited.{HandsOnAfter, after-none, after-next, after-all, next-shorter}
