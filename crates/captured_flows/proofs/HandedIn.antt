@@ -17,10 +17,10 @@ holds-if made wait k one entry held holding false number time is_so is_not =
     subst (λ (h : List HeldTime). Holds made wait k one held false h) (sym (is_not refl)) not_kept
 
 pub hands-in : (made : TableSetup) (wait k : ℕ) (one : Next) (held between holding left : List HeldTime) (handed more : List HandedIn) (granting answered : Reply) (expected : ℕ)
-    → Then (Then (λ m h l. LetsGo m wait k one.time held h l between) (IsInput one.arrival.channel (grant_of one) granting)) (IsInput one.arrival.channel (burst_of one) answered) made handed more
+    → Then (λ m h l. LetsGo m wait k one.time held h l between) (Then (IsInput one.arrival.channel (grant_of one) granting) (IsInput one.arrival.channel (burst_of one) answered)) made handed more
     → Expects made k (handed ++ more) expected → Holds made wait k one between (says_kept answered) holding → left ≡ still_ahead expected holding
     → HandsIn made wait k one held handed more left
-hands-in made wait k one held between holding left handed more granting answered expected (before, coming, (let_go, granted, lets_go, grant, before_is), burst, all) expects holds left_is =
+hands-in made wait k one held between holding left handed more granting answered expected (let_go, both, lets_go, (granted, coming, grant, burst, both_are), all) expects holds left_is =
     record {
       let_go = let_go;
       between = between;
@@ -30,9 +30,8 @@ hands-in made wait k one held between holding left handed more granting answered
       grant = grant;
       answered = answered;
       coming = coming;
-      burst = subst (λ (h : List HandedIn). IsInput one.arrival.channel (burst_of one) answered made h coming)
-          (ap (λ (b : List HandedIn). handed ++ b) before_is ∙ sym (append_assoc handed let_go granted)) burst;
-      all = all ∙ ap (λ (b : List HandedIn). b ++ coming) before_is;
+      burst = burst;
+      all = all ∙ ap (λ (b : List HandedIn). let_go ++ b) both_are ∙ sym (append_assoc let_go granted coming);
       holding = holding;
       holds = holds;
       expected = expected;

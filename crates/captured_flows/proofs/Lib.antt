@@ -1,4 +1,6 @@
+pub mod Seen
 pub mod Taken
+pub mod Broken
 pub mod Settled
 pub mod LetGo
 pub mod HandedIn

@@ -8,7 +8,7 @@ use Rattle.captured_flows.specs.declared.captured_flows.CapturedFlows.{CapturedF
 use Rattle.captured_flows.specs.Flow.{FlowView}
 use Rattle.captured_flows.specs.SidFlows.{HasFlowsOf}
 use Rattle.captured_flows.specs.Captures.{SpellsBurst, SpellsBursts, EndsAll}
-use Rattle.captured_flows.specs.Taking.{IsAtHand}
+use Rattle.captured_flows.specs.AtHand.{IsAtHand}
 use Rattle.captured_flows.specs.Together.{HaveWaits, views_of}
 
 module _ {C : Type 0} where

@@ -1,5 +1,8 @@
 pub mod Flow
 pub mod Seen
+pub mod Steps
+pub mod AtHand
+pub mod Plays
 pub mod Taking
 pub mod Sound
 pub mod Sids

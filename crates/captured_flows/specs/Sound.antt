@@ -25,6 +25,7 @@ pub record IsSound (channel : ℕ) (burst : CapturedBurst) (one : Arrival SoundB
   pub channel_is : one.channel ≡ channel
   pub number : one.number ≡ head.sequence
   pub sid_is : one.item.sid ≡ burst.sid
+  pub burst_id : one.item.burst_id ≡ burst.burst_id
   pub granted : one.item.granted ≡ granted_to burst.granted burst.bytes
   pub bytes : one.item.bytes ≡ burst.bytes
 

@@ -20,6 +20,8 @@ pub struct CapturedBurst {
     pub channel: u32,
     /// Its service identifier.
     pub sid: u16,
+    /// The analyser's number of the burst, where it has one.
+    pub burst_id: Option<u64>,
     /// How many bytes its grant has, as the analyser says; 0 where it doesn't.
     pub granted: u32,
     /// Whether the check sequence of its segment header is right.
@@ -58,6 +60,7 @@ pub(crate) fn sound(
         number: head.sequence,
         item: SoundBurst {
             sid: burst.sid,
+            burst_id: burst.burst_id,
             granted,
             bytes: burst.bytes,
         },

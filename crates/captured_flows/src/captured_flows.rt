@@ -1,7 +1,9 @@
 //! The bursts of a capture with a map, handed in to a receiver.
 ghost use Rattle.std.specs.Prelude.{◌≡◌, [], IfOk, IfErr, map, length};
 ghost use Rattle.receiver.specs.Receiving.{IsReceiving};
-ghost use Rattle.captured_flows.specs.Taking.{IsAtHand, TakesBy};
+ghost use Rattle.captured_flows.specs.AtHand.{IsAtHand};
+ghost use Rattle.captured_flows.specs.Taking.{TakesBy};
+ghost use Rattle.captured_flows.specs.Sound.{IsUnsound};
 ghost use Rattle.captured_flows.specs.Captures.{IsRefused, EndsAll};
 ghost use Rattle.captured_flows.specs.Together.{HaveWaits, ComesAt, EndsAt, views_of, view_begun};
 
@@ -32,7 +34,8 @@ fn refuse<C: HeaderCheck + Drop, O: CaptureConsumer>(
     out: &mut O,
 ) -> Result<Reply, FlowFault>
     requires at_hand { IsAtHand C.accepts receiver.old }
-    ensures takes { IfOk result (λ reply. TakesBy C.accepts O.after (IsRefused channel burst reply)
+    requires unsound { IsUnsound burst }
+    ensures takes { IfOk result (λ reply. TakesBy C.accepts O.after O.saw (IsRefused channel burst reply)
         receiver.old out.old receiver.new out.new) }
     ensures at_hand { IfOk result (λ _. IsAtHand C.accepts receiver.new) }
     ensures receiving { IsReceiving C.accepts receiver.new }
@@ -64,7 +67,7 @@ fn come_to<C: HeaderCheck + Drop, O: CaptureConsumer>(
 ) -> Result<(), FlowFault>
     requires at_hand { IsAtHand C.accepts receiver.old }
     requires waits { HaveWaits waits flows.old }
-    ensures takes { IfOk result (λ _. TakesBy C.accepts O.after
+    ensures takes { IfOk result (λ _. TakesBy C.accepts O.after O.saw
         (λ made handed more. ComesAt waits k one (views_of flows.old) made handed more (views_of flows.new))
         receiver.old out.old receiver.new out.new) }
     ensures at_hand { IfOk result (λ _. IsAtHand C.accepts receiver.new) }
@@ -89,7 +92,7 @@ fn end_at<C: HeaderCheck + Drop, O: CaptureConsumer>(
 ) -> Result<(), FlowFault>
     requires at_hand { IsAtHand C.accepts receiver.old }
     requires waits { HaveWaits waits flows.old }
-    ensures takes { IfOk result (λ _. TakesBy C.accepts O.after
+    ensures takes { IfOk result (λ _. TakesBy C.accepts O.after O.saw
         (λ made handed more. EndsAt waits k (views_of flows.old) made handed more (views_of flows.new))
         receiver.old out.old receiver.new out.new) }
     ensures at_hand { IfOk result (λ _. IsAtHand C.accepts receiver.new) }
@@ -113,7 +116,7 @@ fn end_all<C: HeaderCheck + Drop, O: CaptureConsumer>(
 ) -> Result<(), FlowFault>
     requires at_hand { IsAtHand C.accepts receiver.old }
     requires waits { HaveWaits waits flows.old }
-    ensures takes { IfOk result (λ _. TakesBy C.accepts O.after
+    ensures takes { IfOk result (λ _. TakesBy C.accepts O.after O.saw
         (λ made handed more. EndsAll made waits.reorder waits.wait (views_of flows.old) handed
         (length flows.old) more (views_of flows.new)) receiver.old out.old receiver.new out.new) }
     ensures at_hand { IfOk result (λ _. IsAtHand C.accepts receiver.new) }
@@ -186,7 +189,7 @@ impl<C: HeaderCheck + Drop> CapturedFlows<C> {
         out: &mut O,
     ) -> Result<BurstTaken, FlowFault>
         requires capturing { IsCapturing C.accepts self.old }
-        ensures takes { IfOk result (λ told. TakesBy C.accepts O.after
+        ensures takes { IfOk result (λ told. TakesBy C.accepts O.after O.saw
             (SpellsNext self.old burst told self.new) self.old.receiver out.old
             self.new.receiver out.new) }
         ensures capturing { IfOk result (λ _. IsCapturing C.accepts self.new) }
@@ -230,7 +233,7 @@ impl<C: HeaderCheck + Drop> CapturedFlows<C> {
         out: &mut O,
     ) -> Result<(), FlowFault>
         requires capturing { IsCapturing C.accepts self.old }
-        ensures takes { IfOk result (λ _. TakesBy C.accepts O.after
+        ensures takes { IfOk result (λ _. TakesBy C.accepts O.after O.saw
             (SpellsAll self.old bursts.items self.new) self.old.receiver out.old
             self.new.receiver out.new) }
         ensures capturing { IfOk result (λ _. IsCapturing C.accepts self.new) }
@@ -252,7 +255,7 @@ impl<C: HeaderCheck + Drop> CapturedFlows<C> {
         out: &mut O,
     ) -> Result<(), FlowFault>
         requires capturing { IsCapturing C.accepts self.old }
-        ensures takes { IfOk result (λ _. TakesBy C.accepts O.after
+        ensures takes { IfOk result (λ _. TakesBy C.accepts O.after O.saw
             (EndsWaitingOfAll self.old self.new) self.old.receiver out.old
             self.new.receiver out.new) }
         ensures capturing { IfOk result (λ _. IsCapturing C.accepts self.new) }

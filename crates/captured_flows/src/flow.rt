@@ -6,7 +6,8 @@ ghost use Rattle.capture_rules.specs.Held.{held_by, wait_of};
 ghost use Rattle.capture_rules.specs.Waiting.{reorder_of};
 ghost use Rattle.captured_flows.specs.Flow.{Skips, LetsGo, HandsIn, HandsInAll, Begins, BeginsIf, LetsGoIf, HandsInIf, says_kept};
 ghost use Rattle.captured_flows.specs.Flow.{IsHandedOn, PassesOn, Comes, EndsWaiting, flow_begun};
-ghost use Rattle.captured_flows.specs.Taking.{IsAtHand, TakesBy};
+ghost use Rattle.captured_flows.specs.AtHand.{IsAtHand};
+ghost use Rattle.captured_flows.specs.Taking.{TakesBy};
 
 use crate::capture_consumer::CaptureConsumer;
 use crate::flow_fault::FlowFault;
@@ -38,7 +39,7 @@ fn skip_past<C: HeaderCheck + Drop, O: CaptureConsumer>(
     out: &mut O,
 ) -> Result<(), FlowFault>
     requires at_hand { IsAtHand C.accepts receiver.old }
-    ensures takes { IfOk result (λ _. TakesBy C.accepts O.after
+    ensures takes { IfOk result (λ _. TakesBy C.accepts O.after O.saw
         (λ made handed more. Skips made (wait_of held.old) flow number (held_by held.old) handed more
         (held_by held.new)) receiver.old out.old receiver.new out.new) }
     ensures at_hand { IfOk result (λ _. IsAtHand C.accepts receiver.new) }
@@ -61,7 +62,7 @@ fn let_go<C: HeaderCheck + Drop, O: CaptureConsumer>(
     out: &mut O,
 ) -> Result<(), FlowFault>
     requires at_hand { IsAtHand C.accepts receiver.old }
-    ensures takes { IfOk result (λ _. TakesBy C.accepts O.after
+    ensures takes { IfOk result (λ _. TakesBy C.accepts O.after O.saw
         (λ made handed more. LetsGo made (wait_of held.old) flow now (held_by held.old) handed more
         (held_by held.new)) receiver.old out.old receiver.new out.new) }
     ensures at_hand { IfOk result (λ _. IsAtHand C.accepts receiver.new) }
@@ -107,7 +108,7 @@ fn hand_in<C: HeaderCheck + Drop, O: CaptureConsumer>(
     out: &mut O,
 ) -> Result<(), FlowFault>
     requires at_hand { IsAtHand C.accepts receiver.old }
-    ensures takes { IfOk result (λ _. TakesBy C.accepts O.after
+    ensures takes { IfOk result (λ _. TakesBy C.accepts O.after O.saw
         (λ made handed more. HandsIn made (wait_of held.old) flow one (held_by held.old) handed more
         (held_by held.new)) receiver.old out.old receiver.new out.new) }
     ensures at_hand { IfOk result (λ _. IsAtHand C.accepts receiver.new) }
@@ -122,6 +123,7 @@ fn hand_in<C: HeaderCheck + Drop, O: CaptureConsumer>(
         sid,
         granted,
         bytes,
+        ..
     } = one.arrival.item;
     let grant = Input::Grant {
         number: 0,
@@ -151,7 +153,7 @@ fn hand_in_all<C: HeaderCheck + Drop, O: CaptureConsumer>(
     out: &mut O,
 ) -> Result<(), FlowFault>
     requires at_hand { IsAtHand C.accepts receiver.old }
-    ensures takes { IfOk result (λ _. TakesBy C.accepts O.after
+    ensures takes { IfOk result (λ _. TakesBy C.accepts O.after O.saw
         (λ made handed more. HandsInAll made (wait_of held.old) flow kept.items (held_by held.old) handed
         more (held_by held.new)) receiver.old out.old receiver.new out.new) }
     ensures at_hand { IfOk result (λ _. IsAtHand C.accepts receiver.new) }
@@ -174,14 +176,15 @@ fn begin<C: HeaderCheck + Drop, O: CaptureConsumer>(
     out: &mut O,
 ) -> Result<(), FlowFault>
     requires at_hand { IsAtHand C.accepts receiver.old }
-    ensures takes { IfOk result (λ _. TakesBy C.accepts O.after
+    ensures takes { IfOk result (λ _. TakesBy C.accepts O.after O.saw
         (λ made handed more. Begins made (wait_of held.old) flow begun handed more (held_by held.new))
         receiver.old out.old receiver.new out.new) }
     ensures at_hand { IfOk result (λ _. IsAtHand C.accepts receiver.new) }
     ensures receiving { IsReceiving C.accepts receiver.new }
     ensures wait { wait_of held.new ≡ wait_of held.old }
 {
-    restart(alloc, receiver, flow, begun.first, out)?;
+    let counts = restart(alloc, receiver, flow, begun.first, out)?;
+    out.begin_anew(flow, counts);
     held.clear();
     hand_in_all(alloc, receiver, flow, held, begun.kept, out)?;
     Ok(())
@@ -197,7 +200,7 @@ fn begin_if<C: HeaderCheck + Drop, O: CaptureConsumer>(
     out: &mut O,
 ) -> Result<(), FlowFault>
     requires at_hand { IsAtHand C.accepts receiver.old }
-    ensures takes { IfOk result (λ _. TakesBy C.accepts O.after
+    ensures takes { IfOk result (λ _. TakesBy C.accepts O.after O.saw
         (λ made handed more. BeginsIf made (wait_of held.old) flow (held_by held.old) handed begun
         more (held_by held.new)) receiver.old out.old receiver.new out.new) }
     ensures at_hand { IfOk result (λ _. IsAtHand C.accepts receiver.new) }
@@ -224,7 +227,7 @@ fn let_go_if<C: HeaderCheck + Drop, O: CaptureConsumer>(
     out: &mut O,
 ) -> Result<(), FlowFault>
     requires at_hand { IsAtHand C.accepts receiver.old }
-    ensures takes { IfOk result (λ _. TakesBy C.accepts O.after
+    ensures takes { IfOk result (λ _. TakesBy C.accepts O.after O.saw
         (λ made handed more. LetsGoIf made (wait_of held.old) flow is_silent now (held_by held.old)
         handed more (held_by held.new)) receiver.old out.old receiver.new out.new) }
     ensures at_hand { IfOk result (λ _. IsAtHand C.accepts receiver.new) }
@@ -249,7 +252,7 @@ fn hand_in_if<C: HeaderCheck + Drop, O: CaptureConsumer>(
     out: &mut O,
 ) -> Result<(), FlowFault>
     requires at_hand { IsAtHand C.accepts receiver.old }
-    ensures takes { IfOk result (λ _. TakesBy C.accepts O.after
+    ensures takes { IfOk result (λ _. TakesBy C.accepts O.after O.saw
         (λ made handed more. HandsInIf made (wait_of held.old) flow (held_by held.old) handed next
         more (held_by held.new)) receiver.old out.old receiver.new out.new) }
     ensures at_hand { IfOk result (λ _. IsAtHand C.accepts receiver.new) }
@@ -291,7 +294,7 @@ impl CapturedFlow {
         out: &mut O,
     ) -> Result<(), FlowFault>
         requires at_hand { IsAtHand C.accepts receiver.old }
-        ensures takes { IfOk result (λ _. TakesBy C.accepts O.after
+        ensures takes { IfOk result (λ _. TakesBy C.accepts O.after O.saw
             (λ made handed more. IsHandedOn made (wait_of self.old.held) flow self.old.window one
             (beginning_seen self.old.beginning) (held_by self.old.held) handed more
             (beginning_seen self.new.beginning) (held_by self.new.held))
@@ -329,7 +332,7 @@ impl CapturedFlow {
         out: &mut O,
     ) -> Result<(), FlowFault>
         requires at_hand { IsAtHand C.accepts receiver.old }
-        ensures takes { IfOk result (λ _. TakesBy C.accepts O.after
+        ensures takes { IfOk result (λ _. TakesBy C.accepts O.after O.saw
             (λ made handed more. PassesOn made (wait_of self.old.held) flow (reorder_of self.old.order)
             now (flow_seen self.old) handed more (flow_seen self.new))
             receiver.old out.old receiver.new out.new) }
@@ -353,7 +356,7 @@ impl CapturedFlow {
         out: &mut O,
     ) -> Result<(), FlowFault>
         requires at_hand { IsAtHand C.accepts receiver.old }
-        ensures takes { IfOk result (λ _. TakesBy C.accepts O.after
+        ensures takes { IfOk result (λ _. TakesBy C.accepts O.after O.saw
             (λ made handed more. Comes made (wait_of self.old.held) flow (reorder_of self.old.order)
             one (flow_seen self.old) handed more (flow_seen self.new))
             receiver.old out.old receiver.new out.new) }
@@ -376,7 +379,7 @@ impl CapturedFlow {
         out: &mut O,
     ) -> Result<(), FlowFault>
         requires at_hand { IsAtHand C.accepts receiver.old }
-        ensures takes { IfOk result (λ _. TakesBy C.accepts O.after
+        ensures takes { IfOk result (λ _. TakesBy C.accepts O.after O.saw
             (λ made handed more. EndsWaiting made (wait_of self.old.held) flow
             (reorder_of self.old.order) (flow_seen self.old) handed more (flow_seen self.new))
             receiver.old out.old receiver.new out.new) }

@@ -3,7 +3,7 @@ ghost use Rattle.std.specs.Prelude.{◌≡◌, [], IfOk, IfErr, map};
 ghost use Rattle.receiver.specs.HandedIn.{made_of};
 ghost use Rattle.receiver.specs.Receiving.{StandsFor};
 ghost use Rattle.receiver.specs.Widths.{IsSetupErrorWithin};
-ghost use Rattle.captured_flows.specs.Taking.{IsAtHand};
+ghost use Rattle.captured_flows.specs.AtHand.{IsAtHand};
 ghost use Rattle.captured_flows.specs.Captures.{record_of, row_of};
 ghost use Rattle.captured_flows.specs.Together.{HaveWaits, views_of, view_begun};
 

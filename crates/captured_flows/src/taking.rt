@@ -2,10 +2,10 @@
 ghost use Rattle.std.specs.Prelude.{◌≡◌, ◌<◌, ◌∷◌, [], IfOk, OnOk};
 ghost use Rattle.reorder.specs.Limits.{modulus};
 ghost use Rattle.bonded_flows.specs.declared.decision.FlowDecision.{FlowDecision};
-ghost use Rattle.receiver.specs.HandedIn.{decided, restarted};
-ghost use Rattle.receiver.specs.Receiving.{IsReceiving};
-ghost use Rattle.captured_flows.specs.Flow.{IsInput};
-ghost use Rattle.captured_flows.specs.Taking.{IsAtHand, IsExpected, TakesBy};
+ghost use Rattle.receiver.specs.HandedIn.{decided};
+ghost use Rattle.receiver.specs.Receiving.{IsReceiving, TakesMore, Replies, Restarts};
+ghost use Rattle.captured_flows.specs.AtHand.{IsAtHand};
+ghost use Rattle.captured_flows.specs.Taking.{IsExpected};
 
 use crate::flow_fault::FlowFault;
 use consumer::Consumer;
@@ -39,9 +39,8 @@ pub(crate) fn skip<C: HeaderCheck + Drop, O: Consumer>(
     out: &mut O,
 ) -> Result<(), FlowFault>
     requires at_hand { IsAtHand C.accepts receiver.old }
-    ensures takes { IfOk result (λ _. TakesBy C.accepts O.after
-        (λ made handed more. more ≡ decided flow (FlowDecision.SkipTo number) ∷ [])
-        receiver.old out.old receiver.new out.new) }
+    ensures takes { IfOk result (λ _. TakesMore O.after C.accepts receiver.old out.old
+        (decided flow (FlowDecision.SkipTo number) ∷ []) receiver.new out.new) }
     ensures at_hand { IfOk result (λ _. IsAtHand C.accepts receiver.new) }
     ensures receiving { IsReceiving C.accepts receiver.new }
 {
@@ -60,9 +59,8 @@ pub(crate) fn restart<C: HeaderCheck + Drop, O: Consumer>(
     out: &mut O,
 ) -> Result<FlowCounts, FlowFault>
     requires at_hand { IsAtHand C.accepts receiver.old }
-    ensures takes { IfOk result (λ _. TakesBy C.accepts O.after
-        (λ made handed more. more ≡ restarted flow first ∷ [])
-        receiver.old out.old receiver.new out.new) }
+    ensures restarts { IfOk result (λ counts. Restarts O.after C.accepts receiver.old out.old
+        flow first counts receiver.new out.new) }
     ensures at_hand { IfOk result (λ _. IsAtHand C.accepts receiver.new) }
     ensures receiving { IsReceiving C.accepts receiver.new }
 {
@@ -82,8 +80,8 @@ pub(crate) fn take<C: HeaderCheck + Drop, O: Consumer>(
     out: &mut O,
 ) -> Result<Reply, FlowFault>
     requires at_hand { IsAtHand C.accepts receiver.old }
-    ensures takes { IfOk result (λ reply. TakesBy C.accepts O.after
-        (IsInput channel input reply) receiver.old out.old receiver.new out.new) }
+    ensures replies { IfOk result (λ reply. Replies O.after C.accepts receiver.old out.old
+        channel input reply receiver.new out.new) }
     ensures at_hand { IfOk result (λ _. IsAtHand C.accepts receiver.new) }
     ensures receiving { IsReceiving C.accepts receiver.new }
 {

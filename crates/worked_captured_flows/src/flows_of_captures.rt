@@ -8,15 +8,30 @@ use captured_flows::{
 };
 use consumer::Consumer;
 use docsis_wire::{Bytes, NoCheck};
+use flow_core::FlowCounts;
 use lane::Request;
 use loss_rule::LossRule;
 use receiver::{Closed, Reply};
 use std::alloc::{AllocError, Global};
 use std::test::Fail;
 
-/// Notes the time of each burst that is handed in, and counts frames and requests.
+/// One thing that is seen of a capture.
+#[derive(Clone, Copy, Debug, PartialEq, Eq)]
+pub(crate) enum Seen {
+    /// A burst of this flow was handed in, of this time and with this number of the analyser's.
+    HandedIn(usize, u64, Option<u64>),
+    /// A frame of this flow was given, whose last byte is this.
+    Frame(usize, u8),
+    /// A request came on this channel.
+    Request(u8),
+    /// This flow began anew, after it had kept and lost so many segments.
+    BeganAnew(usize, u64, u64),
+}
+
+/// Notes what is seen, and the time of each burst that is handed in.
 #[derive(Debug, Drop)]
 pub(crate) struct Noted {
+    pub(crate) seen: Vec<Seen>,
     pub(crate) times: Vec<u64>,
     pub(crate) is_whole: bool,
 }
@@ -24,24 +39,47 @@ pub(crate) struct Noted {
 impl Consumer for Noted {
     ghost after = { λ _ _ _. Unit {0} };
 
-    fn frame(&mut self, _flow: usize, _frame: Bytes) {}
+    fn frame(&mut self, flow: usize, frame: Bytes) {
+        let last = frame.as_slice().last().copied();
+        self.note(Seen::Frame(flow, last.unwrap_or(0)));
+    }
 
-    fn request(&mut self, _request: Request) {}
+    fn request(&mut self, request: Request) {
+        self.note(Seen::Request(request.channel));
+    }
 }
 
 impl CaptureConsumer for Noted {
-    fn hand_in(&mut self, _flow: usize, burst: &Arrival<SoundBurst>) {
+    ghost saw = { λ _ _ _. Unit {0} };
+
+    ghost begins = { λ _. tt };
+
+    ghost sees = { λ _ _ _ _ _ _ _. tt };
+
+    fn hand_in(&mut self, flow: usize, burst: &Arrival<SoundBurst>) {
+        self.note(Seen::HandedIn(flow, burst.time, burst.item.burst_id));
         if self.times.push(burst.time).is_err() {
             self.is_whole = false;
         }
+    }
+
+    fn begin_anew(&mut self, flow: usize, counts: FlowCounts) {
+        self.note(Seen::BeganAnew(flow, counts.kept, counts.lost));
     }
 }
 
 impl Noted {
     pub(crate) fn new(alloc: Global) -> Noted {
         Noted {
+            seen: Vec::new(alloc),
             times: Vec::new(alloc),
             is_whole: true,
+        }
+    }
+
+    fn note(&mut self, one: Seen) {
+        if self.seen.push(one).is_err() {
+            self.is_whole = false;
         }
     }
 }
@@ -95,6 +133,7 @@ pub(crate) fn burst(
         time,
         channel: id,
         sid: 7,
+        burst_id: None,
         granted: 0,
         check,
         bytes: Bytes::from(bytes),
@@ -128,5 +167,71 @@ fn bursts_are_passed_over_refused_and_handed_in(rt: HostRuntime) -> Result<(), F
     assert!(rt; noted.is_whole && noted.times.as_slice() == [2, 1, 9].as_slice());
     let closed = captured.into_receiver().close(alloc, &mut noted).ok();
     assert!(rt; closed.is_some_and(|closed| closed.flows.len() == 1 && closed.flows[0].kept == 3));
+    Ok(())
+}
+
+/// The burst of the segment with this number, whose request for cluster 0 is of this size, and whose
+/// payload is this; it came at a time which is also the analyser's number of it.
+fn burst_with(
+    alloc: Global,
+    time: u64,
+    number: u16,
+    requested: u8,
+    payload: &[u8],
+) -> Result<CapturedBurst, AllocError> {
+    let [high, low] = (number % 8192 * 8).to_be_bytes();
+    let mut bytes = vec![in alloc; 0x80, 0, high, low, 0, requested, 0, 0]?;
+    bytes.extend_from_slice(payload)?;
+    Ok(CapturedBurst {
+        time,
+        channel: 100,
+        sid: 7,
+        burst_id: Some(time),
+        granted: 0,
+        check: true,
+        bytes: Bytes::from(bytes),
+    })
+}
+
+/// A frame of 8 bytes, the last of which is this.
+fn frame_of(last: u8) -> [u8; 8] {
+    [0, 0, 0, 2, 0, 0, 0, last]
+}
+
+#[test]
+fn what_is_given_stands_behind_its_burst(rt: HostRuntime) -> Result<(), Fail> {
+    let alloc = rt.alloc();
+    let waits = Waits {
+        reorder: 0,
+        wait: 20,
+    };
+    let map = map_of(alloc, Some(5), 16, 1)?;
+    let mut captured = CapturedFlows::new(alloc, map, LossRule::Decided, waits, NoCheck)?;
+    let mut noted = Noted::new(alloc);
+    // The frame of 7 waits for 6, until 8 comes too late for that; 500 begins the flow anew.
+    let bursts = vec![in alloc;
+        burst_with(alloc, 1, 5, 9, &frame_of(51))?,
+        burst_with(alloc, 5, 7, 0, &frame_of(71))?,
+        burst(alloc, 6, 100, 6, false)?,
+        burst_with(alloc, 30, 8, 0, &frame_of(81))?,
+        burst_with(alloc, 90, 500, 0, &frame_of(50))?,
+    ]?;
+    captured.take_all(alloc, bursts, &mut noted)?;
+    captured.end_waiting(alloc, &mut noted)?;
+    let wanted = [
+        Seen::HandedIn(0, 1, Some(1)),
+        Seen::Request(0),
+        Seen::Frame(0, 51),
+        Seen::HandedIn(0, 5, Some(5)),
+        Seen::Frame(0, 71),
+        Seen::HandedIn(0, 30, Some(30)),
+        Seen::Frame(0, 81),
+        Seen::BeganAnew(0, 3, 1),
+        Seen::HandedIn(0, 90, Some(90)),
+        Seen::Frame(0, 50),
+    ];
+    assert!(rt; noted.is_whole && noted.seen.as_slice() == wanted.as_slice());
+    let closed = captured.into_receiver().close(alloc, &mut noted).ok();
+    assert!(rt; closed.is_some_and(|closed| closed.flows.len() == 1 && closed.flows[0].kept == 1));
     Ok(())
 }

@@ -20,6 +20,7 @@ returns-clause-sound c = record {
   channel_is = refl;
   number = refl;
   sid_is = refl;
+  burst_id = refl;
   granted = c.granted_to-granted.ensures;
   bytes = refl;
 }

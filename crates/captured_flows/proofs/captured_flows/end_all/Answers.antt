@@ -11,7 +11,7 @@ pub loop-k-init : goal.loop-k-init
 loop-k-init g c =
     let views = views_of c.args.flows.now in
     record {
-      takes = takes-as g.C.HeaderCheck.accepts g.O.Consumer.after Nothing _ c.args.receiver.now c.args.receiver.now c.args.out.now c.args.out.now (takes-none g.C.HeaderCheck.accepts g.O.Consumer.after c.args.receiver.now c.args.out.now)
+      takes = takes-as g.C.HeaderCheck.accepts g.O.Consumer.after g.O.CaptureConsumer.saw Nothing _ c.args.receiver.now c.args.receiver.now c.args.out.now c.args.out.now (takes-none g.C.HeaderCheck.accepts g.O.Consumer.after g.O.CaptureConsumer.saw c.args.receiver.now c.args.out.now)
           (λ made handed more none. subst (λ (m : List HandedIn). EndsAll made c.args.waits.reorder c.args.waits.wait views handed 0 m views) (sym none) none_ends);
       at_hand = c.requires.at_hand;
       waits = c.requires.waits;
@@ -21,8 +21,8 @@ pub loop-k-preserved : goal.loop-k-preserved
 loop-k-preserved g c =
     let so_far = c.loop-k.invariant in
     record {
-      takes = takes-as g.C.HeaderCheck.accepts g.O.Consumer.after _ _ c.args.receiver.now c.end_at.new.receiver c.args.out.now c.end_at.new.out
-          (takes-then g.C.HeaderCheck.accepts g.O.Consumer.after _ _ c.args.receiver.now c.loop-k.receiver c.end_at.new.receiver c.args.out.now c.loop-k.out c.end_at.new.out so_far.takes c.in_ok-end_at.ensures.takes)
+      takes = takes-as g.C.HeaderCheck.accepts g.O.Consumer.after g.O.CaptureConsumer.saw _ _ c.args.receiver.now c.end_at.new.receiver c.args.out.now c.end_at.new.out
+          (takes-then g.C.HeaderCheck.accepts g.O.Consumer.after g.O.CaptureConsumer.saw _ _ c.args.receiver.now c.loop-k.receiver c.end_at.new.receiver c.args.out.now c.loop-k.out c.end_at.new.out so_far.takes c.in_ok-end_at.ensures.takes)
           (λ made handed more spelled. ends-more c.args.waits made (views_of c.args.flows.now) (views_of c.loop-k.flows) (views_of c.end_at.new.flows) handed spelled.0 spelled.1 more c.loop-k.k spelled.2 spelled.3 spelled.4);
       at_hand = c.in_ok-end_at.ensures.at_hand;
       waits = c.end_at.ensures.waits;
@@ -31,5 +31,5 @@ loop-k-preserved g c =
 pub returns-clause-takes : goal.returns-clause-takes
 returns-clause-takes g c =
     let all : c.loop-k.k ≡ length c.args.flows.now = (let ends = c.loop-k-test.false in let auto = c.loop-k.auto.k-end in omega arith) in
-    subst (λ (n : ℕ). TakesBy g.C.HeaderCheck.accepts g.O.Consumer.after (λ made handed more. EndsAll made c.args.waits.reorder c.args.waits.wait (views_of c.args.flows.now) handed n more (views_of c.loop-k.flows))
+    subst (λ (n : ℕ). TakesBy g.C.HeaderCheck.accepts g.O.Consumer.after g.O.CaptureConsumer.saw (λ made handed more. EndsAll made c.args.waits.reorder c.args.waits.wait (views_of c.args.flows.now) handed n more (views_of c.loop-k.flows))
     c.args.receiver.now c.args.out.now c.loop-k.receiver c.loop-k.out) all c.loop-k.invariant.takes

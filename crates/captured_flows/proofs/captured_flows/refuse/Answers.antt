@@ -1,18 +1,13 @@
 use Rattle.std.proofs.Common.{ℕ, subst}
 use Rattle.lane.specs.declared.input.Input.TheVariants.{Grant}
-use Rattle.captured_flows.specs.Flow.{IsInput}
-use Rattle.captured_flows.proofs.Taken.{takes-as, takes-then}
+use Rattle.receiver.specs.Receiving.{Replies}
+use Rattle.captured_flows.proofs.Taken.{takes-unsound}
 use Rattle.captured_flows.proofs.captured_flows.refuse.Goals as goal
 
 pub returns-clause-takes : goal.returns-clause-takes
 returns-clause-takes g c =
-    takes-as g.C.HeaderCheck.accepts g.O.Consumer.after _ _ c.args.receiver.now c.take-2.new.receiver c.args.out.now c.take-2.new.out
-    (takes-then g.C.HeaderCheck.accepts g.O.Consumer.after _ _ c.args.receiver.now c.take.new.receiver c.take-2.new.receiver c.args.out.now c.take.new.out c.take-2.new.out c.in_ok-take.ensures.takes c.in_ok-reply.ensures.takes)
-    (λ made handed more spelled. record {
-      granting = c.in_ok-take.field-0;
-      granted = spelled.0;
-      grant = subst (λ (n : ℕ). IsInput c.args.channel (Grant 0 c.args.burst.sid n) c.in_ok-take.field-0 made handed spelled.0) c.granted_to.ensures spelled.2;
-      coming = spelled.1;
-      is_burst = spelled.3;
-      all = spelled.4;
-    })
+    let replies = subst (λ (n : ℕ). Replies g.O.Consumer.after g.C.HeaderCheck.accepts c.args.receiver.now c.args.out.now c.args.channel (Grant 0 c.args.burst.sid n) c.in_ok-take.field-0 c.take.new.receiver c.take.new.out)
+    c.granted_to.ensures c.in_ok-take.ensures.replies in
+    takes-unsound g.C.HeaderCheck.accepts g.O.Consumer.after g.O.CaptureConsumer.saw g.met.O.CaptureConsumer.begins g.met.O.CaptureConsumer.sees c.args.receiver.now c.take.new.receiver c.take-2.new.receiver
+    c.args.out.now c.take.new.out c.take-2.new.out c.args.channel c.args.burst c.in_ok-take.field-0 c.in_ok-reply.reply c.requires.unsound
+    replies c.in_ok-take.ensures.at_hand c.in_ok-reply.ensures.replies c.in_ok-reply.ensures.at_hand

@@ -4,7 +4,7 @@ use Rattle.capture_rules.specs.declared.held_time.HeldTime.{HeldTime}
 use Rattle.capture_rules.specs.Held.{held_by, wait_of}
 use Rattle.captured_flows.specs.Flow.{HandsInAll}
 use Rattle.captured_flows.specs.Taking.{TakesBy}
-use Rattle.captured_flows.proofs.Taken.{Just, takes-as, takes-then}
+use Rattle.captured_flows.proofs.Taken.{Just, given-none, takes-as, takes-then, takes-restart}
 use Rattle.captured_flows.proofs.flow.begin.Goals as goal
 
 pub returns-clause-takes : goal.returns-clause-takes
@@ -13,12 +13,16 @@ returns-clause-takes g c =
     let kept = c.args.begun.kept.items in
     let left = held_by c.hand_in_all.new.held in
     let from = restarted k c.args.begun.first ∷ [] in
-    let empty = subst (λ (h : List HeldTime). TakesBy g.C.HeaderCheck.accepts g.O.Consumer.after (λ made handed more. HandsInAll made (wait_of c.clear.new.self) k kept h handed more left)
-    c.restart.new.receiver c.restart.new.out c.hand_in_all.new.receiver c.hand_in_all.new.out) c.clear.ensures.none c.in_ok-hand_in_all.ensures.takes in
-    let all = subst (λ (n : ℕ). TakesBy g.C.HeaderCheck.accepts g.O.Consumer.after (λ made handed more. HandsInAll made n k kept [] handed more left)
-    c.restart.new.receiver c.restart.new.out c.hand_in_all.new.receiver c.hand_in_all.new.out) c.clear.ensures.wait empty in
-    takes-as g.C.HeaderCheck.accepts g.O.Consumer.after _ _ c.args.receiver.now c.hand_in_all.new.receiver c.args.out.now c.hand_in_all.new.out
-    (takes-then g.C.HeaderCheck.accepts g.O.Consumer.after (Just from) _ c.args.receiver.now c.restart.new.receiver c.hand_in_all.new.receiver c.args.out.now c.restart.new.out c.hand_in_all.new.out c.in_ok-restart.ensures.takes all)
+    let empty = subst (λ (h : List HeldTime). TakesBy g.C.HeaderCheck.accepts g.O.Consumer.after g.O.CaptureConsumer.saw (λ made handed more. HandsInAll made (wait_of c.clear.new.self) k kept h handed more left)
+    c.restart.new.receiver c.begin_anew.new.self c.hand_in_all.new.receiver c.hand_in_all.new.out) c.clear.ensures.none c.in_ok-hand_in_all.ensures.takes in
+    let all = subst (λ (n : ℕ). TakesBy g.C.HeaderCheck.accepts g.O.Consumer.after g.O.CaptureConsumer.saw (λ made handed more. HandsInAll made n k kept [] handed more left)
+    c.restart.new.receiver c.begin_anew.new.self c.hand_in_all.new.receiver c.hand_in_all.new.out) c.clear.ensures.wait empty in
+    takes-as g.C.HeaderCheck.accepts g.O.Consumer.after g.O.CaptureConsumer.saw _ _ c.args.receiver.now c.hand_in_all.new.receiver c.args.out.now c.hand_in_all.new.out
+    (takes-then g.C.HeaderCheck.accepts g.O.Consumer.after g.O.CaptureConsumer.saw (Just from) _ c.args.receiver.now c.restart.new.receiver c.hand_in_all.new.receiver c.args.out.now c.begin_anew.new.self c.hand_in_all.new.out
+    (takes-restart g.C.HeaderCheck.accepts g.O.Consumer.after g.O.CaptureConsumer.saw g.met.O.CaptureConsumer.begins g.met.O.CaptureConsumer.sees c.args.receiver.now c.restart.new.receiver
+    c.args.out.now c.restart.new.out c.begin_anew.new.self k c.args.begun.first c.in_ok-counts.counts c.in_ok-counts.ensures.restarts c.in_ok-counts.ensures.at_hand
+    (given-none g.O.Consumer.after g.O.CaptureConsumer.saw c.restart.new.out c.begin_anew.new.self c.begin_anew.ensures.after) c.begin_anew.ensures.saw)
+    all)
     (λ made handed more spelled. record {
       later = spelled.1;
       hands_in = subst (λ (m : List HandedIn). HandsInAll made (wait_of c.args.held.now) k kept [] (handed ++ m) spelled.1 left) spelled.2 spelled.3;

@@ -13,11 +13,12 @@ returns-clause-takes g c =
     let w = wait_of c.args.held.now in
     let between = held_by c.let_go.new.held in
     let holding = held_by c.keep_if.new.held in
-    takes-as g.C.HeaderCheck.accepts g.O.Consumer.after _ _ r0 c.take-2.new.receiver o0 c.take-2.new.out
-    (takes-expected g.C.HeaderCheck.accepts g.O.Consumer.after _ r0 c.take-2.new.receiver o0 c.take-2.new.out k c.in_ok-number.number
-    (takes-then g.C.HeaderCheck.accepts g.O.Consumer.after _ _ r0 c.take.new.receiver c.take-2.new.receiver o0 c.take.new.out c.take-2.new.out
-    (takes-then g.C.HeaderCheck.accepts g.O.Consumer.after _ _ r0 c.let_go.new.receiver c.take.new.receiver o0 c.hand_in.new.self c.take.new.out (takes-told g.C.HeaderCheck.accepts g.O.Consumer.after _ r0 c.let_go.new.receiver o0 c.let_go.new.out c.hand_in.new.self c.in_ok-let_go.ensures.takes c.hand_in.ensures) c.in_ok-take.ensures.takes)
-    c.in_ok-reply.ensures.takes)
+    takes-as g.C.HeaderCheck.accepts g.O.Consumer.after g.O.CaptureConsumer.saw _ _ r0 c.take-2.new.receiver o0 c.take-2.new.out
+    (takes-expected g.C.HeaderCheck.accepts g.O.Consumer.after g.O.CaptureConsumer.saw _ r0 c.take-2.new.receiver o0 c.take-2.new.out k c.in_ok-number.number
+    (takes-then g.C.HeaderCheck.accepts g.O.Consumer.after g.O.CaptureConsumer.saw _ _ r0 c.let_go.new.receiver c.take-2.new.receiver o0 c.let_go.new.out c.take-2.new.out c.in_ok-let_go.ensures.takes
+    (takes-told g.C.HeaderCheck.accepts g.O.Consumer.after g.O.CaptureConsumer.saw g.met.O.CaptureConsumer.begins g.met.O.CaptureConsumer.sees c.let_go.new.receiver c.take.new.receiver c.take-2.new.receiver
+    c.let_go.new.out c.hand_in.new.self c.take.new.out c.take-2.new.out k c.args.one c.in_ok-take.field-0 c.in_ok-reply.reply c.hand_in.ensures.after c.hand_in.ensures.saw
+    c.in_ok-take.ensures.replies c.in_ok-take.ensures.at_hand c.in_ok-reply.ensures.replies c.in_ok-reply.ensures.at_hand))
     c.in_ok-number.ensures.expects)
     (λ made handed more spelled.
     hands-in made w k c.args.one (held_by c.args.held.now) between holding (held_by c.pass.new.self) handed more c.in_ok-take.field-0 c.in_ok-reply.reply c.in_ok-number.number spelled.0 spelled.1

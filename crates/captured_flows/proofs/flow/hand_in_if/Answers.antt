@@ -7,12 +7,12 @@ use Rattle.captured_flows.proofs.flow.hand_in_if.Goals as goal
 
 pub returns-in_ok-hand_in-in-Some-clause-takes : goal.returns-in_ok-hand_in-in-Some-clause-takes
 returns-in_ok-hand_in-in-Some-clause-takes g c =
-    takes-as g.C.HeaderCheck.accepts g.O.Consumer.after _ _ c.args.receiver.now _ c.args.out.now _ c.in_ok-hand_in-in-Some.ensures.takes
+    takes-as g.C.HeaderCheck.accepts g.O.Consumer.after g.O.CaptureConsumer.saw _ _ c.args.receiver.now _ c.args.out.now _ c.in_ok-hand_in-in-Some.ensures.takes
     (λ made handed more spelled. subst (λ (n : Option Next). HandsInIf made (wait_of c.args.held.now) c.args.flow (held_by c.args.held.now) handed n more (held_by c.hand_in.new.held))
     (sym c.in-Some.is) (is_handed_in spelled))
 
 pub returns-in-None-clause-takes : goal.returns-in-None-clause-takes
 returns-in-None-clause-takes g c =
-    takes-as g.C.HeaderCheck.accepts g.O.Consumer.after Nothing _ c.args.receiver.now c.args.receiver.now c.args.out.now c.args.out.now (takes-none g.C.HeaderCheck.accepts g.O.Consumer.after c.args.receiver.now c.args.out.now)
+    takes-as g.C.HeaderCheck.accepts g.O.Consumer.after g.O.CaptureConsumer.saw Nothing _ c.args.receiver.now c.args.receiver.now c.args.out.now c.args.out.now (takes-none g.C.HeaderCheck.accepts g.O.Consumer.after g.O.CaptureConsumer.saw c.args.receiver.now c.args.out.now)
     (λ made handed more none. subst (λ (n : Option Next). HandsInIf made (wait_of c.args.held.now) c.args.flow (held_by c.args.held.now) handed n more (held_by c.args.held.now)) (sym c.in-None.is)
     (subst (λ (m : List HandedIn). HandsInIf made (wait_of c.args.held.now) c.args.flow (held_by c.args.held.now) handed None m (held_by c.args.held.now)) (sym none) is_kept_then))

@@ -6,13 +6,13 @@ use Rattle.captured_flows.proofs.flow.let_go.Goals as goal
 
 pub returns-in_ok-skip_past-in-Some-clause-takes : goal.returns-in_ok-skip_past-in-Some-clause-takes
 returns-in_ok-skip_past-in-Some-clause-takes g c =
-    takes-as g.C.HeaderCheck.accepts g.O.Consumer.after _ _ c.args.receiver.now _ c.args.out.now _
-    (takes-expecting g.C.HeaderCheck.accepts g.O.Consumer.after _ c.args.receiver.now _ c.args.out.now _ c.args.flow c.in_ok-first.first c.in_ok-first.ensures.expects c.in_ok-skip_past-in-Some.ensures.takes)
+    takes-as g.C.HeaderCheck.accepts g.O.Consumer.after g.O.CaptureConsumer.saw _ _ c.args.receiver.now _ c.args.out.now _
+    (takes-expecting g.C.HeaderCheck.accepts g.O.Consumer.after g.O.CaptureConsumer.saw _ c.args.receiver.now _ c.args.out.now _ c.args.flow c.in_ok-first.first c.in_ok-first.ensures.expects c.in_ok-skip_past-in-Some.ensures.takes)
     (λ made handed more spelled. some_is_old c.in_ok-first.first c.in-Some.number spelled.0 c.in-Some.ensures.number spelled.1)
 
 pub returns-in-None-clause-takes : goal.returns-in-None-clause-takes
 returns-in-None-clause-takes g c =
-    takes-as g.C.HeaderCheck.accepts g.O.Consumer.after _ _ c.args.receiver.now c.args.receiver.now c.args.out.now c.args.out.now
-    (takes-expecting g.C.HeaderCheck.accepts g.O.Consumer.after Nothing c.args.receiver.now c.args.receiver.now c.args.out.now c.args.out.now c.args.flow c.in_ok-first.first c.in_ok-first.ensures.expects
-    (takes-none g.C.HeaderCheck.accepts g.O.Consumer.after c.args.receiver.now c.args.out.now))
+    takes-as g.C.HeaderCheck.accepts g.O.Consumer.after g.O.CaptureConsumer.saw _ _ c.args.receiver.now c.args.receiver.now c.args.out.now c.args.out.now
+    (takes-expecting g.C.HeaderCheck.accepts g.O.Consumer.after g.O.CaptureConsumer.saw Nothing c.args.receiver.now c.args.receiver.now c.args.out.now c.args.out.now c.args.flow c.in_ok-first.first c.in_ok-first.ensures.expects
+    (takes-none g.C.HeaderCheck.accepts g.O.Consumer.after g.O.CaptureConsumer.saw c.args.receiver.now c.args.out.now))
     (λ made handed more spelled. lets_go-none made (wait_of c.args.held.now) c.args.flow c.args.now (held_by c.args.held.now) handed more c.in_ok-first.first spelled.0 c.in-None.ensures.number spelled.1)

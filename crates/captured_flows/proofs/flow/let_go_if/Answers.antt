@@ -7,11 +7,11 @@ use Rattle.captured_flows.proofs.flow.let_go_if.Goals as goal
 
 pub returns-in_ok-let_go-clause-takes : goal.returns-in_ok-let_go-clause-takes
 returns-in_ok-let_go-clause-takes g c =
-    takes-as g.C.HeaderCheck.accepts g.O.Consumer.after _ _ c.args.receiver.now _ c.args.out.now _ c.in_ok-let_go.ensures.takes
+    takes-as g.C.HeaderCheck.accepts g.O.Consumer.after g.O.CaptureConsumer.saw _ _ c.args.receiver.now _ c.args.out.now _ c.in_ok-let_go.ensures.takes
     (λ made handed more spelled. is_silent_then c.if-is_silent.true spelled)
 
 pub returns-else-is_silent-clause-takes : goal.returns-else-is_silent-clause-takes
 returns-else-is_silent-clause-takes g c =
-    takes-as g.C.HeaderCheck.accepts g.O.Consumer.after Nothing _ c.args.receiver.now c.args.receiver.now c.args.out.now c.args.out.now (takes-none g.C.HeaderCheck.accepts g.O.Consumer.after c.args.receiver.now c.args.out.now)
+    takes-as g.C.HeaderCheck.accepts g.O.Consumer.after g.O.CaptureConsumer.saw Nothing _ c.args.receiver.now c.args.receiver.now c.args.out.now c.args.out.now (takes-none g.C.HeaderCheck.accepts g.O.Consumer.after g.O.CaptureConsumer.saw c.args.receiver.now c.args.out.now)
     (λ made handed more none. subst (λ (m : List HandedIn). LetsGoIf made (wait_of c.args.held.now) c.args.flow c.args.is_silent c.args.now (held_by c.args.held.now) handed m (held_by c.args.held.now))
     (sym none) (not_silent c.if-is_silent.false))

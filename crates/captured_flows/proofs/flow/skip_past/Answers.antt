@@ -1,12 +1,14 @@
 use Rattle.std.proofs.Common.{[], ◌∷◌}
 use Rattle.bonded_flows.specs.declared.decision.FlowDecision.TheVariants.{SkipTo}
 use Rattle.receiver.specs.HandedIn.{decided}
-use Rattle.captured_flows.proofs.Taken.{Just, takes-as, takes-expected}
+use Rattle.captured_flows.proofs.Taken.{Just, takes-as, takes-expected, takes-skip}
 use Rattle.captured_flows.proofs.flow.skip_past.Goals as goal
 
 pub returns-clause-takes : goal.returns-clause-takes
 returns-clause-takes g c =
-    takes-as g.C.HeaderCheck.accepts g.O.Consumer.after _ _ c.args.receiver.now _ c.args.out.now _
-    (takes-expected g.C.HeaderCheck.accepts g.O.Consumer.after (Just (decided c.args.flow (SkipTo c.args.number) ∷ [])) c.args.receiver.now _ c.args.out.now _ c.args.flow c.in_ok-number.number
-    c.in_ok-skip.ensures.takes c.in_ok-number.ensures.expects)
+    takes-as g.C.HeaderCheck.accepts g.O.Consumer.after g.O.CaptureConsumer.saw _ _ c.args.receiver.now _ c.args.out.now _
+    (takes-expected g.C.HeaderCheck.accepts g.O.Consumer.after g.O.CaptureConsumer.saw (Just (decided c.args.flow (SkipTo c.args.number) ∷ [])) c.args.receiver.now _ c.args.out.now _ c.args.flow c.in_ok-number.number
+    (takes-skip g.C.HeaderCheck.accepts g.O.Consumer.after g.O.CaptureConsumer.saw g.met.O.CaptureConsumer.begins g.met.O.CaptureConsumer.sees c.args.receiver.now c.skip.new.receiver c.args.out.now c.skip.new.out
+    c.args.flow c.args.number c.in_ok-skip.ensures.takes c.in_ok-skip.ensures.at_hand)
+    c.in_ok-number.ensures.expects)
     (λ made handed more spelled. record { all = spelled.0; expected = c.in_ok-number.number; expects = spelled.1; left_is = c.pass.ensures.ahead })

@@ -1,11 +1,6 @@
 use Rattle.std.proofs.Common.{Ok, ap, ◌∙◌}
-use Rattle.captured_flows.proofs.Taken.{takes-list}
 use Rattle.captured_flows.proofs.Settled.{rest-decided}
 use Rattle.captured_flows.proofs.taking.skip.Goals as goal
-
-pub returns-in-Ok-clause-takes : goal.returns-in-Ok-clause-takes
-returns-in-Ok-clause-takes g c =
-    takes-list g.C.HeaderCheck.accepts g.O.Consumer.after _ c.args.receiver.now c.decide.new.self c.args.out.now c.decide.new.out c.in-Ok.ensures.takes
 
 pub returns-in-Ok-clause-at_hand : goal.returns-in-Ok-clause-at_hand
 returns-in-Ok-clause-at_hand g c = record {

@@ -1,10 +1,5 @@
-use Rattle.captured_flows.proofs.Taken.{takes-input}
 use Rattle.captured_flows.proofs.Settled.{rest-replied}
 use Rattle.captured_flows.proofs.taking.take.Goals as goal
-
-pub returns-in-Ok-clause-takes : goal.returns-in-Ok-clause-takes
-returns-in-Ok-clause-takes g c =
-    takes-input g.C.HeaderCheck.accepts g.O.Consumer.after c.args.receiver.now c.take.new.self c.args.out.now c.take.new.out c.args.channel c.args.input c.in-Ok.reply c.in-Ok.ensures.replies
 
 pub returns-in-Ok-clause-at_hand : goal.returns-in-Ok-clause-at_hand
 returns-in-Ok-clause-at_hand g c = record {

@@ -18,7 +18,7 @@ pub returns-in_default-clause-takes : goal.returns-in_default-clause-takes
 returns-in_default-clause-takes g c =
     let captured = c.args.self.now in
     let views = views_in captured in
-    takes-as g.C.HeaderCheck.accepts g.O.Consumer.after Nothing _ captured.receiver captured.receiver c.args.out.now c.args.out.now (takes-none g.C.HeaderCheck.accepts g.O.Consumer.after captured.receiver c.args.out.now)
+    takes-as g.C.HeaderCheck.accepts g.O.Consumer.after g.O.CaptureConsumer.saw Nothing _ captured.receiver captured.receiver c.args.out.now c.args.out.now (takes-none g.C.HeaderCheck.accepts g.O.Consumer.after g.O.CaptureConsumer.saw captured.receiver c.args.out.now)
     (λ made handed more none. subst (λ (m : List HandedIn). SpellsBurst captured.map made captured.waits.reorder captured.waits.wait views c.args.burst handed taken.UnknownChannel m views) (sym none)
     (of_no_channel (ap (λ (cs : List MapChannel). channel_of cs c.args.burst.channel) (sym c.deref.ensures.value) ∙ sym c.in_default.ensures)))
 
@@ -26,7 +26,7 @@ pub returns-in_default-flow_of-clause-takes : goal.returns-in_default-flow_of-cl
 returns-in_default-flow_of-clause-takes g c =
     let captured = c.args.self.now in
     let views = views_in captured in
-    takes-as g.C.HeaderCheck.accepts g.O.Consumer.after Nothing _ captured.receiver captured.receiver c.args.out.now c.args.out.now (takes-none g.C.HeaderCheck.accepts g.O.Consumer.after captured.receiver c.args.out.now)
+    takes-as g.C.HeaderCheck.accepts g.O.Consumer.after g.O.CaptureConsumer.saw Nothing _ captured.receiver captured.receiver c.args.out.now c.args.out.now (takes-none g.C.HeaderCheck.accepts g.O.Consumer.after g.O.CaptureConsumer.saw captured.receiver c.args.out.now)
     (λ made handed more none. subst (λ (m : List HandedIn). SpellsBurst captured.map made captured.waits.reorder captured.waits.wait views c.args.burst handed taken.UnknownSid m views) (sym none)
     (of_no_flow c.in-Some.channel (ap (λ (cs : List MapChannel). channel_of cs c.args.burst.channel) (sym c.deref.ensures.value) ∙ sym c.in-Some.ensures) (sym (c.in_default-flow_of.ensures captured.map.sids.items c.requires.capturing.sids))))
 
@@ -46,7 +46,7 @@ returns-in_ok-come_to-in-Ok-clause-takes g c =
     let of_flow : flow_of captured.map.sids.items channel burst.sid ≡ Some k =
     subst (λ n. flow_of captured.map.sids.items n burst.sid ≡ Some k) (sym c.from-channel.ensures)
     (sym (c.in-Some-flow_of.ensures captured.map.sids.items c.requires.capturing.sids) ∙ ap (λ (n : ℕ). Some n) (sym c.from-flow.ensures)) in
-    takes-as g.C.HeaderCheck.accepts g.O.Consumer.after _ _ captured.receiver c.come_to.new.receiver c.args.out.now c.come_to.new.out c.in_ok-come_to-in-Ok.ensures.takes
+    takes-as g.C.HeaderCheck.accepts g.O.Consumer.after g.O.CaptureConsumer.saw _ _ captured.receiver c.come_to.new.receiver c.args.out.now c.come_to.new.out c.in_ok-come_to-in-Ok.ensures.takes
     (λ made handed more spelled.
     let at = subst (λ (fs : List CapturedFlow). ComesAt captured.waits k one (views_of fs) made handed more (views_of new)) c.deref_mut.ensures.value spelled in
     subst (λ (fs : List CapturedFlow). SpellsBurst captured.map made captured.waits.reorder captured.waits.wait (views_of items) burst handed (taken.Waits k) more (views_of fs)) (sym are)
@@ -76,6 +76,6 @@ returns-in_ok-reply-in-Err-clause-takes g c =
     let of_flow : flow_of captured.map.sids.items channel burst.sid ≡ Some c.in-Some-flow_of.flow =
     subst (λ n. flow_of captured.map.sids.items n burst.sid ≡ Some c.in-Some-flow_of.flow) (sym c.from-channel.ensures)
     (sym (c.in-Some-flow_of.ensures captured.map.sids.items c.requires.capturing.sids)) in
-    takes-as g.C.HeaderCheck.accepts g.O.Consumer.after _ _ captured.receiver c.refuse.new.receiver c.args.out.now c.refuse.new.out c.in_ok-reply-in-Err.ensures.takes
+    takes-as g.C.HeaderCheck.accepts g.O.Consumer.after g.O.CaptureConsumer.saw _ _ captured.receiver c.refuse.new.receiver c.args.out.now c.refuse.new.out c.in_ok-reply-in-Err.ensures.takes
     (λ made handed more spelled. is_refused channel c.in-Some-flow_of.flow reply of_channel of_flow c.in-Err.ensures.why
     (subst (λ (b : CapturedBurst). IsRefused channel b reply made handed more) c.in-Err.ensures.unsound spelled))

@@ -13,8 +13,8 @@ returns-clause-takes g c =
     let flow = c.args.self.now in
     let w = wait_of flow.held in
     let after = flow_seen c.pass_on.new.self in
-    let at_reorder = subst (λ (n : ℕ). TakesBy g.C.HeaderCheck.accepts g.O.Consumer.after (λ made handed more. PassesOn made w c.args.flow n c.args.one.time (flow_seen (record flow { order = c.push.new.self })) handed more after)
+    let at_reorder = subst (λ (n : ℕ). TakesBy g.C.HeaderCheck.accepts g.O.Consumer.after g.O.CaptureConsumer.saw (λ made handed more. PassesOn made w c.args.flow n c.args.one.time (flow_seen (record flow { order = c.push.new.self })) handed more after)
     c.args.receiver.now c.args.out.now c.pass_on.new.receiver c.pass_on.new.out) c.push.ensures.reorder c.in_ok-pass_on.ensures.takes in
-    subst (λ (ws : List (Arrival SoundBurst)). TakesBy g.C.HeaderCheck.accepts g.O.Consumer.after (λ made handed more. PassesOn made w c.args.flow flow.order.reorder c.args.one.time
+    subst (λ (ws : List (Arrival SoundBurst)). TakesBy g.C.HeaderCheck.accepts g.O.Consumer.after g.O.CaptureConsumer.saw (λ made handed more. PassesOn made w c.args.flow flow.order.reorder c.args.one.time
     (record { window = flow.window; waiting = ws; beginning = beginning_seen flow.beginning; held = held_by flow.held }) handed more after)
     c.args.receiver.now c.args.out.now c.pass_on.new.receiver c.pass_on.new.out) c.in_ok-push.ensures.waits at_reorder

@@ -21,7 +21,7 @@ loop-next-init g c =
     record {
       due = [];
       hands_on = all-none (reorder_of flow.order) (waiting_in flow.order);
-      takes = takes-as g.C.HeaderCheck.accepts g.O.Consumer.after Nothing _ c.args.receiver.now c.args.receiver.now c.args.out.now c.args.out.now (takes-none g.C.HeaderCheck.accepts g.O.Consumer.after c.args.receiver.now c.args.out.now)
+      takes = takes-as g.C.HeaderCheck.accepts g.O.Consumer.after g.O.CaptureConsumer.saw Nothing _ c.args.receiver.now c.args.receiver.now c.args.out.now c.args.out.now (takes-none g.C.HeaderCheck.accepts g.O.Consumer.after g.O.CaptureConsumer.saw c.args.receiver.now c.args.out.now)
           (λ made handed more none. subst (λ (m : List HandedIn). AreHandedOn made (wait_of flow.held) c.args.flow flow.window [] beginning held handed m beginning held) (sym none) no_more);
       at_hand = c.requires.at_hand;
       waits = record { window = refl; wait = refl; reorder = refl };
@@ -44,16 +44,16 @@ loop-next-preserved g c =
     let reorder = reorder_of flow.order in
     let is_next : IsNext reorder (waiting_in now.order) next (waiting_in c.next_left.new.self) =
     subst (λ n. IsNext n (waiting_in now.order) next (waiting_in c.next_left.new.self)) so_far.waits.reorder c.in-Some.ensures.next in
-    let at_wait = subst (λ (n : ℕ). TakesBy g.C.HeaderCheck.accepts g.O.Consumer.after (λ made handed more. IsHandedOn made n k now.window next (beginning_seen now.beginning) (held_by now.held) handed more (beginning_seen after.beginning) (held_by after.held))
+    let at_wait = subst (λ (n : ℕ). TakesBy g.C.HeaderCheck.accepts g.O.Consumer.after g.O.CaptureConsumer.saw (λ made handed more. IsHandedOn made n k now.window next (beginning_seen now.beginning) (held_by now.held) handed more (beginning_seen after.beginning) (held_by after.held))
     c.loop-next.receiver c.loop-next.out c.hand_on.new.receiver c.hand_on.new.out) so_far.waits.wait c.in_ok-hand_on.ensures.takes in
-    let handed_on = subst (λ (n : ℕ). TakesBy g.C.HeaderCheck.accepts g.O.Consumer.after (λ made handed more. IsHandedOn made w k n next (beginning_seen now.beginning) (held_by now.held) handed more (beginning_seen after.beginning) (held_by after.held))
+    let handed_on = subst (λ (n : ℕ). TakesBy g.C.HeaderCheck.accepts g.O.Consumer.after g.O.CaptureConsumer.saw (λ made handed more. IsHandedOn made w k n next (beginning_seen now.beginning) (held_by now.held) handed more (beginning_seen after.beginning) (held_by after.held))
     c.loop-next.receiver c.loop-next.out c.hand_on.new.receiver c.hand_on.new.out) so_far.waits.window at_wait in
     record {
       due = so_far.due ++ next ∷ [];
       hands_on = subst (λ (o : ChannelOrder SoundBurst). HandsAllOnAfter reorder (waiting_in flow.order) (so_far.due ++ next ∷ []) (waiting_in o)) (sym c.hand_on.ensures.order)
           (all-next reorder (waiting_in flow.order) (waiting_in now.order) (waiting_in c.next_left.new.self) so_far.due next so_far.hands_on is_next);
-      takes = takes-as g.C.HeaderCheck.accepts g.O.Consumer.after _ _ c.args.receiver.now c.hand_on.new.receiver c.args.out.now c.hand_on.new.out
-          (takes-then g.C.HeaderCheck.accepts g.O.Consumer.after _ _ c.args.receiver.now c.loop-next.receiver c.hand_on.new.receiver c.args.out.now c.loop-next.out c.hand_on.new.out so_far.takes handed_on)
+      takes = takes-as g.C.HeaderCheck.accepts g.O.Consumer.after g.O.CaptureConsumer.saw _ _ c.args.receiver.now c.hand_on.new.receiver c.args.out.now c.hand_on.new.out
+          (takes-then g.C.HeaderCheck.accepts g.O.Consumer.after g.O.CaptureConsumer.saw _ _ c.args.receiver.now c.loop-next.receiver c.hand_on.new.receiver c.args.out.now c.loop-next.out c.hand_on.new.out so_far.takes handed_on)
           (λ made handed more spelled. subst (λ (m : List HandedIn). AreHandedOn made w k flow.window (so_far.due ++ next ∷ []) (beginning_seen flow.beginning) (held_by flow.held) handed m (beginning_seen after.beginning) (held_by after.held))
           (sym spelled.4) (next_one spelled.2 spelled.3));
       at_hand = c.in_ok-hand_on.ensures.at_hand;
@@ -71,10 +71,10 @@ returns-clause-takes g c =
     let so_far = c.loop-next.invariant in
     let reorder = reorder_of flow.order in
     let none : waiting_in now.order ≡ [] = none-there (waiting_in now.order) c.in_default.ensures.some in
-    let begins = subst (λ (n : ℕ). TakesBy g.C.HeaderCheck.accepts g.O.Consumer.after (λ made handed more. BeginsIf made n c.args.flow (held_by now.held) handed c.end-begun.result more (held_by c.begin_if.new.held))
+    let begins = subst (λ (n : ℕ). TakesBy g.C.HeaderCheck.accepts g.O.Consumer.after g.O.CaptureConsumer.saw (λ made handed more. BeginsIf made n c.args.flow (held_by now.held) handed c.end-begun.result more (held_by c.begin_if.new.held))
     c.loop-next.receiver c.loop-next.out c.begin_if.new.receiver c.begin_if.new.out) so_far.waits.wait c.in_ok-begin_if.ensures.takes in
-    takes-as g.C.HeaderCheck.accepts g.O.Consumer.after _ _ c.args.receiver.now c.begin_if.new.receiver c.args.out.now c.begin_if.new.out
-    (takes-then g.C.HeaderCheck.accepts g.O.Consumer.after _ _ c.args.receiver.now c.loop-next.receiver c.begin_if.new.receiver c.args.out.now c.loop-next.out c.begin_if.new.out so_far.takes begins)
+    takes-as g.C.HeaderCheck.accepts g.O.Consumer.after g.O.CaptureConsumer.saw _ _ c.args.receiver.now c.begin_if.new.receiver c.args.out.now c.begin_if.new.out
+    (takes-then g.C.HeaderCheck.accepts g.O.Consumer.after g.O.CaptureConsumer.saw _ _ c.args.receiver.now c.loop-next.receiver c.begin_if.new.receiver c.args.out.now c.loop-next.out c.begin_if.new.out so_far.takes begins)
     (λ made handed more spelled. record {
       due = so_far.due;
       hands_on = all-all reorder (waiting_in flow.order) (waiting_in now.order) so_far.due so_far.hands_on none;

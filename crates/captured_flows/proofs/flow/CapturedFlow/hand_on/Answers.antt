@@ -26,18 +26,18 @@ returns-clause-takes g c =
     let o2 = c.let_go_if.new.out in
     let r3 = c.hand_in_if.new.receiver in
     let o3 = c.hand_in_if.new.out in
-    let silent = subst (λ (b : Bool). TakesBy g.C.HeaderCheck.accepts g.O.Consumer.after (λ made handed more. LetsGoIf made (wait_of held) k b one.time (held_by held) handed more (held_by between)) r1 o1 r2 o2)
+    let silent = subst (λ (b : Bool). TakesBy g.C.HeaderCheck.accepts g.O.Consumer.after g.O.CaptureConsumer.saw (λ made handed more. LetsGoIf made (wait_of held) k b one.time (held_by held) handed more (held_by between)) r1 o1 r2 o2)
     c.is_silent-is_silent.ensures c.in_ok-let_go_if.ensures.takes in
-    let lets_go = subst (λ (n : ℕ). TakesBy g.C.HeaderCheck.accepts g.O.Consumer.after (λ made handed more. LetsGoIf made n k (is_silent ended one.time) one.time (held_by held) handed more (held_by between)) r1 o1 r2 o2)
+    let lets_go = subst (λ (n : ℕ). TakesBy g.C.HeaderCheck.accepts g.O.Consumer.after g.O.CaptureConsumer.saw (λ made handed more. LetsGoIf made n k (is_silent ended one.time) one.time (held_by held) handed more (held_by between)) r1 o1 r2 o2)
     c.begin_if.ensures.wait silent in
-    let next = subst (λ (n : Option Next). TakesBy g.C.HeaderCheck.accepts g.O.Consumer.after (λ made handed more. HandsInIf made (wait_of between) k (held_by between) handed n more left) r2 o2 r3 o3)
+    let next = subst (λ (n : Option Next). TakesBy g.C.HeaderCheck.accepts g.O.Consumer.after g.O.CaptureConsumer.saw (λ made handed more. HandsInIf made (wait_of between) k (held_by between) handed n more left) r2 o2 r3 o3)
     c.in_ok-next.ensures.given c.in_ok-hand_in_if.ensures.takes in
-    let hands_in = subst (λ (n : ℕ). TakesBy g.C.HeaderCheck.accepts g.O.Consumer.after (λ made handed more. HandsInIf made n k (held_by between) handed (to_hand_in ended c.in_ok-number.number flow.window one) more left) r2 o2 r3 o3)
+    let hands_in = subst (λ (n : ℕ). TakesBy g.C.HeaderCheck.accepts g.O.Consumer.after g.O.CaptureConsumer.saw (λ made handed more. HandsInIf made n k (held_by between) handed (to_hand_in ended c.in_ok-number.number flow.window one) more left) r2 o2 r3 o3)
     (c.let_go_if.ensures.wait ∙ c.begin_if.ensures.wait) next in
-    takes-as g.C.HeaderCheck.accepts g.O.Consumer.after _ _ r0 r3 o0 o3
-    (takes-then g.C.HeaderCheck.accepts g.O.Consumer.after _ _ r0 r2 r3 o0 o2 o3
-    (takes-then g.C.HeaderCheck.accepts g.O.Consumer.after _ _ r0 r1 r2 o0 o1 o2 c.in_ok-begin_if.ensures.takes lets_go)
-    (takes-expecting g.C.HeaderCheck.accepts g.O.Consumer.after _ r2 r3 o2 o3 k c.in_ok-number.number c.in_ok-number.ensures.expects hands_in))
+    takes-as g.C.HeaderCheck.accepts g.O.Consumer.after g.O.CaptureConsumer.saw _ _ r0 r3 o0 o3
+    (takes-then g.C.HeaderCheck.accepts g.O.Consumer.after g.O.CaptureConsumer.saw _ _ r0 r2 r3 o0 o2 o3
+    (takes-then g.C.HeaderCheck.accepts g.O.Consumer.after g.O.CaptureConsumer.saw _ _ r0 r1 r2 o0 o1 o2 c.in_ok-begin_if.ensures.takes lets_go)
+    (takes-expecting g.C.HeaderCheck.accepts g.O.Consumer.after g.O.CaptureConsumer.saw _ r2 r3 o2 o3 k c.in_ok-number.number c.in_ok-number.ensures.expects hands_in))
     (λ made handed more spelled.
     handed_on-is made w k flow.window one beginning ended (beginning_seen c.hand_on.new.self) (held_by flow.held) (held_by held) (held_by between) left c.end_at-begun.result handed more c.in_ok-number.number
     (ends-if (is_over beginning.kept one.time) beginning ended c.end_at-begun.result c.end_at-begun.ensures.over c.end_at-begun.ensures.ended c.end_at-begun.ensures.after c.end_at-begun.ensures.unchanged)

@@ -21,7 +21,7 @@ loop-next-init g c =
     record {
       due = [];
       hands_on = after-none (reorder_of flow.order) c.args.now (waiting_in flow.order);
-      takes = takes-as g.C.HeaderCheck.accepts g.O.Consumer.after Nothing _ c.args.receiver.now c.args.receiver.now c.args.out.now c.args.out.now (takes-none g.C.HeaderCheck.accepts g.O.Consumer.after c.args.receiver.now c.args.out.now)
+      takes = takes-as g.C.HeaderCheck.accepts g.O.Consumer.after g.O.CaptureConsumer.saw Nothing _ c.args.receiver.now c.args.receiver.now c.args.out.now c.args.out.now (takes-none g.C.HeaderCheck.accepts g.O.Consumer.after g.O.CaptureConsumer.saw c.args.receiver.now c.args.out.now)
           (λ made handed more none. subst (λ (m : List HandedIn). AreHandedOn made (wait_of flow.held) c.args.flow flow.window [] beginning held handed m beginning held) (sym none) no_more);
       at_hand = c.requires.at_hand;
       waits = record { window = refl; wait = refl; reorder = refl };
@@ -44,16 +44,16 @@ loop-next-preserved g c =
     let reorder = reorder_of flow.order in
     let is_next : IsNext reorder (waiting_in now.order) next (waiting_in c.next.new.self) =
     subst (λ n. IsNext n (waiting_in now.order) next (waiting_in c.next.new.self)) so_far.waits.reorder c.in-Some.ensures.next in
-    let at_wait = subst (λ (n : ℕ). TakesBy g.C.HeaderCheck.accepts g.O.Consumer.after (λ made handed more. IsHandedOn made n k now.window next (beginning_seen now.beginning) (held_by now.held) handed more (beginning_seen after.beginning) (held_by after.held))
+    let at_wait = subst (λ (n : ℕ). TakesBy g.C.HeaderCheck.accepts g.O.Consumer.after g.O.CaptureConsumer.saw (λ made handed more. IsHandedOn made n k now.window next (beginning_seen now.beginning) (held_by now.held) handed more (beginning_seen after.beginning) (held_by after.held))
     c.loop-next.receiver c.loop-next.out c.hand_on.new.receiver c.hand_on.new.out) so_far.waits.wait c.in_ok-hand_on.ensures.takes in
-    let handed_on = subst (λ (n : ℕ). TakesBy g.C.HeaderCheck.accepts g.O.Consumer.after (λ made handed more. IsHandedOn made w k n next (beginning_seen now.beginning) (held_by now.held) handed more (beginning_seen after.beginning) (held_by after.held))
+    let handed_on = subst (λ (n : ℕ). TakesBy g.C.HeaderCheck.accepts g.O.Consumer.after g.O.CaptureConsumer.saw (λ made handed more. IsHandedOn made w k n next (beginning_seen now.beginning) (held_by now.held) handed more (beginning_seen after.beginning) (held_by after.held))
     c.loop-next.receiver c.loop-next.out c.hand_on.new.receiver c.hand_on.new.out) so_far.waits.window at_wait in
     record {
       due = so_far.due ++ next ∷ [];
       hands_on = subst (λ (o : ChannelOrder SoundBurst). HandsOnAfter reorder c.args.now (waiting_in flow.order) (so_far.due ++ next ∷ []) (waiting_in o)) (sym c.hand_on.ensures.order)
           (after-next reorder c.args.now (waiting_in flow.order) (waiting_in now.order) (waiting_in c.next.new.self) so_far.due next so_far.hands_on (subst (λ n. is_due n c.args.now (waiting_in c.loop-next.self.order) ≡ true) so_far.waits.reorder (sym c.in-Some.ensures.due)) is_next);
-      takes = takes-as g.C.HeaderCheck.accepts g.O.Consumer.after _ _ c.args.receiver.now c.hand_on.new.receiver c.args.out.now c.hand_on.new.out
-          (takes-then g.C.HeaderCheck.accepts g.O.Consumer.after _ _ c.args.receiver.now c.loop-next.receiver c.hand_on.new.receiver c.args.out.now c.loop-next.out c.hand_on.new.out so_far.takes handed_on)
+      takes = takes-as g.C.HeaderCheck.accepts g.O.Consumer.after g.O.CaptureConsumer.saw _ _ c.args.receiver.now c.hand_on.new.receiver c.args.out.now c.hand_on.new.out
+          (takes-then g.C.HeaderCheck.accepts g.O.Consumer.after g.O.CaptureConsumer.saw _ _ c.args.receiver.now c.loop-next.receiver c.hand_on.new.receiver c.args.out.now c.loop-next.out c.hand_on.new.out so_far.takes handed_on)
           (λ made handed more spelled. subst (λ (m : List HandedIn). AreHandedOn made w k flow.window (so_far.due ++ next ∷ []) (beginning_seen flow.beginning) (held_by flow.held) handed m (beginning_seen after.beginning) (held_by after.held))
           (sym spelled.4) (next_one spelled.2 spelled.3));
       at_hand = c.in_ok-hand_on.ensures.at_hand;
@@ -71,7 +71,7 @@ returns-clause-takes g c =
     let reorder = reorder_of flow.order in
     let none : is_due reorder c.args.now (waiting_in c.loop-next.self.order) ≡ false =
     subst (λ n. is_due n c.args.now (waiting_in c.loop-next.self.order) ≡ false) so_far.waits.reorder (sym c.in_default.ensures.due) in
-    takes-as g.C.HeaderCheck.accepts g.O.Consumer.after _ _ c.args.receiver.now c.loop-next.receiver c.args.out.now c.loop-next.out so_far.takes
+    takes-as g.C.HeaderCheck.accepts g.O.Consumer.after g.O.CaptureConsumer.saw _ _ c.args.receiver.now c.loop-next.receiver c.args.out.now c.loop-next.out so_far.takes
     (λ made handed more spelled. record {
       due = so_far.due;
       hands_on = subst (λ (ws : List (Arrival SoundBurst)). HandsOn reorder c.args.now (waiting_in flow.order) so_far.due ws) (sym c.in_default.ensures.unchanged)

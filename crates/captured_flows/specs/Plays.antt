@@ -1,0 +1,74 @@
+-- What a consumer sees of what is handed in to a receiver: which frames and requests come of which burst.
+use Rattle.std.specs.Prelude.{◌≡◌, ℕ, Bool, Some, List, [], ◌∷◌, ◌++◌, length, map, slice_get}
+use Rattle.flow_records.specs.declared.record.FlowRecord.{FlowRecord}
+use Rattle.flow_core.specs.declared.counts.FlowCounts.{FlowCounts}
+use Rattle.lane.specs.declared.input.Input.{Input}
+use Rattle.lane.specs.Inputs.{Answer}
+use Rattle.consumer.specs.declared.given.Given.{Given}
+use Rattle.consumer.specs.declared.given.Given.TheVariants.{Frame}
+use Rattle.consumer.specs.Given.{frames_of}
+use Rattle.bonded_flows.specs.ByRule.{GaveByRule}
+use Rattle.bonded_flows.specs.Table.{TableSetup}
+use Rattle.bonded_flows.specs.declared.decision.FlowDecision.TheVariants.{SkipTo}
+use Rattle.receiver.specs.declared.receiver.Receiver.{Receiver}
+use Rattle.receiver.specs.HandedIn.{HandedIn, came, decided, restarted, flow_inputs, begun_with, came_since}
+use Rattle.receiver.specs.Receiving.{StandsFor, GaveSince}
+use Rattle.captured_flows.specs.declared.captured_burst.CapturedBurst.{CapturedBurst}
+use Rattle.captured_flows.specs.Sound.{IsUnsound}
+use Rattle.captured_flows.specs.Flow.{Next, grant_of, burst_of}
+use Rattle.captured_flows.specs.Captures.{refused_grant, refused_burst}
+use Rattle.captured_flows.specs.AtHand.{IsAtHand}
+use Rattle.captured_flows.specs.Steps.{CaptureStep, handed_in, gave, began_anew, given_in}
+
+-- an input came on a channel, and its lane answered this
+abbrev pub came_on : ℕ → Input → Answer → HandedIn
+came_on channel input answer = came channel (record { input = input; answer = answer })
+
+-- a flow is closed of which this was handed in and given: it gives these frames more, and has these counts since it was begun
+abbrev pub ClosesFlow : (List ℕ → Bool) → TableSetup → ℕ → List HandedIn → List Given → List (List ℕ) → FlowCounts → Type 0
+ClosesFlow check made flow handed given frames counts =
+    (flow_record : FlowRecord) → slice_get made.records flow ≡ Some flow_record
+    → GaveSince (λ own. GaveByRule check (begun_with made flow flow_record (flow_inputs (length made.records) handed))
+    (came_since made flow flow_record (flow_inputs (length made.records) handed)) (own ++ frames) counts) (frames_of flow given)
+
+-- A part of a move, in which something failed: what was handed in of it, and what is seen. If a burst was told, it was told first.
+pub data IsPart : List HandedIn → List CaptureStep → Type 0 where
+  none_told : (more : List HandedIn) (gives : List Given) → IsPart more (map gave gives)
+  one_told : (flow : ℕ) (one : Next) (more : List HandedIn) (gives : List Given) → IsPart more (handed_in flow one.arrival ∷ map gave gives)
+
+module _ {C : Type 0} (accepts : C → List ℕ → Bool) (check : List ℕ → Bool) (made : TableSetup) where
+  -- Some receiver stands for what was handed in, has given this, and has nothing left to be done: so this is all that is given for it.
+  pub record IsGivenFor (handed : List HandedIn) (given : List Given) : Type 0 where
+    pub receiver : Receiver C
+    pub stands : StandsFor accepts receiver check made handed given
+    pub at_hand : IsAtHand accepts receiver
+
+  -- **One move**, after this was handed in and given: what is handed in, and what is seen. A flow skips, and what that gives is seen. The grant of a burst
+  -- and the burst itself, which its lane won't admit, are handed in, and no burst is told. A burst of a flow is told, and then its grant and itself are
+  -- handed in, and what each gives is seen. A flow is closed, what it then gives is seen, and then that it begins anew, with its counts.
+  pub data IsMove (handed : List HandedIn) (given : List Given) : List HandedIn → List CaptureStep → Type 0 where
+    skips_to : (flow number : ℕ) (gives : List Given) → IsGivenFor (handed ++ decided flow (SkipTo number) ∷ []) (given ++ gives)
+        → IsMove handed given (decided flow (SkipTo number) ∷ []) (map gave gives)
+    is_unsound : (channel : ℕ) (burst : CapturedBurst) (granting coming : Answer) (of_grant of_burst : List Given) → IsUnsound burst
+        → IsGivenFor (handed ++ came_on channel (refused_grant burst) granting ∷ []) (given ++ of_grant)
+        → IsGivenFor ((handed ++ came_on channel (refused_grant burst) granting ∷ []) ++ came_on channel (refused_burst burst) coming ∷ []) ((given ++ of_grant) ++ of_burst)
+        → IsMove handed given (came_on channel (refused_grant burst) granting ∷ came_on channel (refused_burst burst) coming ∷ []) (map gave (of_grant ++ of_burst))
+    is_told : (flow : ℕ) (one : Next) (granting coming : Answer) (of_grant of_burst : List Given)
+        → IsGivenFor (handed ++ came_on one.arrival.channel (grant_of one) granting ∷ []) (given ++ of_grant)
+        → IsGivenFor ((handed ++ came_on one.arrival.channel (grant_of one) granting ∷ []) ++ came_on one.arrival.channel (burst_of one) coming ∷ []) ((given ++ of_grant) ++ of_burst)
+        → IsMove handed given (came_on one.arrival.channel (grant_of one) granting ∷ came_on one.arrival.channel (burst_of one) coming ∷ [])
+        (handed_in flow one.arrival ∷ map gave (of_grant ++ of_burst))
+    begins_again : (flow first : ℕ) (frames : List (List ℕ)) (counts : FlowCounts) → ClosesFlow check made flow handed given frames counts
+        → IsGivenFor (handed ++ restarted flow first ∷ []) (given ++ map (Frame flow) frames)
+        → IsMove handed given (restarted flow first ∷ []) (map gave (map (Frame flow) frames) ++ began_anew flow counts ∷ [])
+
+  -- **Moves come one after another**: what is handed in and what is seen go side by side.
+  pub data Plays (handed : List HandedIn) (given : List Given) : List HandedIn → List CaptureStep → Type 0 where
+    nothing : Plays handed given [] []
+    one_move : {more later : List HandedIn} {steps behind : List CaptureStep} → Plays handed given more steps
+        → IsMove (handed ++ more) (given ++ given_in steps) later behind → Plays handed given (more ++ later) (steps ++ behind)
+
+  -- **Moves, and then a part of one**, where something failed.
+  pub data PlaysPartly (handed : List HandedIn) (given : List Given) : List HandedIn → List CaptureStep → Type 0 where
+    breaks_off : {more later : List HandedIn} {steps behind : List CaptureStep} → Plays handed given more steps → IsPart later behind
+        → PlaysPartly handed given (more ++ later) (steps ++ behind)
