@@ -2,7 +2,7 @@
 use Rattle.std.proofs.Common.{◌≡◌, ℕ, Bool, Option, Some, None, is_some, List, ◌++◌, ap, sym, subst, ◌∙◌, append_assoc}
 use Rattle.std.specs.Prelude.{IfSome, IfNone, OnSome}
 use Rattle.bonded_flows.specs.Table.{TableSetup}
-use Rattle.receiver.specs.HandedIn.{HandedIn}
+use Rattle.captured_flows.specs.Acts.{Act}
 use Rattle.capture_rules.specs.declared.held_time.HeldTime.{HeldTime}
 use Rattle.capture_rules.specs.declared.beginning.Begun.{Begun}
 use Rattle.capture_rules.specs.Begin.{BeginningView, IsEnded, is_over, is_silent, after_end, after_hand_on, to_hand_in}
@@ -19,14 +19,14 @@ ends-if is_to_end old new None some ended after unchanged =
     subst (λ (n : BeginningView SoundBurst). EndsIf is_to_end old None n) (sym unchanged) (goes_on_beginning (sym some))
 
 module _ (made : TableSetup) (wait k window : ℕ) (one : Next) where
-  pub handed_on-is : (beginning ended beginning' : BeginningView SoundBurst) (held after_ending between held' : List HeldTime) (begun : Option (Begun SoundBurst)) (handed more : List HandedIn) (expected : ℕ)
+  pub handed_on-is : (beginning ended beginning' : BeginningView SoundBurst) (held after_ending between held' : List HeldTime) (begun : Option (Begun SoundBurst)) (handed more : List Act) (expected : ℕ)
       → EndsIf (is_over beginning.kept one.time) beginning begun ended
       → Then (Then (λ m h l. BeginsIf m wait k held h begun l after_ending) (λ m h l. LetsGoIf m wait k (is_silent ended one.time) one.time after_ending h l between))
       (λ m h l. Expects m k h expected × HandsInIf m wait k between h (to_hand_in ended expected window one) l held') made handed more
       → beginning' ≡ after_hand_on ended expected window one
       → IsHandedOn made wait k window one beginning held handed more beginning' held'
   handed_on-is beginning ended beginning' held after_ending between held' begun handed more expected ends_if (before, last, (ending, let_go, begins_if, lets_go_if, before_is), (expects, hands_in), all) beginning_is =
-      let there : handed ++ before ≡ (handed ++ ending) ++ let_go = ap (λ (b : List HandedIn). handed ++ b) before_is ∙ sym (append_assoc handed ending let_go) in
+      let there : handed ++ before ≡ (handed ++ ending) ++ let_go = ap (λ (b : List Act). handed ++ b) before_is ∙ sym (append_assoc handed ending let_go) in
       record {
         begun = begun;
         ended = ended;
@@ -38,9 +38,9 @@ module _ (made : TableSetup) (wait k window : ℕ) (one : Next) where
         let_go = let_go;
         lets_go_if = lets_go_if;
         expected = expected;
-        expects = subst (λ (h : List HandedIn). Expects made k h expected) there expects;
+        expects = subst (λ (h : List Act). Expects made k h expected) there expects;
         last = last;
-        hands_in = subst (λ (h : List HandedIn). HandsInIf made wait k between h (to_hand_in ended expected window one) last held') there hands_in;
+        hands_in = subst (λ (h : List Act). HandsInIf made wait k between h (to_hand_in ended expected window one) last held') there hands_in;
         beginning_is = beginning_is;
-        all = all ∙ ap (λ (b : List HandedIn). b ++ last) before_is;
+        all = all ∙ ap (λ (b : List Act). b ++ last) before_is;
       }

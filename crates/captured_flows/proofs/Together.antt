@@ -9,7 +9,7 @@ use Rattle.captured_flows.specs.Flow.{FlowView}
 use Rattle.captured_flows.specs.Seen.{flow_seen, KeepsWaits, HasWaits}
 use Rattle.capture_map.specs.declared.map.MapFlow.{MapFlow}
 use Rattle.bonded_flows.specs.Table.{TableSetup}
-use Rattle.receiver.specs.HandedIn.{HandedIn}
+use Rattle.captured_flows.specs.Acts.{Act}
 use Rattle.captured_flows.specs.Captures.{EndsAll, one_more_ends}
 use Rattle.captured_flows.specs.Together.{HaveWaits, views_of, view_begun, EndsAt}
 
@@ -38,11 +38,11 @@ pub views-set : (flows : List CapturedFlow) (k : ℕ) (new : CapturedFlow) → v
 views-set flows k new = map-set flow_seen flows k new
 
 -- one flow more has ended
-pub ends-more : (waits : Waits) (made : TableSetup) (start between flows : List FlowView) (handed first later more : List HandedIn) (n : ℕ)
+pub ends-more : (waits : Waits) (made : TableSetup) (start between flows : List FlowView) (handed first later more : List Act) (n : ℕ)
     → EndsAll made waits.reorder waits.wait start handed n first between → EndsAt waits n between made (handed ++ first) later flows → more ≡ first ++ later
     → EndsAll made waits.reorder waits.wait start handed (n + 1) more flows
 ends-more waits made start between flows handed first later more n before at all =
-    subst (λ (m : List HandedIn). EndsAll made waits.reorder waits.wait start handed (n + 1) m flows) (sym all)
+    subst (λ (m : List Act). EndsAll made waits.reorder waits.wait start handed (n + 1) m flows) (sym all)
     (subst (λ (fs : List FlowView). EndsAll made waits.reorder waits.wait start handed (n + 1) (first ++ later) fs) (sym at.others)
     (one_more_ends at.flow at.flow' before at.stands at.ends))
 

@@ -11,7 +11,6 @@ use Rattle.receiver.specs.declared.setup.Setup.{Setup}
 use Rattle.receiver.specs.declared.setup.SetupError.{SetupError}
 use Rattle.receiver.specs.declared.setup.SetupError.TheVariants as setup_error
 use Rattle.receiver.specs.Widths.{IsSetupErrorWithin}
-use Rattle.receiver.specs.HandedIn.{HandedIn}
 use Rattle.capture_map.specs.declared.map.CaptureMap.{CaptureMap}
 use Rattle.capture_map.specs.declared.map.MapFlow.{MapFlow}
 use Rattle.capture_map.specs.declared.map.MapSid.{MapSid}
@@ -20,6 +19,7 @@ use Rattle.captured_flows.specs.declared.sound_burst.SoundBurst.{SoundBurst}
 use Rattle.captured_flows.specs.declared.captured_burst.CapturedBurst.{CapturedBurst}
 use Rattle.captured_flows.specs.declared.burst_taken.BurstTaken.{BurstTaken}
 use Rattle.captured_flows.specs.declared.burst_taken.BurstTaken.TheVariants as taken
+use Rattle.captured_flows.specs.Acts.{Act, alone}
 use Rattle.captured_flows.specs.Sids.{channel_of, flow_of}
 use Rattle.captured_flows.specs.Sound.{granted_to, IsSound, IsUnsound}
 use Rattle.captured_flows.specs.Flow.{FlowView, IsInput, Comes, EndsWaiting}
@@ -32,12 +32,12 @@ abbrev pub refused_burst : CapturedBurst → Input
 refused_burst burst = Burst 0 burst.check burst.bytes
 
 -- They are handed in as they come, and this is told of the burst.
-pub record IsRefused (channel : ℕ) (burst : CapturedBurst) (answered : Reply) (made : TableSetup) (handed more : List HandedIn) : Type 0 where
+pub record IsRefused (channel : ℕ) (burst : CapturedBurst) (answered : Reply) (made : TableSetup) (handed more : List Act) : Type 0 where
   pub granting : Reply
-  pub granted : List HandedIn
-  pub grant : IsInput channel (refused_grant burst) granting made handed granted
-  pub coming : List HandedIn
-  pub is_burst : IsInput channel (refused_burst burst) answered made (handed ++ granted) coming
+  pub granted : List Act
+  pub grant : IsInput alone channel (refused_grant burst) granting made handed granted
+  pub coming : List Act
+  pub is_burst : IsInput alone channel (refused_burst burst) answered made (handed ++ granted) coming
   pub all : more ≡ granted ++ coming
 
 -- **With this map**, where a receiver is made with this, bursts wait for `reorder`, and what is held for longer than `wait` is let go. In what follows
@@ -45,29 +45,29 @@ pub record IsRefused (channel : ℕ) (burst : CapturedBurst) (answered : Reply) 
 module _ (capture_map : CaptureMap) (made : TableSetup) (reorder wait : ℕ) where
   -- **A burst comes**: one of an upstream channel or a service identifier that the map doesn't have is passed over; one that its lane refuses is handed in
   -- at once, and its flow never sees it; any other comes to its flow.
-  pub data SpellsBurst (flows : List FlowView) (burst : CapturedBurst) (handed : List HandedIn) : BurstTaken → List HandedIn → List FlowView → Type 0 where
+  pub data SpellsBurst (flows : List FlowView) (burst : CapturedBurst) (handed : List Act) : BurstTaken → List Act → List FlowView → Type 0 where
     of_no_channel : channel_of capture_map.channels.items burst.channel ≡ None → SpellsBurst flows burst handed taken.UnknownChannel [] flows
     of_no_flow : (channel : ℕ) → channel_of capture_map.channels.items burst.channel ≡ Some channel → flow_of capture_map.sids.items channel burst.sid ≡ None
         → SpellsBurst flows burst handed taken.UnknownSid [] flows
-    is_refused : {more : List HandedIn} (channel flow : ℕ) (answered : Reply) → channel_of capture_map.channels.items burst.channel ≡ Some channel
+    is_refused : {more : List Act} (channel flow : ℕ) (answered : Reply) → channel_of capture_map.channels.items burst.channel ≡ Some channel
         → flow_of capture_map.sids.items channel burst.sid ≡ Some flow → IsUnsound burst → IsRefused channel burst answered made handed more
         → SpellsBurst flows burst handed (taken.Refused answered) more flows
-    comes : {more : List HandedIn} (channel k : ℕ) (one : Arrival SoundBurst) (flow flow' : FlowView) → channel_of capture_map.channels.items burst.channel ≡ Some channel
+    comes : {more : List Act} (channel k : ℕ) (one : Arrival SoundBurst) (flow flow' : FlowView) → channel_of capture_map.channels.items burst.channel ≡ Some channel
         → flow_of capture_map.sids.items channel burst.sid ≡ Some k → IsSound channel burst one → slice_get flows k ≡ Some flow
         → Comes made wait k reorder one flow handed more flow' → SpellsBurst flows burst handed (taken.Waits k) more (slice_set flows k flow')
 
   -- **Bursts come one after another.**
-  pub data SpellsBursts (flows : List FlowView) (handed : List HandedIn) : List CapturedBurst → List HandedIn → List FlowView → Type 0 where
+  pub data SpellsBursts (flows : List FlowView) (handed : List Act) : List CapturedBurst → List Act → List FlowView → Type 0 where
     none_comes : SpellsBursts flows handed [] [] flows
-    one_more_comes : {bursts : List CapturedBurst} {burst : CapturedBurst} {told : BurstTaken} {first later : List HandedIn} {between flows' : List FlowView}
+    one_more_comes : {bursts : List CapturedBurst} {burst : CapturedBurst} {told : BurstTaken} {first later : List Act} {between flows' : List FlowView}
         → SpellsBursts flows handed bursts first between → SpellsBurst between burst (handed ++ first) told later flows'
         → SpellsBursts flows handed (bursts ++ burst ∷ []) (first ++ later) flows'
 
 module _ (made : TableSetup) (reorder wait : ℕ) where
   -- **Nothing more comes** of the first n flows: of one after another all that waits is handed on, and its beginning ends.
-  pub data EndsAll (flows : List FlowView) (handed : List HandedIn) : ℕ → List HandedIn → List FlowView → Type 0 where
+  pub data EndsAll (flows : List FlowView) (handed : List Act) : ℕ → List Act → List FlowView → Type 0 where
     none_ends : EndsAll flows handed 0 [] flows
-    one_more_ends : {n : ℕ} {first later : List HandedIn} {between : List FlowView} (flow flow' : FlowView)
+    one_more_ends : {n : ℕ} {first later : List Act} {between : List FlowView} (flow flow' : FlowView)
         → EndsAll flows handed n first between → slice_get between n ≡ Some flow → EndsWaiting made wait n reorder flow (handed ++ first) later flow'
         → EndsAll flows handed (n + 1) (first ++ later) (slice_set between n flow')
 

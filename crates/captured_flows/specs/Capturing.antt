@@ -1,7 +1,7 @@
 -- The flows of a capture with a map, and the receiver behind them.
 use Rattle.std.specs.Prelude.{ℕ, Bool, List, length}
 use Rattle.bonded_flows.specs.Table.{TableSetup}
-use Rattle.receiver.specs.HandedIn.{HandedIn}
+use Rattle.captured_flows.specs.Acts.{Act}
 use Rattle.captured_flows.specs.declared.captured_burst.CapturedBurst.{CapturedBurst}
 use Rattle.captured_flows.specs.declared.burst_taken.BurstTaken.{BurstTaken}
 use Rattle.captured_flows.specs.declared.captured_flows.CapturedFlows.{CapturedFlows}
@@ -23,16 +23,16 @@ module _ {C : Type 0} where
     pub sids : HasFlowsOf captured.map.sids.items captured.sids
 
   -- **What a burst spells**, of which this is told
-  abbrev pub SpellsNext : CapturedFlows C → CapturedBurst → BurstTaken → CapturedFlows C → TableSetup → List HandedIn → List HandedIn → Type 0
+  abbrev pub SpellsNext : CapturedFlows C → CapturedBurst → BurstTaken → CapturedFlows C → TableSetup → List Act → List Act → Type 0
   SpellsNext old burst told new made handed more =
       SpellsBurst old.map made old.waits.reorder old.waits.wait (views_in old) burst handed told more (views_in new)
 
   -- what bursts spell that come one after another
-  abbrev pub SpellsAll : CapturedFlows C → List CapturedBurst → CapturedFlows C → TableSetup → List HandedIn → List HandedIn → Type 0
+  abbrev pub SpellsAll : CapturedFlows C → List CapturedBurst → CapturedFlows C → TableSetup → List Act → List Act → Type 0
   SpellsAll old bursts new made handed more =
       SpellsBursts old.map made old.waits.reorder old.waits.wait (views_in old) handed bursts more (views_in new)
 
   -- and what the end spells
-  abbrev pub EndsWaitingOfAll : CapturedFlows C → CapturedFlows C → TableSetup → List HandedIn → List HandedIn → Type 0
+  abbrev pub EndsWaitingOfAll : CapturedFlows C → CapturedFlows C → TableSetup → List Act → List Act → Type 0
   EndsWaitingOfAll old new made handed more =
       EndsAll made old.waits.reorder old.waits.wait (views_in old) handed (length old.flows.items) more (views_in new)

@@ -20,6 +20,7 @@ use Rattle.capture_rules.specs.Order.{HandsOn, HandsOnAll}
 use Rattle.capture_rules.specs.Begin.{BeginningView, nothing_handed_on, IsEnded, is_over, is_beginning, is_silent, after_end, after_hand_on, to_hand_in}
 use Rattle.capture_rules.specs.Held.{IsSkip, still_ahead}
 use Rattle.captured_flows.specs.declared.sound_burst.SoundBurst.{SoundBurst}
+use Rattle.captured_flows.specs.Acts.{Act, alone, with_burst, items_of}
 
 -- a burst that is handed on
 abbrev pub Next : Type 0
@@ -41,12 +42,12 @@ abbrev pub says_kept : Reply → Bool
 says_kept (reply.Admitted flow sequence told) = is_kept told.verdict
 says_kept _ = false
 
--- This input comes on a channel, is answered by its lane, and this is told of it.
-pub record IsInput (channel : ℕ) (input : Input) (answered : Reply) (made : TableSetup) (handed more : List HandedIn) : Type 0 where
+-- This input comes on a channel, by such an act, is answered by its lane, and this is told of it.
+pub record IsInput (act : HandedIn → Act) (channel : ℕ) (input : Input) (answered : Reply) (made : TableSetup) (handed more : List Act) : Type 0 where
   pub answer : Answer
   pub says : Says answered answer
-  pub told : IsToldRightly made handed channel answer answered
-  pub all : more ≡ came channel (record { input = input; answer = answer }) ∷ []
+  pub told : IsToldRightly made (items_of handed) channel answer answered
+  pub all : more ≡ act (came channel (record { input = input; answer = answer })) ∷ []
 
 -- What is known of a flow: the window's width; the bursts that wait; its beginning; and what it holds, with times.
 pub record FlowView : Type 0 where
@@ -65,23 +66,23 @@ pub data EndsIf (is_to_end : Bool) (beginning : BeginningView SoundBurst) : Opti
   ends : (begun : Begun SoundBurst) → is_to_end ≡ true → IsEnded beginning begun → EndsIf is_to_end beginning (Some begun) (after_end beginning)
 
 -- flow k of a receiver that is made with this expects this number, after all that was handed in
-abbrev pub Expects : TableSetup → ℕ → List HandedIn → ℕ → Type 0
-Expects made k handed number = (flow_record : FlowRecord) → slice_get made.records k ≡ Some flow_record → IsNumberExpected made k flow_record handed number
+abbrev pub Expects : TableSetup → ℕ → List Act → ℕ → Type 0
+Expects made k handed number = (flow_record : FlowRecord) → slice_get made.records k ≡ Some flow_record → IsNumberExpected made k flow_record (items_of handed) number
 
 -- **Flow k of a receiver that is made with this**, where what is held for longer than `wait` is let go. In what follows `handed` is what was handed in before,
 -- of all flows, and `more` what is handed in then.
 module _ (made : TableSetup) (wait k : ℕ) where
   -- the flow skips to a number, and what then doesn't lie ahead is held no longer
-  pub record Skips (number : ℕ) (held : List HeldTime) (handed more : List HandedIn) (left : List HeldTime) : Type 0 where
-    pub all : more ≡ decided k (SkipTo number) ∷ []
+  pub record Skips (number : ℕ) (held : List HeldTime) (handed more : List Act) (left : List HeldTime) : Type 0 where
+    pub all : more ≡ alone (decided k (SkipTo number)) ∷ []
     pub expected : ℕ
     pub expects : Expects made k (handed ++ more) expected
     pub left_is : left ≡ still_ahead expected held
 
   -- Where something is held for long, the flow skips to the last of that.
-  pub data LetsGo (now : ℕ) (held : List HeldTime) (handed : List HandedIn) : List HandedIn → List HeldTime → Type 0 where
+  pub data LetsGo (now : ℕ) (held : List HeldTime) (handed : List Act) : List Act → List HeldTime → Type 0 where
     none_is_old : (expected : ℕ) → Expects made k handed expected → IsSkip wait now expected held None → LetsGo now held handed [] held
-    some_is_old : {more : List HandedIn} {left : List HeldTime} (expected number : ℕ) → Expects made k handed expected → IsSkip wait now expected held (Some number)
+    some_is_old : {more : List Act} {left : List HeldTime} (expected number : ℕ) → Expects made k handed expected → IsSkip wait now expected held (Some number)
         → Skips number held handed more left → LetsGo now held handed more left
 
   -- what is held besides, of a segment that was kept or wasn't
@@ -89,18 +90,18 @@ module _ (made : TableSetup) (wait k : ℕ) where
     not_kept : Holds one held false held
     kept : (entry : HeldTime) → entry.number ≡ one.arrival.number → entry.time ≡ one.time → Holds one held true (held ++ entry ∷ [])
 
-  -- **A burst is handed in**, after what is let go: its grant and itself, each answered by its lane. If its segment is kept, it is held from then on, as long
+  -- **A burst is handed in**, after what is let go: it is told, and then its grant and itself are handed in, each answered by its lane. If its segment is kept, it is held from then on, as long
   -- as it lies ahead.
-  pub record HandsIn (one : Next) (held : List HeldTime) (handed more : List HandedIn) (left : List HeldTime) : Type 0 where
-    pub let_go : List HandedIn
+  pub record HandsIn (one : Next) (held : List HeldTime) (handed more : List Act) (left : List HeldTime) : Type 0 where
+    pub let_go : List Act
     pub between : List HeldTime
     pub lets_go : LetsGo one.time held handed let_go between
     pub granting : Reply
-    pub granted : List HandedIn
-    pub grant : IsInput one.arrival.channel (grant_of one) granting made (handed ++ let_go) granted
+    pub granted : List Act
+    pub grant : IsInput (with_burst k one.arrival) one.arrival.channel (grant_of one) granting made (handed ++ let_go) granted
     pub answered : Reply
-    pub coming : List HandedIn
-    pub burst : IsInput one.arrival.channel (burst_of one) answered made ((handed ++ let_go) ++ granted) coming
+    pub coming : List Act
+    pub burst : IsInput alone one.arrival.channel (burst_of one) answered made ((handed ++ let_go) ++ granted) coming
     pub all : more ≡ (let_go ++ granted) ++ coming
     pub holding : List HeldTime
     pub holds : Holds one between (says_kept answered) holding
@@ -109,81 +110,81 @@ module _ (made : TableSetup) (wait k : ℕ) where
     pub left_is : left ≡ still_ahead expected holding
 
   -- several are, one after another
-  pub data HandsInAll : List Next → List HeldTime → List HandedIn → List HandedIn → List HeldTime → Type 0 where
-    none : {held : List HeldTime} {handed : List HandedIn} → HandsInAll [] held handed [] held
-    one_more : {one : Next} {before : List Next} {held between left : List HeldTime} {handed first later : List HandedIn}
+  pub data HandsInAll : List Next → List HeldTime → List Act → List Act → List HeldTime → Type 0 where
+    none : {held : List HeldTime} {handed : List Act} → HandsInAll [] held handed [] held
+    one_more : {one : Next} {before : List Next} {held between left : List HeldTime} {handed first later : List Act}
         → HandsInAll before held handed first between → HandsIn one between (handed ++ first) later left
         → HandsInAll (before ++ one ∷ []) held handed (first ++ later) left
 
   -- **The flow begins, or begins anew**: nothing is held, and what was kept is handed in.
-  pub record Begins (begun : Begun SoundBurst) (handed more : List HandedIn) (left : List HeldTime) : Type 0 where
-    pub later : List HandedIn
-    pub hands_in : HandsInAll begun.kept.items [] (handed ++ restarted k begun.first ∷ []) later left
-    pub all : more ≡ restarted k begun.first ∷ later
+  pub record Begins (begun : Begun SoundBurst) (handed more : List Act) (left : List HeldTime) : Type 0 where
+    pub later : List Act
+    pub hands_in : HandsInAll begun.kept.items [] (handed ++ alone (restarted k begun.first) ∷ []) later left
+    pub all : more ≡ alone (restarted k begun.first) ∷ later
 
   -- it does, if a beginning of it has ended
-  pub data BeginsIf (held : List HeldTime) (handed : List HandedIn) : Option (Begun SoundBurst) → List HandedIn → List HeldTime → Type 0 where
+  pub data BeginsIf (held : List HeldTime) (handed : List Act) : Option (Begun SoundBurst) → List Act → List HeldTime → Type 0 where
     goes_on : BeginsIf held handed None [] held
-    begins : {begun : Begun SoundBurst} {more : List HandedIn} {left : List HeldTime} → Begins begun handed more left → BeginsIf held handed (Some begun) more left
+    begins : {begun : Begun SoundBurst} {more : List Act} {left : List HeldTime} → Begins begun handed more left → BeginsIf held handed (Some begun) more left
 
   -- after a silence what is old is let go
-  pub data LetsGoIf (silent : Bool) (now : ℕ) (held : List HeldTime) (handed : List HandedIn) : List HandedIn → List HeldTime → Type 0 where
+  pub data LetsGoIf (silent : Bool) (now : ℕ) (held : List HeldTime) (handed : List Act) : List Act → List HeldTime → Type 0 where
     not_silent : silent ≡ false → LetsGoIf silent now held handed [] held
-    is_silent_then : {more : List HandedIn} {left : List HeldTime} → silent ≡ true → LetsGo now held handed more left → LetsGoIf silent now held handed more left
+    is_silent_then : {more : List Act} {left : List HeldTime} → silent ≡ true → LetsGo now held handed more left → LetsGoIf silent now held handed more left
 
   -- what isn't kept is handed in
-  pub data HandsInIf (held : List HeldTime) (handed : List HandedIn) : Option Next → List HandedIn → List HeldTime → Type 0 where
+  pub data HandsInIf (held : List HeldTime) (handed : List Act) : Option Next → List Act → List HeldTime → Type 0 where
     is_kept_then : HandsInIf held handed None [] held
-    is_handed_in : {one : Next} {more : List HandedIn} {left : List HeldTime} → HandsIn one held handed more left → HandsInIf held handed (Some one) more left
+    is_handed_in : {one : Next} {more : List Act} {left : List HeldTime} → HandsIn one held handed more left → HandsInIf held handed (Some one) more left
 
   -- **A burst is handed on**: a beginning that is over ends first; after a silence what is old is let go; and then it is kept, or handed in.
-  pub record IsHandedOn (window : ℕ) (one : Next) (beginning : BeginningView SoundBurst) (held : List HeldTime) (handed more : List HandedIn) (beginning' : BeginningView SoundBurst) (held' : List HeldTime) : Type 0 where
+  pub record IsHandedOn (window : ℕ) (one : Next) (beginning : BeginningView SoundBurst) (held : List HeldTime) (handed more : List Act) (beginning' : BeginningView SoundBurst) (held' : List HeldTime) : Type 0 where
     pub begun : Option (Begun SoundBurst)
     pub ended : BeginningView SoundBurst
     pub ends : EndsIf (is_over beginning.kept one.time) beginning begun ended
-    pub ending : List HandedIn
+    pub ending : List Act
     pub after_ending : List HeldTime
     pub begins_if : BeginsIf held handed begun ending after_ending
     pub between : List HeldTime
-    pub let_go : List HandedIn
+    pub let_go : List Act
     pub lets_go_if : LetsGoIf (is_silent ended one.time) one.time after_ending (handed ++ ending) let_go between
     pub expected : ℕ
     pub expects : Expects made k ((handed ++ ending) ++ let_go) expected
-    pub last : List HandedIn
+    pub last : List Act
     pub hands_in : HandsInIf between ((handed ++ ending) ++ let_go) (to_hand_in ended expected window one) last held'
     pub beginning_is : beginning' ≡ after_hand_on ended expected window one
     pub all : more ≡ (ending ++ let_go) ++ last
 
   -- several are, one after another
-  pub data AreHandedOn (window : ℕ) : List Next → BeginningView SoundBurst → List HeldTime → List HandedIn → List HandedIn → BeginningView SoundBurst → List HeldTime → Type 0 where
-    no_more : {beginning : BeginningView SoundBurst} {held : List HeldTime} {handed : List HandedIn}
+  pub data AreHandedOn (window : ℕ) : List Next → BeginningView SoundBurst → List HeldTime → List Act → List Act → BeginningView SoundBurst → List HeldTime → Type 0 where
+    no_more : {beginning : BeginningView SoundBurst} {held : List HeldTime} {handed : List Act}
         → AreHandedOn window [] beginning held handed [] beginning held
-    next_one : {one : Next} {before : List Next} {beginning between beginning' : BeginningView SoundBurst} {held holding held' : List HeldTime} {handed first later : List HandedIn}
+    next_one : {one : Next} {before : List Next} {beginning between beginning' : BeginningView SoundBurst} {held holding held' : List HeldTime} {handed first later : List Act}
         → AreHandedOn window before beginning held handed first between holding → IsHandedOn window one between holding (handed ++ first) later beginning' held'
         → AreHandedOn window (before ++ one ∷ []) beginning held handed (first ++ later) beginning' held'
 
   -- what has waited long enough is handed on
-  pub record PassesOn (reorder now : ℕ) (flow : FlowView) (handed more : List HandedIn) (flow' : FlowView) : Type 0 where
+  pub record PassesOn (reorder now : ℕ) (flow : FlowView) (handed more : List Act) (flow' : FlowView) : Type 0 where
     pub due : List Next
     pub hands_on : HandsOn reorder now flow.waiting due flow'.waiting
     pub handed_on : AreHandedOn flow.window due flow.beginning flow.held handed more flow'.beginning flow'.held
     pub window : flow'.window ≡ flow.window
 
   -- **A burst of the flow comes**: it waits, and all that has waited long enough is handed on.
-  abbrev pub Comes : ℕ → Arrival SoundBurst → FlowView → List HandedIn → List HandedIn → FlowView → Type 0
+  abbrev pub Comes : ℕ → Arrival SoundBurst → FlowView → List Act → List Act → FlowView → Type 0
   Comes reorder one flow handed more flow' = PassesOn reorder one.time (record flow { waiting = flow.waiting ++ one ∷ [] }) handed more flow'
 
   -- **Nothing more comes**: all that waits is handed on, and a beginning ends.
-  pub record EndsWaiting (reorder : ℕ) (flow : FlowView) (handed more : List HandedIn) (flow' : FlowView) : Type 0 where
+  pub record EndsWaiting (reorder : ℕ) (flow : FlowView) (handed more : List Act) (flow' : FlowView) : Type 0 where
     pub due : List Next
     pub hands_on : HandsOnAll reorder flow.waiting due
     pub beginning : BeginningView SoundBurst
     pub held : List HeldTime
-    pub first : List HandedIn
+    pub first : List Act
     pub handed_on : AreHandedOn flow.window due flow.beginning flow.held handed first beginning held
     pub begun : Option (Begun SoundBurst)
     pub ends : EndsIf (is_beginning beginning.kept) beginning begun flow'.beginning
-    pub later : List HandedIn
+    pub later : List Act
     pub begins_if : BeginsIf held (handed ++ first) begun later flow'.held
     pub none_waits : flow'.waiting ≡ []
     pub window : flow'.window ≡ flow.window

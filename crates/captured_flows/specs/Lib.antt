@@ -1,3 +1,4 @@
+pub mod Acts
 pub mod Flow
 pub mod Seen
 pub mod Steps

@@ -14,6 +14,7 @@ use Rattle.receiver.specs.declared.receiver.Receiver.{Receiver}
 use Rattle.receiver.specs.HandedIn.{HandedIn, came, decided, restarted, flow_inputs, begun_with, came_since}
 use Rattle.receiver.specs.Receiving.{StandsFor, GaveSince}
 use Rattle.captured_flows.specs.declared.captured_burst.CapturedBurst.{CapturedBurst}
+use Rattle.captured_flows.specs.Acts.{Act, alone, with_burst, items_of}
 use Rattle.captured_flows.specs.Sound.{IsUnsound}
 use Rattle.captured_flows.specs.Flow.{Next, grant_of, burst_of}
 use Rattle.captured_flows.specs.Captures.{refused_grant, refused_burst}
@@ -32,43 +33,43 @@ ClosesFlow check made flow handed given frames counts =
     (came_since made flow flow_record (flow_inputs (length made.records) handed)) (own ++ frames) counts) (frames_of flow given)
 
 -- A part of a move, in which something failed: what was handed in of it, and what is seen. If a burst was told, it was told first.
-pub data IsPart : List HandedIn → List CaptureStep → Type 0 where
-  none_told : (more : List HandedIn) (gives : List Given) → IsPart more (map gave gives)
-  one_told : (flow : ℕ) (one : Next) (more : List HandedIn) (gives : List Given) → IsPart more (handed_in flow one.arrival ∷ map gave gives)
+pub data IsPart : List Act → List CaptureStep → Type 0 where
+  none_told : (more : List Act) (gives : List Given) → IsPart more (map gave gives)
+  one_told : (flow : ℕ) (one : Next) (more : List Act) (gives : List Given) → IsPart more (handed_in flow one.arrival ∷ map gave gives)
 
 module _ {C : Type 0} (accepts : C → List ℕ → Bool) (check : List ℕ → Bool) (made : TableSetup) where
   -- Some receiver stands for what was handed in, has given this, and has nothing left to be done: so this is all that is given for it.
-  pub record IsGivenFor (handed : List HandedIn) (given : List Given) : Type 0 where
+  pub record IsGivenFor (handed : List Act) (given : List Given) : Type 0 where
     pub receiver : Receiver C
-    pub stands : StandsFor accepts receiver check made handed given
+    pub stands : StandsFor accepts receiver check made (items_of handed) given
     pub at_hand : IsAtHand accepts receiver
 
   -- **One move**, after this was handed in and given: what is handed in, and what is seen. A flow skips, and what that gives is seen. The grant of a burst
   -- and the burst itself, which its lane won't admit, are handed in, and no burst is told. A burst of a flow is told, and then its grant and itself are
   -- handed in, and what each gives is seen. A flow is closed, what it then gives is seen, and then that it begins anew, with its counts.
-  pub data IsMove (handed : List HandedIn) (given : List Given) : List HandedIn → List CaptureStep → Type 0 where
-    skips_to : (flow number : ℕ) (gives : List Given) → IsGivenFor (handed ++ decided flow (SkipTo number) ∷ []) (given ++ gives)
-        → IsMove handed given (decided flow (SkipTo number) ∷ []) (map gave gives)
+  pub data IsMove (handed : List Act) (given : List Given) : List Act → List CaptureStep → Type 0 where
+    skips_to : (flow number : ℕ) (gives : List Given) → IsGivenFor (handed ++ alone (decided flow (SkipTo number)) ∷ []) (given ++ gives)
+        → IsMove handed given (alone (decided flow (SkipTo number)) ∷ []) (map gave gives)
     is_unsound : (channel : ℕ) (burst : CapturedBurst) (granting coming : Answer) (of_grant of_burst : List Given) → IsUnsound burst
-        → IsGivenFor (handed ++ came_on channel (refused_grant burst) granting ∷ []) (given ++ of_grant)
-        → IsGivenFor ((handed ++ came_on channel (refused_grant burst) granting ∷ []) ++ came_on channel (refused_burst burst) coming ∷ []) ((given ++ of_grant) ++ of_burst)
-        → IsMove handed given (came_on channel (refused_grant burst) granting ∷ came_on channel (refused_burst burst) coming ∷ []) (map gave (of_grant ++ of_burst))
+        → IsGivenFor (handed ++ alone (came_on channel (refused_grant burst) granting) ∷ []) (given ++ of_grant)
+        → IsGivenFor ((handed ++ alone (came_on channel (refused_grant burst) granting) ∷ []) ++ alone (came_on channel (refused_burst burst) coming) ∷ []) ((given ++ of_grant) ++ of_burst)
+        → IsMove handed given (alone (came_on channel (refused_grant burst) granting) ∷ alone (came_on channel (refused_burst burst) coming) ∷ []) (map gave (of_grant ++ of_burst))
     is_told : (flow : ℕ) (one : Next) (granting coming : Answer) (of_grant of_burst : List Given)
-        → IsGivenFor (handed ++ came_on one.arrival.channel (grant_of one) granting ∷ []) (given ++ of_grant)
-        → IsGivenFor ((handed ++ came_on one.arrival.channel (grant_of one) granting ∷ []) ++ came_on one.arrival.channel (burst_of one) coming ∷ []) ((given ++ of_grant) ++ of_burst)
-        → IsMove handed given (came_on one.arrival.channel (grant_of one) granting ∷ came_on one.arrival.channel (burst_of one) coming ∷ [])
+        → IsGivenFor (handed ++ with_burst flow one.arrival (came_on one.arrival.channel (grant_of one) granting) ∷ []) (given ++ of_grant)
+        → IsGivenFor ((handed ++ with_burst flow one.arrival (came_on one.arrival.channel (grant_of one) granting) ∷ []) ++ alone (came_on one.arrival.channel (burst_of one) coming) ∷ []) ((given ++ of_grant) ++ of_burst)
+        → IsMove handed given (with_burst flow one.arrival (came_on one.arrival.channel (grant_of one) granting) ∷ alone (came_on one.arrival.channel (burst_of one) coming) ∷ [])
         (handed_in flow one.arrival ∷ map gave (of_grant ++ of_burst))
-    begins_again : (flow first : ℕ) (frames : List (List ℕ)) (counts : FlowCounts) → ClosesFlow check made flow handed given frames counts
-        → IsGivenFor (handed ++ restarted flow first ∷ []) (given ++ map (Frame flow) frames)
-        → IsMove handed given (restarted flow first ∷ []) (map gave (map (Frame flow) frames) ++ began_anew flow counts ∷ [])
+    begins_again : (flow first : ℕ) (frames : List (List ℕ)) (counts : FlowCounts) → ClosesFlow check made flow (items_of handed) given frames counts
+        → IsGivenFor (handed ++ alone (restarted flow first) ∷ []) (given ++ map (Frame flow) frames)
+        → IsMove handed given (alone (restarted flow first) ∷ []) (map gave (map (Frame flow) frames) ++ began_anew flow counts ∷ [])
 
   -- **Moves come one after another**: what is handed in and what is seen go side by side.
-  pub data Plays (handed : List HandedIn) (given : List Given) : List HandedIn → List CaptureStep → Type 0 where
+  pub data Plays (handed : List Act) (given : List Given) : List Act → List CaptureStep → Type 0 where
     nothing : Plays handed given [] []
-    one_move : {more later : List HandedIn} {steps behind : List CaptureStep} → Plays handed given more steps
+    one_move : {more later : List Act} {steps behind : List CaptureStep} → Plays handed given more steps
         → IsMove (handed ++ more) (given ++ given_in steps) later behind → Plays handed given (more ++ later) (steps ++ behind)
 
   -- **Moves, and then a part of one**, where something failed.
-  pub data PlaysPartly (handed : List HandedIn) (given : List Given) : List HandedIn → List CaptureStep → Type 0 where
-    breaks_off : {more later : List HandedIn} {steps behind : List CaptureStep} → Plays handed given more steps → IsPart later behind
+  pub data PlaysPartly (handed : List Act) (given : List Given) : List Act → List CaptureStep → Type 0 where
+    breaks_off : {more later : List Act} {steps behind : List CaptureStep} → Plays handed given more steps → IsPart later behind
         → PlaysPartly handed given (more ++ later) (steps ++ behind)

@@ -2,7 +2,7 @@
 use Rattle.std.specs.Prelude.{◌≡◌, ℕ, Some, is_some, List, map, slice_get, slice_set}
 use Rattle.capture_map.specs.declared.map.MapFlow.{MapFlow}
 use Rattle.bonded_flows.specs.Table.{TableSetup}
-use Rattle.receiver.specs.HandedIn.{HandedIn}
+use Rattle.captured_flows.specs.Acts.{Act}
 use Rattle.capture_rules.specs.declared.arrival.Arrival.{Arrival}
 use Rattle.captured_flows.specs.declared.sound_burst.SoundBurst.{SoundBurst}
 use Rattle.captured_flows.specs.declared.waits.Waits.{Waits}
@@ -18,7 +18,7 @@ abbrev pub HaveWaits : Waits → List CapturedFlow → Type 0
 HaveWaits waits flows = (k : ℕ) (flow : CapturedFlow) → slice_get flows k ≡ Some flow → HasWaits waits flow
 
 -- a burst comes to flow k of these
-pub record ComesAt (waits : Waits) (k : ℕ) (one : Arrival SoundBurst) (flows : List FlowView) (made : TableSetup) (handed more : List HandedIn) (flows' : List FlowView) : Type 0 where
+pub record ComesAt (waits : Waits) (k : ℕ) (one : Arrival SoundBurst) (flows : List FlowView) (made : TableSetup) (handed more : List Act) (flows' : List FlowView) : Type 0 where
   pub flow : FlowView
   pub stands : slice_get flows k ≡ Some flow
   pub flow' : FlowView
@@ -26,7 +26,7 @@ pub record ComesAt (waits : Waits) (k : ℕ) (one : Arrival SoundBurst) (flows :
   pub others : flows' ≡ slice_set flows k flow'
 
 -- nothing more comes to it
-pub record EndsAt (waits : Waits) (k : ℕ) (flows : List FlowView) (made : TableSetup) (handed more : List HandedIn) (flows' : List FlowView) : Type 0 where
+pub record EndsAt (waits : Waits) (k : ℕ) (flows : List FlowView) (made : TableSetup) (handed more : List Act) (flows' : List FlowView) : Type 0 where
   pub flow : FlowView
   pub stands : slice_get flows k ≡ Some flow
   pub flow' : FlowView

@@ -1,8 +1,8 @@
 //! The bursts of a capture with a map, handed in to a receiver.
-ghost use Rattle.std.specs.Prelude.{◌≡◌, [], IfOk, IfErr, map, length};
+ghost use Rattle.std.specs.Prelude.{◌≡◌, [], IfOk, IfErr, OnErr, map, length};
 ghost use Rattle.receiver.specs.Receiving.{IsReceiving};
 ghost use Rattle.captured_flows.specs.AtHand.{IsAtHand};
-ghost use Rattle.captured_flows.specs.Taking.{TakesBy};
+ghost use Rattle.captured_flows.specs.Taking.{TakesBy, BreaksOff};
 ghost use Rattle.captured_flows.specs.Sound.{IsUnsound};
 ghost use Rattle.captured_flows.specs.Captures.{IsRefused, EndsAll};
 ghost use Rattle.captured_flows.specs.Together.{HaveWaits, ComesAt, EndsAt, views_of, view_begun};
@@ -35,9 +35,11 @@ fn refuse<C: HeaderCheck + Drop, O: CaptureConsumer>(
 ) -> Result<Reply, FlowFault>
     requires at_hand { IsAtHand C.accepts receiver.old }
     requires unsound { IsUnsound burst }
-    ensures takes { IfOk result (λ reply. TakesBy C.accepts O.after O.saw (IsRefused channel burst reply)
+    ensures takes { IfOk result (λ reply. TakesBy C.accepts O.saw (IsRefused channel burst reply)
         receiver.old out.old receiver.new out.new) }
     ensures at_hand { IfOk result (λ _. IsAtHand C.accepts receiver.new) }
+    ensures breaks { OnErr result (BreaksOff C.accepts O.saw receiver.old out.old
+        receiver.new out.new) }
     ensures receiving { IsReceiving C.accepts receiver.new }
 {
     let grant = Input::Grant {
@@ -67,10 +69,12 @@ fn come_to<C: HeaderCheck + Drop, O: CaptureConsumer>(
 ) -> Result<(), FlowFault>
     requires at_hand { IsAtHand C.accepts receiver.old }
     requires waits { HaveWaits waits flows.old }
-    ensures takes { IfOk result (λ _. TakesBy C.accepts O.after O.saw
+    ensures takes { IfOk result (λ _. TakesBy C.accepts O.saw
         (λ made handed more. ComesAt waits k one (views_of flows.old) made handed more (views_of flows.new))
         receiver.old out.old receiver.new out.new) }
     ensures at_hand { IfOk result (λ _. IsAtHand C.accepts receiver.new) }
+    ensures breaks { OnErr result (BreaksOff C.accepts O.saw receiver.old out.old
+        receiver.new out.new) }
     ensures receiving { IsReceiving C.accepts receiver.new }
     ensures waits { HaveWaits waits flows.new }
 {
@@ -92,10 +96,12 @@ fn end_at<C: HeaderCheck + Drop, O: CaptureConsumer>(
 ) -> Result<(), FlowFault>
     requires at_hand { IsAtHand C.accepts receiver.old }
     requires waits { HaveWaits waits flows.old }
-    ensures takes { IfOk result (λ _. TakesBy C.accepts O.after O.saw
+    ensures takes { IfOk result (λ _. TakesBy C.accepts O.saw
         (λ made handed more. EndsAt waits k (views_of flows.old) made handed more (views_of flows.new))
         receiver.old out.old receiver.new out.new) }
     ensures at_hand { IfOk result (λ _. IsAtHand C.accepts receiver.new) }
+    ensures breaks { OnErr result (BreaksOff C.accepts O.saw receiver.old out.old
+        receiver.new out.new) }
     ensures receiving { IsReceiving C.accepts receiver.new }
     ensures waits { HaveWaits waits flows.new }
 {
@@ -116,10 +122,12 @@ fn end_all<C: HeaderCheck + Drop, O: CaptureConsumer>(
 ) -> Result<(), FlowFault>
     requires at_hand { IsAtHand C.accepts receiver.old }
     requires waits { HaveWaits waits flows.old }
-    ensures takes { IfOk result (λ _. TakesBy C.accepts O.after O.saw
+    ensures takes { IfOk result (λ _. TakesBy C.accepts O.saw
         (λ made handed more. EndsAll made waits.reorder waits.wait (views_of flows.old) handed
         (length flows.old) more (views_of flows.new)) receiver.old out.old receiver.new out.new) }
     ensures at_hand { IfOk result (λ _. IsAtHand C.accepts receiver.new) }
+    ensures breaks { OnErr result (BreaksOff C.accepts O.saw receiver.old out.old
+        receiver.new out.new) }
     ensures receiving { IsReceiving C.accepts receiver.new }
     ensures waits { HaveWaits waits flows.new }
 {
@@ -189,10 +197,12 @@ impl<C: HeaderCheck + Drop> CapturedFlows<C> {
         out: &mut O,
     ) -> Result<BurstTaken, FlowFault>
         requires capturing { IsCapturing C.accepts self.old }
-        ensures takes { IfOk result (λ told. TakesBy C.accepts O.after O.saw
+        ensures takes { IfOk result (λ told. TakesBy C.accepts O.saw
             (SpellsNext self.old burst told self.new) self.old.receiver out.old
             self.new.receiver out.new) }
         ensures capturing { IfOk result (λ _. IsCapturing C.accepts self.new) }
+        ensures breaks { OnErr result (BreaksOff C.accepts O.saw self.old.receiver out.old
+            self.new.receiver out.new) }
         ensures receiving { IsReceiving C.accepts self.new.receiver }
         ensures map { self.new.map ≡ self.old.map }
         ensures waits { self.new.waits ≡ self.old.waits }
@@ -233,10 +243,12 @@ impl<C: HeaderCheck + Drop> CapturedFlows<C> {
         out: &mut O,
     ) -> Result<(), FlowFault>
         requires capturing { IsCapturing C.accepts self.old }
-        ensures takes { IfOk result (λ _. TakesBy C.accepts O.after O.saw
+        ensures takes { IfOk result (λ _. TakesBy C.accepts O.saw
             (SpellsAll self.old bursts.items self.new) self.old.receiver out.old
             self.new.receiver out.new) }
         ensures capturing { IfOk result (λ _. IsCapturing C.accepts self.new) }
+        ensures breaks { OnErr result (BreaksOff C.accepts O.saw self.old.receiver out.old
+            self.new.receiver out.new) }
         ensures receiving { IsReceiving C.accepts self.new.receiver }
         ensures map { self.new.map ≡ self.old.map }
         ensures waits { self.new.waits ≡ self.old.waits }
@@ -255,10 +267,12 @@ impl<C: HeaderCheck + Drop> CapturedFlows<C> {
         out: &mut O,
     ) -> Result<(), FlowFault>
         requires capturing { IsCapturing C.accepts self.old }
-        ensures takes { IfOk result (λ _. TakesBy C.accepts O.after O.saw
+        ensures takes { IfOk result (λ _. TakesBy C.accepts O.saw
             (EndsWaitingOfAll self.old self.new) self.old.receiver out.old
             self.new.receiver out.new) }
         ensures capturing { IfOk result (λ _. IsCapturing C.accepts self.new) }
+        ensures breaks { OnErr result (BreaksOff C.accepts O.saw self.old.receiver out.old
+            self.new.receiver out.new) }
         ensures receiving { IsReceiving C.accepts self.new.receiver }
     {
         end_all(alloc, &mut self.receiver, &mut self.flows, self.waits, out)?;

@@ -1,5 +1,5 @@
 //! What becomes of the bursts of one flow.
-ghost use Rattle.std.specs.Prelude.{◌≡◌, ◌++◌, ◌∷◌, [], IfOk, OnOk, true, false};
+ghost use Rattle.std.specs.Prelude.{◌≡◌, ◌++◌, ◌∷◌, [], IfOk, OnOk, OnErr, true, false};
 ghost use Rattle.receiver.specs.Receiving.{IsReceiving};
 ghost use Rattle.capture_rules.specs.Begin.{beginning_seen};
 ghost use Rattle.capture_rules.specs.Held.{held_by, wait_of};
@@ -7,7 +7,7 @@ ghost use Rattle.capture_rules.specs.Waiting.{reorder_of};
 ghost use Rattle.captured_flows.specs.Flow.{Skips, LetsGo, HandsIn, HandsInAll, Begins, BeginsIf, LetsGoIf, HandsInIf, says_kept};
 ghost use Rattle.captured_flows.specs.Flow.{IsHandedOn, PassesOn, Comes, EndsWaiting, flow_begun};
 ghost use Rattle.captured_flows.specs.AtHand.{IsAtHand};
-ghost use Rattle.captured_flows.specs.Taking.{TakesBy};
+ghost use Rattle.captured_flows.specs.Taking.{TakesBy, BreaksOff};
 
 use crate::capture_consumer::CaptureConsumer;
 use crate::flow_fault::FlowFault;
@@ -39,10 +39,12 @@ fn skip_past<C: HeaderCheck + Drop, O: CaptureConsumer>(
     out: &mut O,
 ) -> Result<(), FlowFault>
     requires at_hand { IsAtHand C.accepts receiver.old }
-    ensures takes { IfOk result (λ _. TakesBy C.accepts O.after O.saw
+    ensures takes { IfOk result (λ _. TakesBy C.accepts O.saw
         (λ made handed more. Skips made (wait_of held.old) flow number (held_by held.old) handed more
         (held_by held.new)) receiver.old out.old receiver.new out.new) }
     ensures at_hand { IfOk result (λ _. IsAtHand C.accepts receiver.new) }
+    ensures breaks { OnErr result (BreaksOff C.accepts O.saw receiver.old out.old
+        receiver.new out.new) }
     ensures receiving { IsReceiving C.accepts receiver.new }
     ensures wait { wait_of held.new ≡ wait_of held.old }
 {
@@ -62,10 +64,12 @@ fn let_go<C: HeaderCheck + Drop, O: CaptureConsumer>(
     out: &mut O,
 ) -> Result<(), FlowFault>
     requires at_hand { IsAtHand C.accepts receiver.old }
-    ensures takes { IfOk result (λ _. TakesBy C.accepts O.after O.saw
+    ensures takes { IfOk result (λ _. TakesBy C.accepts O.saw
         (λ made handed more. LetsGo made (wait_of held.old) flow now (held_by held.old) handed more
         (held_by held.new)) receiver.old out.old receiver.new out.new) }
     ensures at_hand { IfOk result (λ _. IsAtHand C.accepts receiver.new) }
+    ensures breaks { OnErr result (BreaksOff C.accepts O.saw receiver.old out.old
+        receiver.new out.new) }
     ensures receiving { IsReceiving C.accepts receiver.new }
     ensures wait { wait_of held.new ≡ wait_of held.old }
 {
@@ -108,10 +112,12 @@ fn hand_in<C: HeaderCheck + Drop, O: CaptureConsumer>(
     out: &mut O,
 ) -> Result<(), FlowFault>
     requires at_hand { IsAtHand C.accepts receiver.old }
-    ensures takes { IfOk result (λ _. TakesBy C.accepts O.after O.saw
+    ensures takes { IfOk result (λ _. TakesBy C.accepts O.saw
         (λ made handed more. HandsIn made (wait_of held.old) flow one (held_by held.old) handed more
         (held_by held.new)) receiver.old out.old receiver.new out.new) }
     ensures at_hand { IfOk result (λ _. IsAtHand C.accepts receiver.new) }
+    ensures breaks { OnErr result (BreaksOff C.accepts O.saw receiver.old out.old
+        receiver.new out.new) }
     ensures receiving { IsReceiving C.accepts receiver.new }
     ensures wait { wait_of held.new ≡ wait_of held.old }
 {
@@ -153,10 +159,12 @@ fn hand_in_all<C: HeaderCheck + Drop, O: CaptureConsumer>(
     out: &mut O,
 ) -> Result<(), FlowFault>
     requires at_hand { IsAtHand C.accepts receiver.old }
-    ensures takes { IfOk result (λ _. TakesBy C.accepts O.after O.saw
+    ensures takes { IfOk result (λ _. TakesBy C.accepts O.saw
         (λ made handed more. HandsInAll made (wait_of held.old) flow kept.items (held_by held.old) handed
         more (held_by held.new)) receiver.old out.old receiver.new out.new) }
     ensures at_hand { IfOk result (λ _. IsAtHand C.accepts receiver.new) }
+    ensures breaks { OnErr result (BreaksOff C.accepts O.saw receiver.old out.old
+        receiver.new out.new) }
     ensures receiving { IsReceiving C.accepts receiver.new }
     ensures wait { wait_of held.new ≡ wait_of held.old }
 {
@@ -176,10 +184,12 @@ fn begin<C: HeaderCheck + Drop, O: CaptureConsumer>(
     out: &mut O,
 ) -> Result<(), FlowFault>
     requires at_hand { IsAtHand C.accepts receiver.old }
-    ensures takes { IfOk result (λ _. TakesBy C.accepts O.after O.saw
+    ensures takes { IfOk result (λ _. TakesBy C.accepts O.saw
         (λ made handed more. Begins made (wait_of held.old) flow begun handed more (held_by held.new))
         receiver.old out.old receiver.new out.new) }
     ensures at_hand { IfOk result (λ _. IsAtHand C.accepts receiver.new) }
+    ensures breaks { OnErr result (BreaksOff C.accepts O.saw receiver.old out.old
+        receiver.new out.new) }
     ensures receiving { IsReceiving C.accepts receiver.new }
     ensures wait { wait_of held.new ≡ wait_of held.old }
 {
@@ -200,10 +210,12 @@ fn begin_if<C: HeaderCheck + Drop, O: CaptureConsumer>(
     out: &mut O,
 ) -> Result<(), FlowFault>
     requires at_hand { IsAtHand C.accepts receiver.old }
-    ensures takes { IfOk result (λ _. TakesBy C.accepts O.after O.saw
+    ensures takes { IfOk result (λ _. TakesBy C.accepts O.saw
         (λ made handed more. BeginsIf made (wait_of held.old) flow (held_by held.old) handed begun
         more (held_by held.new)) receiver.old out.old receiver.new out.new) }
     ensures at_hand { IfOk result (λ _. IsAtHand C.accepts receiver.new) }
+    ensures breaks { OnErr result (BreaksOff C.accepts O.saw receiver.old out.old
+        receiver.new out.new) }
     ensures receiving { IsReceiving C.accepts receiver.new }
     ensures wait { wait_of held.new ≡ wait_of held.old }
 {
@@ -227,10 +239,12 @@ fn let_go_if<C: HeaderCheck + Drop, O: CaptureConsumer>(
     out: &mut O,
 ) -> Result<(), FlowFault>
     requires at_hand { IsAtHand C.accepts receiver.old }
-    ensures takes { IfOk result (λ _. TakesBy C.accepts O.after O.saw
+    ensures takes { IfOk result (λ _. TakesBy C.accepts O.saw
         (λ made handed more. LetsGoIf made (wait_of held.old) flow is_silent now (held_by held.old)
         handed more (held_by held.new)) receiver.old out.old receiver.new out.new) }
     ensures at_hand { IfOk result (λ _. IsAtHand C.accepts receiver.new) }
+    ensures breaks { OnErr result (BreaksOff C.accepts O.saw receiver.old out.old
+        receiver.new out.new) }
     ensures receiving { IsReceiving C.accepts receiver.new }
     ensures wait { wait_of held.new ≡ wait_of held.old }
 {
@@ -252,10 +266,12 @@ fn hand_in_if<C: HeaderCheck + Drop, O: CaptureConsumer>(
     out: &mut O,
 ) -> Result<(), FlowFault>
     requires at_hand { IsAtHand C.accepts receiver.old }
-    ensures takes { IfOk result (λ _. TakesBy C.accepts O.after O.saw
+    ensures takes { IfOk result (λ _. TakesBy C.accepts O.saw
         (λ made handed more. HandsInIf made (wait_of held.old) flow (held_by held.old) handed next
         more (held_by held.new)) receiver.old out.old receiver.new out.new) }
     ensures at_hand { IfOk result (λ _. IsAtHand C.accepts receiver.new) }
+    ensures breaks { OnErr result (BreaksOff C.accepts O.saw receiver.old out.old
+        receiver.new out.new) }
     ensures receiving { IsReceiving C.accepts receiver.new }
     ensures wait { wait_of held.new ≡ wait_of held.old }
 {
@@ -294,12 +310,14 @@ impl CapturedFlow {
         out: &mut O,
     ) -> Result<(), FlowFault>
         requires at_hand { IsAtHand C.accepts receiver.old }
-        ensures takes { IfOk result (λ _. TakesBy C.accepts O.after O.saw
+        ensures takes { IfOk result (λ _. TakesBy C.accepts O.saw
             (λ made handed more. IsHandedOn made (wait_of self.old.held) flow self.old.window one
             (beginning_seen self.old.beginning) (held_by self.old.held) handed more
             (beginning_seen self.new.beginning) (held_by self.new.held))
             receiver.old out.old receiver.new out.new) }
         ensures at_hand { IfOk result (λ _. IsAtHand C.accepts receiver.new) }
+        ensures breaks { OnErr result (BreaksOff C.accepts O.saw receiver.old out.old
+            receiver.new out.new) }
         ensures receiving { IsReceiving C.accepts receiver.new }
         ensures waits { KeepsWaits self.old self.new }
         ensures order { self.new.order ≡ self.old.order }
@@ -332,11 +350,13 @@ impl CapturedFlow {
         out: &mut O,
     ) -> Result<(), FlowFault>
         requires at_hand { IsAtHand C.accepts receiver.old }
-        ensures takes { IfOk result (λ _. TakesBy C.accepts O.after O.saw
+        ensures takes { IfOk result (λ _. TakesBy C.accepts O.saw
             (λ made handed more. PassesOn made (wait_of self.old.held) flow (reorder_of self.old.order)
             now (flow_seen self.old) handed more (flow_seen self.new))
             receiver.old out.old receiver.new out.new) }
         ensures at_hand { IfOk result (λ _. IsAtHand C.accepts receiver.new) }
+        ensures breaks { OnErr result (BreaksOff C.accepts O.saw receiver.old out.old
+            receiver.new out.new) }
         ensures receiving { IsReceiving C.accepts receiver.new }
         ensures waits { KeepsWaits self.old self.new }
     {
@@ -356,11 +376,13 @@ impl CapturedFlow {
         out: &mut O,
     ) -> Result<(), FlowFault>
         requires at_hand { IsAtHand C.accepts receiver.old }
-        ensures takes { IfOk result (λ _. TakesBy C.accepts O.after O.saw
+        ensures takes { IfOk result (λ _. TakesBy C.accepts O.saw
             (λ made handed more. Comes made (wait_of self.old.held) flow (reorder_of self.old.order)
             one (flow_seen self.old) handed more (flow_seen self.new))
             receiver.old out.old receiver.new out.new) }
         ensures at_hand { IfOk result (λ _. IsAtHand C.accepts receiver.new) }
+        ensures breaks { OnErr result (BreaksOff C.accepts O.saw receiver.old out.old
+            receiver.new out.new) }
         ensures receiving { IsReceiving C.accepts receiver.new }
         ensures waits { KeepsWaits self.old self.new }
     {
@@ -379,11 +401,13 @@ impl CapturedFlow {
         out: &mut O,
     ) -> Result<(), FlowFault>
         requires at_hand { IsAtHand C.accepts receiver.old }
-        ensures takes { IfOk result (λ _. TakesBy C.accepts O.after O.saw
+        ensures takes { IfOk result (λ _. TakesBy C.accepts O.saw
             (λ made handed more. EndsWaiting made (wait_of self.old.held) flow
             (reorder_of self.old.order) (flow_seen self.old) handed more (flow_seen self.new))
             receiver.old out.old receiver.new out.new) }
         ensures at_hand { IfOk result (λ _. IsAtHand C.accepts receiver.new) }
+        ensures breaks { OnErr result (BreaksOff C.accepts O.saw receiver.old out.old
+            receiver.new out.new) }
         ensures receiving { IsReceiving C.accepts receiver.new }
         ensures waits { KeepsWaits self.old self.new }
     {

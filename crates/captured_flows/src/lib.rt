@@ -13,11 +13,14 @@
 //!    [`CapturedFlows::into_receiver`] gives the receiver, to be closed.
 //!
 //! What is given goes to a [`CaptureConsumer`], which is told of each burst before it is handed in: so
-//! it knows which burst completed a frame.
+//! it knows which burst completed a frame. It is told, too, of each flow that begins anew, with what
+//! was counted of it.
 //!
 //! What matters most: what is handed in is what the definitions `SpellsBurst`, `SpellsBursts` and
 //! `EndsAll` say of the bursts, their times and the numbers that the receiver expects, and the
-//! receiver stands for it: so what was given is what the receiver's definitions give for it.
+//! receiver stands for it: so what was given is what the receiver's definitions give for it. And what
+//! the consumer saw stands beside it, move by move, by the definition `Plays`: what a burst gives
+//! stands behind that burst and before the next.
 #![tactic(auto)]
 
 mod burst_taken;

@@ -1,11 +1,11 @@
 //! What one flow of a receiver is asked and has to do.
-ghost use Rattle.std.specs.Prelude.{◌≡◌, ◌<◌, ◌∷◌, [], IfOk, OnOk};
+ghost use Rattle.std.specs.Prelude.{◌≡◌, ◌<◌, ◌∷◌, [], IfOk, OnErr};
 ghost use Rattle.reorder.specs.Limits.{modulus};
 ghost use Rattle.bonded_flows.specs.declared.decision.FlowDecision.{FlowDecision};
 ghost use Rattle.receiver.specs.HandedIn.{decided};
 ghost use Rattle.receiver.specs.Receiving.{IsReceiving, TakesMore, Replies, Restarts};
 ghost use Rattle.captured_flows.specs.AtHand.{IsAtHand};
-ghost use Rattle.captured_flows.specs.Taking.{IsExpected};
+ghost use Rattle.captured_flows.specs.Taking.{IsExpected, TakesSome};
 
 use crate::flow_fault::FlowFault;
 use consumer::Consumer;
@@ -42,6 +42,7 @@ pub(crate) fn skip<C: HeaderCheck + Drop, O: Consumer>(
     ensures takes { IfOk result (λ _. TakesMore O.after C.accepts receiver.old out.old
         (decided flow (FlowDecision.SkipTo number) ∷ []) receiver.new out.new) }
     ensures at_hand { IfOk result (λ _. IsAtHand C.accepts receiver.new) }
+    ensures fails { OnErr result (TakesSome C.accepts O.after receiver.old out.old receiver.new out.new) }
     ensures receiving { IsReceiving C.accepts receiver.new }
 {
     match receiver.decide(alloc, flow, FlowDecision::SkipTo(number), out) {
@@ -62,6 +63,7 @@ pub(crate) fn restart<C: HeaderCheck + Drop, O: Consumer>(
     ensures restarts { IfOk result (λ counts. Restarts O.after C.accepts receiver.old out.old
         flow first counts receiver.new out.new) }
     ensures at_hand { IfOk result (λ _. IsAtHand C.accepts receiver.new) }
+    ensures fails { OnErr result (TakesSome C.accepts O.after receiver.old out.old receiver.new out.new) }
     ensures receiving { IsReceiving C.accepts receiver.new }
 {
     match receiver.restart(alloc, flow, first, out) {
@@ -83,6 +85,7 @@ pub(crate) fn take<C: HeaderCheck + Drop, O: Consumer>(
     ensures replies { IfOk result (λ reply. Replies O.after C.accepts receiver.old out.old
         channel input reply receiver.new out.new) }
     ensures at_hand { IfOk result (λ _. IsAtHand C.accepts receiver.new) }
+    ensures fails { OnErr result (TakesSome C.accepts O.after receiver.old out.old receiver.new out.new) }
     ensures receiving { IsReceiving C.accepts receiver.new }
 {
     match receiver.take(alloc, channel, input, out) {

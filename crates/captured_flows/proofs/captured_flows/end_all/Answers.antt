@@ -1,10 +1,11 @@
 use Rattle.std.proofs.Common.{◌≡◌, ℕ, List, length, sym, subst, arith}
-use Rattle.receiver.specs.HandedIn.{HandedIn}
+use Rattle.captured_flows.specs.Acts.{Act}
 use Rattle.captured_flows.specs.Captures.{EndsAll, none_ends}
 use Rattle.captured_flows.specs.Together.{views_of}
 use Rattle.captured_flows.specs.Taking.{TakesBy}
 use Rattle.captured_flows.proofs.Together.{ends-more}
 use Rattle.captured_flows.proofs.Taken.{Nothing, takes-none, takes-as, takes-then}
+use Rattle.captured_flows.proofs.Broken.{breaks-behind}
 use Rattle.captured_flows.proofs.captured_flows.end_all.Goals as goal
 
 pub loop-k-init : goal.loop-k-init
@@ -12,7 +13,7 @@ loop-k-init g c =
     let views = views_of c.args.flows.now in
     record {
       takes = takes-as g.C.HeaderCheck.accepts g.O.Consumer.after g.O.CaptureConsumer.saw Nothing _ c.args.receiver.now c.args.receiver.now c.args.out.now c.args.out.now (takes-none g.C.HeaderCheck.accepts g.O.Consumer.after g.O.CaptureConsumer.saw c.args.receiver.now c.args.out.now)
-          (λ made handed more none. subst (λ (m : List HandedIn). EndsAll made c.args.waits.reorder c.args.waits.wait views handed 0 m views) (sym none) none_ends);
+          (λ made handed more none. subst (λ (m : List Act). EndsAll made c.args.waits.reorder c.args.waits.wait views handed 0 m views) (sym none) none_ends);
       at_hand = c.requires.at_hand;
       waits = c.requires.waits;
     }
@@ -31,5 +32,9 @@ loop-k-preserved g c =
 pub returns-clause-takes : goal.returns-clause-takes
 returns-clause-takes g c =
     let all : c.loop-k.k ≡ length c.args.flows.now = (let ends = c.loop-k-test.false in let auto = c.loop-k.auto.k-end in omega arith) in
-    subst (λ (n : ℕ). TakesBy g.C.HeaderCheck.accepts g.O.Consumer.after g.O.CaptureConsumer.saw (λ made handed more. EndsAll made c.args.waits.reorder c.args.waits.wait (views_of c.args.flows.now) handed n more (views_of c.loop-k.flows))
+    subst (λ (n : ℕ). TakesBy g.C.HeaderCheck.accepts g.O.CaptureConsumer.saw (λ made handed more. EndsAll made c.args.waits.reorder c.args.waits.wait (views_of c.args.flows.now) handed n more (views_of c.loop-k.flows))
     c.args.receiver.now c.args.out.now c.loop-k.receiver c.loop-k.out) all c.loop-k.invariant.takes
+
+pub returns-in_err-end_at-clause-breaks : goal.returns-in_err-end_at-clause-breaks
+returns-in_err-end_at-clause-breaks g c =
+    breaks-behind g.C.HeaderCheck.accepts g.O.Consumer.after g.O.CaptureConsumer.saw _ c.args.receiver.now c.loop-k.receiver c.end_at.new.receiver c.args.out.now c.loop-k.out c.end_at.new.out c.loop-k.invariant.takes c.in_err-end_at.ensures.breaks

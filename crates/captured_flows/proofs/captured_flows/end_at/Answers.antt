@@ -6,6 +6,7 @@ use Rattle.captured_flows.specs.Flow.{EndsWaiting}
 use Rattle.captured_flows.specs.Taking.{TakesBy}
 use Rattle.captured_flows.proofs.Together.{waits-kept, waits-set, view-at, views-set}
 use Rattle.captured_flows.proofs.Taken.{takes-as}
+use Rattle.captured_flows.proofs.Broken.{breaks-none}
 use Rattle.captured_flows.proofs.captured_flows.end_at.Goals as goal
 
 pub returns-in_err-end_waiting-clause-waits : goal.returns-in_err-end_waiting-clause-waits
@@ -30,9 +31,9 @@ returns-clause-takes g c =
     let k = c.args.k in
     let stands : slice_get flows k ≡ Some flow = slice_get-get_or flows k c.index-flows-k.result c.if-k-flows.false in
     let has = c.requires.waits k flow stands in
-    let at_wait = subst (λ (n : ℕ). TakesBy g.C.HeaderCheck.accepts g.O.Consumer.after g.O.CaptureConsumer.saw (λ made handed more. EndsWaiting made n k (reorder_of flow.order) (flow_seen flow) handed more (flow_seen new))
+    let at_wait = subst (λ (n : ℕ). TakesBy g.C.HeaderCheck.accepts g.O.CaptureConsumer.saw (λ made handed more. EndsWaiting made n k (reorder_of flow.order) (flow_seen flow) handed more (flow_seen new))
     c.args.receiver.now c.args.out.now c.end_waiting.new.receiver c.end_waiting.new.out) has.wait c.in_ok-end_waiting.ensures.takes in
-    let takes = subst (λ (n : ℕ). TakesBy g.C.HeaderCheck.accepts g.O.Consumer.after g.O.CaptureConsumer.saw (λ made handed more. EndsWaiting made c.args.waits.wait k n (flow_seen flow) handed more (flow_seen new))
+    let takes = subst (λ (n : ℕ). TakesBy g.C.HeaderCheck.accepts g.O.CaptureConsumer.saw (λ made handed more. EndsWaiting made c.args.waits.wait k n (flow_seen flow) handed more (flow_seen new))
     c.args.receiver.now c.args.out.now c.end_waiting.new.receiver c.end_waiting.new.out) has.reorder at_wait in
     takes-as g.C.HeaderCheck.accepts g.O.Consumer.after g.O.CaptureConsumer.saw _ _ c.args.receiver.now c.end_waiting.new.receiver c.args.out.now c.end_waiting.new.out takes
     (λ made handed more spelled. record {
@@ -42,3 +43,7 @@ returns-clause-takes g c =
       ends = spelled;
       others = views-set flows k new;
     })
+
+pub returns-then-k-flows-clause-breaks : goal.returns-then-k-flows-clause-breaks
+returns-then-k-flows-clause-breaks g c =
+    breaks-none g.C.HeaderCheck.accepts g.O.Consumer.after g.O.CaptureConsumer.saw c.args.receiver.now c.args.out.now

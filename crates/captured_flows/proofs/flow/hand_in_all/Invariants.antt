@@ -8,7 +8,7 @@ use Rattle.captured_flows.proofs.flow.hand_in_all.Given as goal
 
 abbrev pub invariant-loop-one : goal.invariant-loop-one
 invariant-loop-one g l = record {
-  takes : TakesBy g.C.HeaderCheck.accepts g.O.Consumer.after g.O.CaptureConsumer.saw (λ made handed more. HandsInAll made (wait_of l.fn.held) l.flow l.yielded (held_by l.fn.held) handed more (held_by l.held))
+  takes : TakesBy g.C.HeaderCheck.accepts g.O.CaptureConsumer.saw (λ made handed more. HandsInAll made (wait_of l.fn.held) l.flow l.yielded (held_by l.fn.held) handed more (held_by l.held))
       l.fn.receiver l.fn.out l.receiver l.out;
   at_hand : IsAtHand g.C.HeaderCheck.accepts l.receiver;
   wait : wait_of l.held ≡ wait_of l.fn.held;

@@ -1,5 +1,5 @@
 use Rattle.std.proofs.Common.{Option, None, sym, subst, List}
-use Rattle.receiver.specs.HandedIn.{HandedIn}
+use Rattle.captured_flows.specs.Acts.{Act}
 use Rattle.capture_rules.specs.Held.{held_by, wait_of}
 use Rattle.captured_flows.specs.Flow.{Next, HandsInIf, is_kept_then, is_handed_in}
 use Rattle.captured_flows.proofs.Taken.{Nothing, takes-none, takes-as}
@@ -15,4 +15,4 @@ pub returns-in-None-clause-takes : goal.returns-in-None-clause-takes
 returns-in-None-clause-takes g c =
     takes-as g.C.HeaderCheck.accepts g.O.Consumer.after g.O.CaptureConsumer.saw Nothing _ c.args.receiver.now c.args.receiver.now c.args.out.now c.args.out.now (takes-none g.C.HeaderCheck.accepts g.O.Consumer.after g.O.CaptureConsumer.saw c.args.receiver.now c.args.out.now)
     (λ made handed more none. subst (λ (n : Option Next). HandsInIf made (wait_of c.args.held.now) c.args.flow (held_by c.args.held.now) handed n more (held_by c.args.held.now)) (sym c.in-None.is)
-    (subst (λ (m : List HandedIn). HandsInIf made (wait_of c.args.held.now) c.args.flow (held_by c.args.held.now) handed None m (held_by c.args.held.now)) (sym none) is_kept_then))
+    (subst (λ (m : List Act). HandsInIf made (wait_of c.args.held.now) c.args.flow (held_by c.args.held.now) handed None m (held_by c.args.held.now)) (sym none) is_kept_then))

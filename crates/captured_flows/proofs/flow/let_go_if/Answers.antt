@@ -1,5 +1,5 @@
 use Rattle.std.proofs.Common.{sym, subst, List}
-use Rattle.receiver.specs.HandedIn.{HandedIn}
+use Rattle.captured_flows.specs.Acts.{Act}
 use Rattle.capture_rules.specs.Held.{held_by, wait_of}
 use Rattle.captured_flows.specs.Flow.{LetsGoIf, not_silent, is_silent_then}
 use Rattle.captured_flows.proofs.Taken.{Nothing, takes-none, takes-as}
@@ -13,5 +13,5 @@ returns-in_ok-let_go-clause-takes g c =
 pub returns-else-is_silent-clause-takes : goal.returns-else-is_silent-clause-takes
 returns-else-is_silent-clause-takes g c =
     takes-as g.C.HeaderCheck.accepts g.O.Consumer.after g.O.CaptureConsumer.saw Nothing _ c.args.receiver.now c.args.receiver.now c.args.out.now c.args.out.now (takes-none g.C.HeaderCheck.accepts g.O.Consumer.after g.O.CaptureConsumer.saw c.args.receiver.now c.args.out.now)
-    (λ made handed more none. subst (λ (m : List HandedIn). LetsGoIf made (wait_of c.args.held.now) c.args.flow c.args.is_silent c.args.now (held_by c.args.held.now) handed m (held_by c.args.held.now))
+    (λ made handed more none. subst (λ (m : List Act). LetsGoIf made (wait_of c.args.held.now) c.args.flow c.args.is_silent c.args.now (held_by c.args.held.now) handed m (held_by c.args.held.now))
     (sym none) (not_silent c.if-is_silent.false))

@@ -1,5 +1,5 @@
 use Rattle.std.proofs.Common.{◌≡◌, ℕ, Some, List, length, sym, subst, ap, ◌∙◌, arith}
-use Rattle.receiver.specs.HandedIn.{HandedIn}
+use Rattle.captured_flows.specs.Acts.{Act}
 use Rattle.capture_map.specs.declared.map.MapChannel.{MapChannel}
 use Rattle.std.specs.Vec.{with_items}
 use Rattle.std.proofs.lemmas.List.{with_items_is}
@@ -19,7 +19,7 @@ returns-in_default-clause-takes g c =
     let captured = c.args.self.now in
     let views = views_in captured in
     takes-as g.C.HeaderCheck.accepts g.O.Consumer.after g.O.CaptureConsumer.saw Nothing _ captured.receiver captured.receiver c.args.out.now c.args.out.now (takes-none g.C.HeaderCheck.accepts g.O.Consumer.after g.O.CaptureConsumer.saw captured.receiver c.args.out.now)
-    (λ made handed more none. subst (λ (m : List HandedIn). SpellsBurst captured.map made captured.waits.reorder captured.waits.wait views c.args.burst handed taken.UnknownChannel m views) (sym none)
+    (λ made handed more none. subst (λ (m : List Act). SpellsBurst captured.map made captured.waits.reorder captured.waits.wait views c.args.burst handed taken.UnknownChannel m views) (sym none)
     (of_no_channel (ap (λ (cs : List MapChannel). channel_of cs c.args.burst.channel) (sym c.deref.ensures.value) ∙ sym c.in_default.ensures)))
 
 pub returns-in_default-flow_of-clause-takes : goal.returns-in_default-flow_of-clause-takes
@@ -27,7 +27,7 @@ returns-in_default-flow_of-clause-takes g c =
     let captured = c.args.self.now in
     let views = views_in captured in
     takes-as g.C.HeaderCheck.accepts g.O.Consumer.after g.O.CaptureConsumer.saw Nothing _ captured.receiver captured.receiver c.args.out.now c.args.out.now (takes-none g.C.HeaderCheck.accepts g.O.Consumer.after g.O.CaptureConsumer.saw captured.receiver c.args.out.now)
-    (λ made handed more none. subst (λ (m : List HandedIn). SpellsBurst captured.map made captured.waits.reorder captured.waits.wait views c.args.burst handed taken.UnknownSid m views) (sym none)
+    (λ made handed more none. subst (λ (m : List Act). SpellsBurst captured.map made captured.waits.reorder captured.waits.wait views c.args.burst handed taken.UnknownSid m views) (sym none)
     (of_no_flow c.in-Some.channel (ap (λ (cs : List MapChannel). channel_of cs c.args.burst.channel) (sym c.deref.ensures.value) ∙ sym c.in-Some.ensures) (sym (c.in_default-flow_of.ensures captured.map.sids.items c.requires.capturing.sids))))
 
 pub returns-in_ok-come_to-in-Ok-clause-takes : goal.returns-in_ok-come_to-in-Ok-clause-takes

@@ -6,6 +6,7 @@ use Rattle.captured_flows.specs.declared.sound_burst.SoundBurst.{SoundBurst}
 use Rattle.captured_flows.specs.Flow.{PassesOn}
 use Rattle.captured_flows.specs.Seen.{flow_seen}
 use Rattle.captured_flows.specs.Taking.{TakesBy}
+use Rattle.captured_flows.proofs.Broken.{breaks-none}
 use Rattle.captured_flows.proofs.flow.CapturedFlow.come.Goals as goal
 
 pub returns-clause-takes : goal.returns-clause-takes
@@ -13,8 +14,12 @@ returns-clause-takes g c =
     let flow = c.args.self.now in
     let w = wait_of flow.held in
     let after = flow_seen c.pass_on.new.self in
-    let at_reorder = subst (λ (n : ℕ). TakesBy g.C.HeaderCheck.accepts g.O.Consumer.after g.O.CaptureConsumer.saw (λ made handed more. PassesOn made w c.args.flow n c.args.one.time (flow_seen (record flow { order = c.push.new.self })) handed more after)
+    let at_reorder = subst (λ (n : ℕ). TakesBy g.C.HeaderCheck.accepts g.O.CaptureConsumer.saw (λ made handed more. PassesOn made w c.args.flow n c.args.one.time (flow_seen (record flow { order = c.push.new.self })) handed more after)
     c.args.receiver.now c.args.out.now c.pass_on.new.receiver c.pass_on.new.out) c.push.ensures.reorder c.in_ok-pass_on.ensures.takes in
-    subst (λ (ws : List (Arrival SoundBurst)). TakesBy g.C.HeaderCheck.accepts g.O.Consumer.after g.O.CaptureConsumer.saw (λ made handed more. PassesOn made w c.args.flow flow.order.reorder c.args.one.time
+    subst (λ (ws : List (Arrival SoundBurst)). TakesBy g.C.HeaderCheck.accepts g.O.CaptureConsumer.saw (λ made handed more. PassesOn made w c.args.flow flow.order.reorder c.args.one.time
     (record { window = flow.window; waiting = ws; beginning = beginning_seen flow.beginning; held = held_by flow.held }) handed more after)
     c.args.receiver.now c.args.out.now c.pass_on.new.receiver c.pass_on.new.out) c.in_ok-push.ensures.waits at_reorder
+
+pub returns-in_err-push-clause-breaks : goal.returns-in_err-push-clause-breaks
+returns-in_err-push-clause-breaks g c =
+    breaks-none g.C.HeaderCheck.accepts g.O.Consumer.after g.O.CaptureConsumer.saw c.args.receiver.now c.args.out.now

@@ -5,6 +5,7 @@ use Rattle.captured_flows.specs.Flow.{Next, LetsGoIf, HandsInIf}
 use Rattle.captured_flows.specs.Taking.{TakesBy}
 use Rattle.captured_flows.proofs.HandedOnTo.{ends-if, handed_on-is}
 use Rattle.captured_flows.proofs.Taken.{takes-as, takes-then, takes-expecting}
+use Rattle.captured_flows.proofs.Broken.{breaks-behind, breaks-after}
 use Rattle.captured_flows.proofs.flow.CapturedFlow.hand_on.Goals as goal
 
 pub returns-clause-takes : goal.returns-clause-takes
@@ -26,13 +27,13 @@ returns-clause-takes g c =
     let o2 = c.let_go_if.new.out in
     let r3 = c.hand_in_if.new.receiver in
     let o3 = c.hand_in_if.new.out in
-    let silent = subst (λ (b : Bool). TakesBy g.C.HeaderCheck.accepts g.O.Consumer.after g.O.CaptureConsumer.saw (λ made handed more. LetsGoIf made (wait_of held) k b one.time (held_by held) handed more (held_by between)) r1 o1 r2 o2)
+    let silent = subst (λ (b : Bool). TakesBy g.C.HeaderCheck.accepts g.O.CaptureConsumer.saw (λ made handed more. LetsGoIf made (wait_of held) k b one.time (held_by held) handed more (held_by between)) r1 o1 r2 o2)
     c.is_silent-is_silent.ensures c.in_ok-let_go_if.ensures.takes in
-    let lets_go = subst (λ (n : ℕ). TakesBy g.C.HeaderCheck.accepts g.O.Consumer.after g.O.CaptureConsumer.saw (λ made handed more. LetsGoIf made n k (is_silent ended one.time) one.time (held_by held) handed more (held_by between)) r1 o1 r2 o2)
+    let lets_go = subst (λ (n : ℕ). TakesBy g.C.HeaderCheck.accepts g.O.CaptureConsumer.saw (λ made handed more. LetsGoIf made n k (is_silent ended one.time) one.time (held_by held) handed more (held_by between)) r1 o1 r2 o2)
     c.begin_if.ensures.wait silent in
-    let next = subst (λ (n : Option Next). TakesBy g.C.HeaderCheck.accepts g.O.Consumer.after g.O.CaptureConsumer.saw (λ made handed more. HandsInIf made (wait_of between) k (held_by between) handed n more left) r2 o2 r3 o3)
+    let next = subst (λ (n : Option Next). TakesBy g.C.HeaderCheck.accepts g.O.CaptureConsumer.saw (λ made handed more. HandsInIf made (wait_of between) k (held_by between) handed n more left) r2 o2 r3 o3)
     c.in_ok-next.ensures.given c.in_ok-hand_in_if.ensures.takes in
-    let hands_in = subst (λ (n : ℕ). TakesBy g.C.HeaderCheck.accepts g.O.Consumer.after g.O.CaptureConsumer.saw (λ made handed more. HandsInIf made n k (held_by between) handed (to_hand_in ended c.in_ok-number.number flow.window one) more left) r2 o2 r3 o3)
+    let hands_in = subst (λ (n : ℕ). TakesBy g.C.HeaderCheck.accepts g.O.CaptureConsumer.saw (λ made handed more. HandsInIf made n k (held_by between) handed (to_hand_in ended c.in_ok-number.number flow.window one) more left) r2 o2 r3 o3)
     (c.let_go_if.ensures.wait ∙ c.begin_if.ensures.wait) next in
     takes-as g.C.HeaderCheck.accepts g.O.Consumer.after g.O.CaptureConsumer.saw _ _ r0 r3 o0 o3
     (takes-then g.C.HeaderCheck.accepts g.O.Consumer.after g.O.CaptureConsumer.saw _ _ r0 r2 r3 o0 o2 o3
@@ -42,3 +43,22 @@ returns-clause-takes g c =
     handed_on-is made w k flow.window one beginning ended (beginning_seen c.hand_on.new.self) (held_by flow.held) (held_by held) (held_by between) left c.end_at-begun.result handed more c.in_ok-number.number
     (ends-if (is_over beginning.kept one.time) beginning ended c.end_at-begun.result c.end_at-begun.ensures.over c.end_at-begun.ensures.ended c.end_at-begun.ensures.after c.end_at-begun.ensures.unchanged)
     spelled c.in_ok-next.ensures.after)
+
+pub returns-in_err-let_go_if-clause-breaks : goal.returns-in_err-let_go_if-clause-breaks
+returns-in_err-let_go_if-clause-breaks g c =
+    breaks-behind g.C.HeaderCheck.accepts g.O.Consumer.after g.O.CaptureConsumer.saw _ c.args.receiver.now c.begin_if.new.receiver c.let_go_if.new.receiver c.args.out.now c.begin_if.new.out c.let_go_if.new.out c.in_ok-begin_if.ensures.takes c.in_err-let_go_if.ensures.breaks
+
+pub returns-in_err-number-clause-breaks : goal.returns-in_err-number-clause-breaks
+returns-in_err-number-clause-breaks g c =
+    breaks-after g.C.HeaderCheck.accepts g.O.Consumer.after g.O.CaptureConsumer.saw _ c.args.receiver.now c.let_go_if.new.receiver c.args.out.now c.let_go_if.new.out
+    (takes-then g.C.HeaderCheck.accepts g.O.Consumer.after g.O.CaptureConsumer.saw _ _ c.args.receiver.now c.begin_if.new.receiver c.let_go_if.new.receiver c.args.out.now c.begin_if.new.out c.let_go_if.new.out c.in_ok-begin_if.ensures.takes c.in_ok-let_go_if.ensures.takes)
+
+pub returns-in_err-next-clause-breaks : goal.returns-in_err-next-clause-breaks
+returns-in_err-next-clause-breaks g c =
+    breaks-after g.C.HeaderCheck.accepts g.O.Consumer.after g.O.CaptureConsumer.saw _ c.args.receiver.now c.let_go_if.new.receiver c.args.out.now c.let_go_if.new.out
+    (takes-then g.C.HeaderCheck.accepts g.O.Consumer.after g.O.CaptureConsumer.saw _ _ c.args.receiver.now c.begin_if.new.receiver c.let_go_if.new.receiver c.args.out.now c.begin_if.new.out c.let_go_if.new.out c.in_ok-begin_if.ensures.takes c.in_ok-let_go_if.ensures.takes)
+
+pub returns-in_err-hand_in_if-clause-breaks : goal.returns-in_err-hand_in_if-clause-breaks
+returns-in_err-hand_in_if-clause-breaks g c =
+    breaks-behind g.C.HeaderCheck.accepts g.O.Consumer.after g.O.CaptureConsumer.saw _ c.args.receiver.now c.let_go_if.new.receiver c.hand_in_if.new.receiver c.args.out.now c.let_go_if.new.out c.hand_in_if.new.out
+    (takes-then g.C.HeaderCheck.accepts g.O.Consumer.after g.O.CaptureConsumer.saw _ _ c.args.receiver.now c.begin_if.new.receiver c.let_go_if.new.receiver c.args.out.now c.begin_if.new.out c.let_go_if.new.out c.in_ok-begin_if.ensures.takes c.in_ok-let_go_if.ensures.takes) c.in_err-hand_in_if.ensures.breaks

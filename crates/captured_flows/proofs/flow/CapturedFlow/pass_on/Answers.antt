@@ -1,5 +1,5 @@
 use Rattle.std.proofs.Common.{◌≡◌, ℕ, ◌<◌, true, false, List, [], ◌∷◌, ◌++◌, length, refl, sym, subst, ◌∙◌}
-use Rattle.receiver.specs.HandedIn.{HandedIn}
+use Rattle.captured_flows.specs.Acts.{Act}
 use Rattle.capture_rules.specs.declared.arrival.Arrival.{Arrival}
 use Rattle.capture_rules.specs.declared.channel_order.ChannelOrder.{ChannelOrder}
 use Rattle.capture_rules.specs.Waiting.{waiting_in, reorder_of}
@@ -11,6 +11,7 @@ use Rattle.captured_flows.specs.Flow.{IsHandedOn, AreHandedOn, no_more, next_one
 use Rattle.captured_flows.specs.Taking.{TakesBy}
 use Rattle.captured_flows.proofs.Waited.{HandsOnAfter, after-none, after-next, after-all, next-shorter}
 use Rattle.captured_flows.proofs.Taken.{Nothing, takes-none, takes-as, takes-then}
+use Rattle.captured_flows.proofs.Broken.{breaks-behind}
 use Rattle.captured_flows.proofs.flow.CapturedFlow.pass_on.Goals as goal
 
 pub loop-next-init : goal.loop-next-init
@@ -22,7 +23,7 @@ loop-next-init g c =
       due = [];
       hands_on = after-none (reorder_of flow.order) c.args.now (waiting_in flow.order);
       takes = takes-as g.C.HeaderCheck.accepts g.O.Consumer.after g.O.CaptureConsumer.saw Nothing _ c.args.receiver.now c.args.receiver.now c.args.out.now c.args.out.now (takes-none g.C.HeaderCheck.accepts g.O.Consumer.after g.O.CaptureConsumer.saw c.args.receiver.now c.args.out.now)
-          (λ made handed more none. subst (λ (m : List HandedIn). AreHandedOn made (wait_of flow.held) c.args.flow flow.window [] beginning held handed m beginning held) (sym none) no_more);
+          (λ made handed more none. subst (λ (m : List Act). AreHandedOn made (wait_of flow.held) c.args.flow flow.window [] beginning held handed m beginning held) (sym none) no_more);
       at_hand = c.requires.at_hand;
       waits = record { window = refl; wait = refl; reorder = refl };
     }
@@ -44,9 +45,9 @@ loop-next-preserved g c =
     let reorder = reorder_of flow.order in
     let is_next : IsNext reorder (waiting_in now.order) next (waiting_in c.next.new.self) =
     subst (λ n. IsNext n (waiting_in now.order) next (waiting_in c.next.new.self)) so_far.waits.reorder c.in-Some.ensures.next in
-    let at_wait = subst (λ (n : ℕ). TakesBy g.C.HeaderCheck.accepts g.O.Consumer.after g.O.CaptureConsumer.saw (λ made handed more. IsHandedOn made n k now.window next (beginning_seen now.beginning) (held_by now.held) handed more (beginning_seen after.beginning) (held_by after.held))
+    let at_wait = subst (λ (n : ℕ). TakesBy g.C.HeaderCheck.accepts g.O.CaptureConsumer.saw (λ made handed more. IsHandedOn made n k now.window next (beginning_seen now.beginning) (held_by now.held) handed more (beginning_seen after.beginning) (held_by after.held))
     c.loop-next.receiver c.loop-next.out c.hand_on.new.receiver c.hand_on.new.out) so_far.waits.wait c.in_ok-hand_on.ensures.takes in
-    let handed_on = subst (λ (n : ℕ). TakesBy g.C.HeaderCheck.accepts g.O.Consumer.after g.O.CaptureConsumer.saw (λ made handed more. IsHandedOn made w k n next (beginning_seen now.beginning) (held_by now.held) handed more (beginning_seen after.beginning) (held_by after.held))
+    let handed_on = subst (λ (n : ℕ). TakesBy g.C.HeaderCheck.accepts g.O.CaptureConsumer.saw (λ made handed more. IsHandedOn made w k n next (beginning_seen now.beginning) (held_by now.held) handed more (beginning_seen after.beginning) (held_by after.held))
     c.loop-next.receiver c.loop-next.out c.hand_on.new.receiver c.hand_on.new.out) so_far.waits.window at_wait in
     record {
       due = so_far.due ++ next ∷ [];
@@ -54,7 +55,7 @@ loop-next-preserved g c =
           (after-next reorder c.args.now (waiting_in flow.order) (waiting_in now.order) (waiting_in c.next.new.self) so_far.due next so_far.hands_on (subst (λ n. is_due n c.args.now (waiting_in c.loop-next.self.order) ≡ true) so_far.waits.reorder (sym c.in-Some.ensures.due)) is_next);
       takes = takes-as g.C.HeaderCheck.accepts g.O.Consumer.after g.O.CaptureConsumer.saw _ _ c.args.receiver.now c.hand_on.new.receiver c.args.out.now c.hand_on.new.out
           (takes-then g.C.HeaderCheck.accepts g.O.Consumer.after g.O.CaptureConsumer.saw _ _ c.args.receiver.now c.loop-next.receiver c.hand_on.new.receiver c.args.out.now c.loop-next.out c.hand_on.new.out so_far.takes handed_on)
-          (λ made handed more spelled. subst (λ (m : List HandedIn). AreHandedOn made w k flow.window (so_far.due ++ next ∷ []) (beginning_seen flow.beginning) (held_by flow.held) handed m (beginning_seen after.beginning) (held_by after.held))
+          (λ made handed more spelled. subst (λ (m : List Act). AreHandedOn made w k flow.window (so_far.due ++ next ∷ []) (beginning_seen flow.beginning) (held_by flow.held) handed m (beginning_seen after.beginning) (held_by after.held))
           (sym spelled.4) (next_one spelled.2 spelled.3));
       at_hand = c.in_ok-hand_on.ensures.at_hand;
       waits = record {
@@ -79,3 +80,7 @@ returns-clause-takes g c =
       handed_on = spelled;
       window = so_far.waits.window;
     })
+
+pub returns-in_err-hand_on-clause-breaks : goal.returns-in_err-hand_on-clause-breaks
+returns-in_err-hand_on-clause-breaks g c =
+    breaks-behind g.C.HeaderCheck.accepts g.O.Consumer.after g.O.CaptureConsumer.saw _ c.args.receiver.now c.loop-next.receiver c.hand_on.new.receiver c.args.out.now c.loop-next.out c.hand_on.new.out c.loop-next.invariant.takes c.in_err-hand_on.ensures.breaks

@@ -14,7 +14,7 @@ abbrev pub invariant-loop-next : goal.invariant-loop-next
 invariant-loop-next g l = record {
   due : List Next;
   hands_on : HandsOnAfter (reorder_of l.fn.self.order) l.now (waiting_in l.fn.self.order) due (waiting_in l.self.order);
-  takes : TakesBy g.C.HeaderCheck.accepts g.O.Consumer.after g.O.CaptureConsumer.saw
+  takes : TakesBy g.C.HeaderCheck.accepts g.O.CaptureConsumer.saw
       (λ made handed more. AreHandedOn made (wait_of l.fn.self.held) l.flow l.fn.self.window due (beginning_seen l.fn.self.beginning) (held_by l.fn.self.held) handed more (beginning_seen l.self.beginning) (held_by l.self.held))
       l.fn.receiver l.fn.out l.receiver l.out;
   at_hand : IsAtHand g.C.HeaderCheck.accepts l.receiver;
