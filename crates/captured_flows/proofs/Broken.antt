@@ -1,5 +1,5 @@
 -- Where something fails on the way.
-use Rattle.std.proofs.Common.{◌≡◌, ℕ, Bool, List, [], ◌∷◌, ◌++◌, map, refl, ap, sym, subst, ◌∙◌, append-nil, append_assoc}
+use Rattle.std.proofs.Common.{◌≡◌, ℕ, Bool, Result, Ok, Err, OnErr, List, [], ◌∷◌, ◌++◌, map, refl, ap, sym, subst, ◌∙◌, append-nil, append_assoc}
 use Rattle.consumer.specs.declared.given.Given.{Given}
 use Rattle.lane.specs.declared.input.Input.{Input}
 use Rattle.bonded_flows.specs.Slots.{LeavesOf}
@@ -18,6 +18,11 @@ use Rattle.captured_flows.specs.Plays.{IsPart, none_told, one_told, Plays, nothi
 use Rattle.captured_flows.specs.Taking.{TakesBy, BreaksOff, TakesSome}
 use Rattle.captured_flows.proofs.Seen.{items-append, items-alone, given-append, given-gave, given-both, plays-then}
 use Rattle.captured_flows.proofs.Taken.{Spelled, Begins, Sees, IsShown, shown-gave, shown-then, given-then}
+
+-- whatever the error is
+pub on-any_err : {T E : Type 0} {Q : Type 0} (result : Result T E) → Q → OnErr result Q
+on-any_err (Ok value) is = tt
+on-any_err (Err error) is = is
 
 module _ {C : Type 0} (accepts : C → List ℕ → Bool) (check : List ℕ → Bool) (made : TableSetup) where
   -- moves, and then others that break off

@@ -5,7 +5,7 @@ use Rattle.captured_flows.specs.Together.{views_of}
 use Rattle.captured_flows.specs.Taking.{TakesBy}
 use Rattle.captured_flows.proofs.Together.{ends-more}
 use Rattle.captured_flows.proofs.Taken.{Nothing, takes-none, takes-as, takes-then}
-use Rattle.captured_flows.proofs.Broken.{breaks-behind}
+use Rattle.captured_flows.proofs.Broken.{on-any_err, breaks-behind}
 use Rattle.captured_flows.proofs.captured_flows.end_all.Goals as goal
 
 pub loop-k-init : goal.loop-k-init
@@ -37,4 +37,5 @@ returns-clause-takes g c =
 
 pub returns-in_err-end_at-clause-breaks : goal.returns-in_err-end_at-clause-breaks
 returns-in_err-end_at-clause-breaks g c =
-    breaks-behind g.C.HeaderCheck.accepts g.O.Consumer.after g.O.CaptureConsumer.saw _ c.args.receiver.now c.loop-k.receiver c.end_at.new.receiver c.args.out.now c.loop-k.out c.end_at.new.out c.loop-k.invariant.takes c.in_err-end_at.ensures.breaks
+    on-any_err c.from_residual.result
+    (breaks-behind g.C.HeaderCheck.accepts g.O.Consumer.after g.O.CaptureConsumer.saw _ c.args.receiver.now c.loop-k.receiver c.end_at.new.receiver c.args.out.now c.loop-k.out c.end_at.new.out c.loop-k.invariant.takes c.in_err-end_at.ensures.breaks)

@@ -6,7 +6,7 @@ use Rattle.captured_flows.specs.Flow.{EndsWaiting}
 use Rattle.captured_flows.specs.Taking.{TakesBy}
 use Rattle.captured_flows.proofs.Together.{waits-kept, waits-set, view-at, views-set}
 use Rattle.captured_flows.proofs.Taken.{takes-as}
-use Rattle.captured_flows.proofs.Broken.{breaks-none}
+use Rattle.captured_flows.proofs.Broken.{on-any_err, breaks-none}
 use Rattle.captured_flows.proofs.captured_flows.end_at.Goals as goal
 
 pub returns-in_err-end_waiting-clause-waits : goal.returns-in_err-end_waiting-clause-waits
@@ -47,3 +47,6 @@ returns-clause-takes g c =
 pub returns-then-k-flows-clause-breaks : goal.returns-then-k-flows-clause-breaks
 returns-then-k-flows-clause-breaks g c =
     breaks-none g.C.HeaderCheck.accepts g.O.Consumer.after g.O.CaptureConsumer.saw c.args.receiver.now c.args.out.now
+
+pub returns-in_err-end_waiting-clause-breaks : goal.returns-in_err-end_waiting-clause-breaks
+returns-in_err-end_waiting-clause-breaks g c = on-any_err c.from_residual.result c.in_err-end_waiting.ensures.breaks

@@ -2,7 +2,7 @@ use Rattle.std.proofs.Common.{ℕ, subst}
 use Rattle.lane.specs.declared.input.Input.TheVariants.{Grant}
 use Rattle.receiver.specs.Receiving.{Replies}
 use Rattle.captured_flows.proofs.Taken.{takes-unsound}
-use Rattle.captured_flows.proofs.Broken.{breaks-untold, some-then}
+use Rattle.captured_flows.proofs.Broken.{on-any_err, breaks-untold, some-then}
 use Rattle.captured_flows.proofs.captured_flows.refuse.Goals as goal
 
 pub returns-clause-takes : goal.returns-clause-takes
@@ -15,9 +15,11 @@ returns-clause-takes g c =
 
 pub returns-in_err-take-clause-breaks : goal.returns-in_err-take-clause-breaks
 returns-in_err-take-clause-breaks g c =
-    breaks-untold g.C.HeaderCheck.accepts g.O.Consumer.after g.O.CaptureConsumer.saw g.met.O.CaptureConsumer.begins g.met.O.CaptureConsumer.sees c.args.receiver.now c.take.new.receiver c.args.out.now c.take.new.out c.in_err-take.ensures.fails
+    on-any_err c.from_residual.result
+    (breaks-untold g.C.HeaderCheck.accepts g.O.Consumer.after g.O.CaptureConsumer.saw g.met.O.CaptureConsumer.begins g.met.O.CaptureConsumer.sees c.args.receiver.now c.take.new.receiver c.args.out.now c.take.new.out c.in_err-take.ensures.fails)
 
 pub returns-in_err-reply-clause-breaks : goal.returns-in_err-reply-clause-breaks
 returns-in_err-reply-clause-breaks g c =
-    breaks-untold g.C.HeaderCheck.accepts g.O.Consumer.after g.O.CaptureConsumer.saw g.met.O.CaptureConsumer.begins g.met.O.CaptureConsumer.sees c.args.receiver.now c.take-2.new.receiver c.args.out.now c.take-2.new.out
-    (some-then g.C.HeaderCheck.accepts g.O.Consumer.after g.O.CaptureConsumer.saw c.args.receiver.now c.take.new.receiver c.take-2.new.receiver c.args.out.now c.take.new.out c.take-2.new.out _ c.in_ok-take.ensures.replies.takes c.in_err-reply.ensures.fails)
+    on-any_err c.from_residual-in_err-reply.result
+    (breaks-untold g.C.HeaderCheck.accepts g.O.Consumer.after g.O.CaptureConsumer.saw g.met.O.CaptureConsumer.begins g.met.O.CaptureConsumer.sees c.args.receiver.now c.take-2.new.receiver c.args.out.now c.take-2.new.out
+    (some-then g.C.HeaderCheck.accepts g.O.Consumer.after g.O.CaptureConsumer.saw c.args.receiver.now c.take.new.receiver c.take-2.new.receiver c.args.out.now c.take.new.out c.take-2.new.out _ c.in_ok-take.ensures.replies.takes c.in_err-reply.ensures.fails))

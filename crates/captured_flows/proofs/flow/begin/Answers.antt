@@ -6,7 +6,7 @@ use Rattle.capture_rules.specs.Held.{held_by, wait_of}
 use Rattle.captured_flows.specs.Flow.{HandsInAll}
 use Rattle.captured_flows.specs.Taking.{TakesBy}
 use Rattle.captured_flows.proofs.Taken.{Just, takes-as, takes-then, takes-restart}
-use Rattle.captured_flows.proofs.Broken.{breaks-untold, breaks-behind}
+use Rattle.captured_flows.proofs.Broken.{on-any_err, breaks-untold, breaks-behind}
 use Rattle.captured_flows.proofs.flow.begin.Goals as goal
 
 pub returns-clause-takes : goal.returns-clause-takes
@@ -32,11 +32,13 @@ returns-clause-takes g c =
 
 pub returns-in_err-counts-clause-breaks : goal.returns-in_err-counts-clause-breaks
 returns-in_err-counts-clause-breaks g c =
-    breaks-untold g.C.HeaderCheck.accepts g.O.Consumer.after g.O.CaptureConsumer.saw g.met.O.CaptureConsumer.begins g.met.O.CaptureConsumer.sees c.args.receiver.now c.restart.new.receiver c.args.out.now c.restart.new.out c.in_err-counts.ensures.fails
+    on-any_err c.from_residual.result
+    (breaks-untold g.C.HeaderCheck.accepts g.O.Consumer.after g.O.CaptureConsumer.saw g.met.O.CaptureConsumer.begins g.met.O.CaptureConsumer.sees c.args.receiver.now c.restart.new.receiver c.args.out.now c.restart.new.out c.in_err-counts.ensures.fails)
 
 pub returns-in_err-hand_in_all-clause-breaks : goal.returns-in_err-hand_in_all-clause-breaks
 returns-in_err-hand_in_all-clause-breaks g c =
-    breaks-behind g.C.HeaderCheck.accepts g.O.Consumer.after g.O.CaptureConsumer.saw _ c.args.receiver.now c.restart.new.receiver c.hand_in_all.new.receiver c.args.out.now c.begin_anew.new.self c.hand_in_all.new.out
+    on-any_err c.from_residual-in_err-hand_in_all.result
+    (breaks-behind g.C.HeaderCheck.accepts g.O.Consumer.after g.O.CaptureConsumer.saw _ c.args.receiver.now c.restart.new.receiver c.hand_in_all.new.receiver c.args.out.now c.begin_anew.new.self c.hand_in_all.new.out
     (takes-restart g.C.HeaderCheck.accepts g.O.Consumer.after g.O.CaptureConsumer.saw g.met.O.CaptureConsumer.begins g.met.O.CaptureConsumer.sees c.args.receiver.now c.restart.new.receiver
     c.args.out.now c.restart.new.out c.begin_anew.new.self c.args.flow c.args.begun.first c.in_ok-counts.counts c.in_ok-counts.ensures.restarts c.in_ok-counts.ensures.at_hand c.begin_anew.ensures)
-    c.in_err-hand_in_all.ensures.breaks
+    c.in_err-hand_in_all.ensures.breaks)

@@ -5,6 +5,7 @@ use Rattle.capture_rules.specs.Held.{held_by, wait_of}
 use Rattle.captured_flows.specs.declared.sound_burst.SoundBurst.{SoundBurst}
 use Rattle.captured_flows.specs.Flow.{BeginsIf, goes_on, begins}
 use Rattle.captured_flows.proofs.Taken.{Nothing, takes-none, takes-as}
+use Rattle.captured_flows.proofs.Broken.{on-any_err}
 use Rattle.captured_flows.proofs.flow.begin_if.Goals as goal
 
 pub returns-in_ok-begin-in-Some-clause-takes : goal.returns-in_ok-begin-in-Some-clause-takes
@@ -18,3 +19,6 @@ returns-in-None-clause-takes g c =
     takes-as g.C.HeaderCheck.accepts g.O.Consumer.after g.O.CaptureConsumer.saw Nothing _ c.args.receiver.now c.args.receiver.now c.args.out.now c.args.out.now (takes-none g.C.HeaderCheck.accepts g.O.Consumer.after g.O.CaptureConsumer.saw c.args.receiver.now c.args.out.now)
     (λ made handed more none. subst (λ (n : Option (Begun SoundBurst)). BeginsIf made (wait_of c.args.held.now) c.args.flow (held_by c.args.held.now) handed n more (held_by c.args.held.now)) (sym c.in-None.is)
     (subst (λ (m : List Act). BeginsIf made (wait_of c.args.held.now) c.args.flow (held_by c.args.held.now) handed None m (held_by c.args.held.now)) (sym none) goes_on))
+
+pub returns-in_err-begin-in-Some-clause-breaks : goal.returns-in_err-begin-in-Some-clause-breaks
+returns-in_err-begin-in-Some-clause-breaks g c = on-any_err c.from_residual.result c.in_err-begin-in-Some.ensures.breaks

@@ -3,7 +3,7 @@ use Rattle.capture_rules.specs.Held.{held_by, wait_of}
 use Rattle.captured_flows.specs.Flow.{Holds}
 use Rattle.captured_flows.proofs.HandedIn.{holds-if, hands-in}
 use Rattle.captured_flows.proofs.Taken.{takes-as, takes-then, takes-expected, takes-told}
-use Rattle.captured_flows.proofs.Broken.{breaks-told, breaks-behind, breaks-after, some-then}
+use Rattle.captured_flows.proofs.Broken.{on-any_err, breaks-told, breaks-behind, breaks-after, some-then}
 use Rattle.captured_flows.proofs.flow.hand_in.Goals as goal
 
 pub returns-clause-takes : goal.returns-clause-takes
@@ -29,27 +29,34 @@ returns-clause-takes g c =
 
 pub returns-in_err-take-clause-breaks : goal.returns-in_err-take-clause-breaks
 returns-in_err-take-clause-breaks g c =
-    breaks-behind g.C.HeaderCheck.accepts g.O.Consumer.after g.O.CaptureConsumer.saw _ c.args.receiver.now c.let_go.new.receiver c.take.new.receiver c.args.out.now c.let_go.new.out c.take.new.out c.in_ok-let_go.ensures.takes
-    (breaks-told g.C.HeaderCheck.accepts g.O.Consumer.after g.O.CaptureConsumer.saw g.met.O.CaptureConsumer.begins g.met.O.CaptureConsumer.sees c.let_go.new.receiver c.take.new.receiver c.let_go.new.out c.hand_in.new.self c.take.new.out c.args.flow c.args.one c.hand_in.ensures c.in_err-take.ensures.fails)
+    on-any_err c.from_residual-in_err-take.result
+    (breaks-behind g.C.HeaderCheck.accepts g.O.Consumer.after g.O.CaptureConsumer.saw _ c.args.receiver.now c.let_go.new.receiver c.take.new.receiver c.args.out.now c.let_go.new.out c.take.new.out c.in_ok-let_go.ensures.takes
+    (breaks-told g.C.HeaderCheck.accepts g.O.Consumer.after g.O.CaptureConsumer.saw g.met.O.CaptureConsumer.begins g.met.O.CaptureConsumer.sees c.let_go.new.receiver c.take.new.receiver c.let_go.new.out c.hand_in.new.self c.take.new.out c.args.flow c.args.one c.hand_in.ensures c.in_err-take.ensures.fails))
 
 pub returns-in_err-reply-clause-breaks : goal.returns-in_err-reply-clause-breaks
 returns-in_err-reply-clause-breaks g c =
-    breaks-behind g.C.HeaderCheck.accepts g.O.Consumer.after g.O.CaptureConsumer.saw _ c.args.receiver.now c.let_go.new.receiver c.take-2.new.receiver c.args.out.now c.let_go.new.out c.take-2.new.out c.in_ok-let_go.ensures.takes
+    on-any_err c.from_residual-in_err-reply.result
+    (breaks-behind g.C.HeaderCheck.accepts g.O.Consumer.after g.O.CaptureConsumer.saw _ c.args.receiver.now c.let_go.new.receiver c.take-2.new.receiver c.args.out.now c.let_go.new.out c.take-2.new.out c.in_ok-let_go.ensures.takes
     (breaks-told g.C.HeaderCheck.accepts g.O.Consumer.after g.O.CaptureConsumer.saw g.met.O.CaptureConsumer.begins g.met.O.CaptureConsumer.sees c.let_go.new.receiver c.take-2.new.receiver c.let_go.new.out c.hand_in.new.self c.take-2.new.out c.args.flow c.args.one c.hand_in.ensures
-    (some-then g.C.HeaderCheck.accepts g.O.Consumer.after g.O.CaptureConsumer.saw c.let_go.new.receiver c.take.new.receiver c.take-2.new.receiver c.hand_in.new.self c.take.new.out c.take-2.new.out _ c.in_ok-take.ensures.replies.takes c.in_err-reply.ensures.fails))
+    (some-then g.C.HeaderCheck.accepts g.O.Consumer.after g.O.CaptureConsumer.saw c.let_go.new.receiver c.take.new.receiver c.take-2.new.receiver c.hand_in.new.self c.take.new.out c.take-2.new.out _ c.in_ok-take.ensures.replies.takes c.in_err-reply.ensures.fails)))
 
 pub returns-in_err-keep_if-clause-breaks : goal.returns-in_err-keep_if-clause-breaks
 returns-in_err-keep_if-clause-breaks g c =
-    breaks-after g.C.HeaderCheck.accepts g.O.Consumer.after g.O.CaptureConsumer.saw _ c.args.receiver.now c.take-2.new.receiver c.args.out.now c.take-2.new.out
+    on-any_err c.from_residual-in_err-keep_if.result
+    (breaks-after g.C.HeaderCheck.accepts g.O.Consumer.after g.O.CaptureConsumer.saw _ c.args.receiver.now c.take-2.new.receiver c.args.out.now c.take-2.new.out
     (takes-then g.C.HeaderCheck.accepts g.O.Consumer.after g.O.CaptureConsumer.saw _ _ c.args.receiver.now c.let_go.new.receiver c.take-2.new.receiver c.args.out.now c.let_go.new.out c.take-2.new.out c.in_ok-let_go.ensures.takes
     (takes-told g.C.HeaderCheck.accepts g.O.Consumer.after g.O.CaptureConsumer.saw g.met.O.CaptureConsumer.begins g.met.O.CaptureConsumer.sees c.let_go.new.receiver c.take.new.receiver c.take-2.new.receiver
     c.let_go.new.out c.hand_in.new.self c.take.new.out c.take-2.new.out c.args.flow c.args.one c.in_ok-take.field-0 c.in_ok-reply.reply c.hand_in.ensures
-    c.in_ok-take.ensures.replies c.in_ok-take.ensures.at_hand c.in_ok-reply.ensures.replies c.in_ok-reply.ensures.at_hand))
+    c.in_ok-take.ensures.replies c.in_ok-take.ensures.at_hand c.in_ok-reply.ensures.replies c.in_ok-reply.ensures.at_hand)))
 
 pub returns-in_err-number-clause-breaks : goal.returns-in_err-number-clause-breaks
 returns-in_err-number-clause-breaks g c =
-    breaks-after g.C.HeaderCheck.accepts g.O.Consumer.after g.O.CaptureConsumer.saw _ c.args.receiver.now c.take-2.new.receiver c.args.out.now c.take-2.new.out
+    on-any_err c.from_residual-in_err-number.result
+    (breaks-after g.C.HeaderCheck.accepts g.O.Consumer.after g.O.CaptureConsumer.saw _ c.args.receiver.now c.take-2.new.receiver c.args.out.now c.take-2.new.out
     (takes-then g.C.HeaderCheck.accepts g.O.Consumer.after g.O.CaptureConsumer.saw _ _ c.args.receiver.now c.let_go.new.receiver c.take-2.new.receiver c.args.out.now c.let_go.new.out c.take-2.new.out c.in_ok-let_go.ensures.takes
     (takes-told g.C.HeaderCheck.accepts g.O.Consumer.after g.O.CaptureConsumer.saw g.met.O.CaptureConsumer.begins g.met.O.CaptureConsumer.sees c.let_go.new.receiver c.take.new.receiver c.take-2.new.receiver
     c.let_go.new.out c.hand_in.new.self c.take.new.out c.take-2.new.out c.args.flow c.args.one c.in_ok-take.field-0 c.in_ok-reply.reply c.hand_in.ensures
-    c.in_ok-take.ensures.replies c.in_ok-take.ensures.at_hand c.in_ok-reply.ensures.replies c.in_ok-reply.ensures.at_hand))
+    c.in_ok-take.ensures.replies c.in_ok-take.ensures.at_hand c.in_ok-reply.ensures.replies c.in_ok-reply.ensures.at_hand)))
+
+pub returns-in_err-let_go-clause-breaks : goal.returns-in_err-let_go-clause-breaks
+returns-in_err-let_go-clause-breaks g c = on-any_err c.from_residual.result c.in_err-let_go.ensures.breaks

@@ -7,7 +7,7 @@ use Rattle.capture_rules.specs.Held.{held_by, wait_of}
 use Rattle.captured_flows.specs.Flow.{Next, HandsIn, HandsInAll, none, one_more}
 use Rattle.captured_flows.specs.Taking.{TakesBy}
 use Rattle.captured_flows.proofs.Taken.{Nothing, takes-none, takes-as, takes-then}
-use Rattle.captured_flows.proofs.Broken.{breaks-behind}
+use Rattle.captured_flows.proofs.Broken.{on-any_err, breaks-behind}
 use Rattle.captured_flows.proofs.flow.hand_in_all.Goals as goal
 
 pub loop-one-init : goal.loop-one-init
@@ -45,4 +45,5 @@ returns-clause-takes g c =
 
 pub returns-in_err-hand_in-clause-breaks : goal.returns-in_err-hand_in-clause-breaks
 returns-in_err-hand_in-clause-breaks g c =
-    breaks-behind g.C.HeaderCheck.accepts g.O.Consumer.after g.O.CaptureConsumer.saw _ c.args.receiver.now c.loop-one.receiver c.hand_in.new.receiver c.args.out.now c.loop-one.out c.hand_in.new.out c.loop-one.invariant.takes c.in_err-hand_in.ensures.breaks
+    on-any_err c.from_residual.result
+    (breaks-behind g.C.HeaderCheck.accepts g.O.Consumer.after g.O.CaptureConsumer.saw _ c.args.receiver.now c.loop-one.receiver c.hand_in.new.receiver c.args.out.now c.loop-one.out c.hand_in.new.out c.loop-one.invariant.takes c.in_err-hand_in.ensures.breaks)

@@ -2,7 +2,7 @@ use Rattle.captured_flows.proofs.Taken.{Nothing, takes-none, takes-as, takes-exp
 use Rattle.capture_rules.specs.Held.{held_by, wait_of}
 use Rattle.captured_flows.specs.Flow.{some_is_old}
 use Rattle.captured_flows.proofs.LetGo.{lets_go-none}
-use Rattle.captured_flows.proofs.Broken.{breaks-none}
+use Rattle.captured_flows.proofs.Broken.{on-any_err, breaks-none}
 use Rattle.captured_flows.proofs.flow.let_go.Goals as goal
 
 pub returns-in_ok-skip_past-in-Some-clause-takes : goal.returns-in_ok-skip_past-in-Some-clause-takes
@@ -20,4 +20,8 @@ returns-in-None-clause-takes g c =
 
 pub returns-in_err-first-clause-breaks : goal.returns-in_err-first-clause-breaks
 returns-in_err-first-clause-breaks g c =
-    breaks-none g.C.HeaderCheck.accepts g.O.Consumer.after g.O.CaptureConsumer.saw c.args.receiver.now c.args.out.now
+    on-any_err c.from_residual.result
+    (breaks-none g.C.HeaderCheck.accepts g.O.Consumer.after g.O.CaptureConsumer.saw c.args.receiver.now c.args.out.now)
+
+pub returns-in_err-skip_past-in-Some-clause-breaks : goal.returns-in_err-skip_past-in-Some-clause-breaks
+returns-in_err-skip_past-in-Some-clause-breaks g c = on-any_err c.from_residual-in_err-skip_past-in-Some.result c.in_err-skip_past-in-Some.ensures.breaks

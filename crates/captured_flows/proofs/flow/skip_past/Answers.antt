@@ -3,7 +3,7 @@ use Rattle.bonded_flows.specs.declared.decision.FlowDecision.TheVariants.{SkipTo
 use Rattle.receiver.specs.HandedIn.{decided}
 use Rattle.captured_flows.specs.Acts.{alone}
 use Rattle.captured_flows.proofs.Taken.{Just, takes-as, takes-expected, takes-skip}
-use Rattle.captured_flows.proofs.Broken.{breaks-untold, breaks-after}
+use Rattle.captured_flows.proofs.Broken.{on-any_err, breaks-untold, breaks-after}
 use Rattle.captured_flows.proofs.flow.skip_past.Goals as goal
 
 pub returns-clause-takes : goal.returns-clause-takes
@@ -17,10 +17,12 @@ returns-clause-takes g c =
 
 pub returns-in_err-skip-clause-breaks : goal.returns-in_err-skip-clause-breaks
 returns-in_err-skip-clause-breaks g c =
-    breaks-untold g.C.HeaderCheck.accepts g.O.Consumer.after g.O.CaptureConsumer.saw g.met.O.CaptureConsumer.begins g.met.O.CaptureConsumer.sees c.args.receiver.now c.skip.new.receiver c.args.out.now c.skip.new.out c.in_err-skip.ensures.fails
+    on-any_err c.from_residual.result
+    (breaks-untold g.C.HeaderCheck.accepts g.O.Consumer.after g.O.CaptureConsumer.saw g.met.O.CaptureConsumer.begins g.met.O.CaptureConsumer.sees c.args.receiver.now c.skip.new.receiver c.args.out.now c.skip.new.out c.in_err-skip.ensures.fails)
 
 pub returns-in_err-number-clause-breaks : goal.returns-in_err-number-clause-breaks
 returns-in_err-number-clause-breaks g c =
-    breaks-after g.C.HeaderCheck.accepts g.O.Consumer.after g.O.CaptureConsumer.saw _ c.args.receiver.now c.skip.new.receiver c.args.out.now c.skip.new.out
+    on-any_err c.from_residual-in_err-number.result
+    (breaks-after g.C.HeaderCheck.accepts g.O.Consumer.after g.O.CaptureConsumer.saw _ c.args.receiver.now c.skip.new.receiver c.args.out.now c.skip.new.out
     (takes-skip g.C.HeaderCheck.accepts g.O.Consumer.after g.O.CaptureConsumer.saw g.met.O.CaptureConsumer.begins g.met.O.CaptureConsumer.sees c.args.receiver.now c.skip.new.receiver c.args.out.now c.skip.new.out
-    c.args.flow c.args.number c.in_ok-skip.ensures.takes c.in_ok-skip.ensures.at_hand)
+    c.args.flow c.args.number c.in_ok-skip.ensures.takes c.in_ok-skip.ensures.at_hand))

@@ -12,6 +12,6 @@ pub returns-in-Err-OutOfMemory-clause-fails : goal.returns-in-Err-OutOfMemory-cl
 returns-in-Err-OutOfMemory-clause-fails g c =
     ([], c.in-Err-OutOfMemory.ensures.not_taken)
 
-pub returns-in-Err-default-clause-fails : goal.returns-in-Err-default-clause-fails
-returns-in-Err-default-clause-fails g c =
-    ([], c.in-Err-default.ensures.not_taken)
+pub returns-in-Err-clause-fails : goal.returns-in-Err-clause-fails
+returns-in-Err-clause-fails g c =
+    ([], c.in-Err.ensures.not_taken)

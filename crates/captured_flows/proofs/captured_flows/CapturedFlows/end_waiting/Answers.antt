@@ -5,6 +5,7 @@ use Rattle.captured_flows.specs.declared.flow.CapturedFlow.{CapturedFlow}
 use Rattle.captured_flows.specs.Captures.{EndsAll}
 use Rattle.captured_flows.specs.Together.{HaveWaits, views_of}
 use Rattle.captured_flows.proofs.Taken.{takes-as}
+use Rattle.captured_flows.proofs.Broken.{on-any_err}
 use Rattle.captured_flows.proofs.captured_flows.CapturedFlows.end_waiting.Goals as goal
 
 pub returns-clause-takes : goal.returns-clause-takes
@@ -30,3 +31,6 @@ returns-clause-capturing g c =
       waits = subst (HaveWaits captured.waits) (sym are) c.end_all.ensures.waits;
       sids = c.requires.capturing.sids;
     }
+
+pub returns-in_err-end_all-clause-breaks : goal.returns-in_err-end_all-clause-breaks
+returns-in_err-end_all-clause-breaks g c = on-any_err c.from_residual.result c.in_err-end_all.ensures.breaks

@@ -12,6 +12,7 @@ use Rattle.captured_flows.specs.Sids.{channel_of, flow_of}
 use Rattle.captured_flows.specs.Captures.{IsRefused, SpellsBurst, of_no_channel, of_no_flow, is_refused, comes}
 use Rattle.captured_flows.specs.Capturing.{views_in}
 use Rattle.captured_flows.proofs.Taken.{Nothing, takes-none, takes-as}
+use Rattle.captured_flows.proofs.Broken.{on-any_err}
 use Rattle.captured_flows.proofs.captured_flows.CapturedFlows.take.Goals as goal
 
 pub returns-in_default-clause-takes : goal.returns-in_default-clause-takes
@@ -79,3 +80,9 @@ returns-in_ok-reply-in-Err-clause-takes g c =
     takes-as g.C.HeaderCheck.accepts g.O.Consumer.after g.O.CaptureConsumer.saw _ _ captured.receiver c.refuse.new.receiver c.args.out.now c.refuse.new.out c.in_ok-reply-in-Err.ensures.takes
     (λ made handed more spelled. is_refused channel c.in-Some-flow_of.flow reply of_channel of_flow c.in-Err.ensures.why
     (subst (λ (b : CapturedBurst). IsRefused channel b reply made handed more) c.in-Err.ensures.unsound spelled))
+
+pub returns-in_err-come_to-in-Ok-clause-breaks : goal.returns-in_err-come_to-in-Ok-clause-breaks
+returns-in_err-come_to-in-Ok-clause-breaks g c = on-any_err c.from_residual.result c.in_err-come_to-in-Ok.ensures.breaks
+
+pub returns-in_err-reply-in-Err-clause-breaks : goal.returns-in_err-reply-in-Err-clause-breaks
+returns-in_err-reply-in-Err-clause-breaks g c = on-any_err c.from_residual-in_err-reply-in-Err.result c.in_err-reply-in-Err.ensures.breaks

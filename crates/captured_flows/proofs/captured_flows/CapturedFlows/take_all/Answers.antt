@@ -10,7 +10,7 @@ use Rattle.captured_flows.specs.Captures.{SpellsBurst, SpellsBursts, none_comes,
 use Rattle.captured_flows.specs.Capturing.{views_in}
 use Rattle.captured_flows.specs.Taking.{TakesBy}
 use Rattle.captured_flows.proofs.Taken.{Nothing, takes-none, takes-as, takes-then}
-use Rattle.captured_flows.proofs.Broken.{breaks-behind}
+use Rattle.captured_flows.proofs.Broken.{on-any_err, breaks-behind}
 use Rattle.captured_flows.proofs.captured_flows.CapturedFlows.take_all.Goals as goal
 
 pub loop-burst-init : goal.loop-burst-init
@@ -57,4 +57,5 @@ returns-clause-takes g c =
 
 pub returns-in_err-take-clause-breaks : goal.returns-in_err-take-clause-breaks
 returns-in_err-take-clause-breaks g c =
-    breaks-behind g.C.HeaderCheck.accepts g.O.Consumer.after g.O.CaptureConsumer.saw _ c.args.self.now.receiver c.loop-burst.self.receiver c.take.new.self.receiver c.args.out.now c.loop-burst.out c.take.new.out c.loop-burst.invariant.takes c.in_err-take.ensures.breaks
+    on-any_err c.from_residual.result
+    (breaks-behind g.C.HeaderCheck.accepts g.O.Consumer.after g.O.CaptureConsumer.saw _ c.args.self.now.receiver c.loop-burst.self.receiver c.take.new.self.receiver c.args.out.now c.loop-burst.out c.take.new.out c.loop-burst.invariant.takes c.in_err-take.ensures.breaks)

@@ -6,7 +6,7 @@ use Rattle.captured_flows.specs.declared.sound_burst.SoundBurst.{SoundBurst}
 use Rattle.captured_flows.specs.Flow.{PassesOn}
 use Rattle.captured_flows.specs.Seen.{flow_seen}
 use Rattle.captured_flows.specs.Taking.{TakesBy}
-use Rattle.captured_flows.proofs.Broken.{breaks-none}
+use Rattle.captured_flows.proofs.Broken.{on-any_err, breaks-none}
 use Rattle.captured_flows.proofs.flow.CapturedFlow.come.Goals as goal
 
 pub returns-clause-takes : goal.returns-clause-takes
@@ -22,4 +22,8 @@ returns-clause-takes g c =
 
 pub returns-in_err-push-clause-breaks : goal.returns-in_err-push-clause-breaks
 returns-in_err-push-clause-breaks g c =
-    breaks-none g.C.HeaderCheck.accepts g.O.Consumer.after g.O.CaptureConsumer.saw c.args.receiver.now c.args.out.now
+    on-any_err c.from_residual.result
+    (breaks-none g.C.HeaderCheck.accepts g.O.Consumer.after g.O.CaptureConsumer.saw c.args.receiver.now c.args.out.now)
+
+pub returns-in_err-pass_on-clause-breaks : goal.returns-in_err-pass_on-clause-breaks
+returns-in_err-pass_on-clause-breaks g c = on-any_err c.from_residual-in_err-pass_on.result c.in_err-pass_on.ensures.breaks

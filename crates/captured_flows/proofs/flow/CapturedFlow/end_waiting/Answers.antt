@@ -11,7 +11,7 @@ use Rattle.captured_flows.specs.Taking.{TakesBy}
 use Rattle.captured_flows.proofs.Waited.{HandsAllOnAfter, all-none, all-next, all-all, next-shorter, none-there}
 use Rattle.captured_flows.proofs.HandedOnTo.{ends-if}
 use Rattle.captured_flows.proofs.Taken.{Nothing, takes-none, takes-as, takes-then}
-use Rattle.captured_flows.proofs.Broken.{breaks-behind}
+use Rattle.captured_flows.proofs.Broken.{on-any_err, breaks-behind}
 use Rattle.captured_flows.proofs.flow.CapturedFlow.end_waiting.Goals as goal
 
 pub loop-next-init : goal.loop-next-init
@@ -95,8 +95,10 @@ returns-clause-takes g c =
 
 pub returns-in_err-hand_on-clause-breaks : goal.returns-in_err-hand_on-clause-breaks
 returns-in_err-hand_on-clause-breaks g c =
-    breaks-behind g.C.HeaderCheck.accepts g.O.Consumer.after g.O.CaptureConsumer.saw _ c.args.receiver.now c.loop-next.receiver c.hand_on.new.receiver c.args.out.now c.loop-next.out c.hand_on.new.out c.loop-next.invariant.takes c.in_err-hand_on.ensures.breaks
+    on-any_err c.from_residual.result
+    (breaks-behind g.C.HeaderCheck.accepts g.O.Consumer.after g.O.CaptureConsumer.saw _ c.args.receiver.now c.loop-next.receiver c.hand_on.new.receiver c.args.out.now c.loop-next.out c.hand_on.new.out c.loop-next.invariant.takes c.in_err-hand_on.ensures.breaks)
 
 pub returns-in_err-begin_if-clause-breaks : goal.returns-in_err-begin_if-clause-breaks
 returns-in_err-begin_if-clause-breaks g c =
-    breaks-behind g.C.HeaderCheck.accepts g.O.Consumer.after g.O.CaptureConsumer.saw _ c.args.receiver.now c.loop-next.receiver c.begin_if.new.receiver c.args.out.now c.loop-next.out c.begin_if.new.out c.loop-next.invariant.takes c.in_err-begin_if.ensures.breaks
+    on-any_err c.from_residual-in_err-begin_if.result
+    (breaks-behind g.C.HeaderCheck.accepts g.O.Consumer.after g.O.CaptureConsumer.saw _ c.args.receiver.now c.loop-next.receiver c.begin_if.new.receiver c.args.out.now c.loop-next.out c.begin_if.new.out c.loop-next.invariant.takes c.in_err-begin_if.ensures.breaks)

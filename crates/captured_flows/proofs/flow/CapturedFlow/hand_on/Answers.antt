@@ -5,7 +5,7 @@ use Rattle.captured_flows.specs.Flow.{Next, LetsGoIf, HandsInIf}
 use Rattle.captured_flows.specs.Taking.{TakesBy}
 use Rattle.captured_flows.proofs.HandedOnTo.{ends-if, handed_on-is}
 use Rattle.captured_flows.proofs.Taken.{takes-as, takes-then, takes-expecting}
-use Rattle.captured_flows.proofs.Broken.{breaks-behind, breaks-after}
+use Rattle.captured_flows.proofs.Broken.{on-any_err, breaks-behind, breaks-after}
 use Rattle.captured_flows.proofs.flow.CapturedFlow.hand_on.Goals as goal
 
 pub returns-clause-takes : goal.returns-clause-takes
@@ -46,19 +46,26 @@ returns-clause-takes g c =
 
 pub returns-in_err-let_go_if-clause-breaks : goal.returns-in_err-let_go_if-clause-breaks
 returns-in_err-let_go_if-clause-breaks g c =
-    breaks-behind g.C.HeaderCheck.accepts g.O.Consumer.after g.O.CaptureConsumer.saw _ c.args.receiver.now c.begin_if.new.receiver c.let_go_if.new.receiver c.args.out.now c.begin_if.new.out c.let_go_if.new.out c.in_ok-begin_if.ensures.takes c.in_err-let_go_if.ensures.breaks
+    on-any_err c.from_residual-in_err-let_go_if.result
+    (breaks-behind g.C.HeaderCheck.accepts g.O.Consumer.after g.O.CaptureConsumer.saw _ c.args.receiver.now c.begin_if.new.receiver c.let_go_if.new.receiver c.args.out.now c.begin_if.new.out c.let_go_if.new.out c.in_ok-begin_if.ensures.takes c.in_err-let_go_if.ensures.breaks)
 
 pub returns-in_err-number-clause-breaks : goal.returns-in_err-number-clause-breaks
 returns-in_err-number-clause-breaks g c =
-    breaks-after g.C.HeaderCheck.accepts g.O.Consumer.after g.O.CaptureConsumer.saw _ c.args.receiver.now c.let_go_if.new.receiver c.args.out.now c.let_go_if.new.out
-    (takes-then g.C.HeaderCheck.accepts g.O.Consumer.after g.O.CaptureConsumer.saw _ _ c.args.receiver.now c.begin_if.new.receiver c.let_go_if.new.receiver c.args.out.now c.begin_if.new.out c.let_go_if.new.out c.in_ok-begin_if.ensures.takes c.in_ok-let_go_if.ensures.takes)
+    on-any_err c.from_residual-in_err-number.result
+    (breaks-after g.C.HeaderCheck.accepts g.O.Consumer.after g.O.CaptureConsumer.saw _ c.args.receiver.now c.let_go_if.new.receiver c.args.out.now c.let_go_if.new.out
+    (takes-then g.C.HeaderCheck.accepts g.O.Consumer.after g.O.CaptureConsumer.saw _ _ c.args.receiver.now c.begin_if.new.receiver c.let_go_if.new.receiver c.args.out.now c.begin_if.new.out c.let_go_if.new.out c.in_ok-begin_if.ensures.takes c.in_ok-let_go_if.ensures.takes))
 
 pub returns-in_err-next-clause-breaks : goal.returns-in_err-next-clause-breaks
 returns-in_err-next-clause-breaks g c =
-    breaks-after g.C.HeaderCheck.accepts g.O.Consumer.after g.O.CaptureConsumer.saw _ c.args.receiver.now c.let_go_if.new.receiver c.args.out.now c.let_go_if.new.out
-    (takes-then g.C.HeaderCheck.accepts g.O.Consumer.after g.O.CaptureConsumer.saw _ _ c.args.receiver.now c.begin_if.new.receiver c.let_go_if.new.receiver c.args.out.now c.begin_if.new.out c.let_go_if.new.out c.in_ok-begin_if.ensures.takes c.in_ok-let_go_if.ensures.takes)
+    on-any_err c.from_residual-in_err-next.result
+    (breaks-after g.C.HeaderCheck.accepts g.O.Consumer.after g.O.CaptureConsumer.saw _ c.args.receiver.now c.let_go_if.new.receiver c.args.out.now c.let_go_if.new.out
+    (takes-then g.C.HeaderCheck.accepts g.O.Consumer.after g.O.CaptureConsumer.saw _ _ c.args.receiver.now c.begin_if.new.receiver c.let_go_if.new.receiver c.args.out.now c.begin_if.new.out c.let_go_if.new.out c.in_ok-begin_if.ensures.takes c.in_ok-let_go_if.ensures.takes))
 
 pub returns-in_err-hand_in_if-clause-breaks : goal.returns-in_err-hand_in_if-clause-breaks
 returns-in_err-hand_in_if-clause-breaks g c =
-    breaks-behind g.C.HeaderCheck.accepts g.O.Consumer.after g.O.CaptureConsumer.saw _ c.args.receiver.now c.let_go_if.new.receiver c.hand_in_if.new.receiver c.args.out.now c.let_go_if.new.out c.hand_in_if.new.out
-    (takes-then g.C.HeaderCheck.accepts g.O.Consumer.after g.O.CaptureConsumer.saw _ _ c.args.receiver.now c.begin_if.new.receiver c.let_go_if.new.receiver c.args.out.now c.begin_if.new.out c.let_go_if.new.out c.in_ok-begin_if.ensures.takes c.in_ok-let_go_if.ensures.takes) c.in_err-hand_in_if.ensures.breaks
+    on-any_err c.from_residual-in_err-hand_in_if.result
+    (breaks-behind g.C.HeaderCheck.accepts g.O.Consumer.after g.O.CaptureConsumer.saw _ c.args.receiver.now c.let_go_if.new.receiver c.hand_in_if.new.receiver c.args.out.now c.let_go_if.new.out c.hand_in_if.new.out
+    (takes-then g.C.HeaderCheck.accepts g.O.Consumer.after g.O.CaptureConsumer.saw _ _ c.args.receiver.now c.begin_if.new.receiver c.let_go_if.new.receiver c.args.out.now c.begin_if.new.out c.let_go_if.new.out c.in_ok-begin_if.ensures.takes c.in_ok-let_go_if.ensures.takes) c.in_err-hand_in_if.ensures.breaks)
+
+pub returns-in_err-begin_if-clause-breaks : goal.returns-in_err-begin_if-clause-breaks
+returns-in_err-begin_if-clause-breaks g c = on-any_err c.from_residual.result c.in_err-begin_if.ensures.breaks

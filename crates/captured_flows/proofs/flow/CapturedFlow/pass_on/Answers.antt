@@ -11,7 +11,7 @@ use Rattle.captured_flows.specs.Flow.{IsHandedOn, AreHandedOn, no_more, next_one
 use Rattle.captured_flows.specs.Taking.{TakesBy}
 use Rattle.captured_flows.proofs.Waited.{HandsOnAfter, after-none, after-next, after-all, next-shorter}
 use Rattle.captured_flows.proofs.Taken.{Nothing, takes-none, takes-as, takes-then}
-use Rattle.captured_flows.proofs.Broken.{breaks-behind}
+use Rattle.captured_flows.proofs.Broken.{on-any_err, breaks-behind}
 use Rattle.captured_flows.proofs.flow.CapturedFlow.pass_on.Goals as goal
 
 pub loop-next-init : goal.loop-next-init
@@ -83,4 +83,5 @@ returns-clause-takes g c =
 
 pub returns-in_err-hand_on-clause-breaks : goal.returns-in_err-hand_on-clause-breaks
 returns-in_err-hand_on-clause-breaks g c =
-    breaks-behind g.C.HeaderCheck.accepts g.O.Consumer.after g.O.CaptureConsumer.saw _ c.args.receiver.now c.loop-next.receiver c.hand_on.new.receiver c.args.out.now c.loop-next.out c.hand_on.new.out c.loop-next.invariant.takes c.in_err-hand_on.ensures.breaks
+    on-any_err c.from_residual.result
+    (breaks-behind g.C.HeaderCheck.accepts g.O.Consumer.after g.O.CaptureConsumer.saw _ c.args.receiver.now c.loop-next.receiver c.hand_on.new.receiver c.args.out.now c.loop-next.out c.hand_on.new.out c.loop-next.invariant.takes c.in_err-hand_on.ensures.breaks)
