@@ -91,6 +91,7 @@ pub(crate) fn take<C: HeaderCheck + Drop, O: Consumer>(
     match receiver.take(alloc, channel, input, out) {
         Ok(reply) => Ok(reply),
         Err(TakeError::NoChannel(_)) => Err(FlowFault::NotThere),
-        Err(_) => Err(FlowFault::OutOfMemory),
+        Err(TakeError::NotTaken(_, _)) => Err(FlowFault::OutOfMemory),
+        Err(TakeError::Unfinished { .. }) => Err(FlowFault::OutOfMemory),
     }
 }

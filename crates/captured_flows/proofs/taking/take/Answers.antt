@@ -12,6 +12,10 @@ pub returns-in-Err-NoChannel-clause-fails : goal.returns-in-Err-NoChannel-clause
 returns-in-Err-NoChannel-clause-fails g c =
     some-failed g.C.HeaderCheck.accepts g.O.Consumer.after c.args.receiver.now c.take.new.self c.args.out.now c.take.new.out c.args.channel c.args.input _ c.in-Err-NoChannel.ensures.fails
 
-pub returns-in-Err-clause-fails : goal.returns-in-Err-clause-fails
-returns-in-Err-clause-fails g c =
-    some-failed g.C.HeaderCheck.accepts g.O.Consumer.after c.args.receiver.now c.take.new.self c.args.out.now c.take.new.out c.args.channel c.args.input _ c.in-Err.ensures.fails
+pub returns-in-Err-NotTaken-clause-fails : goal.returns-in-Err-NotTaken-clause-fails
+returns-in-Err-NotTaken-clause-fails g c =
+    some-failed g.C.HeaderCheck.accepts g.O.Consumer.after c.args.receiver.now c.take.new.self c.args.out.now c.take.new.out c.args.channel c.args.input _ c.in-Err-NotTaken.ensures.fails
+
+pub returns-in-Err-Unfinished-clause-fails : goal.returns-in-Err-Unfinished-clause-fails
+returns-in-Err-Unfinished-clause-fails g c =
+    some-failed g.C.HeaderCheck.accepts g.O.Consumer.after c.args.receiver.now c.take.new.self c.args.out.now c.take.new.out c.args.channel c.args.input _ c.in-Err-Unfinished.ensures.fails
