@@ -42,7 +42,8 @@ pub(crate) fn skip<C: HeaderCheck + Drop, O: Consumer>(
     ensures takes { IfOk result (λ _. TakesMore O.after C.accepts receiver.old out.old
         (decided flow (FlowDecision.SkipTo number) ∷ []) receiver.new out.new) }
     ensures at_hand { IfOk result (λ _. IsAtHand C.accepts receiver.new) }
-    ensures fails { OnErr result (TakesSome C.accepts O.after receiver.old out.old receiver.new out.new) }
+    ensures fails { OnErr result
+        (TakesSome C.accepts O.after receiver.old out.old receiver.new out.new) }
     ensures receiving { IsReceiving C.accepts receiver.new }
 {
     match receiver.decide(alloc, flow, FlowDecision::SkipTo(number), out) {
@@ -63,7 +64,8 @@ pub(crate) fn restart<C: HeaderCheck + Drop, O: Consumer>(
     ensures restarts { IfOk result (λ counts. Restarts O.after C.accepts receiver.old out.old
         flow first counts receiver.new out.new) }
     ensures at_hand { IfOk result (λ _. IsAtHand C.accepts receiver.new) }
-    ensures fails { OnErr result (TakesSome C.accepts O.after receiver.old out.old receiver.new out.new) }
+    ensures fails { OnErr result
+        (TakesSome C.accepts O.after receiver.old out.old receiver.new out.new) }
     ensures receiving { IsReceiving C.accepts receiver.new }
 {
     match receiver.restart(alloc, flow, first, out) {
@@ -85,7 +87,8 @@ pub(crate) fn take<C: HeaderCheck + Drop, O: Consumer>(
     ensures replies { IfOk result (λ reply. Replies O.after C.accepts receiver.old out.old
         channel input reply receiver.new out.new) }
     ensures at_hand { IfOk result (λ _. IsAtHand C.accepts receiver.new) }
-    ensures fails { OnErr result (TakesSome C.accepts O.after receiver.old out.old receiver.new out.new) }
+    ensures fails { OnErr result
+        (TakesSome C.accepts O.after receiver.old out.old receiver.new out.new) }
     ensures receiving { IsReceiving C.accepts receiver.new }
 {
     match receiver.take(alloc, channel, input, out) {

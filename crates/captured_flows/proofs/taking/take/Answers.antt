@@ -16,6 +16,3 @@ pub returns-in-Err-NotTaken-clause-fails : goal.returns-in-Err-NotTaken-clause-f
 returns-in-Err-NotTaken-clause-fails g c =
     some-failed g.C.HeaderCheck.accepts g.O.Consumer.after c.args.receiver.now c.take.new.self c.args.out.now c.take.new.out c.args.channel c.args.input _ c.in-Err-NotTaken.ensures.fails
 
-pub returns-in-Err-Unfinished-clause-fails : goal.returns-in-Err-Unfinished-clause-fails
-returns-in-Err-Unfinished-clause-fails g c =
-    some-failed g.C.HeaderCheck.accepts g.O.Consumer.after c.args.receiver.now c.take.new.self c.args.out.now c.take.new.out c.args.channel c.args.input _ c.in-Err-Unfinished.ensures.fails
