@@ -11,6 +11,7 @@
 //! all of it over any reader and any two writers, and answers the exit status.
 #![tactic(auto)]
 
+use capture_command::{asks_to_capture, capture_program};
 use commands::{program, report_outcome};
 use engines::{Device, UsageFault};
 use std::env;
@@ -24,6 +25,9 @@ fn words_of(rt: &HostRuntime) -> Result<Vec<String>, UsageFault> {
 
 fn main(rt: HostRuntime) -> ExitCode {
     let status = match words_of(&rt) {
+        Ok(words) if asks_to_capture(&words) => {
+            capture_program(rt.alloc(), &rt, &words, rt.stdin(), rt.stdout(), rt.stderr())
+        }
         Ok(words) => program(rt.alloc(), rt, &words, rt.stdin(), rt.stdout(), rt.stderr()),
         Err(fault) => {
             let mut err = Device::new(rt.stderr());

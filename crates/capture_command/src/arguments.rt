@@ -1,0 +1,56 @@
+//! The command line of `capture` as `clap` knows it.
+use clap::{Arg, ArgAction, Command};
+use std::alloc::{AllocError, Global};
+
+/// What the help ends with.
+const FORMATS: &str = "\
+Lines of MAP, which says which SIDs are of which flow (segrx map writes one):
+  flow SFID FIRST|auto WINDOW CLUSTERS
+  channel CHANNEL ID
+  sid CHANNEL SID FLOW
+The capture is pcap or pcapng, of packets of link type 273, and is read to its
+end, also from a pipe. Each frame is written as soon as it is joined, with the
+time of the burst that completed it. What is missing before a number that was
+held for --wait milliseconds of the packets' clock is lost, besides what the
+rule decides.";
+
+/// An option with a value.
+fn option<'a>(alloc: Global, name: &'a str, value: &'a str, help: &'a str) -> Arg<'a> {
+    Arg::new(alloc, name)
+        .long(name)
+        .value_name(value)
+        .action(ArgAction::Set)
+        .help(help)
+}
+
+/// An option without a value.
+fn flag<'a>(alloc: Global, name: &'a str, help: &'a str) -> Arg<'a> {
+    Arg::new(alloc, name)
+        .long(name)
+        .action(ArgAction::SetTrue)
+        .help(help)
+}
+
+/// The command `capture` with its options.
+pub fn capture_line<'a>(alloc: Global) -> Result<Command<'a>, AllocError> {
+    let losses = "What is lost: decided, passed or slid [default: slid]";
+    let wait = "How long a segment is held for those that are missing [default: 20]";
+    let reorder = "How long a burst waits for its neighbours [default: 2]";
+    let link = "Frames alone, or packets with channel and SID [default: docsis]";
+    let report = "Also write the counts to this file";
+    let requests = "Also write the requests to this file, as CSV";
+    let usage = "segrx capture MAP [OPTION]... < CAPTURE > FRAMES";
+    Command::new(alloc, "capture")
+        .about("Joins the bursts of a capture, and writes their frames as pcap")
+        .override_usage(usage)
+        .after_help(FORMATS)
+        .disable_version_flag(true)
+        .arg(Arg::new(alloc, "map").value_name("MAP").required(true).help("The map, a file"))?
+        .arg(option(alloc, "losses", "RULE", losses))?
+        .arg(option(alloc, "wait", "MS", wait))?
+        .arg(option(alloc, "reorder", "MS", reorder))?
+        .arg(option(alloc, "link", "docsis|xra", link))?
+        .arg(flag(alloc, "no-check", "Let headers of frames pass that end with a wrong check"))?
+        .arg(option(alloc, "report", "FILE", report))?
+        .arg(option(alloc, "requests", "FILE", requests))
+}

@@ -1,0 +1,136 @@
+//! The command `capture` over any runtime with files, any reader and any two writers.
+use crate::asked::{CaptureAsked, CaptureWords, read_capture_words};
+use crate::fault::CaptureCommandFault;
+use crate::files::{created, map_of_file};
+use capture_summary::{put_report, put_summary};
+use engines::{Device, TextWriter, held_room, write_text};
+use frame_engine::{CaptureTally, FrameReading, join_capture};
+use std::alloc::Global;
+use std::convert::AsStr;
+use std::io::{Read, Write};
+use std::rt::Files;
+
+/// Writes the report of what was counted.
+fn write_report<W: Write>(
+    alloc: Global,
+    tally: &CaptureTally,
+    file: &mut Device<W>,
+) -> Result<(), CaptureCommandFault> {
+    let mut room = held_room(alloc)?;
+    let mut text = TextWriter::new(file, &mut room);
+    put_report(&mut text, &tally.summary);
+    match text.finish() {
+        Ok(()) => Ok(()),
+        Err(_) => Err(CaptureCommandFault::OutputFile),
+    }
+}
+
+/// Writes the summary of what was counted.
+fn write_summary<E: Write>(
+    alloc: Global,
+    tally: &CaptureTally,
+    err: &mut Device<E>,
+) -> Result<(), CaptureCommandFault> {
+    let mut room = held_room(alloc)?;
+    let mut text = TextWriter::new(err, &mut room);
+    put_summary(&mut text, &tally.summary);
+    text.finish()?;
+    Ok(())
+}
+
+/// Writes what was counted: the summary, and the report where it is asked for. Lines of requests that
+/// were lost are reported then.
+fn write_counts<F: Files, E: Write>(
+    alloc: Global,
+    rt: &F,
+    asked: &CaptureAsked,
+    tally: &CaptureTally,
+    err: &mut Device<E>,
+) -> Result<(), CaptureCommandFault> {
+    write_summary(alloc, tally, err)?;
+    if let Some(path) = &asked.report {
+        let mut file = Device::new(created(rt, path.as_str())?);
+        let written = write_report(alloc, tally, &mut file);
+        file.into_inner();
+        written?;
+    }
+    if tally.lost_requests() {
+        return Err(CaptureCommandFault::OutputFile);
+    }
+    Ok(())
+}
+
+/// Joins the capture that the reader gives, and writes what was counted, also where a fault ends it.
+fn capture<F: Files, R: Read, W: Write, E: Write>(
+    alloc: Global,
+    rt: &F,
+    asked: &CaptureAsked,
+    reader: &mut Device<R>,
+    out: &mut Device<W>,
+    err: &mut Device<E>,
+) -> Result<(), CaptureCommandFault> {
+    let capture_map = map_of_file(alloc, rt, asked.map.as_str())?;
+    let mut tally = CaptureTally::new(alloc, &capture_map, asked.requests.is_some())?;
+    let reading = FrameReading::new(alloc, asked.settings, capture_map)?;
+    let mut requests = match &asked.requests {
+        Some(path) => Some(Device::new(created(rt, path.as_str())?)),
+        None => None,
+    };
+    let joined = join_capture(alloc, reading, &mut tally, &mut requests, reader, out);
+    if let Some(file) = requests {
+        file.into_inner();
+    }
+    let counted = write_counts(alloc, rt, asked, &tally, err);
+    joined?;
+    counted
+}
+
+/// Does what the words ask for.
+fn obey<S: AsStr, F: Files, R: Read, W: Write, E: Write>(
+    alloc: Global,
+    rt: &F,
+    words: &[S],
+    reader: &mut Device<R>,
+    out: &mut Device<W>,
+    err: &mut Device<E>,
+) -> Result<(), CaptureCommandFault> {
+    match read_capture_words(alloc, words)? {
+        CaptureWords::Capture(asked) => capture(alloc, rt, &asked, reader, out, err),
+        CaptureWords::Help(text) => Ok(write_text(out, text.as_bytes())?),
+    }
+}
+
+/// The whole command: it does what the words ask for, the program's name first, and answers the exit
+/// status: 0 where it was done, also for help; 1 for a fault of the map or of the capture, 2 for
+/// usage, 3 for out of memory, 4 for a failed read or write. A fault's line goes to `err`, behind the
+/// summary.
+pub fn capture_program<S, F, R, O, E>(
+    alloc: Global,
+    rt: &F,
+    words: &[S],
+    reader: R,
+    out: O,
+    err: E,
+) -> u8
+where
+    S: AsStr,
+    F: Files,
+    R: Read + Drop,
+    O: Write + Drop,
+    E: Write + Drop,
+{
+    let mut reader = Device::new(reader);
+    let mut out = Device::new(out);
+    let mut err = Device::new(err);
+    let status = match obey(alloc, rt, words, &mut reader, &mut out, &mut err) {
+        Ok(()) => 0,
+        Err(fault) => {
+            let _ = fault.report(&mut err);
+            fault.status()
+        }
+    };
+    reader.into_inner();
+    out.into_inner();
+    err.into_inner();
+    status
+}

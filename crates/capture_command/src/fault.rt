@@ -1,0 +1,109 @@
+//! Why a capture isn't read to its end.
+use capture_map::MapFault;
+use command_line::UsageFault;
+use engines::{Device, EngineFault, WriteFault, status, write_fault, write_text};
+use receiver::SetupError;
+use std::alloc::AllocError;
+use std::io;
+use std::io::Write;
+use thiserror::Error;
+
+/// Why the command `capture` didn't do its work.
+#[derive(Clone, Copy, Debug, PartialEq, Eq, Error)]
+pub enum CaptureCommandFault {
+    /// A line of the map is at fault. Out of memory is reported as that.
+    #[error("map: {0}")]
+    Map(MapFault),
+    /// The map can't be set up. No map that was read is so.
+    #[error("the map cannot be used")]
+    Setup,
+    /// The map can't be opened or read.
+    #[error("the map cannot be read")]
+    MapFile,
+    /// A file of the report, the requests or the picture can't be made or written.
+    #[error("a file cannot be written")]
+    OutputFile,
+    /// The words, the capture, the memory or the output.
+    #[error(transparent)]
+    Engine(EngineFault),
+}
+
+impl From<EngineFault> for CaptureCommandFault {
+    fn from(fault: EngineFault) -> CaptureCommandFault {
+        CaptureCommandFault::Engine(fault)
+    }
+}
+
+impl From<UsageFault> for CaptureCommandFault {
+    fn from(fault: UsageFault) -> CaptureCommandFault {
+        CaptureCommandFault::Engine(EngineFault::from(fault))
+    }
+}
+
+impl From<AllocError> for CaptureCommandFault {
+    fn from(_: AllocError) -> CaptureCommandFault {
+        CaptureCommandFault::Engine(EngineFault::OutOfMemory)
+    }
+}
+
+impl From<WriteFault> for CaptureCommandFault {
+    fn from(_: WriteFault) -> CaptureCommandFault {
+        CaptureCommandFault::Engine(EngineFault::Write)
+    }
+}
+
+impl From<MapFault> for CaptureCommandFault {
+    fn from(fault: MapFault) -> CaptureCommandFault {
+        match fault {
+            MapFault::OutOfMemory => CaptureCommandFault::Engine(EngineFault::OutOfMemory),
+            fault => CaptureCommandFault::Map(fault),
+        }
+    }
+}
+
+impl From<SetupError> for CaptureCommandFault {
+    fn from(fault: SetupError) -> CaptureCommandFault {
+        match fault {
+            SetupError::OutOfMemory => CaptureCommandFault::Engine(EngineFault::OutOfMemory),
+            _ => CaptureCommandFault::Setup,
+        }
+    }
+}
+
+impl CaptureCommandFault {
+    /// The exit status of this fault: 1 to 4.
+    pub fn status(&self) -> u8 {
+        match self {
+            CaptureCommandFault::Map(_) | CaptureCommandFault::Setup => 1,
+            CaptureCommandFault::MapFile | CaptureCommandFault::OutputFile => 4,
+            CaptureCommandFault::Engine(fault) => status(fault),
+        }
+    }
+
+    /// Writes the line that reports it.
+    pub fn report<E: Write>(&self, err: &mut Device<E>) -> Result<(), WriteFault> {
+        match self {
+            CaptureCommandFault::Map(MapFault::Line { line, kind }) => {
+                let mut number = itoa::Buffer::new();
+                write_text(err, b"segrx: map: line ".as_slice())?;
+                write_text(err, number.format(*line).as_bytes())?;
+                write_text(err, b": ".as_slice())?;
+                write_text(err, kind.text().as_bytes())?;
+                write_text(err, b"\n".as_slice())
+            }
+            CaptureCommandFault::Map(MapFault::OutOfMemory) => {
+                write_fault(&EngineFault::OutOfMemory, err)
+            }
+            CaptureCommandFault::Setup => {
+                write_text(err, b"segrx: the map cannot be used\n".as_slice())
+            }
+            CaptureCommandFault::MapFile => {
+                write_text(err, b"segrx: the map cannot be read\n".as_slice())
+            }
+            CaptureCommandFault::OutputFile => {
+                write_text(err, b"segrx: a file cannot be written\n".as_slice())
+            }
+            CaptureCommandFault::Engine(fault) => write_fault(fault, err),
+        }
+    }
+}

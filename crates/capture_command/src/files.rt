@@ -1,0 +1,64 @@
+//! The files of `capture`.
+use crate::fault::CaptureCommandFault;
+use capture_map::{CaptureMap, read_map};
+use engines::{Device, read_some, zeros};
+use std::alloc::Global;
+use std::fs;
+use std::io::Read;
+use std::rt::Files;
+
+/// The longest map that is read, in bytes.
+const MAP_MAX: usize = 16_777_216;
+/// How many bytes are asked of its file at once.
+const PIECE_BYTES: usize = 65_536;
+
+/// All bytes that a reader gives.
+fn read_all<R: Read>(
+    alloc: Global,
+    reader: &mut Device<R>,
+) -> Result<Vec<u8>, CaptureCommandFault> {
+    let mut piece = zeros(alloc, PIECE_BYTES)?;
+    let mut text = Vec::new(alloc);
+    for _ in 0..=MAP_MAX {
+        let Ok(count) = read_some(reader, &mut piece) else {
+            return Err(CaptureCommandFault::MapFile);
+        };
+        if count == 0 {
+            return Ok(text);
+        }
+        if count > MAP_MAX - text.len() {
+            return Err(CaptureCommandFault::MapFile);
+        }
+        text.extend_from_slice(&piece[..count])?;
+    }
+    Err(CaptureCommandFault::MapFile)
+}
+
+/// The bytes of a file.
+fn read_file<F: Files>(alloc: Global, rt: &F, path: &str) -> Result<Vec<u8>, CaptureCommandFault> {
+    let Ok(file) = fs::open(rt, path) else {
+        return Err(CaptureCommandFault::MapFile);
+    };
+    let mut file = Device::new(file);
+    let text = read_all(alloc, &mut file);
+    file.into_inner();
+    text
+}
+
+/// The map that a file holds.
+pub fn map_of_file<F: Files>(
+    alloc: Global,
+    rt: &F,
+    path: &str,
+) -> Result<CaptureMap, CaptureCommandFault> {
+    let text = read_file(alloc, rt, path)?;
+    Ok(read_map(alloc, &text)?)
+}
+
+/// A file that is made anew, to be written.
+pub fn created<F: Files>(rt: &F, path: &str) -> Result<F::File, CaptureCommandFault> {
+    match fs::create(rt, path) {
+        Ok(file) => Ok(file),
+        Err(_) => Err(CaptureCommandFault::OutputFile),
+    }
+}

@@ -1,0 +1,96 @@
+-- The capture was joined, or whatever ended it.
+use Rattle.std.proofs.Common.{◌≡◌, inl, inr, take, length, refl, sym, ap, subst, ◌∙◌, rules}
+use Rattle.std.specs.Io.KnownBytes.{Consumes}
+use Rattle.std.proofs.KnownBytes.{Keeps-refl}
+use Rattle.std.proofs.lemmas.Result.{err_from_is_err_and}
+use Rattle.engines.specs.Device.{inner_of}
+use Rattle.engines.proofs.ReadLines.{of_room}
+use Rattle.frame_engine.specs.declared.frame_reading.FrameReading.{FrameReading}
+use Rattle.frame_engine.proofs.Devices.{capture-refused, capture-unheaded, far-begun, capture-unread, far-more, capture-stopped, capture-finished}
+use Rattle.frame_engine.proofs.capturing.join_capture.Goals as goal
+
+pub returns-in_err-piece : goal.returns-in_err-piece
+returns-in_err-piece g c = λ settings capture_map begun.
+    let p = err_from_is_err_and c.from_residual.result c.from_residual.ensures.1 in
+    rw (p.1, p.2) (capture-refused g.R.Read.remaining g.W.Write.contents settings capture_map c.args.reader.now c.args.writer.now)
+
+pub returns-in_err-write : goal.returns-in_err-write
+returns-in_err-write g c = λ settings capture_map begun.
+    let p = err_from_is_err_and c.from_residual-in_err-write.result c.from_residual-in_err-write.ensures.1 in
+    rw (p.1, p.2)
+    (capture-unheaded g.R.Read.remaining g.W.Write.contents settings capture_map c.args.reader.now c.args.writer.now c.write.new.writer c.args.reading begun
+    c.in_err-write.ensures.front c.in_err-write.ensures.failed)
+
+pub loop-init : goal.loop-init
+loop-init g c =
+    let old = c.args.reading in
+    let new : FrameReading = record old { joining = record old.joining { file = c.write.new.self } } in
+    let wrote = c.in_ok-write.ensures in
+    record {
+      far = λ settings capture_map begun.
+          far-begun g.R.Read.remaining g.W.Write.contents settings capture_map c.args.reader.now c.args.writer.now c.write.new.writer old new begun refl c.write.ensures.link
+          c.write.ensures.channels wrote.none_left wrote.written wrote.left_flushed wrote.sound;
+      ready = c.requires.reading;
+      empty = wrote.none_left;
+      counted = search rules;
+      room = search rules;
+    }
+
+pub returns-in_err-count : goal.returns-in_err-count
+returns-in_err-count g c = λ settings capture_map begun.
+    let p = err_from_is_err_and c.from_residual-in_err-count.result c.from_residual-in_err-count.ensures.1 in
+    rw (p.1, p.2 ∙ c.in_err-count.ensures.only)
+    (capture-unread g.R.Read.remaining g.W.Write.contents settings capture_map c.args.reader.now c.args.writer.now c.loop.reader c.loop.writer c.loop.reading
+    (c.loop.invariant.far settings capture_map begun) c.read_some.new.reader c.in_err-count.ensures.kept (inl c.in_err-count.ensures.failed))
+
+pub returns-then-count-eq0 : goal.returns-then-count-eq0
+returns-then-count-eq0 g c = λ settings capture_map begun.
+    let far = c.loop.invariant.far settings capture_map begun in
+    let none : c.in_ok-count.count ≡ 0 = search rules in
+    let read =
+    subst (λ n. Consumes (g.R.Read.remaining (inner_of c.loop.reader)) (g.R.Read.remaining (inner_of c.read_some.new.reader)) (take n c.read_some.new.room)) none
+    c.in_ok-count.ensures.taken in
+    capture-finished g.R.Read.remaining g.W.Write.contents settings capture_map c.args.reader.now c.args.writer.now c.loop.reader c.loop.writer c.loop.reading far
+    c.read_some.new.reader read (c.in_ok-count.ensures.end none) c.finish-ended.new.writer c.finish-ended.result c.requires.reader.0 c.requires.writer.0 c.in_ok-count.ensures.sound
+    (c.finish-ended.ensures settings capture_map far.bytes far.text far.has)
+
+pub returns-in_err-joined : goal.returns-in_err-joined
+returns-in_err-joined g c = λ settings capture_map begun.
+    let far = c.loop.invariant.far settings capture_map begun in
+    let front = c.read_some.new.room in
+    let long : length front ≡ c.loop.piece.len = search rules in
+    let piece = c.deref.ensures.value in
+    let front_is = of_room c.in_ok-count.count c.loop.piece.len front _ c.in_ok-count.ensures.within long in
+    let p = err_from_is_err_and c.from_residual-in_err-joined.result c.from_residual-in_err-joined.ensures.1 in
+    let joined = c.in_err-joined.ensures.joins settings capture_map far.bytes far.text far.has in
+    rw (p.1, p.2)
+    (capture-stopped g.R.Read.remaining g.W.Write.contents settings capture_map c.args.reader.now c.args.writer.now c.loop.reader c.loop.writer c.loop.reading far
+    c.read_some.new.reader (take c.in_ok-count.count c.deref.result.now)
+    (subst (Consumes (g.R.Read.remaining (inner_of c.loop.reader)) (g.R.Read.remaining (inner_of c.read_some.new.reader))) (sym (ap (take c.in_ok-count.count) piece ∙ front_is))
+    c.in_ok-count.ensures.taken) c.join_piece-joined.new.writer joined.0 _ joined.1.0 joined.1.1 joined.1.2)
+
+pub loop-preserved : goal.loop-preserved
+loop-preserved g c =
+    let front = c.read_some.new.room in
+    let long : length front ≡ c.loop.piece.len = search rules in
+    let piece = c.deref.ensures.value in
+    let front_is = of_room c.in_ok-count.count c.loop.piece.len front _ c.in_ok-count.ensures.within long in
+    record {
+      far = λ settings capture_map begun.
+          let far = c.loop.invariant.far settings capture_map begun in
+          let joined = c.in_ok-joined.ensures.joins settings capture_map far.bytes far.text far.has in
+          far-more g.R.Read.remaining g.W.Write.contents settings capture_map c.args.reader.now c.args.writer.now c.loop.reader c.loop.writer c.loop.reading far
+          c.read_some.new.reader (take c.in_ok-count.count c.deref.result.now)
+          (subst (Consumes (g.R.Read.remaining (inner_of c.loop.reader)) (g.R.Read.remaining (inner_of c.read_some.new.reader)))
+          (sym (ap (take c.in_ok-count.count) piece ∙ front_is)) c.in_ok-count.ensures.taken)
+          c.join_piece-joined.new.writer c.join_piece-joined.new.self joined.0 c.in_ok-count.ensures.sound joined.1.0 c.in_ok-joined.ensures.empty joined.1.1 joined.1.2 joined.1.3;
+      ready = c.in_ok-joined.ensures.ready;
+      empty = c.in_ok-joined.ensures.empty;
+      counted = search rules;
+      room = c.loop.invariant.room;
+    }
+
+pub returns : goal.returns
+returns g c = λ settings capture_map begun.
+    capture-unread g.R.Read.remaining g.W.Write.contents settings capture_map c.args.reader.now c.args.writer.now c.loop.reader c.loop.writer c.loop.reading
+    (c.loop.invariant.far settings capture_map begun) c.loop.reader (Keeps-refl (g.R.Read.remaining (inner_of c.loop.reader))) (inr (search rules))

@@ -1,0 +1,18 @@
+-- So far a front of the input was joined, with whatever settings and map.
+use Rattle.std.proofs.Common.{◌≡◌, ◌≤◌, [], vec_len}
+use Rattle.capture_map.specs.declared.map.CaptureMap.{CaptureMap}
+use Rattle.engines.specs.Device.{given_of}
+use Rattle.frame_engine.specs.declared.settings.CaptureSettings.{CaptureSettings}
+use Rattle.frame_engine.specs.Begun.{IsBegun, CanJoin}
+use Rattle.frame_engine.proofs.Devices.{JoinsSoFar}
+use Rattle.frame_engine.proofs.capturing.join_capture.Given as goal
+
+abbrev pub invariant-loop : goal.invariant-loop
+invariant-loop g l = record {
+  far : (settings : CaptureSettings) (capture_map : CaptureMap) → IsBegun settings capture_map l.fn.reading
+      → JoinsSoFar g.R.Read.remaining g.W.Write.contents settings capture_map l.fn.reader l.reader l.fn.writer l.writer l.reading;
+  ready : CanJoin l.reading;
+  empty : l.reading.joining.file.bytes.items ≡ [];
+  counted : l.counter ≤ given_of l.reader;
+  room : vec_len l.piece ≡ 262144;
+}

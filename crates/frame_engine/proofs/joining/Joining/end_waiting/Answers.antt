@@ -1,0 +1,13 @@
+-- Nothing more comes.
+use Rattle.std.proofs.lemmas.Result.{on_ok_weaker}
+use Rattle.frame_engine.proofs.Taken.{taken-end}
+use Rattle.frame_engine.proofs.joining.Joining.end_waiting.Goals as goal
+
+pub returns-in-Ok-clause-ended : goal.returns-in-Ok-clause-ended
+returns-in-Ok-clause-ended c =
+    on_ok_weaker c.put_came.result
+    (λ puts. λ settings capture_map bursts written has.
+    taken-end settings capture_map bursts written c.args.self.now
+    (record { flows = c.end_waiting.new.self; timed = c.put_came.new.timed; file = c.put_came.new.file; records = c.args.self.now.records })
+    c.end_waiting.new.out has c.in-Ok.ensures.takes puts)
+    c.put_came.ensures.put

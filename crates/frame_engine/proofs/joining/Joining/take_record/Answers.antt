@@ -1,0 +1,23 @@
+-- A record more came.
+use Rattle.std.proofs.Common.{refl}
+use Rattle.std.proofs.lemmas.Result.{on_ok_weaker}
+use Rattle.capture.specs.SeenCapture.{capture_parts}
+use Rattle.frame_engine.specs.declared.joining.Joining.{Joining}
+use Rattle.frame_engine.proofs.Taken.{joined-passed, joined-burst}
+use Rattle.frame_engine.proofs.joining.Joining.take_record.Goals as goal
+
+pub returns-in-Ok-clause-taken : goal.returns-in-Ok-clause-taken
+returns-in-Ok-clause-taken c =
+    let old = c.args.self.now in
+    let mid : Joining = record old { records = c.saturating_add-self.result } in
+    on_ok_weaker c.take_burst.result
+    (λ takes. λ settings capture_map records written has.
+    joined-burst settings capture_map records written (capture_parts c.args.given) c.in-Ok.burst old mid c.take_burst.new.self has c.in-Ok.ensures refl
+    c.saturating_add-self.ensures c.take_burst.ensures.records takes)
+    c.take_burst.ensures.taken
+
+pub returns-in-Err-clause-taken : goal.returns-in-Err-clause-taken
+returns-in-Err-clause-taken c = λ settings capture_map records written has.
+    let old = c.args.self.now in
+    let new : Joining = record old { records = c.saturating_add-self.result } in
+    joined-passed settings capture_map records written (capture_parts c.args.given) c.in-Err.reason old new has c.in-Err.ensures refl refl refl c.saturating_add-self.ensures

@@ -1,0 +1,2 @@
+-- What only the contracts of functions inside this crate cite.
+pub mod Joins

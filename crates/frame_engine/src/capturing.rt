@@ -1,0 +1,58 @@
+//! The command `capture`: the frames of a capture are written as they are joined.
+ghost use Rattle.std.specs.Prelude.{◌≡◌};
+ghost use Rattle.engines.specs.Device.{IsFresh};
+ghost use Rattle.capture_map.specs.declared.map.CaptureMap.{CaptureMap};
+ghost use Rattle.frame_engine.specs.declared.settings.CaptureSettings.{CaptureSettings};
+ghost use Rattle.frame_engine.specs.Joining.{JoinsCapture};
+ghost use Rattle.frame_engine.specs.Begun.{IsBegun, CanJoin};
+
+use crate::frame_reading::FrameReading;
+use crate::tally::CaptureTally;
+use engines::{Device, EngineFault, read_some, zeros};
+use std::alloc::Global;
+use std::io::{Read, Write};
+
+/// How many bytes are asked of the reader at once.
+const PIECE_BYTES: usize = 262_144;
+
+/// Reads a capture, pcap or pcapng, to its end, and writes the pcap file of the frames of its bursts,
+/// each with the time and the origin of the burst that completed it. The header is written first, and
+/// what a piece brings is written and flushed before the next is read. It reads without a limit, up to
+/// 2^64 - 1 bytes. What is counted on the way comes into the tally, and its lines of requests go to a
+/// writer of their own, if there is one.
+///
+/// `Read`: the reader failed, or gave more. `Capture`: the capture is malformed behind so many
+/// records, or ends too early. `OutOfMemory`: an allocation failed. Whichever comes, the frames of the
+/// records before were written and flushed; what waited then isn't handed in. `Write`: the writer
+/// failed, and a front of the file may have gone out.
+pub fn join_capture<R: Read, W: Write, Q: Write>(
+    alloc: Global,
+    mut reading: FrameReading,
+    tally: &mut CaptureTally,
+    requests: &mut Option<Device<Q>>,
+    reader: &mut Device<R>,
+    writer: &mut Device<W>,
+) -> Result<(), EngineFault>
+    requires reading { CanJoin reading }
+    requires reader { IsFresh reader.old }
+    requires writer { IsFresh writer.old }
+    ensures { (settings : CaptureSettings) (capture_map : CaptureMap)
+        → IsBegun settings capture_map reading
+        → JoinsCapture settings capture_map R.remaining W.contents
+            reader.old reader.new writer.old writer.new result }
+{
+    let mut piece = zeros(alloc, PIECE_BYTES)?;
+    reading.joining.file.write(writer)?;
+    for _ in 0..u64::MAX {
+        let count = read_some(reader, &mut piece)?;
+        if count == 0 {
+            let ended = reading.finish(alloc, tally, writer);
+            tally.write_requests(alloc, requests);
+            return ended;
+        }
+        let joined = reading.join_piece(alloc, &piece[..count], tally, writer);
+        tally.write_requests(alloc, requests);
+        joined?;
+    }
+    Err(EngineFault::Read)
+}

@@ -1,0 +1,211 @@
+//! What came of the bursts of a capture so far.
+ghost use Rattle.std.specs.Prelude.{◌≡◌, [], IfOk, IfErr, OnOk, OnErr};
+ghost use Rattle.receiver.specs.Receiving.{IsReceiving};
+ghost use Rattle.capture.specs.SeenCapture.{capture_parts};
+ghost use Rattle.captured_flows.specs.Capturing.{IsCapturing};
+ghost use Rattle.captured_flows.specs.Captures.{IsFaultOf};
+ghost use Rattle.engines.specs.declared.fault.EngineFault.TheVariants.{OutOfMemory};
+ghost use Rattle.frame_engine.specs.Settings.{inner_accepts};
+ghost use Rattle.frame_engine.specs.Inside.Joins.{KeepsFile, PutsCame, HasJoined};
+ghost use Rattle.frame_engine.specs.Inside.Joins.{TakesBurst, TakesRecord, EndsJoining, ClosesJoining};
+ghost use Rattle.frame_engine.specs.Inside.Joins.{ClosesWritten, FinishesBursts};
+
+use crate::frame_file::FrameFile;
+use crate::inner_check::InnerCheck;
+use crate::record_burst::captured;
+use crate::settings::CaptureSettings;
+use crate::tally::CaptureTally;
+use capture::CaptureRecord;
+use capture_map::CaptureMap;
+use captured_flows::{CapturedBurst, CapturedFlows};
+use engines::{Device, EngineFault};
+use receiver::SetupError;
+use std::alloc::Global;
+use std::io::Write;
+use timed_frames::TimedFrames;
+
+/// What came of the bursts of a capture so far.
+#[derive(Drop)]
+pub(crate) struct Joining {
+    pub(crate) flows: CapturedFlows<InnerCheck>,
+    pub(crate) timed: TimedFrames,
+    pub(crate) file: FrameFile,
+    /// How many records came. It stays at its greatest value.
+    pub(crate) records: u64,
+}
+
+/// Puts all that waits into the file. Where an allocation failed, here or before, the file stays as it
+/// was.
+fn put_came(
+    alloc: Global,
+    timed: &mut TimedFrames,
+    file: &mut FrameFile,
+    tally: &mut CaptureTally,
+) -> Result<(), EngineFault>
+    ensures put { OnOk result (PutsCame timed.old file.old timed.new file.new) }
+    ensures file { OnErr result (KeepsFile file.old file.new) }
+    ensures only { IfErr result (λ fault. fault ≡ OutOfMemory) }
+{
+    if !timed.is_whole() {
+        return Err(EngineFault::OutOfMemory);
+    }
+    let steps = timed.take(alloc);
+    file.put_all(alloc, &steps)?;
+    tally.count_steps(&steps);
+    Ok(())
+}
+
+impl Joining {
+    /// Nothing came, and the file has its header.
+    pub fn new(
+        alloc: Global,
+        settings: CaptureSettings,
+        capture_map: CaptureMap,
+    ) -> Result<Joining, SetupError>
+        ensures begun { IfOk result (HasJoined settings capture_map [] []) }
+        ensures capturing { IfOk result (λ joining. IsCapturing inner_accepts joining.flows) }
+        ensures fault { IfErr result (IsFaultOf capture_map) }
+    {
+        let timed = TimedFrames::new(alloc, capture_map.flows.len())?;
+        let file = FrameFile::new(alloc, settings.link, &capture_map.channels)?;
+        let flows = CapturedFlows::new(
+            alloc,
+            capture_map,
+            settings.rule,
+            settings.waits,
+            settings.check,
+        )?;
+        Ok(Joining {
+            flows,
+            timed,
+            file,
+            records: 0,
+        })
+    }
+
+    /// Takes a burst, and puts what comes of it into the file.
+    fn take_burst(
+        &mut self,
+        alloc: Global,
+        burst: CapturedBurst,
+        is_above: bool,
+        tally: &mut CaptureTally,
+    ) -> Result<(), EngineFault>
+        requires capturing { IsCapturing inner_accepts self.old.flows }
+        ensures taken { OnOk result (TakesBurst self.old burst self.new) }
+        ensures capturing { OnOk result (IsCapturing inner_accepts self.new.flows) }
+        ensures file { OnErr result (KeepsFile self.old.file self.new.file) }
+        ensures records { self.new.records ≡ self.old.records }
+        ensures only { IfErr result (λ fault. fault ≡ OutOfMemory) }
+    {
+        let id = burst.channel;
+        match self.flows.take(alloc, burst, &mut self.timed) {
+            Ok(told) => {
+                tally.count_burst(id, is_above, told);
+                put_came(alloc, &mut self.timed, &mut self.file, tally)
+            }
+            Err(_) => Err(EngineFault::OutOfMemory),
+        }
+    }
+
+    /// Takes a record of the capture.
+    pub fn take_record(
+        &mut self,
+        alloc: Global,
+        given: CaptureRecord,
+        tally: &mut CaptureTally,
+    ) -> Result<(), EngineFault>
+        requires capturing { IsCapturing inner_accepts self.old.flows }
+        ensures taken { OnOk result (TakesRecord self.old (capture_parts given) self.new) }
+        ensures capturing { OnOk result (IsCapturing inner_accepts self.new.flows) }
+        ensures file { OnErr result (KeepsFile self.old.file self.new.file) }
+        ensures only { IfErr result (λ fault. fault ≡ OutOfMemory) }
+    {
+        self.records = self.records.saturating_add(1);
+        tally.count_record(given.nanoseconds);
+        match captured(given) {
+            Ok((burst, is_above)) => self.take_burst(alloc, burst, is_above, tally),
+            Err(reason) => {
+                tally.count_passed(reason);
+                Ok(())
+            }
+        }
+    }
+
+    /// Nothing more comes: what waits is handed in, and what comes of it is put into the file.
+    pub fn end_waiting(
+        &mut self,
+        alloc: Global,
+        tally: &mut CaptureTally,
+    ) -> Result<(), EngineFault>
+        requires capturing { IsCapturing inner_accepts self.old.flows }
+        ensures ended { OnOk result (EndsJoining self.old self.new) }
+        ensures receiving { OnOk result (IsReceiving inner_accepts self.new.flows.receiver) }
+        ensures file { OnErr result (KeepsFile self.old.file self.new.file) }
+        ensures only { IfErr result (λ fault. fault ≡ OutOfMemory) }
+    {
+        match self.flows.end_waiting(alloc, &mut self.timed) {
+            Ok(_) => put_came(alloc, &mut self.timed, &mut self.file, tally),
+            Err(_) => Err(EngineFault::OutOfMemory),
+        }
+    }
+
+    /// Closes the receiver, and answers the file with what that gave.
+    pub fn close(
+        self,
+        alloc: Global,
+        tally: &mut CaptureTally,
+    ) -> (FrameFile, Result<(), EngineFault>)
+        requires receiving { IsReceiving inner_accepts self.flows.receiver }
+        ensures closed { OnOk result.1 (ClosesJoining self result.0) }
+        ensures file { OnErr result.1 (KeepsFile self.file result.0) }
+        ensures only { IfErr result.1 (λ fault. fault ≡ OutOfMemory) }
+    {
+        let Joining {
+            flows,
+            mut timed,
+            mut file,
+            records: _,
+        } = self;
+        match flows.into_receiver().close(alloc, &mut timed) {
+            Ok(closed) => {
+                tally.count_all_closed(&closed.flows);
+                let put = put_came(alloc, &mut timed, &mut file, tally);
+                (file, put)
+            }
+            Err(_) => (file, Err(EngineFault::OutOfMemory)),
+        }
+    }
+
+    /// Closes the receiver, and writes what that gave.
+    fn write_closed<W: Write>(
+        self,
+        alloc: Global,
+        tally: &mut CaptureTally,
+        writer: &mut Device<W>,
+    ) -> Result<(), EngineFault>
+        requires receiving { IsReceiving inner_accepts self.flows.receiver }
+        ensures { ClosesWritten W.contents self writer.old writer.new result }
+    {
+        let (mut file, closed) = self.close(alloc, tally);
+        file.write(writer)?;
+        closed
+    }
+
+    /// Nothing more comes: what waits is handed in and the receiver is closed, and what each gave is
+    /// written.
+    pub fn finish<W: Write>(
+        mut self,
+        alloc: Global,
+        tally: &mut CaptureTally,
+        writer: &mut Device<W>,
+    ) -> Result<(), EngineFault>
+        requires capturing { IsCapturing inner_accepts self.flows }
+        requires empty { self.file.bytes.items ≡ [] }
+        ensures { FinishesBursts W.contents self writer.old writer.new result }
+    {
+        self.end_waiting(alloc, tally)?;
+        self.file.write(writer)?;
+        self.write_closed(alloc, tally, writer)
+    }
+}

@@ -1,0 +1,65 @@
+//! The burst that a record of a capture is to the flows of a map.
+ghost use Rattle.std.specs.Prelude.{◌≡◌, ◌≤◌, length, take};
+ghost use Rattle.docsis_wire.specs.Checks.{ends_with_its_sequence};
+ghost use Rattle.capture.specs.SeenCapture.{capture_parts};
+ghost use Rattle.frame_engine.specs.Records.{IsBurstOf, burst_in};
+
+use capture::{Burst, CaptureRecord, Passed, read_burst};
+use capture_summary::PassedReason;
+use captured_flows::CapturedBurst;
+use docsis_wire::{Bytes, segment_check};
+
+/// The link type of an XRA analyser's packets.
+const XRA: u32 = 273;
+
+/// Whether the segment header at the front of a burst ends with its check sequence.
+fn is_checked(bytes: &[u8]) -> bool
+    requires { 8 ≤ length bytes.now }
+    ensures { result ≡ ends_with_its_sequence (take 8 bytes.now) }
+{
+    match bytes.first_chunk::<8>() {
+        Some(header) => segment_check(header),
+        None => false,
+    }
+}
+
+/// Whether a burst has more bits than its grant, where that is known.
+fn is_above_grant(burst: &Burst<'_>) -> bool {
+    match burst.grant_bits {
+        Some(bits) => (burst.bytes.len() as u64).saturating_mul(8) > u64::from(bits),
+        None => false,
+    }
+}
+
+/// The burst that a record holds, and whether it is above its grant; or why it is passed over.
+pub(crate) fn captured(given: CaptureRecord) -> Result<(CapturedBurst, bool), PassedReason>
+    ensures { IsBurstOf (capture_parts given) (burst_in result) }
+{
+    if given.link_type != XRA {
+        return Err(PassedReason::OtherLinkType);
+    }
+    if given.is_cut_short() {
+        return Err(PassedReason::Packet(Passed::CutShort));
+    }
+    let burst = match read_burst(&given.bytes) {
+        Ok(burst) => burst,
+        Err(why) => return Err(PassedReason::Packet(why)),
+    };
+    let front = given.bytes.len() - burst.bytes.len();
+    let channel = burst.channel;
+    let sid = burst.sid.min(0xFFFF) as u16;
+    let granted = burst.grant_bits.unwrap_or(0) / 8;
+    let burst_id = burst.burst_id;
+    let check = is_checked(burst.bytes);
+    let is_above = is_above_grant(&burst);
+    let burst = CapturedBurst {
+        time: given.nanoseconds,
+        channel,
+        sid,
+        granted,
+        burst_id,
+        check,
+        bytes: Bytes::from(given.bytes).without_front(front),
+    };
+    Ok((burst, is_above))
+}

@@ -1,0 +1,240 @@
+//! What is counted of a capture, and what its requests are, beside its frames.
+use capture_map::{CaptureMap, MapChannel};
+use capture_summary::{
+    CaptureSummary, ChannelSummary, FlowSummary, PassedCounts, PassedReason, both_counts,
+    put_request, put_request_names, sequence_of,
+};
+use captured_flows::BurstTaken;
+use docsis_wire::Bytes;
+use engines::{Device, write_text};
+use flow_core::FlowCounts;
+use lane::{Refusal, Request};
+use receiver::Reply;
+use std::alloc::{AllocError, Global};
+use std::io::Write;
+use text_lines::TextBuffer;
+use timed_frames::{LastBurst, TimedStep};
+
+/// A receiver has so many channels.
+const CHANNELS: u8 = 16;
+
+/// What is counted of a capture, and its requests as CSV.
+#[derive(Drop)]
+pub struct CaptureTally {
+    /// What was counted so far. What was counted of a flow since it was begun or began anew is in it
+    /// once the flow was closed.
+    pub summary: CaptureSummary,
+    /// The time of the last record.
+    last_time: u64,
+    /// The lines of requests that aren't written yet, where they are asked for.
+    requests: Option<TextBuffer>,
+    /// Whether lines of requests were lost, since memory ran out or their writer failed.
+    lost_requests: bool,
+}
+
+/// A summary of each flow of a map.
+fn new_flows(alloc: Global, capture_map: &CaptureMap) -> Result<Vec<FlowSummary>, AllocError> {
+    let mut flows = Vec::with_capacity(alloc, capture_map.flows.len())?;
+    for flow in &capture_map.flows {
+        flows.push(FlowSummary::new(flow.sfid))?;
+    }
+    Ok(flows)
+}
+
+/// The upstream channel id of a channel of a map.
+fn id_in(channels: &[MapChannel], channel: u8) -> Option<u32> {
+    for one in channels {
+        if one.channel == channel {
+            return Some(one.id);
+        }
+    }
+    None
+}
+
+/// A summary of each channel of a map, in the order of their numbers.
+fn new_channels(
+    alloc: Global,
+    channels: &[MapChannel],
+) -> Result<Vec<ChannelSummary>, AllocError> {
+    let mut summaries = Vec::new(alloc);
+    for channel in 0..CHANNELS {
+        if let Some(id) = id_in(channels, channel) {
+            summaries.push(ChannelSummary::new(channel, id))?;
+        }
+    }
+    Ok(summaries)
+}
+
+/// The refusals that a lane's reply to a burst tells of the burst and of its grant: no grant is there
+/// only where it was out of range.
+fn refusals_of(reply: Reply) -> (Option<Refusal>, Option<Refusal>) {
+    match reply {
+        Reply::Refused(Refusal::NoGrant) => (Some(Refusal::GrantRange), Some(Refusal::NoGrant)),
+        Reply::Refused(refusal) => (None, Some(refusal)),
+        _ => (None, None),
+    }
+}
+
+impl CaptureTally {
+    /// Nothing was counted, of a capture with this map. Lines of requests are kept, the line of their
+    /// names first, where they are asked for.
+    pub fn new(
+        alloc: Global,
+        capture_map: &CaptureMap,
+        with_requests: bool,
+    ) -> Result<CaptureTally, AllocError> {
+        let mut requests = None;
+        if with_requests {
+            let mut text = TextBuffer::new(alloc);
+            put_request_names(&mut text);
+            requests = Some(text);
+        }
+        Ok(CaptureTally {
+            summary: CaptureSummary {
+                flows: new_flows(alloc, capture_map)?,
+                channels: new_channels(alloc, &capture_map.channels)?,
+                passed: PassedCounts::none(),
+                records: 0,
+                earlier: 0,
+            },
+            last_time: 0,
+            requests,
+            lost_requests: false,
+        })
+    }
+
+    /// Whether lines of requests were lost, since memory ran out or their writer failed.
+    pub fn lost_requests(&self) -> bool {
+        self.lost_requests
+    }
+
+    /// Counts a record with this time.
+    pub(crate) fn count_record(&mut self, nanoseconds: u64) {
+        self.summary.records = self.summary.records.saturating_add(1);
+        if nanoseconds < self.last_time {
+            self.summary.earlier = self.summary.earlier.saturating_add(1);
+        }
+        self.last_time = nanoseconds;
+    }
+
+    /// Counts a record that is passed over.
+    pub(crate) fn count_passed(&mut self, reason: PassedReason) {
+        self.summary.passed.count(reason);
+    }
+
+    /// Counts what became of a burst of an upstream channel, which was above its grant or wasn't.
+    pub(crate) fn count_burst(&mut self, id: u32, is_above: bool, told: BurstTaken) {
+        match told {
+            BurstTaken::UnknownChannel => self.count_passed(PassedReason::UnknownChannel),
+            BurstTaken::UnknownSid => self.count_passed(PassedReason::UnknownSid),
+            BurstTaken::Refused(reply) => {
+                self.count_on(id, is_above);
+                let (of_grant, of_burst) = refusals_of(reply);
+                self.count_refusal(id, of_grant);
+                self.count_refusal(id, of_burst);
+            }
+            BurstTaken::Waits(_) => self.count_on(id, is_above),
+        }
+    }
+
+    /// Counts a burst of an upstream channel.
+    fn count_on(&mut self, id: u32, is_above: bool) {
+        for channel in &mut self.summary.channels {
+            if channel.id == id {
+                channel.count_burst(is_above);
+            }
+        }
+    }
+
+    /// Counts a refusal on an upstream channel, if there is one.
+    fn count_refusal(&mut self, id: u32, refusal: Option<Refusal>) {
+        let Some(refusal) = refusal else {
+            return;
+        };
+        for channel in &mut self.summary.channels {
+            if channel.id == id {
+                channel.refused.count(refusal);
+            }
+        }
+    }
+
+    /// Counts what came, one after another.
+    pub(crate) fn count_steps(&mut self, steps: &[TimedStep]) {
+        for step in steps {
+            self.count_step(step);
+        }
+    }
+
+    /// Counts something that came.
+    fn count_step(&mut self, step: &TimedStep) {
+        match step {
+            TimedStep::HandedIn { burst, .. } => self.count_admitted(burst.channel),
+            TimedStep::Frame { flow, frame, .. } => self.count_frame(*flow, frame),
+            TimedStep::Asked { burst, request } => self.count_request(*burst, request),
+            TimedStep::Ended { flow, counts } => {
+                self.count_closed(*flow, *counts);
+                if let Some(summary) = self.summary.flows.get_mut(*flow) {
+                    summary.count_restart();
+                }
+            }
+        }
+    }
+
+    /// Counts a burst that its lane admits.
+    fn count_admitted(&mut self, channel: usize) {
+        for one in &mut self.summary.channels {
+            if usize::from(one.channel) == channel {
+                one.admitted = one.admitted.saturating_add(1);
+            }
+        }
+    }
+
+    /// Counts a frame of a flow.
+    fn count_frame(&mut self, flow: usize, frame: &Bytes) {
+        if let Some(summary) = self.summary.flows.get_mut(flow) {
+            summary.count_frame(sequence_of(frame.as_slice()));
+        }
+    }
+
+    /// Counts a request, and puts its line where lines are asked for.
+    fn count_request(&mut self, burst: LastBurst, request: &Request) {
+        if let Some(summary) = self.summary.flows.get_mut(request.flow) {
+            summary.count_request(request.units);
+        }
+        if let Some(text) = &mut self.requests {
+            put_request(text, burst.time, burst.sid, request);
+        }
+    }
+
+    /// Counts what was counted of a flow that was closed.
+    fn count_closed(&mut self, flow: usize, counts: FlowCounts) {
+        if let Some(summary) = self.summary.flows.get_mut(flow) {
+            summary.counts = both_counts(summary.counts, counts);
+        }
+    }
+
+    /// Counts what was counted of all flows, which were closed.
+    pub(crate) fn count_all_closed(&mut self, flows: &[FlowCounts]) {
+        for flow in 0..flows.len() {
+            self.count_closed(flow, flows[flow]);
+        }
+    }
+
+    /// Writes the lines of requests that aren't written yet, and flushes. Where that fails they are
+    /// lost, and no more are written.
+    pub(crate) fn write_requests<Q: Write>(
+        &mut self,
+        alloc: Global,
+        writer: &mut Option<Device<Q>>,
+    ) {
+        let (Some(text), Some(writer)) = (self.requests.take(), writer) else {
+            return;
+        };
+        match text.finish() {
+            Ok(lines) if write_text(writer, &lines).is_ok() => {
+                self.requests = Some(TextBuffer::new(alloc));
+            }
+            _ => self.lost_requests = true,
+        }
+    }
+}
