@@ -45,12 +45,21 @@ pub fn capture_line<'a>(alloc: Global) -> Result<Command<'a>, AllocError> {
         .override_usage(usage)
         .after_help(FORMATS)
         .disable_version_flag(true)
-        .arg(Arg::new(alloc, "map").value_name("MAP").required(true).help("The map, a file"))?
+        .arg(
+            Arg::new(alloc, "map")
+                .value_name("MAP")
+                .required(true)
+                .help("The map, a file"),
+        )?
         .arg(option(alloc, "losses", "RULE", losses))?
         .arg(option(alloc, "wait", "MS", wait))?
         .arg(option(alloc, "reorder", "MS", reorder))?
         .arg(option(alloc, "link", "docsis|xra", link))?
-        .arg(flag(alloc, "no-check", "Let headers of frames pass that end with a wrong check"))?
+        .arg(flag(
+            alloc,
+            "no-check",
+            "Let headers of frames pass that end with a wrong check",
+        ))?
         .arg(option(alloc, "report", "FILE", report))?
         .arg(option(alloc, "requests", "FILE", requests))
 }

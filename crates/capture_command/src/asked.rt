@@ -1,4 +1,8 @@
 //! What the words of `capture` ask for.
+ghost use Rattle.std.specs.Prelude.{◌≡◌, ◌≤◌, ◌↔◌, map, codes, IsTrue, IfOk};
+ghost use Rattle.command_line.specs.Command.{IsCommand};
+ghost use Rattle.capture_command.specs.Asked.{AreInRange, AskInRange, IsInRange};
+
 use crate::arguments::capture_line;
 use captured_flows::Waits;
 use clap::ArgMatches;
@@ -41,7 +45,9 @@ pub enum CaptureWords {
 }
 
 /// Whether the words, the program's name first, begin with this command.
-pub fn asks_to_capture<S: AsStr>(words: &[S]) -> bool {
+pub fn asks_to_capture<S: AsStr>(words: &[S]) -> bool
+    ensures { IsTrue result ↔ IsCommand (codes "capture") (map S.text words.now) }
+{
     match words {
         [_, word, ..] => word.as_str() == "capture",
         _ => false,
@@ -59,7 +65,10 @@ fn rule_named(name: &str) -> Option<LossRule> {
 }
 
 /// The nanoseconds that an option asks for in milliseconds.
-fn read_wait(options: &ArgMatches<'_>, name: &str, default: u32) -> Result<u64, UsageFault> {
+fn read_wait(options: &ArgMatches<'_>, name: &str, default: u32) -> Result<u64, UsageFault>
+    requires { default ≤ 3600000 }
+    ensures { IfOk result IsInRange }
+{
     let wait = match options.get_str(name) {
         Some(text) => match read_number(text.as_bytes(), WAIT_MAX) {
             Some(wait) => wait,
@@ -71,7 +80,9 @@ fn read_wait(options: &ArgMatches<'_>, name: &str, default: u32) -> Result<u64, 
 }
 
 /// The settings that the options ask for.
-fn read_settings(options: &ArgMatches<'_>) -> Result<CaptureSettings, UsageFault> {
+fn read_settings(options: &ArgMatches<'_>) -> Result<CaptureSettings, UsageFault>
+    ensures { IfOk result AreInRange }
+{
     let Some(rule) = rule_named(options.get_str("losses").unwrap_or("slid")) else {
         return Err(UsageFault::Usage);
     };
@@ -113,7 +124,9 @@ fn read_path(
 pub fn read_capture_words<'a, S: AsStr>(
     alloc: Global,
     words: &'a [S],
-) -> Result<CaptureWords, UsageFault> {
+) -> Result<CaptureWords, UsageFault>
+    ensures { IfOk result AskInRange }
+{
     let [_, options @ ..] = words else {
         return Err(UsageFault::Usage);
     };

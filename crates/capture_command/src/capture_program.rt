@@ -1,4 +1,9 @@
 //! The command `capture` over any runtime with files, any reader and any two writers.
+ghost use Rattle.std.specs.Prelude.{◌≡◌, Result};
+ghost use Rattle.engines.specs.Device.{IsFresh};
+ghost use Rattle.capture_command.specs.declared.fault.CaptureCommandFault.{CaptureCommandFault};
+ghost use Rattle.capture_command.specs.Program.{Captures, Obeys, ComesOf, status_of_outcome};
+
 use crate::asked::{CaptureAsked, CaptureWords, read_capture_words};
 use crate::fault::CaptureCommandFault;
 use crate::files::{created, map_of_file};
@@ -68,7 +73,12 @@ fn capture<F: Files, R: Read, W: Write, E: Write>(
     reader: &mut Device<R>,
     out: &mut Device<W>,
     err: &mut Device<E>,
-) -> Result<(), CaptureCommandFault> {
+) -> Result<(), CaptureCommandFault>
+    requires reader { IsFresh reader.old }
+    requires out { IsFresh out.old }
+    ensures { Captures asked.now.settings R.remaining W.contents
+        reader.old reader.new out.old out.new result }
+{
     let capture_map = map_of_file(alloc, rt, asked.map.as_str())?;
     let mut tally = CaptureTally::new(alloc, &capture_map, asked.requests.is_some())?;
     let reading = FrameReading::new(alloc, asked.settings, capture_map)?;
@@ -93,7 +103,11 @@ fn obey<S: AsStr, F: Files, R: Read, W: Write, E: Write>(
     reader: &mut Device<R>,
     out: &mut Device<W>,
     err: &mut Device<E>,
-) -> Result<(), CaptureCommandFault> {
+) -> Result<(), CaptureCommandFault>
+    requires reader { IsFresh reader.old }
+    requires out { IsFresh out.old }
+    ensures { Obeys R.remaining W.contents reader.old reader.new out.old out.new result }
+{
     match read_capture_words(alloc, words)? {
         CaptureWords::Capture(asked) => capture(alloc, rt, &asked, reader, out, err),
         CaptureWords::Help(text) => Ok(write_text(out, text.as_bytes())?),
@@ -118,6 +132,8 @@ where
     R: Read + Drop,
     O: Write + Drop,
     E: Write + Drop,
+    ensures { (outcome : Result (Unit {0}) CaptureCommandFault) × (result ≡ status_of_outcome outcome)
+        × ComesOf R.remaining O.contents reader out outcome }
 {
     let mut reader = Device::new(reader);
     let mut out = Device::new(out);

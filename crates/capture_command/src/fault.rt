@@ -1,4 +1,7 @@
 //! Why a capture isn't read to its end.
+ghost use Rattle.std.specs.Prelude.{◌≡◌};
+ghost use Rattle.capture_command.specs.Fault.{status_of, engine_fault, map_fault, setup_fault};
+
 use capture_map::MapFault;
 use command_line::UsageFault;
 use engines::{Device, EngineFault, WriteFault, status, write_fault, write_text};
@@ -29,6 +32,8 @@ pub enum CaptureCommandFault {
 }
 
 impl From<EngineFault> for CaptureCommandFault {
+    ghost from_gives = { λ fault reported. reported ≡ engine_fault fault };
+
     fn from(fault: EngineFault) -> CaptureCommandFault {
         CaptureCommandFault::Engine(fault)
     }
@@ -53,6 +58,8 @@ impl From<WriteFault> for CaptureCommandFault {
 }
 
 impl From<MapFault> for CaptureCommandFault {
+    ghost from_gives = { λ fault reported. reported ≡ map_fault fault };
+
     fn from(fault: MapFault) -> CaptureCommandFault {
         match fault {
             MapFault::OutOfMemory => CaptureCommandFault::Engine(EngineFault::OutOfMemory),
@@ -62,6 +69,8 @@ impl From<MapFault> for CaptureCommandFault {
 }
 
 impl From<SetupError> for CaptureCommandFault {
+    ghost from_gives = { λ fault reported. reported ≡ setup_fault fault };
+
     fn from(fault: SetupError) -> CaptureCommandFault {
         match fault {
             SetupError::OutOfMemory => CaptureCommandFault::Engine(EngineFault::OutOfMemory),
@@ -72,7 +81,9 @@ impl From<SetupError> for CaptureCommandFault {
 
 impl CaptureCommandFault {
     /// The exit status of this fault: 1 to 4.
-    pub fn status(&self) -> u8 {
+    pub fn status(&self) -> u8
+        ensures { result ≡ status_of self.now }
+    {
         match self {
             CaptureCommandFault::Map(_) | CaptureCommandFault::Setup => 1,
             CaptureCommandFault::MapFile | CaptureCommandFault::OutputFile => 4,

@@ -1,4 +1,7 @@
 //! The files of `capture`.
+ghost use Rattle.std.specs.Prelude.{◌≡◌, List, ℕ, IfOk};
+ghost use Rattle.capture_map.specs.Reading.{IsMap};
+
 use crate::fault::CaptureCommandFault;
 use capture_map::{CaptureMap, read_map};
 use engines::{Device, read_some, zeros};
@@ -50,7 +53,9 @@ pub fn map_of_file<F: Files>(
     alloc: Global,
     rt: &F,
     path: &str,
-) -> Result<CaptureMap, CaptureCommandFault> {
+) -> Result<CaptureMap, CaptureCommandFault>
+    ensures { IfOk result (λ capture_map. (text : List ℕ) × IsMap text capture_map) }
+{
     let text = read_file(alloc, rt, path)?;
     Ok(read_map(alloc, &text)?)
 }

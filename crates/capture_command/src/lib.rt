@@ -4,8 +4,8 @@
 mod arguments;
 mod asked;
 mod capture_program;
-mod files;
 mod fault;
+mod files;
 
 pub use asked::{CaptureAsked, CaptureWords, asks_to_capture, read_capture_words};
 pub use capture_program::capture_program;

@@ -1,5 +1,5 @@
 -- The burst in a record.
-use Rattle.std.proofs.Common.{◌≡◌, ◌≤◌, ◌-◌, ◌+◌, ℕ, Bool, true, false, List, [], ◌∷◌, ◌++◌, length, Result, Ok, Err, refl, sym, ap, subst, ◌∙◌, cond, arith, length-append}
+use Rattle.std.proofs.Common.{◌≡◌, ◌≤◌, ◌-◌, ℕ, Bool, true, false, List, ◌∷◌, ◌++◌, length, Result, Ok, Err, refl, sym, ap, subst, ◌∙◌, cond, arith, length-append}
 use Rattle.std.specs.Prelude.{drop, take, min, ◌/◌, nat_lt, unwrap_or, ◌==◌}
 use Rattle.docsis_wire.specs.Checks.{ends_with_its_sequence}
 use Rattle.docsis_wire.specs.Limits.{header_length}

@@ -1,9 +1,8 @@
 -- What joining a capture promises follows from what became of its pieces and of its end.
-use Rattle.std.proofs.Common.{◌≡◌, ◌≢◌, ℕ, ◌-◌, ◌^◌, ◌≤◌, ◌⊎◌, inl, inr, Option, Some, None, Result, Ok, Err, true, false, List, [], ◌++◌, refl, sym, ap, subst, ◌∙◌, append-nil, append_assoc}
+use Rattle.std.proofs.Common.{◌≡◌, ◌≢◌, ℕ, ◌-◌, ◌^◌, ◌≤◌, ◌⊎◌, inl, inr, Option, Some, None, Result, Ok, Err, true, false, List, [], ◌++◌, refl, sym, ap, subst, ◌∙◌, append-nil}
 use Rattle.std.specs.Prelude.{IfSome, MatchResult}
 use Rattle.std.specs.Io.KnownBytes.{Appends, Keeps, Consumes, IsAtEnd}
 use Rattle.std.proofs.KnownBytes.{Appends-nil, Appends-trans, Consumes-nil, Consumes-trans, Consumes-kept, Consumes-all}
-use Rattle.capture.specs.Captures.{IsWholeCapture}
 use Rattle.capture_map.specs.declared.map.CaptureMap.{CaptureMap}
 use Rattle.engines.specs.declared.device.Device.{Device}
 use Rattle.engines.specs.declared.fault.EngineFault.{EngineFault}
@@ -18,7 +17,7 @@ use Rattle.frame_engine.specs.declared.settings.CaptureSettings.{CaptureSettings
 use Rattle.frame_engine.specs.declared.frame_reading.FrameReading.{FrameReading}
 use Rattle.frame_engine.specs.Joined.{IsJoinedFile}
 use Rattle.frame_engine.specs.Joining.{IsFaultBehind, within, at_end, HasJoinCause, IsJoinedTill, not_begun, so_far, IsJoinedOf, JoinsCapture}
-use Rattle.frame_engine.specs.Inside.Joins.{HasReadBytes, IsFileTill, IsJoinFault, IsJoinFaultOr, EndsEarly, WritesTill, WritesAll, EndsBy}
+use Rattle.frame_engine.specs.Inside.Joins.{HasReadBytes, IsFileTill, IsJoinFault, IsJoinFaultOr, WritesTill, WritesAll, EndsBy}
 use Rattle.frame_engine.proofs.Reading.{till-here, bytes-written}
 
 module _ {R W : Type 0} (remaining : R → Option (List ℕ)) (contents : W → Option (List ℕ)) (settings : CaptureSettings) (capture_map : CaptureMap) where

@@ -1,7 +1,6 @@
 -- The end of a capture was joined and written, or not.
 use Rattle.std.proofs.Common.{◌≡◌, ℕ, ◌⊎◌, inl, inr, Option, List, [], ◌++◌, Result, Ok, Err, refl, sym, ap, subst, ◌∙◌, append-nil, append_assoc}
 use Rattle.std.specs.Prelude.{OnOk, OnErr, IfErr, MatchResult}
-use Rattle.std.specs.Io.KnownBytes.{Appends}
 use Rattle.std.proofs.KnownBytes.{Appends-nil, Appends-trans}
 use Rattle.capture.specs.Captures.{IsWholeCapture}
 use Rattle.capture.specs.declared.capture_fault.CaptureFault.{CaptureFault}
@@ -13,9 +12,8 @@ use Rattle.captured_flows.specs.declared.captured_burst.CapturedBurst.{CapturedB
 use Rattle.engines.specs.declared.device.Device.{Device}
 use Rattle.engines.specs.declared.fault.EngineFault.{EngineFault}
 use Rattle.engines.specs.declared.fault.EngineFault.TheVariants.{Trace, Cut, Capture, OutOfMemory, Read, Write, Usage}
-use Rattle.engines.specs.Device.{inner_of, has_failed}
+use Rattle.engines.specs.Device.{inner_of}
 use Rattle.engines.specs.Fault.{fault_of_capture}
-use Rattle.engines.specs.Transfer.{AppendsFront, IsLeftFlushed}
 use Rattle.engines.proofs.FollowedDevices.{flushed_then}
 use Rattle.engines.proofs.WrittenText.{AppendsFront-behind}
 use Rattle.frame_engine.specs.declared.settings.CaptureSettings.{CaptureSettings}
@@ -24,9 +22,9 @@ use Rattle.frame_engine.specs.declared.joining.Joining.{Joining}
 use Rattle.frame_engine.specs.declared.frame_reading.FrameReading.{FrameReading}
 use Rattle.frame_engine.specs.Joined.{AreFramesSoFar, AreFramesAtEnd, AreAllFrames, IsJoinedBy, IsJoinedFile}
 use Rattle.frame_engine.specs.Joining.{AreInFront, IsJoinedTill, so_far, to_end}
-use Rattle.frame_engine.specs.Inside.Joins.{KeepsFile, HasTaken, HasEnded, HasReadBytes, ClosesJoining, EndsEarly, WritesAll, WritesSome, ClosesBy, EndsBursts, WritesAllFrames, EndsBy}
+use Rattle.frame_engine.specs.Inside.Joins.{KeepsFile, HasEnded, HasReadBytes, ClosesJoining, WritesAll, WritesSome, ClosesBy, EndsBursts, WritesAllFrames, EndsBy}
 use Rattle.frame_engine.proofs.Taken.{ended-frames}
-use Rattle.frame_engine.proofs.Reading.{joined-file, frames-so_far}
+use Rattle.frame_engine.proofs.Reading.{joined-file}
 
 -- nothing was written
 pub wrote-nothing : {W : Type 0} (contents : W → Option (List ℕ)) (writer : Device W) → WritesAll contents writer writer []

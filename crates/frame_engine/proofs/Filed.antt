@@ -1,5 +1,5 @@
 -- What came is in the file.
-use Rattle.std.proofs.Common.{◌≡◌, ℕ, Option, List, [], ◌∷◌, ◌++◌, IsTrue, refl, sym, ap, subst, ◌∙◌, append-nil, append_assoc}
+use Rattle.std.proofs.Common.{◌≡◌, ℕ, Option, List, [], ◌++◌, IsTrue, sym, ap, subst, ◌∙◌, append-nil, append_assoc}
 use Rattle.std.proofs.lemmas.Grind.{flat_map-append}
 use Rattle.capture.specs.Pcap.{header_bytes}
 use Rattle.capture_map.specs.declared.map.CaptureMap.{CaptureMap}
@@ -17,7 +17,7 @@ use Rattle.frame_engine.specs.declared.settings.CaptureSettings.{CaptureSettings
 use Rattle.frame_engine.specs.declared.frame_file.FrameFile.{FrameFile}
 use Rattle.frame_engine.specs.Written.{written_of, written_in}
 use Rattle.frame_engine.specs.Joined.{none_handed_in, file_of, IsFileOf}
-use Rattle.frame_engine.specs.Inside.Joins.{KeepsFile, PutsCame, HasFiled}
+use Rattle.frame_engine.specs.Inside.Joins.{PutsCame, HasFiled}
 
 module _ (settings : CaptureSettings) (capture_map : CaptureMap) where
   abbrev written_for : List TimedStep → List ℕ

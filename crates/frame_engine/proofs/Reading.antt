@@ -1,10 +1,9 @@
 -- Bytes of a capture that are read one after another.
-use Rattle.std.proofs.Common.{◌≡◌, ◌≢◌, ℕ, List, [], ◌∷◌, ◌++◌, Option, Some, None, Result, Ok, Err, refl, sym, ap, subst, ◌∙◌, append-nil, append_assoc}
+use Rattle.std.proofs.Common.{◌≡◌, ℕ, List, [], ◌++◌, Option, Result, Ok, Err, refl, sym, ap, subst, ◌∙◌, append-nil, append_assoc}
 use Rattle.std.specs.Prelude.{OnOk, IfErr, MatchResult}
 use Rattle.std.specs.Io.KnownBytes.{Appends}
 use Rattle.capture.specs.PcapngBlocks.{CaptureParts}
 use Rattle.capture.specs.Captures.{HasCaptured, HasCaptureFault, TakesCapture}
-use Rattle.capture.specs.declared.capture_reader.CaptureReader.{CaptureReader}
 use Rattle.capture.specs.declared.capture_fault.CaptureFault.{CaptureFault}
 use Rattle.capture.specs.declared.capture_fault.CaptureFault.TheVariants.{NoCapture, Pcap, Pcapng}
 use Rattle.capture.specs.declared.pcap_fault.PcapFault.TheVariants as pcap
@@ -19,13 +18,12 @@ use Rattle.engines.specs.Device.{inner_of, has_failed}
 use Rattle.engines.specs.Transfer.{IsLeftFlushed}
 use Rattle.engines.specs.Fault.{fault_of_capture}
 use Rattle.frame_engine.specs.declared.settings.CaptureSettings.{CaptureSettings}
-use Rattle.frame_engine.specs.declared.frame_file.FrameFile.{FrameFile}
 use Rattle.frame_engine.specs.declared.joining.Joining.{Joining}
 use Rattle.frame_engine.specs.declared.frame_reading.FrameReading.{FrameReading}
 use Rattle.frame_engine.specs.Records.{counted}
 use Rattle.frame_engine.specs.Joined.{IsFileOf, AreFramesSoFar, IsJoinedSoFar}
-use Rattle.frame_engine.specs.Joining.{AreInFront, IsBehindThem}
-use Rattle.frame_engine.specs.Inside.Joins.{KeepsFile, HasTaken, HasJoined, HasReadBytes, IsFileTill, TakesRecord, JoinsSome, JoinsPiece, IsJoinFault, IsJoinFaultOr, CannotJoin, WritesTill, WritesAll}
+use Rattle.frame_engine.specs.Joining.{IsBehindThem}
+use Rattle.frame_engine.specs.Inside.Joins.{KeepsFile, HasTaken, HasJoined, HasReadBytes, IsFileTill, JoinsSome, JoinsPiece, IsJoinFault, IsJoinFaultOr, CannotJoin, WritesTill, WritesAll}
 use Rattle.frame_engine.proofs.Filed.{filed-file, filed-written}
 
 -- nothing of a piece was read
@@ -206,17 +204,17 @@ module _ {W : Type 0} (contents : W → Option (List ℕ)) (settings : CaptureSe
   piece-written old mid new piece (Ok done) bytes written writer writer' joins cannot has is link channels none wrote =
       let after = joins settings capture_map bytes written has in (
         subst (λ (reading : FrameReading). HasReadBytes settings capture_map (bytes ++ piece) (written ++ mid.joining.file.bytes.items) reading) (sym is) (record {
-              records = after.records;
-              captured = after.captured;
-              joined =
-                  joined-written settings capture_map after.records written mid.joining (record mid.joining { file = new.joining.file }) after.joined refl link channels none;
-            }),
+          records = after.records;
+          captured = after.captured;
+          joined =
+              joined-written settings capture_map after.records written mid.joining (record mid.joining { file = new.joining.file }) after.joined refl link channels none;
+        }),
         wrote.0,
         wrote.1,
         wrote.2,
       )
   piece-written old mid new piece (Err fault) bytes written writer writer' joins cannot has is link channels none wrote =
-      let till = cannot settings capture_map bytes written has in 
+      let till = cannot settings capture_map bytes written has in
       let why = fault_written (bytes ++ piece) mid.joining.file.bytes.items writer writer' fault till.1 wrote in (till.0, why.0, why.1)
 
 module _ (settings : CaptureSettings) (capture_map : CaptureMap) where

@@ -1,9 +1,8 @@
 -- A burst more came, or nothing more.
-use Rattle.std.proofs.Common.{◌≡◌, ℕ, ◌+◌, ◌-◌, ◌^◌, min, Ok, Err, Option, List, [], ◌∷◌, ◌++◌, IsTrue, map, length, refl, sym, ap, subst, ◌∙◌, append-nil, append_assoc, arith, length-append}
+use Rattle.std.proofs.Common.{◌≡◌, ℕ, ◌+◌, ◌-◌, ◌^◌, min, Ok, Err, List, [], ◌∷◌, ◌++◌, map, length, refl, sym, ap, subst, ◌∙◌, arith, length-append}
 use Rattle.std.proofs.lemmas.List.{length-map}
 use Rattle.consumer.specs.declared.given.Given.{Given}
-use Rattle.bonded_flows.specs.Table.{TableSetup}
-use Rattle.receiver.specs.HandedIn.{HandedIn}
+use Rattle.captured_flows.specs.Acts.{Act, items_of}
 use Rattle.receiver.specs.Receiving.{StandsFor}
 use Rattle.receiver.specs.Received.{Closes}
 use Rattle.receiver.specs.declared.receiver.Receiver.{Receiver}
@@ -16,7 +15,6 @@ use Rattle.captured_flows.specs.declared.captured_flows.CapturedFlows.{CapturedF
 use Rattle.captured_flows.specs.declared.waits.Waits.{Waits}
 use Rattle.captured_flows.specs.Captures.{SpellsBurst, EndsAll, one_more_comes}
 use Rattle.captured_flows.specs.Capturing.{views_in, SpellsNext, EndsWaitingOfAll}
-use Rattle.captured_flows.specs.Plays.{Plays}
 use Rattle.captured_flows.specs.Seen.{flow_seen}
 use Rattle.captured_flows.specs.Steps.{CaptureStep, gave, given_in}
 use Rattle.captured_flows.specs.Taking.{TakesBy}
@@ -30,18 +28,18 @@ use Rattle.frame_engine.specs.declared.frame_file.FrameFile.{FrameFile}
 use Rattle.frame_engine.specs.declared.joining.Joining.{Joining}
 use Rattle.capture_summary.specs.declared.passed.PassedReason.{PassedReason}
 use Rattle.frame_engine.specs.Settings.{inner_accepts}
-use Rattle.frame_engine.specs.Records.{IsBurstOf, AreBurstsOf, passed_over, one_burst, counted}
-use Rattle.frame_engine.specs.Joined.{made, check, ComesOf, ComesAtEnd, IsFileOf, AreFramesAtEnd, AreAllFrames}
-use Rattle.frame_engine.specs.Inside.Joins.{PutsCame, HasFiled, HasTaken, HasEnded, HasJoined, TakesBurst, TakesRecord}
+use Rattle.frame_engine.specs.Records.{IsBurstOf, passed_over, one_burst, counted}
+use Rattle.frame_engine.specs.Joined.{made, check, ComesOf, IsFileOf, AreFramesAtEnd, AreAllFrames}
+use Rattle.frame_engine.specs.Inside.Joins.{PutsCame, HasFiled, HasTaken, HasEnded, HasJoined, TakesBurst}
 use Rattle.frame_engine.proofs.Filed.{filed-more, filed-file, filed-written}
 
 module _ (settings : CaptureSettings) (capture_map : CaptureMap) where
   -- a receiver that stands for what was handed in, by what was seen
-  stands_for_both : (receiver : Receiver InnerCheck) (handed : List HandedIn) (steps more : List CaptureStep)
-      → StandsFor inner_accepts receiver (check settings capture_map) (made settings capture_map) handed (given_in steps ++ given_in more)
-      → StandsFor inner_accepts receiver (check settings capture_map) (made settings capture_map) handed (given_in (steps ++ more))
+  stands_for_both : (receiver : Receiver InnerCheck) (handed : List Act) (steps more : List CaptureStep)
+      → StandsFor inner_accepts receiver (check settings capture_map) (made settings capture_map) (items_of handed) (given_in steps ++ given_in more)
+      → StandsFor inner_accepts receiver (check settings capture_map) (made settings capture_map) (items_of handed) (given_in (steps ++ more))
   stands_for_both receiver handed steps more stands =
-      subst (λ (given : List Given). StandsFor inner_accepts receiver (check settings capture_map) (made settings capture_map) handed given)
+      subst (λ (given : List Given). StandsFor inner_accepts receiver (check settings capture_map) (made settings capture_map) (items_of handed) given)
       (sym (given-append steps more)) stands
 
   -- **A burst more.**
@@ -112,7 +110,7 @@ module _ (settings : CaptureSettings) (capture_map : CaptureMap) where
     comes = has.comes;
     rest = closes.given_more;
     closed = closed;
-    received = closes.received (check settings capture_map) (made settings capture_map) has.handed (given_in has.steps) has.stands;
+    received = closes.received (check settings capture_map) (made settings capture_map) (items_of has.handed) (given_in has.steps) has.stands;
     file =
         filed-file settings capture_map (has.steps ++ map gave closes.given_more) written timed' file'
         (filed-more settings capture_map has.steps (map gave closes.given_more) written old.timed mid timed' old.file file' has.filed
@@ -142,7 +140,7 @@ module _ (settings : CaptureSettings) (capture_map : CaptureMap) where
           subst (λ (flows : CapturedFlows InnerCheck). ComesOf settings capture_map has.bursts has.taken_in.handed (views_in flows) has.taken_in.steps) (sym flows) has.taken_in.comes;
       stands =
           subst
-          (λ (flows : CapturedFlows InnerCheck). StandsFor inner_accepts flows.receiver (check settings capture_map) (made settings capture_map) has.taken_in.handed (given_in has.taken_in.steps))
+          (λ (flows : CapturedFlows InnerCheck). StandsFor inner_accepts flows.receiver (check settings capture_map) (made settings capture_map) (items_of has.taken_in.handed) (given_in has.taken_in.steps))
           (sym flows) has.taken_in.stands;
       map_is = ap (λ flows. flows.map) flows ∙ has.taken_in.map_is;
       waits_are = ap (λ flows. flows.waits) flows ∙ has.taken_in.waits_are;

@@ -2,7 +2,6 @@
 use Rattle.std.specs.Prelude.{◌≡◌, ℕ, Bool, Option, None, List, [], ◌++◌, length, map, replicate}
 use Rattle.consumer.specs.declared.given.Given.{Given}
 use Rattle.bonded_flows.specs.Table.{TableSetup}
-use Rattle.receiver.specs.HandedIn.{HandedIn}
 use Rattle.receiver.specs.Received.{IsReceived}
 use Rattle.receiver.specs.declared.closing.Closed.{Closed}
 use Rattle.capture.specs.Pcap.{header_bytes}
@@ -11,6 +10,7 @@ use Rattle.capture.specs.Captures.{HasCaptured, IsWholeCapture}
 use Rattle.capture.specs.declared.capture_reader.CaptureReader.{CaptureReader}
 use Rattle.capture_map.specs.declared.map.CaptureMap.{CaptureMap}
 use Rattle.captured_flows.specs.declared.captured_burst.CapturedBurst.{CapturedBurst}
+use Rattle.captured_flows.specs.Acts.{Act, items_of}
 use Rattle.captured_flows.specs.Flow.{FlowView}
 use Rattle.captured_flows.specs.Together.{view_begun}
 use Rattle.captured_flows.specs.Captures.{SpellsBursts, EndsAll, made_from}
@@ -43,17 +43,17 @@ module _ (settings : CaptureSettings) (capture_map : CaptureMap) where
   file_of timed = header_bytes (file_header settings.link) ++ written_in settings.link capture_map.channels.items timed
 
   -- **What comes of these bursts**, one after another: what is handed in to the receiver, how the flows of the map then stand, and what the receiver gives.
-  pub record ComesOf (bursts : List CapturedBurst) (handed : List HandedIn) (flows : List FlowView) (steps : List CaptureStep) : Type 0 where
+  pub record ComesOf (bursts : List CapturedBurst) (handed : List Act) (flows : List FlowView) (steps : List CaptureStep) : Type 0 where
     pub spelled : SpellsBursts capture_map made settings.waits.reorder settings.waits.wait (map (view_begun settings.waits) capture_map.flows.items) [] bursts handed flows
     pub plays : Plays inner_accepts check made [] [] handed steps
 
   -- and what comes of it when nothing more comes: what waits is handed in, of one flow after another
-  pub record ComesAtEnd (bursts : List CapturedBurst) (handed : List HandedIn) (steps : List CaptureStep) : Type 0 where
-    pub before : List HandedIn
+  pub record ComesAtEnd (bursts : List CapturedBurst) (handed : List Act) (steps : List CaptureStep) : Type 0 where
+    pub before : List Act
     pub flows : List FlowView
     pub earlier : List CaptureStep
     pub came : ComesOf bursts before flows earlier
-    pub later : List HandedIn
+    pub later : List Act
     pub flows' : List FlowView
     pub ends : EndsAll made settings.waits.reorder settings.waits.wait flows before (length flows) later flows'
     pub handed_is : handed ≡ before ++ later
@@ -68,7 +68,7 @@ module _ (settings : CaptureSettings) (capture_map : CaptureMap) where
 
   -- so of these bursts, as far as they go
   pub record AreFramesSoFar (bursts : List CapturedBurst) (text : List ℕ) : Type 0 where
-    pub handed : List HandedIn
+    pub handed : List Act
     pub flows : List FlowView
     pub steps : List CaptureStep
     pub comes : ComesOf bursts handed flows steps
@@ -76,19 +76,19 @@ module _ (settings : CaptureSettings) (capture_map : CaptureMap) where
 
   -- when nothing more comes, before the receiver is closed
   pub record AreFramesAtEnd (bursts : List CapturedBurst) (text : List ℕ) : Type 0 where
-    pub handed : List HandedIn
+    pub handed : List Act
     pub steps : List CaptureStep
     pub comes : ComesAtEnd bursts handed steps
     pub file : IsFileOf steps text
 
   -- **and all of them**: what was given when the receiver was closed is the answer for all that was handed in
   pub record AreAllFrames (bursts : List CapturedBurst) (text : List ℕ) : Type 0 where
-    pub handed : List HandedIn
+    pub handed : List Act
     pub steps : List CaptureStep
     pub comes : ComesAtEnd bursts handed steps
     pub rest : List Given
     pub closed : Closed
-    pub received : IsReceived check made handed (given_in steps ++ rest) closed
+    pub received : IsReceived check made (items_of handed) (given_in steps ++ rest) closed
     pub file : IsFileOf (steps ++ map gave rest) text
 
   -- so of the bursts among these records

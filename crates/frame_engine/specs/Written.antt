@@ -1,5 +1,5 @@
 -- What is written of what came of a capture's bursts.
-use Rattle.std.specs.Prelude.{ℕ, ◌==◌, nat_le, List, [], length, find, flat_map, Option, unwrap_or, option_map, if◌then◌else◌}
+use Rattle.std.specs.Prelude.{ℕ, ◌==◌, nat_le, List, [], length, find, flat_map, unwrap_or, option_map, if◌then◌else◌}
 use Rattle.capture.specs.Pcap.{record_bytes}
 use Rattle.capture.specs.declared.endian.Endian.TheVariants.{Little}
 use Rattle.capture_map.specs.declared.map.MapChannel.{MapChannel}

@@ -39,7 +39,7 @@ pub fn join_capture<R: Read, W: Write, Q: Write>(
     ensures { (settings : CaptureSettings) (capture_map : CaptureMap)
         → IsBegun settings capture_map reading
         → JoinsCapture settings capture_map R.remaining W.contents
-            reader.old reader.new writer.old writer.new result }
+        reader.old reader.new writer.old writer.new result }
 {
     let mut piece = zeros(alloc, PIECE_BYTES)?;
     reading.joining.file.write(writer)?;

@@ -52,10 +52,7 @@ fn id_in(channels: &[MapChannel], channel: u8) -> Option<u32> {
 }
 
 /// A summary of each channel of a map, in the order of their numbers.
-fn new_channels(
-    alloc: Global,
-    channels: &[MapChannel],
-) -> Result<Vec<ChannelSummary>, AllocError> {
+fn new_channels(alloc: Global, channels: &[MapChannel]) -> Result<Vec<ChannelSummary>, AllocError> {
     let mut summaries = Vec::new(alloc);
     for channel in 0..CHANNELS {
         if let Some(id) = id_in(channels, channel) {

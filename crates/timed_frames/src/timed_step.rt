@@ -20,7 +20,10 @@ pub struct LastBurst {
 #[derive(Debug, Drop)]
 pub enum TimedStep {
     /// A burst of the flow with this index was handed in.
-    HandedIn { flow: usize, burst: LastBurst },
+    HandedIn {
+        flow: usize,
+        burst: LastBurst,
+    },
     /// A whole MAC frame of the flow with this index, which this burst completed.
     Frame {
         flow: usize,
@@ -28,7 +31,13 @@ pub enum TimedStep {
         frame: Bytes,
     },
     /// A request for grants, from the header of this burst's segment.
-    Asked { burst: LastBurst, request: Request },
+    Asked {
+        burst: LastBurst,
+        request: Request,
+    },
     /// The flow with this index was closed and began anew. This was counted of it until then.
-    Ended { flow: usize, counts: FlowCounts },
+    Ended {
+        flow: usize,
+        counts: FlowCounts,
+    },
 }

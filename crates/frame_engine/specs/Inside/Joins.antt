@@ -1,22 +1,17 @@
 -- How far a capture was joined.
-use Rattle.std.specs.Prelude.{◌≡◌, ◌≢◌, ℕ, Option, List, [], ◌∷◌, ◌++◌, ◌⊎◌, IsTrue, true, Result, MatchResult, length, map}
+use Rattle.std.specs.Prelude.{◌≡◌, ℕ, Option, List, [], ◌∷◌, ◌++◌, ◌⊎◌, IsTrue, true, Result, MatchResult}
 use Rattle.std.specs.Io.KnownBytes.{Appends}
-use Rattle.consumer.specs.declared.given.Given.{Given}
-use Rattle.bonded_flows.specs.Table.{TableSetup}
-use Rattle.receiver.specs.HandedIn.{HandedIn}
+use Rattle.captured_flows.specs.Acts.{Act, items_of}
 use Rattle.receiver.specs.Receiving.{StandsFor}
-use Rattle.receiver.specs.Received.{IsReceived}
-use Rattle.receiver.specs.declared.closing.Closed.{Closed}
 use Rattle.capture.specs.PcapngBlocks.{CaptureParts}
 use Rattle.capture.specs.Captures.{HasCaptured, HasCaptureFault, IsWholeCapture}
 use Rattle.capture_map.specs.declared.map.CaptureMap.{CaptureMap}
 use Rattle.captured_flows.specs.declared.captured_burst.CapturedBurst.{CapturedBurst}
 use Rattle.captured_flows.specs.Capturing.{views_in}
-use Rattle.captured_flows.specs.Steps.{CaptureStep, gave, given_in}
+use Rattle.captured_flows.specs.Steps.{CaptureStep, given_in}
 use Rattle.engines.specs.declared.device.Device.{Device}
 use Rattle.engines.specs.declared.fault.EngineFault.{EngineFault}
-use Rattle.engines.specs.declared.fault.EngineFault.TheVariants.{Trace, Cut, Capture, OutOfMemory, Read, Write, Usage}
-use Rattle.engines.specs.declared.fault.PlacedFault.{PlacedFault}
+use Rattle.engines.specs.declared.fault.EngineFault.TheVariants.{Capture, OutOfMemory, Write}
 use Rattle.engines.specs.Device.{inner_of, has_failed}
 use Rattle.engines.specs.Transfer.{AppendsFront, IsLeftFlushed}
 use Rattle.timed_frames.specs.declared.timed_step.TimedStep.{TimedStep}
@@ -61,20 +56,20 @@ module _ (settings : CaptureSettings) (capture_map : CaptureMap) where
 
   -- these bursts came, and what came of them is in the file
   pub record HasTaken (bursts : List CapturedBurst) (written : List ℕ) (joining : Joining) : Type 0 where
-    pub handed : List HandedIn
+    pub handed : List Act
     pub steps : List CaptureStep
     pub comes : ComesOf settings capture_map bursts handed (views_in joining.flows) steps
-    pub stands : StandsFor inner_accepts joining.flows.receiver (check settings capture_map) (made settings capture_map) handed (given_in steps)
+    pub stands : StandsFor inner_accepts joining.flows.receiver (check settings capture_map) (made settings capture_map) (items_of handed) (given_in steps)
     pub map_is : joining.flows.map ≡ capture_map
     pub waits_are : joining.flows.waits ≡ settings.waits
     pub filed : HasFiled steps written joining.timed joining.file
 
   -- so when nothing more comes
   pub record HasEnded (bursts : List CapturedBurst) (written : List ℕ) (joining : Joining) : Type 0 where
-    pub handed : List HandedIn
+    pub handed : List Act
     pub steps : List CaptureStep
     pub comes : ComesAtEnd settings capture_map bursts handed steps
-    pub stands : StandsFor inner_accepts joining.flows.receiver (check settings capture_map) (made settings capture_map) handed (given_in steps)
+    pub stands : StandsFor inner_accepts joining.flows.receiver (check settings capture_map) (made settings capture_map) (items_of handed) (given_in steps)
     pub filed : HasFiled steps written joining.timed joining.file
 
   -- these records came

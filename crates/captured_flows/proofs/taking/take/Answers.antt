@@ -15,4 +15,3 @@ returns-in-Err-NoChannel-clause-fails g c =
 pub returns-in-Err-NotTaken-clause-fails : goal.returns-in-Err-NotTaken-clause-fails
 returns-in-Err-NotTaken-clause-fails g c =
     some-failed g.C.HeaderCheck.accepts g.O.Consumer.after c.args.receiver.now c.take.new.self c.args.out.now c.take.new.out c.args.channel c.args.input _ c.in-Err-NotTaken.ensures.fails
-

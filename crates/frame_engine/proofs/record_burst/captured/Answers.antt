@@ -1,12 +1,10 @@
 -- The burst in a record, or why there is none.
-use Rattle.std.proofs.Common.{◌≡◌, ◌≤◌, ◌-◌, ◌/◌, ℕ, List, length, Err, refl, sym, ap, subst, ◌∙◌, arith, rules}
+use Rattle.std.proofs.Common.{◌≡◌, ◌-◌, ◌/◌, length, sym, ap, ◌∙◌, arith, rules}
 use Rattle.std.specs.Prelude.{drop}
-use Rattle.capture.specs.Packet.{Parts, packet_bytes}
-use Rattle.capture.specs.Burst.{burst_of}
 use Rattle.capture.specs.SeenBurst.{burst_parts}
 use Rattle.capture.specs.SeenCapture.{capture_parts}
-use Rattle.frame_engine.specs.Records.{IsBurstOf, other_link_type, cut_short, no_burst, is_burst}
-use Rattle.frame_engine.proofs.CapturedBurst.{burst_within, burst_long, burst_left, burst-made}
+use Rattle.frame_engine.specs.Records.{other_link_type, cut_short, no_burst, is_burst}
+use Rattle.frame_engine.proofs.CapturedBurst.{burst_within, burst_left, burst-made}
 use Rattle.frame_engine.proofs.record_burst.captured.Goals as goal
 
 pub returns-then-given-ne-XRA : goal.returns-then-given-ne-XRA

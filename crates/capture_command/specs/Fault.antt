@@ -1,0 +1,30 @@
+-- The exit status of a fault.
+use Rattle.std.specs.Prelude.{ℕ, Result, Ok, Err}
+use Rattle.capture_map.specs.declared.fault.MapFault.{MapFault}
+use Rattle.capture_map.specs.declared.fault.MapFault.TheVariants as map
+use Rattle.receiver.specs.declared.setup.SetupError.{SetupError}
+use Rattle.receiver.specs.declared.setup.SetupError.TheVariants as setup
+use Rattle.engines.specs.declared.fault.EngineFault.{EngineFault}
+use Rattle.engines.specs.declared.fault.EngineFault.TheVariants.{OutOfMemory}
+use Rattle.engines.specs.Fault as engines
+use Rattle.capture_command.specs.declared.fault.CaptureCommandFault.{CaptureCommandFault}
+use Rattle.capture_command.specs.declared.fault.CaptureCommandFault.TheVariants.{Map, Setup, MapFile, OutputFile, Engine}
+
+-- what is reported of a fault of the engine, of a map, and of what a map sets up; that memory ran out is told in one way
+abbrev pub engine_fault : EngineFault → CaptureCommandFault
+engine_fault fault = Engine fault
+
+abbrev pub map_fault : MapFault → CaptureCommandFault
+map_fault (map.Line number kind) = Map (map.Line number kind)
+map_fault map.OutOfMemory = Engine OutOfMemory
+
+abbrev pub setup_fault : SetupError → CaptureCommandFault
+setup_fault setup.OutOfMemory = Engine OutOfMemory
+setup_fault _ = Setup
+
+abbrev pub status_of : CaptureCommandFault → ℕ
+status_of (Map fault) = 1
+status_of Setup = 1
+status_of MapFile = 4
+status_of OutputFile = 4
+status_of (Engine fault) = engines.status_of fault

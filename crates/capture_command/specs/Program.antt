@@ -1,0 +1,59 @@
+-- What the command `capture` does.
+use Rattle.std.specs.Prelude.{◌≡◌, ◌⊎◌, ℕ, List, Option, Result, Ok, Err, IfErr, OnOk}
+use Rattle.capture_map.specs.declared.map.CaptureMap.{CaptureMap}
+use Rattle.capture_map.specs.Reading.{IsMap}
+use Rattle.engines.specs.declared.device.Device.{Device}
+use Rattle.engines.specs.declared.fault.EngineFault.{EngineFault}
+use Rattle.engines.specs.Device.{inner_of, IsFresh}
+use Rattle.frame_engine.specs.declared.settings.CaptureSettings.{CaptureSettings}
+use Rattle.frame_engine.specs.Joining.{JoinsCapture}
+use Rattle.capture_command.specs.declared.fault.CaptureCommandFault.{CaptureCommandFault}
+use Rattle.capture_command.specs.declared.fault.CaptureCommandFault.TheVariants.{Engine}
+use Rattle.capture_command.specs.Fault.{status_of}
+use Rattle.capture_command.specs.Asked.{AreInRange}
+
+-- 0 where the work was done
+abbrev pub status_of_outcome : Result (Unit {0}) CaptureCommandFault → ℕ
+status_of_outcome (Ok done) = 0
+status_of_outcome (Err fault) = status_of fault
+
+-- what came of the engine is told: its fault, and done only if it was done
+pub record IsTold (joined : Result (Unit {0}) EngineFault) (result : Result (Unit {0}) CaptureCommandFault) : Type 0 where
+  pub fault : IfErr joined (λ fault. result ≡ Err (Engine fault))
+  pub done : OnOk result (joined ≡ Ok tt)
+
+module _ {R W : Type 0} (remaining : R → Option (List ℕ)) (contents : W → Option (List ℕ)) where
+  -- neither device was used, and a fault says why
+  pub record IsRefused (reader reader' : Device R) (writer writer' : Device W) (result : Result (Unit {0}) CaptureCommandFault) : Type 0 where
+    pub fault : CaptureCommandFault
+    pub is : result ≡ Err fault
+    pub unread : reader' ≡ reader
+    pub unwritten : writer' ≡ writer
+
+  -- **The capture was joined with a map** that some text is, and with these settings
+  pub record JoinsByMap (settings : CaptureSettings) (reader reader' : Device R) (writer writer' : Device W) (result : Result (Unit {0}) CaptureCommandFault) : Type 0 where
+    pub capture_map : CaptureMap
+    pub text : List ℕ
+    pub map_is : IsMap text capture_map
+    pub joined : Result (Unit {0}) EngineFault
+    pub joins : JoinsCapture settings capture_map remaining contents reader reader' writer writer' joined
+    pub told : IsTold joined result
+
+  abbrev pub Captures : CaptureSettings → Device R → Device R → Device W → Device W → Result (Unit {0}) CaptureCommandFault → Type 0
+  Captures settings reader reader' writer writer' result = JoinsByMap settings reader reader' writer writer' result ⊎ IsRefused reader reader' writer writer' result
+
+  -- what words came to: a capture was joined, or nothing was; or help was written, for which the reader wasn't used
+  pub data Obeys (reader reader' : Device R) (writer writer' : Device W) (result : Result (Unit {0}) CaptureCommandFault) : Type 0 where
+    captures : (settings : CaptureSettings) → AreInRange settings → Captures settings reader reader' writer writer' result → Obeys reader reader' writer writer' result
+    helps : reader' ≡ reader → Obeys reader reader' writer writer' result
+
+  -- so over fresh devices on these
+  pub record ComesOf (reader : R) (writer : W) (result : Result (Unit {0}) CaptureCommandFault) : Type 0 where
+    pub input : Device R
+    pub input' : Device R
+    pub output : Device W
+    pub output' : Device W
+    pub reads : inner_of input ≡ reader
+    pub writes : inner_of output ≡ writer
+    pub fresh : IsFresh input × IsFresh output
+    pub obeyed : Obeys input input' output output' result
