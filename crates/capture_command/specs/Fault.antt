@@ -1,5 +1,5 @@
 -- The exit status of a fault.
-use Rattle.std.specs.Prelude.{ℕ, Result, Ok, Err}
+use Rattle.std.specs.Prelude.{ℕ}
 use Rattle.capture_map.specs.declared.fault.MapFault.{MapFault}
 use Rattle.capture_map.specs.declared.fault.MapFault.TheVariants as map
 use Rattle.receiver.specs.declared.setup.SetupError.{SetupError}

@@ -48,10 +48,10 @@ pub enum CaptureWords {
 pub fn asks_to_capture<S: AsStr>(words: &[S]) -> bool
     ensures { IsTrue result ↔ IsCommand (codes "capture") (map S.text words.now) }
 {
-    match words {
-        [_, word, ..] => word.as_str() == "capture",
-        _ => false,
-    }
+    let [_, word, _options @ ..] = words else {
+        return false;
+    };
+    word.as_str() == "capture"
 }
 
 /// The rule of this name.

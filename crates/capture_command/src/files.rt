@@ -29,7 +29,7 @@ fn read_all<R: Read>(
         if count == 0 {
             return Ok(text);
         }
-        if count > MAP_MAX - text.len() {
+        if count > MAP_MAX.saturating_sub(text.len()) {
             return Err(CaptureCommandFault::MapFile);
         }
         text.extend_from_slice(&piece[..count])?;

@@ -3,10 +3,10 @@
 
 mod arguments;
 mod asked;
-mod capture_program;
 mod fault;
 mod files;
+mod whole_command;
 
 pub use asked::{CaptureAsked, CaptureWords, asks_to_capture, read_capture_words};
-pub use capture_program::capture_program;
 pub use fault::CaptureCommandFault;
+pub use whole_command::capture_program;

@@ -76,7 +76,7 @@ fn capture<F: Files, R: Read, W: Write, E: Write>(
 ) -> Result<(), CaptureCommandFault>
     requires reader { IsFresh reader.old }
     requires out { IsFresh out.old }
-    ensures { Captures asked.now.settings R.remaining W.contents
+    ensures { Captures R.remaining W.contents asked.now.settings
         reader.old reader.new out.old out.new result }
 {
     let capture_map = map_of_file(alloc, rt, asked.map.as_str())?;
@@ -114,6 +114,20 @@ fn obey<S: AsStr, F: Files, R: Read, W: Write, E: Write>(
     }
 }
 
+/// Answers the exit status of an outcome, and writes the line of its fault, if it has one. That the
+/// line cannot be written changes nothing.
+fn report_outcome<E: Write>(outcome: &Result<(), CaptureCommandFault>, err: &mut Device<E>) -> u8
+    ensures { result ≡ status_of_outcome outcome.now }
+{
+    match outcome {
+        Ok(()) => 0,
+        Err(fault) => {
+            let _ = fault.report(err);
+            fault.status()
+        }
+    }
+}
+
 /// The whole command: it does what the words ask for, the program's name first, and answers the exit
 /// status: 0 where it was done, also for help; 1 for a fault of the map or of the capture, 2 for
 /// usage, 3 for out of memory, 4 for a failed read or write. A fault's line goes to `err`, behind the
@@ -138,13 +152,8 @@ where
     let mut reader = Device::new(reader);
     let mut out = Device::new(out);
     let mut err = Device::new(err);
-    let status = match obey(alloc, rt, words, &mut reader, &mut out, &mut err) {
-        Ok(()) => 0,
-        Err(fault) => {
-            let _ = fault.report(&mut err);
-            fault.status()
-        }
-    };
+    let outcome = obey(alloc, rt, words, &mut reader, &mut out, &mut err);
+    let status = report_outcome(&outcome, &mut err);
     reader.into_inner();
     out.into_inner();
     err.into_inner();
