@@ -1,0 +1,4 @@
+pub mod Elements
+pub mod ElementLists
+pub mod FrameParts
+pub mod PutLines

@@ -1,0 +1,8 @@
+use Rattle.std.proofs.lemmas.Bool.{ne_eqb}
+use Rattle.capture_summary.proofs.PutLines.{puts-then}
+use Rattle.capture_summary.proofs.summary_text.put_quiet_line.Goals as goal
+
+pub returns : goal.returns
+returns g c =
+    rw (ne_eqb c.args.count 0 c.if-count-eq0.false)
+    (puts-then g.O.PutText.after c.put_named.ensures c.put_word.ensures)

@@ -1,0 +1,10 @@
+use Rattle.capture_summary.proofs.PutLines.{puts-then}
+use Rattle.capture_summary.proofs.summary_text.put_summary.Goals as goal
+
+pub returns : goal.returns
+returns g c =
+    let flows = rw c.deref.ensures.value at c.put_flows.ensures in
+    let quiet = rw (c.quiet_count.ensures, c.deref-2.ensures.value) at c.put_quiet_line.ensures in
+    let channels = rw c.deref-3.ensures.value at c.put_channels.ensures in
+    puts-then g.O.PutText.after (puts-then g.O.PutText.after (puts-then g.O.PutText.after (puts-then g.O.PutText.after flows quiet) channels) c.put_records_line.ensures)
+    c.put_reasons.ensures

@@ -1,0 +1,9 @@
+pub mod Elements
+pub mod Sequence
+pub mod Seen
+pub mod Counting
+pub mod Words
+pub mod ReplayLines
+pub mod Report
+pub mod SummaryText
+pub mod Requests

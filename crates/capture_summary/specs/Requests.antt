@@ -1,0 +1,27 @@
+-- Requests as CSV.
+use Rattle.std.specs.Prelude.{ℕ, ◌+◌, ◌/◌, ◌%◌, List, [], ◌∷◌, ◌++◌, drop, codes}
+use Rattle.std.specs.Fmt.{decimal}
+use Rattle.text_lines.specs.Lines.{line_feed}
+use Rattle.lane.specs.declared.admitted.Request.{Request}
+
+-- nanoseconds in a second
+abbrev pub second : ℕ
+second = 1000000000
+
+-- a time in seconds, with nine digits behind the point: those of one second more, but for the first one
+abbrev pub seconds_text : ℕ → List ℕ
+seconds_text nanoseconds = decimal (nanoseconds / second) ++ codes "." ++ drop 1 (decimal (second + nanoseconds % second))
+
+-- a comma and a number
+abbrev pub field_text : ℕ → List ℕ
+field_text number = codes "," ++ decimal number
+
+-- the line of names
+abbrev pub names_line : List ℕ
+names_line = codes "time,channel,sid,flow,cluster,units" ++ line_feed ∷ []
+
+-- `<seconds>,<channel>,<sid>,<flow>,<cluster>,<units>`
+abbrev pub request_line : ℕ → ℕ → Request → List ℕ
+request_line nanoseconds sid request =
+    seconds_text nanoseconds ++ field_text request.channel ++ field_text sid ++ field_text request.flow ++ field_text request.cluster
+    ++ field_text request.units ++ line_feed ∷ []

@@ -1,0 +1,66 @@
+-- What people read of a capture in the end.
+use Rattle.std.specs.Prelude.{ℕ, ◌==◌, List, [], ◌∷◌, ◌++◌, flat_map, count_by, codes, if◌then◌else◌}
+use Rattle.text_lines.specs.Lines.{line_feed}
+use Rattle.lane.specs.declared.refusal.Refusal.{Refusal}
+use Rattle.capture_summary.specs.Counting.{is_quiet, count_of_refusal, count_of_reason}
+use Rattle.capture_summary.specs.Report.{all_refusals, all_reasons}
+use Rattle.capture_summary.specs.Words.{spaced, named, reason_text, refusal_text}
+use Rattle.capture_summary.specs.declared.flow_summary.FlowSummary.{FlowSummary}
+use Rattle.capture_summary.specs.declared.channel_summary.ChannelSummary.{ChannelSummary}
+use Rattle.capture_summary.specs.declared.passed.PassedReason.{PassedReason}
+use Rattle.capture_summary.specs.declared.summary.CaptureSummary.{CaptureSummary}
+
+-- the segments of a flow
+abbrev pub segments_line : FlowSummary → List ℕ
+segments_line flow =
+    named (codes "flow") flow.sfid ++ named (codes ": segments kept") flow.counts.kept ++ named (codes ", late") flow.counts.late
+    ++ named (codes ", repeated") flow.counts.repeat ++ named (codes ", beyond the window") flow.counts.beyond ++ named (codes ", lost") flow.counts.lost
+    ++ line_feed ∷ []
+
+-- its frames
+abbrev pub frames_line : FlowSummary → List ℕ
+frames_line flow =
+    named (codes "  frames") flow.counts.frames ++ named (codes ": FCS right") flow.right ++ named (codes ", wrong") flow.wrong
+    ++ named (codes ", encrypted") flow.encrypted ++ named (codes "; bytes skipped") flow.counts.skipped ++ line_feed ∷ []
+
+-- how often it began anew, and what it asked for
+abbrev pub requests_line : FlowSummary → List ℕ
+requests_line flow =
+    named (codes "  restarts") flow.restarts ++ named (codes "; requests") flow.requests ++ named (codes ", units") flow.units ++ line_feed ∷ []
+
+-- a flow of which something came
+abbrev pub flow_text : FlowSummary → List ℕ
+flow_text flow = if is_quiet flow then [] else (segments_line flow ++ frames_line flow ++ requests_line flow)
+
+-- how many flows there are of which nothing came, if there are any
+abbrev pub quiet_line : ℕ → List ℕ
+quiet_line count = if count == 0 then [] else (named (codes "flows of which nothing came:") count ++ line_feed ∷ [])
+
+-- a refusal that came, by its words
+abbrev pub refusal_line : Refusal → ℕ → List ℕ
+refusal_line refusal count = if count == 0 then [] else (codes "  refused: " ++ named (refusal_text refusal) count ++ line_feed ∷ [])
+
+-- the bursts of a channel
+abbrev pub channel_line : ChannelSummary → List ℕ
+channel_line channel =
+    named (codes "channel") channel.channel ++ named (codes ", upstream channel id") channel.id ++ named (codes ": bursts") channel.bursts
+    ++ named (codes ", above their grant") channel.above ++ named (codes ", admitted") channel.admitted ++ line_feed ∷ []
+
+abbrev pub channel_text : ChannelSummary → List ℕ
+channel_text channel =
+    channel_line channel ++ flat_map (λ refusal. refusal_line refusal (count_of_refusal channel.refused refusal)) all_refusals
+
+-- how many records there were
+abbrev pub all_records_line : CaptureSummary → List ℕ
+all_records_line summary =
+    named (codes "records") summary.records ++ named (codes ", earlier than the record before") summary.earlier ++ line_feed ∷ []
+
+-- how many of them were passed over for a reason, if some were
+abbrev pub reason_line : PassedReason → ℕ → List ℕ
+reason_line why count = if count == 0 then [] else (codes "  passed over: " ++ named (reason_text why) count ++ line_feed ∷ [])
+
+-- **What people read of a capture in the end**: of each flow of which something came, of each channel, and of all records.
+abbrev pub summary_text : CaptureSummary → List ℕ
+summary_text summary =
+    flat_map flow_text summary.flows.items ++ quiet_line (count_by is_quiet summary.flows.items) ++ flat_map channel_text summary.channels.items
+    ++ all_records_line summary ++ flat_map (λ why. reason_line why (count_of_reason summary.passed why)) all_reasons

@@ -1,0 +1,171 @@
+//! The report of a capture.
+ghost use Rattle.std.specs.Prelude.{◌≡◌, flat_map};
+ghost use Rattle.text_lines.specs.Putting.{Puts};
+ghost use Rattle.capture_summary.specs.ReplayLines.{flow_line, numbered_lines};
+ghost use Rattle.lane.specs.Report.{refusal_number};
+ghost use Rattle.capture_summary.specs.Counting.{count_of_refusal, count_of_reason};
+ghost use Rattle.capture_summary.specs.Report.{joined_line, flow_lines, counted_refusal, refused_text, lane_line, bursts_line, channel_lines, passed_line, records_line, report_text};
+
+use crate::channel_summary::ChannelSummary;
+use crate::flow_summary::FlowSummary;
+use crate::passed::{ALL_REASONS, PassedCounts, PassedReason};
+use crate::refusals::{ALL_REFUSALS, RefusalCounts};
+use crate::summary::CaptureSummary;
+use crate::words::{put_named, put_spaced, put_word};
+use lane::Refusal;
+use flow_core::FlowCounts;
+use text_lines::{PutText, put_number};
+
+/// Puts the line of the flow with this index, its service flow identifier and its counts.
+fn put_flow_line<O: PutText>(out: &mut O, k: usize, sfid: u32, counts: &FlowCounts)
+    ensures { Puts O.after out.old (flow_line k sfid counts.now) out.new }
+{
+    put_named(out, "flow", k as u64);
+    put_spaced(out, u64::from(sfid));
+    put_named(out, " kept", counts.kept);
+    put_named(out, " late", counts.late);
+    put_named(out, " repeat", counts.repeat);
+    put_named(out, " beyond", counts.beyond);
+    put_named(out, " lost", counts.lost);
+    put_named(out, " frames", counts.frames);
+    put_named(out, " skipped", counts.skipped);
+    put_word(out, "\n");
+}
+
+/// Puts how the frames and requests of the flow with this index are.
+fn put_joined_line<O: PutText>(out: &mut O, k: usize, flow: &FlowSummary)
+    ensures { Puts O.after out.old (joined_line k flow.now) out.new }
+{
+    put_named(out, "joined", k as u64);
+    put_named(out, " right", flow.right);
+    put_named(out, " wrong", flow.wrong);
+    put_named(out, " encrypted", flow.encrypted);
+    put_named(out, " restarts", flow.restarts);
+    put_named(out, " requests", flow.requests);
+    put_named(out, " units", flow.units);
+    put_word(out, "\n");
+}
+
+/// Puts the lines of flows.
+fn put_flows<O: PutText>(out: &mut O, flows: &[FlowSummary])
+    ensures { Puts O.after out.old (numbered_lines flow_lines flows.now) out.new }
+{
+    for (k, flow) in flows.iter().enumerate() {
+        put_flow_line(out, k, flow.sfid, &flow.counts);
+        put_joined_line(out, k, flow);
+    }
+}
+
+/// Puts how often the refusal with this number came, if it did.
+fn put_counted_refusal<O: PutText>(out: &mut O, number: u8, count: u64)
+    ensures { Puts O.after out.old (counted_refusal number count) out.new }
+{
+    if count == 0 {
+        return;
+    }
+    put_spaced(out, u64::from(number));
+    put_word(out, "x");
+    put_number(out, count);
+}
+
+/// Puts those of these refusals that came.
+fn put_refusals<O: PutText>(out: &mut O, refused: &RefusalCounts, refusals: &[Refusal])
+    ensures { Puts O.after out.old
+        (flat_map (λ refusal. counted_refusal (refusal_number refusal) (count_of_refusal refused.now refusal)) refusals.now) out.new }
+{
+    for refusal in refusals {
+        put_counted_refusal(out, refusal.number(), refused.of(*refusal));
+    }
+}
+
+/// Puts the refusals that came, or `-` if none did.
+fn put_refused<O: PutText>(out: &mut O, refused: &RefusalCounts)
+    ensures { Puts O.after out.old (refused_text refused.now) out.new }
+{
+    if refused.is_empty() {
+        return put_word(out, " -");
+    }
+    put_refusals(out, refused, &ALL_REFUSALS);
+}
+
+/// Puts what the lane of a channel did.
+fn put_lane_line<O: PutText>(out: &mut O, channel: &ChannelSummary)
+    ensures { Puts O.after out.old (lane_line channel.now) out.new }
+{
+    put_named(out, "lane", u64::from(channel.channel));
+    put_named(out, " admitted", channel.admitted);
+    put_word(out, " refused");
+    put_refused(out, &channel.refused);
+    put_word(out, "\n");
+}
+
+/// Puts how many bursts a channel had.
+fn put_bursts_line<O: PutText>(out: &mut O, channel: &ChannelSummary)
+    ensures { Puts O.after out.old (bursts_line channel.now) out.new }
+{
+    put_named(out, "bursts", u64::from(channel.channel));
+    put_spaced(out, u64::from(channel.id));
+    put_spaced(out, channel.bursts);
+    put_named(out, " above", channel.above);
+    put_word(out, "\n");
+}
+
+/// Puts the lines of a channel.
+fn put_channel<O: PutText>(out: &mut O, channel: &ChannelSummary)
+    ensures { Puts O.after out.old (channel_lines channel.now) out.new }
+{
+    put_lane_line(out, channel);
+    put_bursts_line(out, channel);
+}
+
+/// Puts the lines of channels.
+fn put_channels<O: PutText>(out: &mut O, channels: &[ChannelSummary])
+    ensures { Puts O.after out.old (flat_map channel_lines channels.now) out.new }
+{
+    for channel in channels {
+        put_channel(out, channel);
+    }
+}
+
+/// Puts how many records were passed over for a reason, if some were.
+fn put_passed_line<O: PutText>(out: &mut O, why: PassedReason, count: u64)
+    ensures { Puts O.after out.old (passed_line why count) out.new }
+{
+    if count == 0 {
+        return;
+    }
+    put_named(out, "passed", count);
+    put_word(out, " ");
+    put_word(out, why.text());
+    put_word(out, "\n");
+}
+
+/// Puts how many records were passed over for each of these reasons.
+fn put_passed<O: PutText>(out: &mut O, passed: &PassedCounts, reasons: &[PassedReason])
+    ensures { Puts O.after out.old
+        (flat_map (λ why. passed_line why (count_of_reason passed.now why)) reasons.now) out.new }
+{
+    for why in reasons {
+        put_passed_line(out, *why, passed.of(*why));
+    }
+}
+
+/// Puts how many records there were.
+fn put_records_line<O: PutText>(out: &mut O, summary: &CaptureSummary)
+    ensures { Puts O.after out.old (records_line summary.now) out.new }
+{
+    put_named(out, "records", summary.records);
+    put_named(out, " earlier", summary.earlier);
+    put_word(out, "\n");
+}
+
+/// Puts the report of a capture: two lines for each flow, in order; two for each channel, in order;
+/// one for each reason for which records were passed over; and one for all records.
+pub fn put_report<O: PutText>(out: &mut O, summary: &CaptureSummary)
+    ensures { Puts O.after out.old (report_text summary.now) out.new }
+{
+    put_flows(out, &summary.flows);
+    put_channels(out, &summary.channels);
+    put_passed(out, &summary.passed, &ALL_REASONS);
+    put_records_line(out, summary);
+}

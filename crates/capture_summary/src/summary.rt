@@ -1,0 +1,19 @@
+//! What was counted of a whole capture.
+use crate::channel_summary::ChannelSummary;
+use crate::flow_summary::FlowSummary;
+use crate::passed::PassedCounts;
+
+/// What was counted of a capture. Each count stays at its greatest value, 2^64 − 1.
+#[derive(Debug, Drop)]
+pub struct CaptureSummary {
+    /// Its flows, in the order of the map.
+    pub flows: Vec<FlowSummary>,
+    /// Its channels, in the order of their numbers.
+    pub channels: Vec<ChannelSummary>,
+    /// The records that were passed over.
+    pub passed: PassedCounts,
+    /// All records.
+    pub records: u64,
+    /// Records with a time before that of the record before them.
+    pub earlier: u64,
+}

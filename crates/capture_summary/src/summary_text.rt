@@ -1,0 +1,183 @@
+//! What people read of a capture in the end.
+ghost use Rattle.std.specs.Prelude.{◌≡◌, flat_map, count_by};
+ghost use Rattle.text_lines.specs.Putting.{Puts};
+ghost use Rattle.capture_summary.specs.Counting.{is_quiet, count_of_refusal, count_of_reason};
+ghost use Rattle.capture_summary.specs.SummaryText.{segments_line, frames_line, requests_line, flow_text, quiet_line, refusal_line, channel_line, channel_text, all_records_line, reason_line, summary_text};
+
+use crate::channel_summary::ChannelSummary;
+use crate::flow_summary::FlowSummary;
+use crate::passed::{ALL_REASONS, PassedCounts, PassedReason};
+use crate::refusals::{ALL_REFUSALS, RefusalCounts, refusal_text};
+use crate::summary::CaptureSummary;
+use crate::words::{put_named, put_word};
+use lane::Refusal;
+use text_lines::PutText;
+
+/// Puts what became of the segments of a flow.
+fn put_segments_line<O: PutText>(out: &mut O, flow: &FlowSummary)
+    ensures { Puts O.after out.old (segments_line flow.now) out.new }
+{
+    put_named(out, "flow", u64::from(flow.sfid));
+    put_named(out, ": segments kept", flow.counts.kept);
+    put_named(out, ", late", flow.counts.late);
+    put_named(out, ", repeated", flow.counts.repeat);
+    put_named(out, ", beyond the window", flow.counts.beyond);
+    put_named(out, ", lost", flow.counts.lost);
+    put_word(out, "\n");
+}
+
+/// Puts how the frames of a flow are.
+fn put_frames_line<O: PutText>(out: &mut O, flow: &FlowSummary)
+    ensures { Puts O.after out.old (frames_line flow.now) out.new }
+{
+    put_named(out, "  frames", flow.counts.frames);
+    put_named(out, ": FCS right", flow.right);
+    put_named(out, ", wrong", flow.wrong);
+    put_named(out, ", encrypted", flow.encrypted);
+    put_named(out, "; bytes skipped", flow.counts.skipped);
+    put_word(out, "\n");
+}
+
+/// Puts how often a flow began anew, and what it asked for.
+fn put_requests_line<O: PutText>(out: &mut O, flow: &FlowSummary)
+    ensures { Puts O.after out.old (requests_line flow.now) out.new }
+{
+    put_named(out, "  restarts", flow.restarts);
+    put_named(out, "; requests", flow.requests);
+    put_named(out, ", units", flow.units);
+    put_word(out, "\n");
+}
+
+/// Puts what came of a flow, if something did.
+fn put_flow<O: PutText>(out: &mut O, flow: &FlowSummary)
+    ensures { Puts O.after out.old (flow_text flow.now) out.new }
+{
+    if flow.is_quiet() {
+        return;
+    }
+    put_segments_line(out, flow);
+    put_frames_line(out, flow);
+    put_requests_line(out, flow);
+}
+
+/// Puts what came of flows.
+fn put_flows<O: PutText>(out: &mut O, flows: &[FlowSummary])
+    ensures { Puts O.after out.old (flat_map flow_text flows.now) out.new }
+{
+    for flow in flows {
+        put_flow(out, flow);
+    }
+}
+
+/// How many of these flows there are of which nothing came.
+fn quiet_count(flows: &[FlowSummary]) -> usize
+    ensures { result ≡ count_by is_quiet flows.now }
+{
+    flows.iter().filter(|flow| flow.is_quiet()).count()
+}
+
+/// Puts how many flows there are of which nothing came, if there are any.
+fn put_quiet_line<O: PutText>(out: &mut O, count: usize)
+    ensures { Puts O.after out.old (quiet_line count) out.new }
+{
+    if count == 0 {
+        return;
+    }
+    put_named(out, "flows of which nothing came:", count as u64);
+    put_word(out, "\n");
+}
+
+/// Puts how often a refusal came, if it did.
+fn put_refusal_line<O: PutText>(out: &mut O, refusal: Refusal, count: u64)
+    ensures { Puts O.after out.old (refusal_line refusal count) out.new }
+{
+    if count == 0 {
+        return;
+    }
+    put_word(out, "  refused: ");
+    put_named(out, refusal_text(refusal), count);
+    put_word(out, "\n");
+}
+
+/// Puts those of these refusals that came.
+fn put_refusals<O: PutText>(out: &mut O, refused: &RefusalCounts, refusals: &[Refusal])
+    ensures { Puts O.after out.old
+        (flat_map (λ refusal. refusal_line refusal (count_of_refusal refused.now refusal)) refusals.now) out.new }
+{
+    for refusal in refusals {
+        put_refusal_line(out, *refusal, refused.of(*refusal));
+    }
+}
+
+/// Puts how many bursts a channel had.
+fn put_channel_line<O: PutText>(out: &mut O, channel: &ChannelSummary)
+    ensures { Puts O.after out.old (channel_line channel.now) out.new }
+{
+    put_named(out, "channel", u64::from(channel.channel));
+    put_named(out, ", upstream channel id", u64::from(channel.id));
+    put_named(out, ": bursts", channel.bursts);
+    put_named(out, ", above their grant", channel.above);
+    put_named(out, ", admitted", channel.admitted);
+    put_word(out, "\n");
+}
+
+/// Puts what came on a channel.
+fn put_channel<O: PutText>(out: &mut O, channel: &ChannelSummary)
+    ensures { Puts O.after out.old (channel_text channel.now) out.new }
+{
+    put_channel_line(out, channel);
+    put_refusals(out, &channel.refused, &ALL_REFUSALS);
+}
+
+/// Puts what came on channels.
+fn put_channels<O: PutText>(out: &mut O, channels: &[ChannelSummary])
+    ensures { Puts O.after out.old (flat_map channel_text channels.now) out.new }
+{
+    for channel in channels {
+        put_channel(out, channel);
+    }
+}
+
+/// Puts how many records there were.
+fn put_records_line<O: PutText>(out: &mut O, summary: &CaptureSummary)
+    ensures { Puts O.after out.old (all_records_line summary.now) out.new }
+{
+    put_named(out, "records", summary.records);
+    put_named(out, ", earlier than the record before", summary.earlier);
+    put_word(out, "\n");
+}
+
+/// Puts how many records were passed over for a reason, if some were.
+fn put_reason_line<O: PutText>(out: &mut O, why: PassedReason, count: u64)
+    ensures { Puts O.after out.old (reason_line why count) out.new }
+{
+    if count == 0 {
+        return;
+    }
+    put_word(out, "  passed over: ");
+    put_named(out, why.text(), count);
+    put_word(out, "\n");
+}
+
+/// Puts how many records were passed over for each of these reasons.
+fn put_reasons<O: PutText>(out: &mut O, passed: &PassedCounts, reasons: &[PassedReason])
+    ensures { Puts O.after out.old
+        (flat_map (λ why. reason_line why (count_of_reason passed.now why)) reasons.now) out.new }
+{
+    for why in reasons {
+        put_reason_line(out, *why, passed.of(*why));
+    }
+}
+
+/// Puts what people read of a capture in the end: three lines for each flow of which something came,
+/// and how many others there are; a line for each channel, and below it one for each refusal that
+/// came; one for all records, and below it one for each reason for which some were passed over.
+pub fn put_summary<O: PutText>(out: &mut O, summary: &CaptureSummary)
+    ensures { Puts O.after out.old (summary_text summary.now) out.new }
+{
+    put_flows(out, &summary.flows);
+    put_quiet_line(out, quiet_count(&summary.flows));
+    put_channels(out, &summary.channels);
+    put_records_line(out, summary);
+    put_reasons(out, &summary.passed, &ALL_REASONS);
+}
