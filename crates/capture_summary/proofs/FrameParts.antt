@@ -1,11 +1,9 @@
 -- The parts of a frame.
-use Rattle.std.proofs.Common.{◌≡◌, ℕ, ◌+◌, ◌%◌, ◌/◌, ◌==◌, ◌≤◌, ◌⊎◌, inl, inr, Bool, true, false, cond, List, [], ◌∷◌, ◌++◌, length, take, drop, refl, sym, ap, subst, ◌∙◌, arith, append_assoc}
+use Rattle.std.proofs.Common.{◌≡◌, ℕ, ◌%◌, ◌/◌, inl, inr, cond, List, ◌∷◌, ◌++◌, length, take, drop, refl, sym, ap, ◌∙◌, append_assoc}
 use Rattle.std.specs.Prelude.{nat_le}
 use Rattle.std.proofs.Math.Seq.{take-append_seam, drop-append_seam}
 use Rattle.docsis_wire.specs.Frame.{IsGenericFrame, IsExtendedHeader}
-use Rattle.docsis_wire.specs.Limits.{extended_max}
 use Rattle.capture_summary.specs.Sequence.{extended_length, sequence_in, sequence_of}
-use Rattle.capture_summary.specs.declared.sequence.FrameSequence.{FrameSequence}
 use Rattle.capture_summary.specs.declared.sequence.FrameSequence.TheVariants.{NotThere}
 
 -- how long the extended header is
@@ -16,10 +14,10 @@ length_is fc parm ehdr (inr off) = rw (off.0, off.1) refl
 -- the parts behind the first four bytes
 parts : (ehdr hcs rest : List ℕ) → length hcs ≡ 2 → (take (length ehdr) (ehdr ++ hcs ++ rest) ≡ ehdr) × (drop 2 (drop (length ehdr) (ehdr ++ hcs ++ rest)) ≡ rest)
 parts ehdr hcs rest two = (
-      ap (take (length ehdr)) (append_assoc ehdr hcs rest) ∙ take-append_seam ehdr (hcs ++ rest),
-      ap (λ all. drop 2 (drop (length ehdr) all)) (append_assoc ehdr hcs rest) ∙ ap (drop 2) (drop-append_seam ehdr (hcs ++ rest))
-          ∙ ap (λ n. drop n (hcs ++ rest)) (sym two) ∙ drop-append_seam hcs rest,
-    )
+  ap (take (length ehdr)) (append_assoc ehdr hcs rest) ∙ take-append_seam ehdr (hcs ++ rest),
+  ap (λ all. drop 2 (drop (length ehdr) all)) (append_assoc ehdr hcs rest) ∙ ap (drop 2) (drop-append_seam ehdr (hcs ++ rest))
+      ∙ ap (λ n. drop n (hcs ++ rest)) (sym two) ∙ drop-append_seam hcs rest,
+)
 
 pub looked_at : (frame : List ℕ) (generic : IsGenericFrame frame)
     → sequence_of frame ≡ cond (nat_le generic.fc 1) (sequence_in generic.ehdr generic.rest) NotThere

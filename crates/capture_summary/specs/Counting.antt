@@ -79,6 +79,11 @@ abbrev pub with_burst : Bool → ChannelSummary → ChannelSummary
 with_burst is_above channel =
     record channel { bursts = one_more channel.bursts; above = if is_above then one_more channel.above else channel.above }
 
+-- one more record, with a time before that of the one before or not
+abbrev pub with_record : Bool → CaptureSummary → CaptureSummary
+with_record is_earlier summary =
+    record summary { records = one_more summary.records; earlier = if is_earlier then one_more summary.earlier else summary.earlier }
+
 -- nothing was passed over; how often it was for a reason; once more
 abbrev pub none_passed : PassedCounts
 none_passed = record {

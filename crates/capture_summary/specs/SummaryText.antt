@@ -4,7 +4,7 @@ use Rattle.text_lines.specs.Lines.{line_feed}
 use Rattle.lane.specs.declared.refusal.Refusal.{Refusal}
 use Rattle.capture_summary.specs.Counting.{is_quiet, count_of_refusal, count_of_reason}
 use Rattle.capture_summary.specs.Report.{all_refusals, all_reasons}
-use Rattle.capture_summary.specs.Words.{spaced, named, reason_text, refusal_text}
+use Rattle.capture_summary.specs.Words.{named, reason_text, refusal_text}
 use Rattle.capture_summary.specs.declared.flow_summary.FlowSummary.{FlowSummary}
 use Rattle.capture_summary.specs.declared.channel_summary.ChannelSummary.{ChannelSummary}
 use Rattle.capture_summary.specs.declared.passed.PassedReason.{PassedReason}

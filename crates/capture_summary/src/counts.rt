@@ -4,7 +4,7 @@ ghost use Rattle.capture_summary.specs.Counting.{both_counts};
 
 use flow_core::FlowCounts;
 
-/// What was counted of a flow in two parts of its time, as before it began anew and since, together.
+/// What was counted of a flow in two parts of its time together, as before it began anew and since.
 /// Each count stays at its greatest value, 2^64 − 1.
 pub fn both_counts(one: FlowCounts, other: FlowCounts) -> FlowCounts
     ensures { result ≡ both_counts one other }

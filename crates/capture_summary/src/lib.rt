@@ -1,19 +1,19 @@
 //! What is counted of a capture, and the texts of it.
 //!
 //! A [`CaptureSummary`] has the counts of a capture's flows ([`FlowSummary`]) and channels
-//! ([`ChannelSummary`]), how many records were passed over and why ([`PassedCounts`]), and how many
-//! there were. Who goes over the records fills it: [`sequence_of`] says of each frame that was joined
-//! what is known of its frame check sequence, and [`both_counts`] adds what was counted of a flow
-//! before it began anew. All counts stay at their greatest value.
+//! ([`ChannelSummary`]), how many records were passed over and why ([`PassedCounts`]), and how
+//! many there were. Who goes over the records fills it: [`sequence_of`] says of each frame that was
+//! joined what is known of its frame check sequence, and [`both_counts`] adds what was counted of a
+//! flow before it began anew. All counts stay at their greatest value.
 //!
 //! In the end [`put_report`] puts the lines of the report, and [`put_summary`] what people read. As
-//! the capture goes on, [`put_request_names`] and [`put_request`] put what was requested as CSV. They
-//! put text as every report is put, and not by the crate `csv`: its writer holds a buffer of its own
-//! over a device of its own, and each of its calls can fail, where a field here is a number that
-//! needs no quotes.
+//! the capture goes on, [`put_request_names`] and [`put_request`] put what was requested as CSV.
+//! They put text as every report is put, and not by the crate `csv`: its writer holds a buffer of
+//! its own over a device of its own, and each of its calls can fail, where a field here is a number
+//! that needs no quotes.
 //!
 //! What matters most: a sequence, a count and a text are those of the definitions `sequence_of`,
-//! `with_frame`, `with_refusal` and `with_passed`, `report_text`, `summary_text` and `request_line`.
+//! `with_frame`, `with_refusal`, `with_passed`, `report_text`, `summary_text` and `request_line`.
 //! [`laws`] says of the first what it looks at in a frame.
 #![tactic(auto)]
 

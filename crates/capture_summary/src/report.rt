@@ -12,8 +12,8 @@ use crate::passed::{ALL_REASONS, PassedCounts, PassedReason};
 use crate::refusals::{ALL_REFUSALS, RefusalCounts};
 use crate::summary::CaptureSummary;
 use crate::words::{put_named, put_spaced, put_word};
-use lane::Refusal;
 use flow_core::FlowCounts;
+use lane::Refusal;
 use text_lines::{PutText, put_number};
 
 /// Puts the line of the flow with this index, its service flow identifier and its counts.
@@ -70,8 +70,9 @@ fn put_counted_refusal<O: PutText>(out: &mut O, number: u8, count: u64)
 
 /// Puts those of these refusals that came.
 fn put_refusals<O: PutText>(out: &mut O, refused: &RefusalCounts, refusals: &[Refusal])
-    ensures { Puts O.after out.old
-        (flat_map (λ refusal. counted_refusal (refusal_number refusal) (count_of_refusal refused.now refusal)) refusals.now) out.new }
+    ensures { Puts O.after out.old (flat_map
+        (λ refusal. counted_refusal (refusal_number refusal) (count_of_refusal refused.now refusal))
+        refusals.now) out.new }
 {
     for refusal in refusals {
         put_counted_refusal(out, refusal.number(), refused.of(*refusal));

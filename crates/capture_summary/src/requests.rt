@@ -39,8 +39,8 @@ pub fn put_request_names<O: PutText>(out: &mut O)
     put_word(out, "time,channel,sid,flow,cluster,units\n");
 }
 
-/// Puts the line of a request, which a burst of this SID made at this time, in nanoseconds since the
-/// beginning of 1970. The time that is put is in seconds.
+/// Puts the line of a request, which a burst of this SID made at this time, in nanoseconds since
+/// the beginning of 1970. The time that is put is in seconds.
 pub fn put_request<O: PutText>(out: &mut O, nanoseconds: u64, sid: u16, request: &Request)
     ensures { Puts O.after out.old (request_line nanoseconds sid request.now) out.new }
 {

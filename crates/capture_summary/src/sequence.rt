@@ -98,10 +98,10 @@ fn split_near(bytes: &[u8], place: usize) -> (&[u8], &[u8])
     bytes.split_at(place.min(bytes.len()))
 }
 
-/// What is known of the frame check sequence in a MAC frame. Only a packet's frame has one, whose FC
-/// is 0x00 or 0x01 (CM-SP-MULPIv3.0, packet PDU MAC header format). It can't be looked at where an
-/// element of the extended header, of type 3 or 7, has ENABLE set, the top bit of the second byte of
-/// its value: the Ethernet frame is encrypted then.
+/// What is known of the frame check sequence in a MAC frame. Only a packet's frame has one, whose
+/// FC is 0x00 or 0x01 (CM-SP-MULPIv3.0, packet PDU MAC header format). It can't be looked at where
+/// an element of the extended header, of type 3 or 7, has ENABLE set, the top bit of the second
+/// byte of its value: the Ethernet frame is encrypted then.
 ///
 /// A frame has at least six bytes. Of fewer than four `NotThere` is answered.
 pub fn sequence_of(frame: &[u8]) -> FrameSequence

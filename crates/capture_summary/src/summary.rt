@@ -1,4 +1,7 @@
 //! What was counted of a whole capture.
+ghost use Rattle.std.specs.Prelude.{◌≡◌};
+ghost use Rattle.capture_summary.specs.Counting.{with_record};
+
 use crate::channel_summary::ChannelSummary;
 use crate::flow_summary::FlowSummary;
 use crate::passed::PassedCounts;
@@ -16,4 +19,16 @@ pub struct CaptureSummary {
     pub records: u64,
     /// Records with a time before that of the record before them.
     pub earlier: u64,
+}
+
+impl CaptureSummary {
+    /// Counts a record, whose time lies before that of the record before it or doesn't.
+    pub fn count_record(&mut self, is_earlier: bool)
+        ensures { self.new ≡ with_record is_earlier self.old }
+    {
+        self.records = self.records.saturating_add(1);
+        if is_earlier {
+            self.earlier = self.earlier.saturating_add(1);
+        }
+    }
 }

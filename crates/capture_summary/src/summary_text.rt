@@ -101,8 +101,9 @@ fn put_refusal_line<O: PutText>(out: &mut O, refusal: Refusal, count: u64)
 
 /// Puts those of these refusals that came.
 fn put_refusals<O: PutText>(out: &mut O, refused: &RefusalCounts, refusals: &[Refusal])
-    ensures { Puts O.after out.old
-        (flat_map (λ refusal. refusal_line refusal (count_of_refusal refused.now refusal)) refusals.now) out.new }
+    ensures { Puts O.after out.old (flat_map
+        (λ refusal. refusal_line refusal (count_of_refusal refused.now refusal))
+        refusals.now) out.new }
 {
     for refusal in refusals {
         put_refusal_line(out, *refusal, refused.of(*refusal));
@@ -169,9 +170,9 @@ fn put_reasons<O: PutText>(out: &mut O, passed: &PassedCounts, reasons: &[Passed
     }
 }
 
-/// Puts what people read of a capture in the end: three lines for each flow of which something came,
-/// and how many others there are; a line for each channel, and below it one for each refusal that
-/// came; one for all records, and below it one for each reason for which some were passed over.
+/// Puts what people read of a capture in the end: three lines for each flow of which something
+/// came, and how many others there are; a line for each channel, and below it one for each refusal
+/// that came; one for all records, and below it one for each reason to pass some over.
 pub fn put_summary<O: PutText>(out: &mut O, summary: &CaptureSummary)
     ensures { Puts O.after out.old (summary_text summary.now) out.new }
 {

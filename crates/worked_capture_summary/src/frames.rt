@@ -25,16 +25,8 @@ const FRAMES: [(&str, FrameSequence, &str); 23] = [
         FrameSequence::Right,
         "00000004faba00000000",
     ),
-    (
-        "three bytes",
-        FrameSequence::Wrong,
-        "0000000345ce000000",
-    ),
-    (
-        "no Ethernet frame",
-        FrameSequence::Wrong,
-        "00000000defc",
-    ),
+    ("three bytes", FrameSequence::Wrong, "0000000345ce000000"),
+    ("no Ethernet frame", FrameSequence::Wrong, "00000000defc"),
     (
         "MAC_PARM without an extended header",
         FrameSequence::Right,
@@ -146,7 +138,11 @@ fn fewer_bytes_than_a_header_have_none(rt: HostRuntime) -> Result<(), Fail> {
         assert!(rt; sequence_of(bytes) == FrameSequence::NotThere);
     }
     // The extended header and the header check sequence end where the bytes do.
-    for bytes in [&[0, 0, 0, 0][..], &[1, 9, 0, 0, 0x33, 0x80], &[0, 0, 0, 0, 0, 0, 0, 0, 0]] {
+    for bytes in [
+        &[0, 0, 0, 0][..],
+        &[1, 9, 0, 0, 0x33, 0x80],
+        &[0, 0, 0, 0, 0, 0, 0, 0, 0],
+    ] {
         assert!(rt; sequence_of(bytes) == FrameSequence::Wrong);
     }
     assert!(rt; sequence_of(&[1, 9, 0, 0, 0x32, 0, 0xff]) == FrameSequence::Encrypted);

@@ -120,8 +120,17 @@ fn summary_of(
 
 /// A capture of much.
 fn much(alloc: Global) -> Result<CaptureSummary, AllocError> {
-    let flows = [BUSY_FLOW, FlowSummary::new(u32::MAX), FlowSummary::new(0), FULL_FLOW];
-    let channels = [busy_channel(), refusing_channel(), ChannelSummary::new(15, 0)];
+    let flows = [
+        BUSY_FLOW,
+        FlowSummary::new(u32::MAX),
+        FlowSummary::new(0),
+        FULL_FLOW,
+    ];
+    let channels = [
+        busy_channel(),
+        refusing_channel(),
+        ChannelSummary::new(15, 0),
+    ];
     summary_of(alloc, &flows, &channels, PASSED)
 }
 
@@ -199,7 +208,11 @@ records 1234, earlier than the record before 3
 #[test]
 fn summary_is_for_people(rt: HostRuntime) -> Result<(), Fail> {
     let flows = [FlowSummary::new(u32::MAX), BUSY_FLOW, FlowSummary::new(0)];
-    let channels = [busy_channel(), refusing_channel(), ChannelSummary::new(15, 0)];
+    let channels = [
+        busy_channel(),
+        refusing_channel(),
+        ChannelSummary::new(15, 0),
+    ];
     let summary = summary_of(rt.alloc(), &flows, &channels, PASSED)?;
     let mut text = TextBuffer::new(rt.alloc());
     put_summary(&mut text, &summary);
@@ -215,7 +228,9 @@ fn of_nothing_only_the_records_are_told(rt: HostRuntime) -> Result<(), Fail> {
     assert!(rt; report.finish()?.as_slice() == b"records 1234 earlier 3\n".as_slice());
     let mut text = TextBuffer::new(rt.alloc());
     put_summary(&mut text, &summary);
-    assert!(rt; text.finish()?.as_slice() == b"records 1234, earlier than the record before 3\n".as_slice());
+    assert!(rt;
+        text.finish()?.as_slice() == b"records 1234, earlier than the record before 3\n".as_slice()
+    );
     Ok(())
 }
 

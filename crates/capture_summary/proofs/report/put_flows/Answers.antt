@@ -1,4 +1,3 @@
-use Rattle.capture_summary.specs.declared.flow_summary.FlowSummary.{FlowSummary}
 use Rattle.capture_summary.specs.Counting.{new_flow}
 use Rattle.capture_summary.specs.Report.{flow_lines}
 use Rattle.capture_summary.proofs.PutLines.{puts-then, puts-one-more-numbered}

@@ -1,0 +1,5 @@
+use Rattle.capture_summary.proofs.PutLines.{puts-then}
+use Rattle.capture_summary.proofs.report.put_channel.Goals as goal
+
+pub returns : goal.returns
+returns g c = puts-then g.O.PutText.after c.put_lane_line.ensures c.put_bursts_line.ensures
