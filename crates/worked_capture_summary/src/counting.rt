@@ -1,8 +1,8 @@
 //! What is counted, one after another.
 use capture::Passed;
 use capture_summary::{
-    ChannelSummary, FlowSummary, FrameSequence, PassedCounts, PassedReason, RefusalCounts,
-    both_counts,
+    CaptureSummary, ChannelSummary, FlowSummary, FrameSequence, PassedCounts, PassedReason,
+    RefusalCounts, both_counts,
 };
 use flow_core::FlowCounts;
 use lane::Refusal;
@@ -120,5 +120,21 @@ fn each_reason_has_a_count(rt: HostRuntime) -> Result<(), Fail> {
         assert!(rt; passed.of(*reason) == place as u64);
     }
     assert!(rt; (passed.other_link_type, passed.cut_short, passed.unknown_sid) == (0, 1, 7));
+    Ok(())
+}
+
+#[test]
+fn records_with_earlier_times_are_records(rt: HostRuntime) -> Result<(), Fail> {
+    let mut summary = CaptureSummary {
+        flows: Vec::new(rt.alloc()),
+        channels: Vec::new(rt.alloc()),
+        passed: PassedCounts::none(),
+        records: u64::MAX - 1,
+        earlier: 0,
+    };
+    for is_earlier in [false, true, true] {
+        summary.count_record(is_earlier);
+    }
+    assert!(rt; (summary.records, summary.earlier) == (u64::MAX, 2));
     Ok(())
 }
