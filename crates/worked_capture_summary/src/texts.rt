@@ -3,6 +3,7 @@ use capture_summary::{
     CaptureSummary, ChannelSummary, FlowSummary, PassedCounts, RefusalCounts, put_report,
     put_request, put_request_names, put_summary,
 };
+use csv::{ByteRecord, ReaderBuilder};
 use flow_core::FlowCounts;
 use lane::{Refusal, Request};
 use std::alloc::{AllocError, Global};
@@ -265,5 +266,22 @@ fn requests_are_lines_of_csv(rt: HostRuntime) -> Result<(), Fail> {
         put_request(&mut text, time, sid, &request);
     }
     assert!(rt; text.finish()?.as_slice() == LINES.as_bytes());
+    Ok(())
+}
+
+#[test]
+fn lines_of_requests_are_read_by_a_reader_of_csv(rt: HostRuntime) -> Result<(), Fail> {
+    let mut reader = ReaderBuilder::new().from_reader(rt.alloc(), LINES.as_bytes());
+    let mut row = ByteRecord::new(rt.alloc());
+    let Ok(true) = reader.read_byte_record(&mut row) else {
+        return Err(Fail::from("no row"));
+    };
+    for (place, field) in ["1600000000.123456789", "0", "256", "0", "1", "9"]
+        .iter()
+        .enumerate()
+    {
+        assert!(rt; row.get(place) == Some(field.as_bytes()));
+    }
+    assert!(rt; row.get(6).is_none());
     Ok(())
 }
