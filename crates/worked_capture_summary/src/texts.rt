@@ -1,0 +1,287 @@
+//! The texts of a capture, as a plain reading in another language has its report and its requests.
+use capture_summary::{
+    CaptureSummary, ChannelSummary, FlowSummary, PassedCounts, RefusalCounts, put_report,
+    put_request, put_request_names, put_summary,
+};
+use csv::{ByteRecord, ReaderBuilder};
+use flow_core::FlowCounts;
+use lane::{Refusal, Request};
+use std::alloc::{AllocError, Global};
+use std::test::Fail;
+use text_lines::TextBuffer;
+
+/// A flow of which much came.
+const BUSY_FLOW: FlowSummary = FlowSummary {
+    sfid: 100,
+    counts: FlowCounts {
+        kept: 300,
+        late: 1,
+        repeat: 2,
+        beyond: 3,
+        lost: 10,
+        frames: 120,
+        skipped: 4567,
+    },
+    right: 114,
+    wrong: 2,
+    encrypted: 4,
+    restarts: 1,
+    requests: 2,
+    units: 65_544,
+};
+
+/// A flow whose counts are the greatest.
+const FULL_FLOW: FlowSummary = FlowSummary {
+    sfid: 7,
+    counts: FlowCounts {
+        kept: u64::MAX,
+        late: u64::MAX,
+        repeat: u64::MAX,
+        beyond: u64::MAX,
+        lost: u64::MAX,
+        frames: u64::MAX,
+        skipped: u64::MAX,
+    },
+    right: u64::MAX,
+    wrong: u64::MAX,
+    encrypted: u64::MAX,
+    restarts: u64::MAX,
+    requests: 2,
+    units: 4,
+};
+
+const PASSED: PassedCounts = PassedCounts {
+    other_link_type: 1,
+    cut_short: 2,
+    other_type: 3,
+    malformed: 4,
+    no_segment_header: 5,
+    no_channel_or_sid: 6,
+    unknown_channel: 7,
+    unknown_sid: 8,
+};
+
+/// A channel with bursts and some refusals.
+fn busy_channel() -> ChannelSummary {
+    let mut refused = RefusalCounts::none();
+    refused.count(Refusal::BadCheck);
+    refused.count(Refusal::PointerPast);
+    refused.count(Refusal::BadCheck);
+    ChannelSummary {
+        bursts: 310,
+        above: 1,
+        admitted: 307,
+        refused,
+        ..ChannelSummary::new(0, 5)
+    }
+}
+
+/// A channel on which each refusal came, the last one twice.
+fn refusing_channel() -> ChannelSummary {
+    let mut refused = RefusalCounts::none();
+    for refusal in [
+        Refusal::GrantRange,
+        Refusal::GrantKnown,
+        Refusal::UnknownSid,
+        Refusal::TooManyGrants,
+        Refusal::GrantOutOfMemory,
+        Refusal::NoGrant,
+        Refusal::TooLong,
+        Refusal::BadCheck,
+        Refusal::TooShort,
+        Refusal::PointerPast,
+        Refusal::BurstOutOfMemory,
+        Refusal::BurstOutOfMemory,
+    ] {
+        refused.count(refusal);
+    }
+    ChannelSummary {
+        bursts: 13,
+        admitted: 1,
+        refused,
+        ..ChannelSummary::new(3, u32::MAX)
+    }
+}
+
+/// A capture with these flows and channels.
+fn summary_of(
+    alloc: Global,
+    flows: &[FlowSummary],
+    channels: &[ChannelSummary],
+    passed: PassedCounts,
+) -> Result<CaptureSummary, AllocError> {
+    Ok(CaptureSummary {
+        flows: Vec::from_slice(alloc, flows)?,
+        channels: Vec::from_slice(alloc, channels)?,
+        passed,
+        records: 1234,
+        earlier: 3,
+    })
+}
+
+/// A capture of much.
+fn much(alloc: Global) -> Result<CaptureSummary, AllocError> {
+    let flows = [
+        BUSY_FLOW,
+        FlowSummary::new(u32::MAX),
+        FlowSummary::new(0),
+        FULL_FLOW,
+    ];
+    let channels = [
+        busy_channel(),
+        refusing_channel(),
+        ChannelSummary::new(15, 0),
+    ];
+    summary_of(alloc, &flows, &channels, PASSED)
+}
+
+const REPORT: &str = "\
+flow 0 100 kept 300 late 1 repeat 2 beyond 3 lost 10 frames 120 skipped 4567
+joined 0 right 114 wrong 2 encrypted 4 restarts 1 requests 2 units 65544
+flow 1 4294967295 kept 0 late 0 repeat 0 beyond 0 lost 0 frames 0 skipped 0
+joined 1 right 0 wrong 0 encrypted 0 restarts 0 requests 0 units 0
+flow 2 0 kept 0 late 0 repeat 0 beyond 0 lost 0 frames 0 skipped 0
+joined 2 right 0 wrong 0 encrypted 0 restarts 0 requests 0 units 0
+flow 3 7 kept 18446744073709551615 late 18446744073709551615 repeat 18446744073709551615 \
+beyond 18446744073709551615 lost 18446744073709551615 frames 18446744073709551615 \
+skipped 18446744073709551615
+joined 3 right 18446744073709551615 wrong 18446744073709551615 encrypted 18446744073709551615 \
+restarts 18446744073709551615 requests 2 units 4
+lane 0 admitted 307 refused 8x2 10x1
+bursts 0 5 310 above 1
+lane 3 admitted 1 refused 1x1 2x1 3x1 4x1 5x1 6x1 7x1 8x1 9x1 10x1 11x2
+bursts 3 4294967295 13 above 0
+lane 15 admitted 0 refused -
+bursts 15 0 0 above 0
+passed 2 cut short
+passed 4 malformed
+passed 6 no channel or SID
+passed 5 no segment header
+passed 1 other link type
+passed 3 other type
+passed 8 unknown SID
+passed 7 unknown channel
+records 1234 earlier 3
+";
+
+#[test]
+fn report_is_that_of_a_plain_reading(rt: HostRuntime) -> Result<(), Fail> {
+    let summary = much(rt.alloc())?;
+    let mut text = TextBuffer::new(rt.alloc());
+    put_report(&mut text, &summary);
+    assert!(rt; text.finish()?.as_slice() == REPORT.as_bytes());
+    Ok(())
+}
+
+/// What people read of the same capture, but for its last flow.
+const SUMMARY: &str = "\
+flow 100: segments kept 300, late 1, repeated 2, beyond the window 3, lost 10
+  frames 120: FCS right 114, wrong 2, encrypted 4; bytes skipped 4567
+  restarts 1; requests 2, units 65544
+flows of which nothing came: 2
+channel 0, upstream channel id 5: bursts 310, above their grant 1, admitted 307
+  refused: bad check 2
+  refused: pointer past the end 1
+channel 3, upstream channel id 4294967295: bursts 13, above their grant 0, admitted 1
+  refused: grant out of range 1
+  refused: grant known 1
+  refused: unknown SID 1
+  refused: too many grants 1
+  refused: out of memory for a grant 1
+  refused: no grant 1
+  refused: longer than its grant 1
+  refused: bad check 1
+  refused: too short 1
+  refused: pointer past the end 1
+  refused: out of memory for a burst 2
+channel 15, upstream channel id 0: bursts 0, above their grant 0, admitted 0
+records 1234, earlier than the record before 3
+  passed over: cut short 2
+  passed over: malformed 4
+  passed over: no channel or SID 6
+  passed over: no segment header 5
+  passed over: other link type 1
+  passed over: other type 3
+  passed over: unknown SID 8
+  passed over: unknown channel 7
+";
+
+#[test]
+fn summary_is_for_people(rt: HostRuntime) -> Result<(), Fail> {
+    let flows = [FlowSummary::new(u32::MAX), BUSY_FLOW, FlowSummary::new(0)];
+    let channels = [
+        busy_channel(),
+        refusing_channel(),
+        ChannelSummary::new(15, 0),
+    ];
+    let summary = summary_of(rt.alloc(), &flows, &channels, PASSED)?;
+    let mut text = TextBuffer::new(rt.alloc());
+    put_summary(&mut text, &summary);
+    assert!(rt; text.finish()?.as_slice() == SUMMARY.as_bytes());
+    Ok(())
+}
+
+#[test]
+fn of_nothing_only_the_records_are_told(rt: HostRuntime) -> Result<(), Fail> {
+    let summary = summary_of(rt.alloc(), &[], &[], PassedCounts::none())?;
+    let mut report = TextBuffer::new(rt.alloc());
+    put_report(&mut report, &summary);
+    assert!(rt; report.finish()?.as_slice() == b"records 1234 earlier 3\n".as_slice());
+    let mut text = TextBuffer::new(rt.alloc());
+    put_summary(&mut text, &summary);
+    assert!(rt;
+        text.finish()?.as_slice() == b"records 1234, earlier than the record before 3\n".as_slice()
+    );
+    Ok(())
+}
+
+fn request(channel: u8, flow: usize, cluster: u8, units: u16) -> Request {
+    Request {
+        channel,
+        flow,
+        cluster,
+        units,
+        sequence: 0,
+    }
+}
+
+const LINES: &str = "\
+time,channel,sid,flow,cluster,units
+1600000000.123456789,0,256,0,1,9
+1600000000.000000005,3,16383,0,0,65535
+18446744073.709551615,15,1,3,7,1
+0.000000000,0,2,3,0,3
+";
+
+#[test]
+fn requests_are_lines_of_csv(rt: HostRuntime) -> Result<(), Fail> {
+    let mut text = TextBuffer::new(rt.alloc());
+    put_request_names(&mut text);
+    for (time, sid, request) in [
+        (1_600_000_000_123_456_789, 256, request(0, 0, 1, 9)),
+        (1_600_000_000_000_000_005, 16_383, request(3, 0, 0, 65_535)),
+        (u64::MAX, 1, request(15, 3, 7, 1)),
+        (0, 2, request(0, 3, 0, 3)),
+    ] {
+        put_request(&mut text, time, sid, &request);
+    }
+    assert!(rt; text.finish()?.as_slice() == LINES.as_bytes());
+    Ok(())
+}
+
+#[test]
+fn lines_of_requests_are_read_by_a_reader_of_csv(rt: HostRuntime) -> Result<(), Fail> {
+    let mut reader = ReaderBuilder::new().from_reader(rt.alloc(), LINES.as_bytes());
+    let mut row = ByteRecord::new(rt.alloc());
+    let Ok(true) = reader.read_byte_record(&mut row) else {
+        return Err(Fail::from("no row"));
+    };
+    for (place, field) in ["1600000000.123456789", "0", "256", "0", "1", "9"]
+        .iter()
+        .enumerate()
+    {
+        assert!(rt; row.get(place) == Some(field.as_bytes()));
+    }
+    assert!(rt; row.get(6).is_none());
+    Ok(())
+}
