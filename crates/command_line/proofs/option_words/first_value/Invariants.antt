@@ -1,14 +1,14 @@
 use Rattle.std.proofs.Common.{ℕ, List, length}
 use Rattle.std.specs.Prelude.{map}
-use Rattle.command_line.specs.Losses.{HasNoLossesWord, IsFirstLosses}
-use Rattle.command_line.proofs.losses.first_losses.Given as goal
+use Rattle.command_line.specs.OptionWords.{HasNoOption, HasFirstValue}
+use Rattle.command_line.proofs.option_words.first_value.Given as goal
 
 -- what the rest says, all words say
 abbrev pub invariant-loop-rest : goal.invariant-loop-rest
 invariant-loop-rest g l = record {
-  value : (value : List ℕ) (behind : List (List ℕ)) → IsFirstLosses (map g.S.AsStr.text l.rest) value behind
-      → IsFirstLosses (map g.S.AsStr.text l.words) value behind;
-  none : HasNoLossesWord (map g.S.AsStr.text l.rest) → HasNoLossesWord (map g.S.AsStr.text l.words);
+  value : (value : List ℕ) (behind : List (List ℕ)) → HasFirstValue l.option (map g.S.AsStr.text l.rest) value behind
+      → HasFirstValue l.option (map g.S.AsStr.text l.words) value behind;
+  none : HasNoOption l.option (map g.S.AsStr.text l.rest) → HasNoOption l.option (map g.S.AsStr.text l.words);
 }
 
 abbrev pub decreases-loop-rest : goal.decreases-loop-rest
