@@ -5,8 +5,8 @@
 //! does are a [`UsageFault`].
 //!
 //! The options `--losses`, `--channels` and `--events` are read from the words themselves, so that
-//! contracts can say what a command is asked for; the other options are read by `clap`, which writes
-//! the text of help too.
+//! contracts can say what a command is asked for; the other options are read by `clap`, which
+//! writes the text of help too.
 //!
 //! It stands on `text_lines` and on the names of the loss rules, and on no receiver, so that it is
 //! proved beside the receiver. `engines` exports its names.

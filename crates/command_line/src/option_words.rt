@@ -1,9 +1,10 @@
 //! An option with a value among words.
 //!
-//! Options are looked for in the words themselves, so that contracts can say what a command is asked
-//! for; that the words are lawful otherwise is for `clap` to say.
+//! Options are looked for in the words themselves, so that contracts can say what a command is
+//! asked for; that the words are lawful otherwise is for `clap` to say.
 ghost use Rattle.std.specs.Prelude.{◌≡◌, map, List, ℕ, MatchOption};
-ghost use Rattle.command_line.specs.OptionWords.{with_value, HasNoOption, value_behind, HasFirstValue};
+ghost use Rattle.command_line.specs.OptionWords.{with_value, HasNoOption};
+ghost use Rattle.command_line.specs.OptionWords.{value_behind, HasFirstValue};
 
 use std::convert::AsStr;
 

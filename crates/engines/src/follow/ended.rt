@@ -22,8 +22,8 @@ pub(super) struct EndedTrace {
 }
 
 impl EndedTrace {
-    /// Writes what happened that wasn't written yet, which was by the last line. It answers how that
-    /// went, and whether it was there. The room is empty.
+    /// Writes what happened that wasn't written yet, which was by the last line. It answers how
+    /// that went, and whether it was there. The room is empty.
     fn put_pending<W: Write>(
         &mut self,
         room: &mut Vec<u8>,
@@ -74,8 +74,8 @@ impl EndedTrace {
     }
 }
 
-/// Writes what is left to be written at the end of a trace that is followed, whose last line has this
-/// number. The room is empty.
+/// Writes what is left to be written at the end of a trace that is followed, whose last line has
+/// this number. The room is empty.
 fn write_end<W: Write>(
     line: u64,
     events: bool,
