@@ -3,9 +3,10 @@ use Rattle.std.proofs.Common.{◌≡◌, ◌≢◌, ◌<◌, ◌≤◌, ◌-◌,
 use Rattle.std.specs.Prelude.{map, ◌↔◌}
 use Rattle.std.proofs.lemmas.Option.{same_Some}
 use Rattle.std.proofs.lemmas.List.{take_all, map-append}
-use Rattle.std.proofs.lemmas.List.Elements.{All-nil, All-cons, All-head, All-tail}
+use Rattle.std.proofs.lemmas.List.Elements.{All-nil, All-cons, All-head, All-tail, All-push}
 use Rattle.loss_rule.specs.declared.rule.LossRule.{LossRule}
-use Rattle.command_line.specs.Losses.{rule_name, losses_option, IsLossesWord, HasNoLossesWord, AskForRule, AskForRuleAlone}
+use Rattle.command_line.specs.OptionWords.{IsOption}
+use Rattle.command_line.specs.Losses.{rule_name, losses_option, HasNoLossesWord, AskForRule, AskForRuleAlone}
 use Rattle.command_line.specs.Command.{events_option, AreWithEvents, AskToFollowAlone, HasWord, AskForEvents}
 use Rattle.command_line.proofs.AskedWords.{HasWord-none}
 use Rattle.command_line.proofs.AskedRules.{name_without_dash, no_losses_word, each_alone, AskForRule-alone, AskForRule-one}
@@ -21,12 +22,23 @@ not_a_rule rule e = name_without_dash rule (ap (λ text. get_or text 0 0) e)
 no_events_alone : (rule : LossRule) (options : List (List ℕ)) → AskForRuleAlone rule options → All (λ word. word ≢ events_option) options
 no_events_alone = each_alone (λ word. word ≢ events_option) not_the_option not_a_rule
 
-events_for_no_rule : ¬ IsLossesWord events_option
+events_for_no_rule : ¬ IsOption losses_option events_option
 events_for_no_rule (inl bare) = let at : 101 ≡ 108 = ap (λ text. get_or text 2 0) bare in omega (arith, at)
 events_for_no_rule (inr with) = let at : 101 ≡ 108 = ap (λ text. get_or text 2 0) with.1 in omega (arith, at)
 
 only_events : HasNoLossesWord (events_option ∷ [])
-only_events = All-cons (λ w. ¬ IsLossesWord w) events_option [] events_for_no_rule (All-nil (λ w. ¬ IsLossesWord w))
+only_events = All-cons (λ w. ¬ IsOption losses_option w) events_option [] events_for_no_rule (All-nil (λ w. ¬ IsOption losses_option w))
+
+-- each word of options that ask for a rule and for events at most is an option, with its value or without, or the name of a rule
+pub each_follow_alone : (P : List ℕ → Type 0) → ((rest : List ℕ) → P (losses_option ++ rest)) → ((rule : LossRule) → P (rule_name rule)) → P events_option
+    → (rule : LossRule) (events : Bool) (options : List (List ℕ)) → AskToFollowAlone rule events options → All P options
+each_follow_alone P of_option of_name of_events rule false options alone = each_alone P of_option of_name rule options alone
+each_follow_alone P of_option of_name of_events rule true options alone =
+    let rest = each_alone P of_option of_name rule alone.0 alone.2 in
+    elim alone.1 [
+      | inl before ↦ subst (All P) (sym before) (All-cons P events_option alone.0 of_events rest)
+      | inr behind ↦ subst (All P) (sym behind) (All-push P alone.0 events_option rest of_events)
+    ]
 
 -- ---- whether options ask for events
 
@@ -53,7 +65,7 @@ AskForEvents-alone rule true options alone = (λ t. has_events options alone.0 a
 -- ---- the rule for which they ask
 
 rule_before : (rule : LossRule) (rest : List (List ℕ)) → AskForRule rule rest → AskForRule rule (events_option ∷ rest)
-rule_before rule rest (inl none) = inl (All-cons (λ w. ¬ IsLossesWord w) events_option rest events_for_no_rule none.0, none.1)
+rule_before rule rest (inl none) = inl (All-cons (λ w. ¬ IsOption losses_option w) events_option rest events_for_no_rule none.0, none.1)
 rule_before rule rest (inr one) = inr (one.0, inr (inr (events_for_no_rule, one.1)), one.2)
 
 rule_behind : (rule : LossRule) (rest : List (List ℕ)) → AskForRuleAlone rule rest → AskForRule rule (rest ++ events_option ∷ [])
@@ -63,7 +75,7 @@ rule_behind rule (option ∷ value ∷ []) alone =
     inr (
       value ∷ events_option ∷ [],
       inl (alone.0, sym alone.1, refl),
-      All-cons (λ w. ¬ IsLossesWord w) value (events_option ∷ []) (no_losses_word rule value alone.1) only_events,
+      All-cons (λ w. ¬ IsOption losses_option w) value (events_option ∷ []) (no_losses_word rule value alone.1) only_events,
     )
 rule_behind rule (option ∷ value ∷ another ∷ more) alone = absurd alone
 

@@ -1,12 +1,13 @@
 -- Words that ask for a loss rule and for events at most ask for no help.
-use Rattle.std.proofs.Common.{◌≡◌, ℕ, zero, suc, length, Some, All, Bool, true, false, List, [], ◌∷◌, ◌++◌, get_or, inl, inr, sym, ap, ◌∙◌, subst, arith}
+use Rattle.std.proofs.Common.{◌≡◌, ℕ, zero, suc, length, Some, All, Bool, List, [], ◌∷◌, ◌++◌, get_or, inl, inr, sym, ap, subst, arith}
 use Rattle.std.proofs.lemmas.Option.{same_Some}
-use Rattle.std.proofs.lemmas.List.Elements.{All-nil, All-cons, All-head, All-tail, All-push}
+use Rattle.std.proofs.lemmas.List.Elements.{All-nil, All-cons, All-head, All-tail}
 use Rattle.std.specs.Prelude.{codes, slice_get}
 use Rattle.loss_rule.specs.declared.rule.LossRule.{LossRule}
 use Rattle.command_line.specs.Losses.{rule_name, losses_option, AskForRuleAlone}
 use Rattle.command_line.specs.Command.{IsCommand, options_in, events_option, AskToFollowAlone, AsksToReplayBy, AsksToRunByAlone, AsksToFollowAlone, AsksToMap, IsHelpWord, HasNoHelpWord}
 use Rattle.command_line.proofs.AskedRules.{name_without_dash, each_alone}
+use Rattle.command_line.proofs.AskedEvents.{each_follow_alone}
 
 -- none of these words asks for help
 abbrev NoneHelps : List (List ℕ) → Type 0
@@ -71,13 +72,7 @@ runs_without_help rule words runs = commands_without_help (codes "run") no_help_
 
 -- nor where one more is for events
 no_help_with_events : (rule : LossRule) (events : Bool) (options : List (List ℕ)) → AskToFollowAlone rule events options → NoneHelps options
-no_help_with_events rule false options alone = no_help_alone rule options alone
-no_help_with_events rule true options alone =
-    let none = no_help_alone rule alone.0 alone.2 in
-    elim alone.1 [
-      | inl before ↦ subst NoneHelps (sym before) (All-cons (λ w. ¬ IsHelpWord w) events_option alone.0 no_help_in_events none)
-      | inr behind ↦ subst NoneHelps (sym behind) (All-push (λ w. ¬ IsHelpWord w) alone.0 events_option none no_help_in_events)
-    ]
+no_help_with_events = each_follow_alone (λ word. ¬ IsHelpWord word) no_help_in_option no_help_in_rule no_help_in_events
 
 pub follows_without_help : (rule : LossRule) (events : Bool) (words : List (List ℕ)) → AsksToFollowAlone rule events words → HasNoHelpWord words
 follows_without_help rule events words follows =

@@ -3,6 +3,7 @@ use Rattle.std.specs.Prelude.{◌≡◌, ◌<◌, ◌≤◌, ◌⊎◌, ◌↔�
 use Rattle.docsis_wire.specs.Limits.{sequence_modulus}
 use Rattle.loss_rule.specs.declared.rule.LossRule.{LossRule}
 use Rattle.command_line.specs.Losses.{HasNoLossesWord, AskForRule, AskForRuleAlone}
+use Rattle.command_line.specs.Channels.{AskForChannels}
 use Rattle.command_line.specs.declared.command.Command.{Command}
 use Rattle.command_line.specs.declared.command.Command.TheVariants.{Join, Cut, Replay, Run, Follow, Map, Help}
 
@@ -52,9 +53,9 @@ AsksToReplay words = IsCommandAlone (codes "replay") words
 abbrev pub AsksToReplayBy : LossRule → List (List ℕ) → Type 0
 AsksToReplayBy rule words = IsCommand (codes "replay") words × AskForRuleAlone rule (options_in words)
 
--- to follow has options too, by a loss rule as to run
-abbrev pub AsksToFollow : LossRule → List (List ℕ) → Type 0
-AsksToFollow rule words = IsCommand (codes "follow") words × AskForRule rule (options_in words)
+-- to follow has options too, for a loss rule as to run, and for how many channels the trace may have
+abbrev pub AsksToFollow : LossRule → ℕ → List (List ℕ) → Type 0
+AsksToFollow rule channels words = IsCommand (codes "follow") words × AskForRule rule (options_in words) × AskForChannels channels (options_in words)
 
 -- the option for events
 abbrev pub events_option : List ℕ
@@ -85,10 +86,6 @@ HasWord word (first ∷ more) = (first ≡ word) ⊎ HasWord word more
 abbrev pub AskForEvents : Bool → List (List ℕ) → Type 0
 AskForEvents events options = IsTrue events ↔ HasWord events_option options
 
--- the greatest number of channels of a trace that is followed
-abbrev pub channels_max : ℕ
-channels_max = 16
-
 -- the word asks for help
 abbrev pub IsHelpWord : List ℕ → Type 0
 IsHelpWord word = (word ≡ codes "-h") ⊎ (word ≡ codes "--help")
@@ -110,20 +107,19 @@ pub record StandsBeforeHelp (before words : List (List ℕ)) : Type 0 where
 abbrev pub AsksForAnEngine : List (List ℕ) → Type 0
 AsksForAnEngine words =
     AsksToJoin words ⊎ AsksToCut words ⊎ ((rule : LossRule) × AsksToReplayBy rule words) ⊎ ((rule : LossRule) × AsksToRunBy rule words)
-    ⊎ ((rule : LossRule) × AsksToFollow rule words) ⊎ AsksToMap words
+    ⊎ ((rule : LossRule) × (channels : ℕ) × AsksToFollow rule channels words) ⊎ AsksToMap words
 
 -- a word asks for help, and the words before it ask for an engine
 abbrev pub AsksForHelp : List (List ℕ) → Type 0
 AsksForHelp words = (before : List (List ℕ)) × StandsBeforeHelp before words × AsksForAnEngine before
 
--- The words ask for this. The first number of a cut is one of a segment, mailboxes and rings have room for something, and a trace that is followed
--- has a channel; no word of a command with options asks for help.
+-- The words ask for this. The first number of a cut is one of a segment, and mailboxes and rings have room for something; no word of a command with
+-- options asks for help.
 abbrev pub Asks : List (List ℕ) → Command → Type 0
 Asks words Join = AsksToJoin words
 Asks words (Cut first fill) = AsksToCut words × HasNoHelpWord words × (first < sequence_modulus)
 Asks words (Replay rule) = AsksToReplayBy rule words
 Asks words (Run rule mailbox ring) = AsksToRunBy rule words × HasNoHelpWord words × (1 ≤ mailbox) × (1 ≤ ring)
-Asks words (Follow rule channels events) =
-    AsksToFollow rule words × HasNoHelpWord words × (1 ≤ channels) × (channels ≤ channels_max) × AskForEvents events (options_in words)
+Asks words (Follow rule channels events) = AsksToFollow rule channels words × HasNoHelpWord words × AskForEvents events (options_in words)
 Asks words Map = AsksToMap words
 Asks words (Help text) = AsksForHelp words

@@ -1,3 +1,5 @@
+pub mod OptionWords
 pub mod Losses
+pub mod Channels
 pub mod Command
 pub mod Inside

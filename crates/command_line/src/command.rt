@@ -9,13 +9,15 @@ ghost use Rattle.command_line.specs.Command.{AsksToMap, AsksForAnEngine};
 ghost use Rattle.command_line.specs.Command.{AsksToReplayBy, AsksToRunByAlone};
 ghost use Rattle.command_line.specs.Losses.{AskForRule, AskForRuleAlone};
 ghost use Rattle.command_line.specs.Command.{AreWithEvents, AsksToFollowAlone};
-ghost use Rattle.command_line.specs.Command.{HasWord, AskForEvents, channels_max, Asks};
+ghost use Rattle.command_line.specs.Channels.{channels_max, AskForChannels};
+ghost use Rattle.command_line.specs.Command.{HasWord, AskForEvents, Asks};
 ghost use Rattle.command_line.specs.Command.{IsHelpWord, HasNoHelpWord, StandsBeforeHelp};
 ghost use Rattle.command_line.specs.Inside.Command.{AsksWithOptions};
-ghost use Rattle.command_line.specs.Inside.Options.{ReadsOptions, ReadsCount, ReadsCapacities, ReadsChannels};
+ghost use Rattle.command_line.specs.Inside.Options.{ReadsOptions, ReadsCount, ReadsCapacities};
 ghost use Rattle.clap.specs.Matches.{found_of, first_value};
 
 use crate::arguments::command_line;
+use crate::channels::{CHANNELS_MAX, asked_channels};
 use crate::losses::{asked_rule, asked_rule_alone};
 use clap::ArgMatches;
 use clap::error::ErrorKind;
@@ -112,10 +114,6 @@ const FIRST_MAX: u32 = 8191;
 /// The greatest capacity of a mailbox or a ring.
 const CAPACITY_MAX: u16 = 65_535;
 
-/// The greatest number of channels of a trace that is followed, and how many it may have where none
-/// is asked for.
-const CHANNELS_MAX: u16 = 16;
-
 /// Whether the words are the program's name and this command's word.
 fn is_command_alone<S: AsStr>(words: &[S], command: &str) -> bool
     ensures { IsTrue result ↔ IsCommandAlone command.now (map S.text words.now) }
@@ -181,6 +179,15 @@ fn asked_rule_of<S: AsStr>(words: &[S], command: &str) -> Option<LossRule>
         × AskForRule rule (options_in (map S.text words.now))) }
 {
     asked_rule(options_of(words, command)?)
+}
+
+/// For how many channels the words, the program's name first, ask to follow.
+fn asked_channels_of<S: AsStr>(words: &[S]) -> Option<u8>
+    ensures { (channels : ℕ) → (result ≡ Some channels)
+        ↔ (IsCommand (codes "follow") (map S.text words.now)
+        × AskForChannels channels (options_in (map S.text words.now))) }
+{
+    asked_channels(options_of(words, "follow")?)
 }
 
 /// The options beside `--events`, if that stands before or behind all others.
@@ -303,13 +310,6 @@ fn read_run(options: &ArgMatches<'_>) -> Result<Capacities, UsageFault>
     Ok(Capacities { mailbox, ring })
 }
 
-/// How many channels the options of `follow` ask for.
-fn read_follow(options: &ArgMatches<'_>) -> Result<u8, UsageFault>
-    ensures { ReadsChannels (first_value (found_of options.now) (codes "channels")) result }
-{
-    Ok(read_count(options, "channels", CHANNELS_MAX, CHANNELS_MAX)? as u8)
-}
-
 /// What words ask for that begin with a command which has options, and of which none asks for help.
 fn read_with_options<'a, S: AsStr>(alloc: Global, words: &'a [S]) -> Result<Command, UsageFault>
     ensures { IfOk result (AsksWithOptions (map S.text words.now)) }
@@ -337,9 +337,9 @@ fn read_with_options<'a, S: AsStr>(alloc: Global, words: &'a [S]) -> Result<Comm
         });
     }
     if let Some(rule) = follow_rule
-        && let Some(options) = matches.subcommand_matches("follow")
+        && let Some(channels) = asked_channels_of(words)
+        && matches.subcommand_matches("follow").is_some()
     {
-        let channels = read_follow(options)?;
         let events = asked_events(words);
         return Ok(Command::Follow {
             rule,
@@ -406,7 +406,7 @@ pub fn read_words<'a, S: AsStr>(alloc: Global, words: &'a [S]) -> Result<Command
     if let Some((rule, events)) = asked_follow_alone(words) {
         return Ok(Command::Follow {
             rule,
-            channels: CHANNELS_MAX as u8,
+            channels: CHANNELS_MAX,
             events,
         });
     }

@@ -4,15 +4,18 @@
 //! for: an engine with its options, or a text of help. Words that ask for nothing that the program
 //! does are a [`UsageFault`].
 //!
-//! The option `--losses` is read from the words themselves, so that contracts can say by which rule
-//! a command runs; the other options are read by `clap`, which writes the text of help too.
+//! The options `--losses`, `--channels` and `--events` are read from the words themselves, so that
+//! contracts can say what a command is asked for; the other options are read by `clap`, which
+//! writes the text of help too.
 //!
 //! It stands on `text_lines` and on the names of the loss rules, and on no receiver, so that it is
 //! proved beside the receiver. `engines` exports its names.
 #![tactic(auto)]
 
 mod arguments;
+mod channels;
 mod command;
 mod losses;
+mod option_words;
 
 pub use command::{Command, UsageFault, read_words};

@@ -20,7 +20,7 @@ use Rattle.loss_rule.specs.declared.rule.LossRule.{LossRule}
 use Rattle.command_line.specs.Command.{AsksToJoin, AsksToReplay, AsksToReplayBy, AsksToRunByAlone, AsksToFollowAlone, AsksToMap}
 use Rattle.engines.specs.Engine.{engine_fault, WritesText, IsFaultOfKnown, HasCause, RunsEngine}
 use Rattle.capture_engines.specs.Mapping.{IsMapText, HasMapCause, MapsCapture}
-use Rattle.commands.specs.Program.{AsksToCutOnly, AsksToRunOnly, AsksToRunByOnly, AsksToFollowOnly, AsksForNothing, IsRefused, Obeys, RunsWords, IsStatus, HasJoinedText, HasCutText, HasReport, HasReportBy, HasRunReport, HasRunReportBy, HasRunFault, HasFollowed, HasFollowFault, SaysOf, SaysOfMap}
+use Rattle.commands.specs.Program.{AsksToCutOnly, AsksToRunOnly, AsksToRunByOnly, AsksToFollowOnly, AsksForNothing, IsRefused, Obeys, RunsWords, IsStatus, HasJoinedText, HasCutText, HasReport, HasReportBy, HasRunReport, HasRunReportBy, HasRunFault, IsWidthOf, RunsFollowBy, HasFollowed, HasFollowFault, SaysOf, SaysOfMap}
 
 -- a status other than 0 and 1 says nothing
 says_nothing : (HasText : List ℕ → Type 0) (IsFault : List ℕ → TextFault → Type 0) (status : ℕ) (input : List ℕ) → 1 < status → SaysOf HasText IsFault status input
@@ -90,27 +90,32 @@ SaysOf-above HasText IsFault (Some input) status above =
     elim above [ inl two ↦ says_nothing HasText IsFault status input (omega (arith, two)) | inr three ↦ says_nothing HasText IsFault status input (omega (arith, three)) ]
 
 -- what the status says of a fault of what was followed
-follow_fault : {R W : Type 0} (rule : LossRule) (width : Width) (known : Option (List ℕ)) (reader : Device R) (writer : Device W) (fault : EngineFault)
-    → HasFollowCause width known reader writer fault → IfSome known (SaysOf (HasFollowed rule) HasFollowFault (status_of fault))
-follow_fault rule width None reader writer fault cause = tt
-follow_fault rule width (Some input) reader writer (Trace fault) cause =
-    record { done = λ e. absurd (omega (arith, e)); faulty = λ _. (text_fault.Trace fault, refl, (width, cause)) }
-follow_fault rule width (Some input) reader writer (Cut fault) cause = absurd cause
-follow_fault rule width (Some input) reader writer OutOfMemory cause = says_nothing (HasFollowed rule) HasFollowFault 3 input (omega arith)
-follow_fault rule width (Some input) reader writer Read cause = says_nothing (HasFollowed rule) HasFollowFault 4 input (omega arith)
-follow_fault rule width (Some input) reader writer Write cause = says_nothing (HasFollowed rule) HasFollowFault 4 input (omega arith)
-follow_fault rule width (Some input) reader writer Usage cause = absurd cause
-follow_fault rule width (Some input) reader writer (Capture fault) cause = absurd cause
+follow_fault : {R W : Type 0} (rule : LossRule) (channels : ℕ) (width : Width) (known : Option (List ℕ)) (reader : Device R) (writer : Device W)
+    (fault : EngineFault) → IsWidthOf channels width → HasFollowCause width known reader writer fault
+    → IfSome known (SaysOf (HasFollowed rule channels) (HasFollowFault channels) (status_of fault))
+follow_fault rule channels width None reader writer fault wide cause = tt
+follow_fault rule channels width (Some input) reader writer (Trace fault) wide cause =
+    record { done = λ e. absurd (omega (arith, e)); faulty = λ _. (text_fault.Trace fault, refl, (width, wide, cause)) }
+follow_fault rule channels width (Some input) reader writer (Cut fault) wide cause = absurd cause
+follow_fault rule channels width (Some input) reader writer OutOfMemory wide cause =
+    says_nothing (HasFollowed rule channels) (HasFollowFault channels) 3 input (omega arith)
+follow_fault rule channels width (Some input) reader writer Read wide cause =
+    says_nothing (HasFollowed rule channels) (HasFollowFault channels) 4 input (omega arith)
+follow_fault rule channels width (Some input) reader writer Write wide cause =
+    says_nothing (HasFollowed rule channels) (HasFollowFault channels) 4 input (omega arith)
+follow_fault rule channels width (Some input) reader writer Usage wide cause = absurd cause
+follow_fault rule channels width (Some input) reader writer (Capture fault) wide cause = absurd cause
 
 -- and after a trace was followed
-SaysOf-followed : {R W : Type 0} (remaining : R → Option (List ℕ)) (contents : W → Option (List ℕ)) (rule : LossRule) (width : Width) (events : Bool) (reader reader' : Device R)
-    (writer writer' : Device W) (result : Result (Unit {0}) EngineFault) → FollowsTrace rule width events remaining contents reader reader' writer writer' result
-    → IfSome (remaining (inner_of reader)) (SaysOf (HasFollowed rule) HasFollowFault (exit_status_of result))
-SaysOf-followed remaining contents rule width events reader reader' writer writer' (Ok done) ran =
-    SaysOf-written (HasFollowed rule) (IsFollowed rule width events) HasFollowFault (remaining (inner_of reader)) (contents (inner_of writer)) (contents (inner_of writer'))
-    (λ input text is. (width, events, text, is)) ran.written
-SaysOf-followed remaining contents rule width events reader reader' writer writer' (Err fault) ran =
-    follow_fault rule width (remaining (inner_of reader)) reader' writer' fault ran.cause
+SaysOf-followed : {R W : Type 0} (remaining : R → Option (List ℕ)) (contents : W → Option (List ℕ)) (rule : LossRule) (channels : ℕ) (events : Bool)
+    (reader reader' : Device R) (writer writer' : Device W) (result : Result (Unit {0}) EngineFault)
+    → RunsFollowBy rule channels events remaining contents reader reader' writer writer' result
+    → IfSome (remaining (inner_of reader)) (SaysOf (HasFollowed rule channels) (HasFollowFault channels) (exit_status_of result))
+SaysOf-followed remaining contents rule channels events reader reader' writer writer' (Ok done) ran =
+    SaysOf-written (HasFollowed rule channels) (IsFollowed rule ran.0 events) (HasFollowFault channels) (remaining (inner_of reader)) (contents (inner_of writer))
+    (contents (inner_of writer')) (λ input text is. (ran.0, events, text, ran.1, is)) ran.2.written
+SaysOf-followed remaining contents rule channels events reader reader' writer writer' (Err fault) ran =
+    follow_fault rule channels ran.0 (remaining (inner_of reader)) reader' writer' fault ran.1 ran.2.cause
 
 -- what the status says of a fault of a capture that is mapped
 map_says_nothing : (status : ℕ) (input : List ℕ) → 1 < status → SaysOfMap status input
@@ -197,7 +202,8 @@ pub record SaysOfWords {R : Type 0} (remaining : R → Option (List ℕ)) (words
   pub replay_by_is_known : (rule : LossRule) → AsksToReplayBy rule words → n ≢ 2
   pub run_by : (rule : LossRule) → AsksToRunByOnly rule words → IfSome (remaining reader) (SaysOf (HasRunReportBy rule) HasRunFault n)
   pub run_by_is_known : (rule : LossRule) → AsksToRunByAlone rule words → n ≢ 2
-  pub follow : (rule : LossRule) → AsksToFollowOnly rule words → IfSome (remaining reader) (SaysOf (HasFollowed rule) HasFollowFault n)
+  pub follow : (rule : LossRule) (channels : ℕ) → AsksToFollowOnly rule channels words
+      → IfSome (remaining reader) (SaysOf (HasFollowed rule channels) (HasFollowFault channels) n)
   pub follow_is_known : (rule : LossRule) (events : Bool) → AsksToFollowAlone rule events words → n ≢ 2
   pub map : AsksToMap words → IfSome (remaining reader) (SaysOfMap n)
   pub map_is_known : AsksToMap words → n ≢ 2
@@ -245,13 +251,15 @@ SaysOfWords-outcome remaining contents words reader reader' writer writer' resul
   run_by_is_known = λ rule asks.
       known_status remaining contents (IsRunTextBy rule default_capacity default_capacity) (IsReportFault default_capacity) reader reader' writer writer' result
       (obeyed.run_alone rule asks);
-  follow = λ rule asks.
-      elim (obeyed.follow rule asks) [
-        | inl ran ↦ SaysOf-followed remaining contents rule ran.0 ran.1 reader reader' writer writer' result ran.4
-        | inr refused ↦ SaysOf-above (HasFollowed rule) HasFollowFault (remaining (inner_of reader)) (exit_status_of result) (refused_status reader reader' writer writer' result refused)
+  follow = λ rule channels asks.
+      elim (obeyed.follow rule channels asks) [
+        | inl ran ↦ SaysOf-followed remaining contents rule channels ran.0 reader reader' writer writer' result ran.2
+        | inr refused ↦
+            SaysOf-above (HasFollowed rule channels) (HasFollowFault channels) (remaining (inner_of reader)) (exit_status_of result)
+            (refused_status reader reader' writer writer' result refused)
       ];
   follow_is_known = λ rule events asks.
-      let ran = obeyed.follow_alone rule events asks in known_followed remaining contents rule ran.0 events reader reader' writer writer' result ran.3;
+      let ran = obeyed.follow_alone rule events asks in known_followed remaining contents rule ran.0 events reader reader' writer writer' result ran.2;
   map = λ asks. SaysOf-mapped remaining contents reader reader' writer writer' result (obeyed.map asks);
   map_is_known = λ asks. known_map remaining contents reader reader' writer writer' result (obeyed.map asks);
   usage = λ asks. refused_status reader reader' writer writer' result (obeyed.nothing asks);

@@ -22,7 +22,9 @@ use Rattle.engines.specs.Transfer.{IsReadFault}
 use Rattle.std.specs.Io.KnownBytes.{IsAtEnd}
 use Rattle.engines.specs.Fault.{usage_fault}
 use Rattle.engines.specs.Engine.{HasCause, RunsEngine}
-use Rattle.command_line.specs.Command.{options_in, AsksToJoin, AsksToReplay, AsksToReplayBy, AsksToRun, AsksToRunBy, AsksToRunByAlone, AsksToFollow, AsksToFollowAlone, AsksToMap, channels_max, IsCommand, AsksForHelp, HasNoHelpWord, Asks}
+use Rattle.command_line.specs.Command.{options_in, AsksToJoin, AsksToReplay, AsksToReplayBy, AsksToRun, AsksToRunBy, AsksToRunByAlone, AsksToFollow, AsksToFollowAlone, AsksToMap, IsCommand, AsksForHelp, HasNoHelpWord, Asks}
+use Rattle.command_line.specs.Channels.{channels_max}
+use Rattle.command_line.proofs.AskedChannels.{AskForChannels-one}
 use Rattle.command_line.proofs.AskedRules.{AskForRule-one}
 use Rattle.command_line.proofs.AskedWithoutHelp.{replays_without_help, map_without_help}
 use Rattle.command_line.proofs.CommandsApart.{commands_apart, cut_is_not_run, cut_is_not_replay, replay_is_not_run, follow_is_not_cut, follow_is_not_run, follow_is_not_replay, cut_is_not_map, replay_is_not_map, run_is_not_map, follow_is_not_map, maps_alone, join_is_another, join_is_not_cut, join_is_not_run, join_is_not_follow, join_is_not_map}
@@ -30,7 +32,7 @@ use Rattle.engines.proofs.WeakerTexts.{RunsEngine-weaker}
 use Rattle.engines.specs.Following.{HasFollowCause}
 use Rattle.receiver.specs.declared.width.Width.{Width}
 use Rattle.capture_engines.specs.Mapping.{HasMapCause, MapsCapture}
-use Rattle.commands.specs.Program.{AsksToCutOnly, AsksToRunOnly, AsksToRunByOnly, AsksToFollowOnly, AsksForNothing, RunsCut, RunsRun, RunsRunBy, RunsRunAlone, RunsFollow, RunsFollowAlone, WritesHelp, Obeys}
+use Rattle.commands.specs.Program.{AsksToCutOnly, AsksToRunOnly, AsksToRunByOnly, AsksToFollowOnly, AsksForNothing, RunsCut, RunsRun, RunsRunBy, RunsRunAlone, RunsFollowBy, RunsFollow, WritesHelp, Obeys}
 use Rattle.commands.specs.Inside.Program.{Performs}
 
 -- where no rule is asked for, `Decided` is
@@ -82,8 +84,8 @@ module _ {R W : Type 0} (remaining : R → Option (List ℕ)) (contents : W → 
       → ((rule : LossRule) → AsksToReplayBy rule words → RunsEngine remaining contents (IsReplayedBy rule) IsReplayFault reader reader' writer writer' result)
       → ((rule : LossRule) → AsksToRunByOnly rule words → RunsRunBy rule remaining contents reader reader' writer writer' result)
       → ((rule : LossRule) → AsksToRunByAlone rule words → RunsRunAlone rule remaining contents reader reader' writer writer' result)
-      → ((rule : LossRule) → ¬ AsksToFollow rule words)
-      → ((rule : LossRule) (events : Bool) → AsksToFollowAlone rule events words → RunsFollowAlone rule events remaining contents reader reader' writer writer' result)
+      → ((rule : LossRule) (channels : ℕ) → ¬ AsksToFollow rule channels words)
+      → ((rule : LossRule) (events : Bool) → AsksToFollowAlone rule events words → RunsFollowBy rule channels_max events remaining contents reader reader' writer writer' result)
       → ¬ AsksToMap words
       → ¬ AsksForNothing words → (¬ AsksToJoin words → HasNoHelpWord words) → Obeys remaining contents words reader reader' writer writer' result
   Obeys-engine IsText IsFault (Ok done) replay_same run_same ran joins cuts replays runs alone no_follow followed no_map something no_help = record {
@@ -94,7 +96,7 @@ module _ {R W : Type 0} (remaining : R → Option (List ℕ)) (contents : W → 
     replay_by = replays;
     run_by = λ rule asks. inl (runs rule asks);
     run_alone = alone;
-    follow = λ rule asks. absurd (no_follow rule asks.0);
+    follow = λ rule channels asks. absurd (no_follow rule channels asks.0);
     follow_alone = followed;
     map = λ asks. absurd (no_map asks);
     nothing = λ asks. absurd (something asks);
@@ -115,7 +117,7 @@ module _ {R W : Type 0} (remaining : R → Option (List ℕ)) (contents : W → 
         replay_by = replays;
         run_by = λ rule asks. inl (runs rule asks);
         run_alone = alone;
-        follow = λ rule asks. absurd (no_follow rule asks.0);
+        follow = λ rule channels asks. absurd (no_follow rule channels asks.0);
         follow_alone = followed;
         map = λ asks. absurd (no_map asks);
         nothing = λ asks. absurd (something asks);
@@ -130,7 +132,7 @@ module _ {R W : Type 0} (remaining : R → Option (List ℕ)) (contents : W → 
   -- so have those that ask for help, where its text is written
   Obeys-help : (text : List ℕ) (result : Result (Unit {0}) EngineFault) → IsFresh reader → IsFresh writer
       → ¬ AsksToJoin words → ¬ AsksToCutOnly words → ((rule : LossRule) → ¬ AsksToReplayBy rule words) → ((rule : LossRule) → ¬ AsksToRunByOnly rule words)
-      → ((rule : LossRule) → ¬ AsksToRunByAlone rule words) → ((rule : LossRule) → ¬ AsksToFollowOnly rule words)
+      → ((rule : LossRule) → ¬ AsksToRunByAlone rule words) → ((rule : LossRule) (channels : ℕ) → ¬ AsksToFollowOnly rule channels words)
       → ((rule : LossRule) (events : Bool) → ¬ AsksToFollowAlone rule events words) → ¬ AsksToMap words → ¬ AsksForNothing words
       → WritesHelp contents text reader reader' writer writer' result
       → Obeys remaining contents words reader reader' writer writer' result
@@ -142,7 +144,7 @@ module _ {R W : Type 0} (remaining : R → Option (List ℕ)) (contents : W → 
     replay_by = λ rule asks. absurd (no_replay rule asks);
     run_by = λ rule asks. absurd (no_run rule asks);
     run_alone = λ rule asks. absurd (no_alone rule asks);
-    follow = λ rule asks. absurd (no_follow rule asks);
+    follow = λ rule channels asks. absurd (no_follow rule channels asks);
     follow_alone = λ rule events asks. absurd (no_follow_alone rule events asks);
     map = λ asks. absurd (no_map asks);
     nothing = λ asks. absurd (something asks);
@@ -161,7 +163,7 @@ module _ {R W : Type 0} (remaining : R → Option (List ℕ)) (contents : W → 
     replay_by = λ rule asks. absurd (no_replay rule asks);
     run_by = λ rule asks. absurd (no_run rule asks);
     run_alone = λ rule asks. absurd (no_alone rule asks);
-    follow = λ rule asks. absurd (no_follow rule asks);
+    follow = λ rule channels asks. absurd (no_follow rule channels asks);
     follow_alone = λ rule events asks. absurd (no_follow_alone rule events asks);
     map = λ asks. absurd (no_map asks);
     nothing = λ asks. absurd (something asks);
@@ -181,11 +183,11 @@ module _ {R W : Type 0} (remaining : R → Option (List ℕ)) (contents : W → 
     failed_or_long (inr many) = inr (omega (arith, many))
 
   -- words that ask to follow a trace
-  Obeys-follow : (rule : LossRule) (result : Result (Unit {0}) EngineFault) → AsksToFollow rule words → HasNoHelpWord words
-      → RunsFollow rule words remaining contents reader reader' writer writer' result
-      → ((rule : LossRule) (events : Bool) → AsksToFollowAlone rule events words → RunsFollowAlone rule events remaining contents reader reader' writer writer' result)
+  Obeys-follow : (rule : LossRule) (channels : ℕ) (result : Result (Unit {0}) EngineFault) → AsksToFollow rule channels words → HasNoHelpWord words
+      → RunsFollow rule channels words remaining contents reader reader' writer writer' result
+      → ((rule : LossRule) (events : Bool) → AsksToFollowAlone rule events words → RunsFollowBy rule channels_max events remaining contents reader reader' writer writer' result)
       → ¬ AsksForNothing words → Obeys remaining contents words reader reader' writer writer' result
-  Obeys-follow rule result asked no_help ran followed something = record {
+  Obeys-follow rule channels result asked no_help ran followed something = record {
     join = λ asks. absurd (join_is_another (codes "follow") join_is_not_follow words asks asked.0);
     cut = λ asks. absurd (commands_apart (codes "follow") (codes "cut") follow_is_not_cut words asked.0 asks.0);
     replay = λ asks. absurd (commands_apart (codes "follow") (codes "replay") follow_is_not_replay words asked.0 (replays_by_decisions words asks).0);
@@ -193,34 +195,38 @@ module _ {R W : Type 0} (remaining : R → Option (List ℕ)) (contents : W → 
     replay_by = λ other asks. absurd (commands_apart (codes "follow") (codes "replay") follow_is_not_replay words asked.0 asks.0);
     run_by = λ other asks. absurd (commands_apart (codes "follow") (codes "run") follow_is_not_run words asked.0 asks.0.0);
     run_alone = λ other asks. absurd (commands_apart (codes "follow") (codes "run") follow_is_not_run words asked.0 asks.0);
-    follow = λ other asks.
+    follow = λ other wide asks.
         let same : rule ≡ other = AskForRule-one (options_in words) rule other asked.1 asks.0.1 in
-        inl (subst (λ by. RunsFollow by words remaining contents reader reader' writer writer' result) same ran);
+        let as_wide : channels ≡ wide = AskForChannels-one (options_in words) channels wide asked.2 asks.0.2 in
+        let ran_by : RunsFollow other channels words remaining contents reader reader' writer writer' result =
+        subst (λ (by : LossRule). RunsFollow by channels words remaining contents reader reader' writer writer' result) same ran
+        in
+        inl (subst (λ (n : ℕ). RunsFollow other n words remaining contents reader reader' writer writer' result) as_wide ran_by);
     follow_alone = followed;
     map = λ asks. absurd (commands_apart (codes "follow") (codes "map") follow_is_not_map words asked.0 (maps_alone words asks));
     nothing = λ asks. absurd (something asks);
     help = λ other asks. absurd (asks no_help);
-    flushed = ran.4.flushed;
-    no_cause = OnOk-weaker result ran.4.no_cause;
-    read_fault = λ is. followed_fault result is ran.4.cause;
-    write_fault = λ is. followed_write result is ran.4.cause;
-    read_first = λ none _. absurd (none rule (asked, λ helps. absurd (no_help_asked helps)));
+    flushed = ran.2.2.flushed;
+    no_cause = OnOk-weaker result ran.2.2.no_cause;
+    read_fault = λ is. followed_fault result is ran.2.2.cause;
+    write_fault = λ is. followed_write result is ran.2.2.cause;
+    read_first = λ none _. absurd (none rule channels (asked, λ helps. absurd (no_help_asked helps)));
   } where
     OnOk-weaker : (result : Result (Unit {0}) EngineFault)
         → OnOk result ((has_failed reader' ≡ false) × IsAtEnd (remaining (inner_of reader')) × (has_failed writer' ≡ false)) → OnOk result (has_failed writer' ≡ false)
     OnOk-weaker (Ok done) is = is.2
     OnOk-weaker (Err fault) is = tt
 
-    followed_fault : (result : Result (Unit {0}) EngineFault) → result ≡ Err Read → IfErr result (HasFollowCause ran.0 (remaining (inner_of reader)) reader' writer')
+    followed_fault : (result : Result (Unit {0}) EngineFault) → result ≡ Err Read → IfErr result (HasFollowCause ran.2.0 (remaining (inner_of reader)) reader' writer')
         → IsReadFault reader'
     followed_fault (Ok done) is cause = absurd cc
-    followed_fault (Err fault) is cause = let same : fault ≡ Read = cc in followed_reader ran.0 fault same cause
+    followed_fault (Err fault) is cause = let same : fault ≡ Read = cc in followed_reader ran.2.0 fault same cause
 
-    followed_write : (result : Result (Unit {0}) EngineFault) → result ≡ Err Write → IfErr result (HasFollowCause ran.0 (remaining (inner_of reader)) reader' writer')
+    followed_write : (result : Result (Unit {0}) EngineFault) → result ≡ Err Write → IfErr result (HasFollowCause ran.2.0 (remaining (inner_of reader)) reader' writer')
         → has_failed writer' ≡ true
     followed_write (Ok done) is cause = absurd cc
     followed_write (Err fault) is cause =
-        let same : fault ≡ Write = cc in subst (HasFollowCause ran.0 (remaining (inner_of reader)) reader' writer') same cause
+        let same : fault ≡ Write = cc in subst (HasFollowCause ran.2.0 (remaining (inner_of reader)) reader' writer') same cause
 
     no_help_asked : AsksForHelp words → ⊥
     no_help_asked helps =
@@ -239,7 +245,7 @@ module _ {R W : Type 0} (remaining : R → Option (List ℕ)) (contents : W → 
     replay_by = λ rule asks. absurd (commands_apart (codes "replay") (codes "map") replay_is_not_map words asks.0 maps);
     run_by = λ rule asks. absurd (commands_apart (codes "run") (codes "map") run_is_not_map words asks.0.0 maps);
     run_alone = λ rule asks. absurd (commands_apart (codes "run") (codes "map") run_is_not_map words asks.0 maps);
-    follow = λ rule asks. absurd (commands_apart (codes "follow") (codes "map") follow_is_not_map words asks.0.0 maps);
+    follow = λ rule channels asks. absurd (commands_apart (codes "follow") (codes "map") follow_is_not_map words asks.0.0 maps);
     follow_alone = λ rule events asks. absurd (commands_apart (codes "follow") (codes "map") follow_is_not_map words asks.0 maps);
     map = λ _. ran;
     nothing = λ asks. absurd (something asks);
@@ -284,7 +290,7 @@ module _ {R W : Type 0} (remaining : R → Option (List ℕ)) (contents : W → 
   -- and one that was read as following with no option but a rule and events
   performed_follow : (command : Command) (result : Result (Unit {0}) EngineFault) → Performs remaining contents command reader reader' writer writer' result
       → ((rule : LossRule) (events : Bool) → AsksToFollowAlone rule events words → command ≡ Follow rule channels_max events)
-      → (rule : LossRule) (events : Bool) → AsksToFollowAlone rule events words → RunsFollowAlone rule events remaining contents reader reader' writer writer' result
+      → (rule : LossRule) (events : Bool) → AsksToFollowAlone rule events words → RunsFollowBy rule channels_max events remaining contents reader reader' writer writer' result
   performed_follow command result ran follows rule events asks =
       subst (λ is. Performs remaining contents is reader reader' writer writer' result) (follows rule events asks) ran
 
@@ -300,7 +306,7 @@ module _ {R W : Type 0} (remaining : R → Option (List ℕ)) (contents : W → 
       Obeys-engine IsJoined IsJoinFault result replay_same run_same ran (λ _. ran)
       (λ asks. absurd (join_is_another (codes "cut") join_is_not_cut words asked asks.0)) (λ rule asks. let e = replays rule asks in absurd cc)
       (λ rule asks. absurd (join_is_another (codes "run") join_is_not_run words asked asks.0.0)) (performed_alone Join result ran runs)
-      (λ rule asks. absurd (join_is_another (codes "follow") join_is_not_follow words asked asks.0)) (performed_follow Join result ran follows)
+      (λ rule channels asks. absurd (join_is_another (codes "follow") join_is_not_follow words asked asks.0)) (performed_follow Join result ran follows)
       (λ asks. let e = maps asks in absurd cc)
       (λ nothing. nothing.0 (inl asked))
       (λ other. absurd (other asked))
@@ -309,7 +315,7 @@ module _ {R W : Type 0} (remaining : R → Option (List ℕ)) (contents : W → 
       (λ asks. absurd (join_is_another (codes "cut") join_is_not_cut words asks asked.0)) (λ _. (first, fill, asked.2, ran))
       (λ rule asks. let e = replays rule asks in absurd cc)
       (λ rule asks. absurd (commands_apart (codes "cut") (codes "run") cut_is_not_run words asked.0 asks.0.0)) (performed_alone (Cut first fill) result ran runs)
-      (λ rule asks. absurd (commands_apart (codes "follow") (codes "cut") follow_is_not_cut words asks.0 asked.0)) (performed_follow (Cut first fill) result ran follows)
+      (λ rule channels asks. absurd (commands_apart (codes "follow") (codes "cut") follow_is_not_cut words asks.0 asked.0)) (performed_follow (Cut first fill) result ran follows)
       (λ asks. let e = maps asks in absurd cc)
       (λ nothing. nothing.0 (inr (inl asked.0))) (λ _. asked.1)
   Obeys-performed (Replay rule) result replay_same run_same unread unwritten asked joins maps replays runs follows ran =
@@ -321,7 +327,7 @@ module _ {R W : Type 0} (remaining : R → Option (List ℕ)) (contents : W → 
       subst (λ by. RunsEngine remaining contents (IsReplayedBy by) IsReplayFault reader reader' writer writer' result) same ran)
       (λ other asks. absurd (commands_apart (codes "replay") (codes "run") replay_is_not_run words asked.0 asks.0.0))
       (performed_alone (Replay rule) result ran runs)
-      (λ other asks. absurd (commands_apart (codes "follow") (codes "replay") follow_is_not_replay words asks.0 asked.0)) (performed_follow (Replay rule) result ran follows)
+      (λ other channels asks. absurd (commands_apart (codes "follow") (codes "replay") follow_is_not_replay words asks.0 asked.0)) (performed_follow (Replay rule) result ran follows)
       (λ asks. let e = maps asks in absurd cc) (λ nothing. nothing.0 (inr (inr (inl (rule, asked))))) (λ _. replays_without_help rule words asked)
   Obeys-performed (Run rule mailbox ring) result replay_same run_same unread unwritten asked joins maps replays runs follows ran =
       Obeys-engine (IsRunTextBy rule ring mailbox) (IsReportFault ring) result replay_same run_same ran
@@ -332,18 +338,18 @@ module _ {R W : Type 0} (remaining : R → Option (List ℕ)) (contents : W → 
       let same : rule ≡ other = AskForRule-one (options_in words) rule other asked.0.1 asks.0.1 in
       subst (λ by. RunsRunBy by remaining contents reader reader' writer writer' result) same (mailbox, ring, asked.2, asked.3, ran))
       (performed_alone (Run rule mailbox ring) result ran runs)
-      (λ other asks. absurd (commands_apart (codes "follow") (codes "run") follow_is_not_run words asks.0 asked.0.0)) (performed_follow (Run rule mailbox ring) result ran follows)
+      (λ other channels asks. absurd (commands_apart (codes "follow") (codes "run") follow_is_not_run words asks.0 asked.0.0)) (performed_follow (Run rule mailbox ring) result ran follows)
       (λ asks. let e = maps asks in absurd cc)
       (λ nothing. nothing.0 (inr (inr (inr (inl (rule, asked.0)))))) (λ _. asked.1)
   Obeys-performed (Follow rule channels events) result replay_same run_same unread unwritten asked joins maps replays runs follows ran =
-      Obeys-follow rule result asked.0 asked.1 (ran.0, events, ran.2, asked.4, ran.3) (performed_follow (Follow rule channels events) result ran follows)
-      (λ nothing. nothing.0 (inr (inr (inr (inr (inl (rule, asked.0)))))))
+      Obeys-follow rule channels result asked.0 asked.1 (events, asked.2, ran) (performed_follow (Follow rule channels events) result ran follows)
+      (λ nothing. nothing.0 (inr (inr (inr (inr (inl (rule, channels, asked.0)))))))
   Obeys-performed Map result replay_same run_same unread unwritten asked joins maps replays runs follows ran =
       Obeys-map result asked ran (λ nothing. nothing.0 (inr (inr (inr (inr (inr asked))))))
   Obeys-performed (Help text) result replay_same run_same unread unwritten asked joins maps replays runs follows ran =
       Obeys-help (string_bytes text) result unread unwritten (λ asks. let e = joins asks in absurd cc) (λ asks. asks.1 asked)
       (λ rule asks. let e = replays rule asks in absurd cc) (λ rule asks. asks.1 asked) (λ rule asks. let e = runs rule asks in absurd cc)
-      (λ rule asks. asks.1 asked) (λ rule events asks. let e = follows rule events asks in absurd cc) (λ asks. let e = maps asks in absurd cc)
+      (λ rule channels asks. asks.1 asked) (λ rule events asks. let e = follows rule events asks in absurd cc) (λ asks. let e = maps asks in absurd cc)
       (λ nothing. nothing.1 asked) ran
 
 -- words that were refused ask neither to join, nor for a map, nor to replay, nor to run or to follow by a rule alone, and nothing is read or written
@@ -359,7 +365,7 @@ Obeys-refused remaining contents words reader writer usage.Usage unread other no
   replay_by = λ rule asks. absurd (no_replay rule asks);
   run_by = λ rule _. inr (record { fault = inl refl; unread = refl; unwritten = refl });
   run_alone = λ rule asks. absurd (no_alone rule asks);
-  follow = λ rule _. inr (record { fault = inl refl; unread = refl; unwritten = refl });
+  follow = λ rule channels _. inr (record { fault = inl refl; unread = refl; unwritten = refl });
   follow_alone = λ rule events asks. absurd (no_follow rule events asks);
   map = λ asks. absurd (no_map asks);
   nothing = λ _. record { fault = inl refl; unread = refl; unwritten = refl };
@@ -378,7 +384,7 @@ Obeys-refused remaining contents words reader writer usage.OutOfMemory unread ot
   replay_by = λ rule asks. absurd (no_replay rule asks);
   run_by = λ rule _. inr (record { fault = inr refl; unread = refl; unwritten = refl });
   run_alone = λ rule asks. absurd (no_alone rule asks);
-  follow = λ rule _. inr (record { fault = inr refl; unread = refl; unwritten = refl });
+  follow = λ rule channels _. inr (record { fault = inr refl; unread = refl; unwritten = refl });
   follow_alone = λ rule events asks. absurd (no_follow rule events asks);
   map = λ asks. absurd (no_map asks);
   nothing = λ _. record { fault = inr refl; unread = refl; unwritten = refl };

@@ -14,7 +14,8 @@ use Rattle.engines.specs.Device.{inner_of, has_failed, is_flushed, IsFresh}
 use Rattle.engines.specs.Transfer.{AppendsFront, IsLeftFlushed, IsReadFault, IsRead}
 use Rattle.engines.specs.Fault.{status_of, exit_status_of, fault_line}
 use Rattle.engines.specs.Engine.{engine_fault, RunsEngine}
-use Rattle.command_line.specs.Command.{AsksToJoin, AsksToCut, AsksToReplay, AsksToReplayBy, AsksToRun, AsksToRunBy, AsksToRunByAlone, AsksToFollow, AsksToFollowAlone, AsksToMap, AskForEvents, channels_max, options_in, AsksForAnEngine, AsksForHelp, HasNoHelpWord}
+use Rattle.command_line.specs.Command.{AsksToJoin, AsksToCut, AsksToReplay, AsksToReplayBy, AsksToRun, AsksToRunBy, AsksToRunByAlone, AsksToFollow, AsksToFollowAlone, AsksToMap, AskForEvents, options_in, AsksForAnEngine, AsksForHelp, HasNoHelpWord}
+use Rattle.command_line.specs.Channels.{channels_max}
 use Rattle.flow_records.specs.Limits.{most_flows}
 use Rattle.receiver.specs.declared.width.Width.{Width}
 use Rattle.text_lines.specs.declared.fault.TextFault.TheVariants as text_fault
@@ -43,9 +44,9 @@ AsksToRunOnly words = AsksToRun words × ¬ AsksForHelp words
 abbrev pub AsksToRunByOnly : LossRule → List (List ℕ) → Type 0
 AsksToRunByOnly rule words = AsksToRunBy rule words × ¬ AsksForHelp words
 
--- the words ask to follow a trace by a loss rule, and not for help
-abbrev pub AsksToFollowOnly : LossRule → List (List ℕ) → Type 0
-AsksToFollowOnly rule words = AsksToFollow rule words × ¬ AsksForHelp words
+-- the words ask to follow a trace of so many channels by a loss rule, and not for help
+abbrev pub AsksToFollowOnly : LossRule → ℕ → List (List ℕ) → Type 0
+AsksToFollowOnly rule channels words = AsksToFollow rule channels words × ¬ AsksForHelp words
 
 -- the words ask for nothing
 abbrev pub AsksForNothing : List (List ℕ) → Type 0
@@ -98,17 +99,19 @@ abbrev pub RunsRunAlone : {R W : Type 0} → LossRule → (R → Option (List �
 RunsRunAlone rule remaining contents reader reader' writer writer' result =
     RunsEngine remaining contents (IsRunTextBy rule default_capacity default_capacity) (IsReportFault default_capacity) reader reader' writer writer' result
 
--- a trace was followed by a loss rule, of as many flows as a receiver can have, with events just if the words ask for them
-abbrev pub RunsFollow : {R W : Type 0} → LossRule → List (List ℕ) → (R → Option (List ℕ)) → (W → Option (List ℕ)) → Device R → Device R → Device W → Device W → Result (Unit {0}) EngineFault → Type 0
-RunsFollow rule words remaining contents reader reader' writer writer' result =
-    (width : Width) × (events : Bool) × (width.flows ≡ most_flows) × AskForEvents events (options_in words)
-    × FollowsTrace rule width events remaining contents reader reader' writer writer' result
+-- a receiver of this width follows a trace of so many channels: it has as many flows as one can have
+abbrev pub IsWidthOf : ℕ → Width → Type 0
+IsWidthOf channels width = (width.channels ≡ channels) × (width.flows ≡ most_flows)
 
--- so where neither channels nor anything else is asked for, but a rule and events: of as many channels as it can have
-abbrev pub RunsFollowAlone : {R W : Type 0} → LossRule → Bool → (R → Option (List ℕ)) → (W → Option (List ℕ)) → Device R → Device R → Device W → Device W → Result (Unit {0}) EngineFault → Type 0
-RunsFollowAlone rule events remaining contents reader reader' writer writer' result =
-    (width : Width) × (width.channels ≡ channels_max) × (width.flows ≡ most_flows)
-    × FollowsTrace rule width events remaining contents reader reader' writer writer' result
+-- a trace of so many channels was followed by a loss rule, with events or without
+abbrev pub RunsFollowBy : {R W : Type 0} → LossRule → ℕ → Bool → (R → Option (List ℕ)) → (W → Option (List ℕ)) → Device R → Device R → Device W → Device W → Result (Unit {0}) EngineFault → Type 0
+RunsFollowBy rule channels events remaining contents reader reader' writer writer' result =
+    (width : Width) × IsWidthOf channels width × FollowsTrace rule width events remaining contents reader reader' writer writer' result
+
+-- so with events just if the words ask for them
+abbrev pub RunsFollow : {R W : Type 0} → LossRule → ℕ → List (List ℕ) → (R → Option (List ℕ)) → (W → Option (List ℕ)) → Device R → Device R → Device W → Device W → Result (Unit {0}) EngineFault → Type 0
+RunsFollow rule channels words remaining contents reader reader' writer writer' result =
+    (events : Bool) × AskForEvents events (options_in words) × RunsFollowBy rule channels events remaining contents reader reader' writer writer' result
 
 -- what comes of words, the program's name first, over a fresh reader and a fresh writer: `remaining` are the bytes that a reader is known
 -- to have left, `contents` those that a writer is known to hold
@@ -126,11 +129,12 @@ pub record Obeys {R W : Type 0} (remaining : R → Option (List ℕ)) (contents 
       → RunsRunBy rule remaining contents reader reader' writer writer' result ⊎ IsRefused reader reader' writer writer' result
   -- a run by a rule alone is never refused
   pub run_alone : (rule : LossRule) → AsksToRunByAlone rule words → RunsRunAlone rule remaining contents reader reader' writer writer' result
-  -- a trace is followed
-  pub follow : (rule : LossRule) → AsksToFollowOnly rule words
-      → RunsFollow rule words remaining contents reader reader' writer writer' result ⊎ IsRefused reader reader' writer writer' result
+  -- a trace is followed, of just as many channels as the words ask for
+  pub follow : (rule : LossRule) (channels : ℕ) → AsksToFollowOnly rule channels words
+      → RunsFollow rule channels words remaining contents reader reader' writer writer' result ⊎ IsRefused reader reader' writer writer' result
   -- and never refused where nothing but a rule and events is asked for
-  pub follow_alone : (rule : LossRule) (events : Bool) → AsksToFollowAlone rule events words → RunsFollowAlone rule events remaining contents reader reader' writer writer' result
+  pub follow_alone : (rule : LossRule) (events : Bool) → AsksToFollowAlone rule events words
+      → RunsFollowBy rule channels_max events remaining contents reader reader' writer writer' result
   -- the map of a capture is written, which is never refused
   pub map : AsksToMap words → MapsCapture remaining contents reader reader' writer writer' result
   pub nothing : AsksForNothing words → IsRefused reader reader' writer writer' result
@@ -142,7 +146,7 @@ pub record Obeys {R W : Type 0} (remaining : R → Option (List ℕ)) (contents 
   pub read_fault : result ≡ Err Read → IsReadFault reader'
   pub write_fault : result ≡ Err Write → has_failed writer' ≡ true
   -- and but where a trace is followed or a capture mapped no more is read than an engine reads
-  pub read_first : ((rule : LossRule) → ¬ AsksToFollowOnly rule words) → ¬ AsksToMap words → IfErr result (λ fault. fault ≢ Read → IsRead reader')
+  pub read_first : ((rule : LossRule) (channels : ℕ) → ¬ AsksToFollowOnly rule channels words) → ¬ AsksToMap words → IfErr result (λ fault. fault ≢ Read → IsRead reader')
 
 -- an outcome was reported: the line of its fault was written and flushed, or the writer failed and a front of it went out; without a fault
 -- the writer was not used
@@ -202,15 +206,16 @@ HasReportBy rule input = (text : List ℕ) × IsReplayedBy rule input text
 abbrev pub HasRunReportBy : LossRule → List ℕ → Type 0
 HasRunReportBy rule input = (mailbox ring : ℕ) × (text : List ℕ) × (1 ≤ mailbox) × (1 ≤ ring) × IsRunTextBy rule ring mailbox input text
 
--- some text may stand for a trace that is followed by a loss rule
-abbrev pub HasFollowed : LossRule → List ℕ → Type 0
-HasFollowed rule input = (width : Width) × (events : Bool) × (text : List ℕ) × IsFollowed rule width events input text
+-- some text may stand for a trace of so many channels that is followed by a loss rule
+abbrev pub HasFollowed : LossRule → ℕ → List ℕ → Type 0
+HasFollowed rule channels input = (width : Width) × (events : Bool) × (text : List ℕ) × IsWidthOf channels width × IsFollowed rule width events input text
 
--- a trace that is followed has this fault
-abbrev pub HasFollowFault : List ℕ → TextFault → Type 0
-HasFollowFault input (text_fault.Trace fault) =
-    (width : Width) × (length input < 2 ^ 64 → IsFirstFaultyLine trace_format (nothing_said_in (shape_of width default_capacity)) (lines_of input) fault)
-HasFollowFault input _ = ⊥
+-- a trace of so many channels that is followed has this fault
+abbrev pub HasFollowFault : ℕ → List ℕ → TextFault → Type 0
+HasFollowFault channels input (text_fault.Trace fault) =
+    (width : Width) × IsWidthOf channels width
+    × (length input < 2 ^ 64 → IsFirstFaultyLine trace_format (nothing_said_in (shape_of width default_capacity)) (lines_of input) fault)
+HasFollowFault channels input _ = ⊥
 
 -- what a status says of a capture that is to be mapped: with 0 it has a map, with 1 a fault
 pub record SaysOfMap (status : ℕ) (input : List ℕ) : Type 0 where

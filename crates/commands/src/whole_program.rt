@@ -1,5 +1,5 @@
 //! The whole program, over any reader and any two writers.
-ghost use Rattle.std.specs.Prelude.{◌≡◌, ◌≢◌, ◌⊎◌, Bool, map, Result, IfSome};
+ghost use Rattle.std.specs.Prelude.{◌≡◌, ◌≢◌, ◌⊎◌, ℕ, Bool, map, Result, IfSome};
 ghost use Rattle.loss_rule.specs.declared.rule.LossRule.{LossRule};
 ghost use Rattle.engines.specs.declared.fault.EngineFault.{EngineFault};
 ghost use Rattle.engines.specs.Device.{IsFresh};
@@ -163,8 +163,10 @@ where
         → IfSome (R.remaining reader) (SaysOf (HasRunReportBy rule) HasRunFault result) }
     ensures run_by_is_known { (rule : LossRule) → AsksToRunByAlone rule (map S.text words.now)
         → result ≢ 2 }
-    ensures follow { (rule : LossRule) → AsksToFollowOnly rule (map S.text words.now)
-        → IfSome (R.remaining reader) (SaysOf (HasFollowed rule) HasFollowFault result) }
+    ensures follow { (rule : LossRule) (channels : ℕ)
+        → AsksToFollowOnly rule channels (map S.text words.now)
+        → IfSome (R.remaining reader)
+        (SaysOf (HasFollowed rule channels) (HasFollowFault channels) result) }
     ensures follow_is_known { (rule : LossRule) (events : Bool)
         → AsksToFollowAlone rule events (map S.text words.now) → result ≢ 2 }
     ensures map { AsksToMap (map S.text words.now)

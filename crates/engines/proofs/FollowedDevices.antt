@@ -20,8 +20,9 @@ use Rattle.engines.specs.declared.fault.EngineFault.TheVariants.{Trace, Cut, Cap
 use Rattle.engines.specs.declared.follow.Follower.{Follower}
 use Rattle.engines.specs.Device.{inner_of, has_failed, given_of}
 use Rattle.engines.specs.Engine.{WritesText}
-use Rattle.engines.specs.Following.{IsBehind, IsTextOfFront, IsTextOfWhole, IsFollowedTill, HasFollowCause, FollowsTrace}
+use Rattle.engines.specs.Following.{IsBehind, IsTextOfFront, IsTextOfWhole, IsFollowedBefore, IsFollowedTill, HasFollowCause, FollowsTrace}
 use Rattle.engines.specs.Inside.Following.{IsEndFault, HasFollowedBytes, IsFollowFault, IsFollowFaultOr, WritesTill, EndsBy}
+use Rattle.engines.specs.Limits.{piece_limit}
 use Rattle.engines.specs.Transfer.{AppendsFront, IsLeftFlushed}
 use Rattle.engines.proofs.FollowedLines.{text_so_far, front_of_whole, behind_last, nothing_happened}
 use Rattle.engines.proofs.NumberedHappenings.{numbered_nothing}
@@ -76,7 +77,15 @@ module _ {R W : Type 0} (remaining : R → Option (List ℕ)) (contents : W → 
       till = record {
         bytes = [];
         read = Consumes-nil (remaining (inner_of reader));
-        front = record { lines = []; below = [] ∷ []; some = omega arith; parts = refl; followed = nothing; behind = tt };
+        no_further = record {
+          before = [];
+          piece = [];
+          parts = refl;
+          few = omega arith;
+          text = [];
+          whole = record { lines = []; rest = []; parts = refl; followed = nothing };
+        };
+        front = inl (record { lines = []; below = [] ∷ []; some = omega arith; parts = refl; followed = nothing; behind = tt });
         whole = λ is. absurd cc;
       }
 
@@ -87,10 +96,16 @@ module _ {R W : Type 0} (remaining : R → Option (List ℕ)) (contents : W → 
       whole : IsTextOfWhole rule width events far.bytes text
       whole = text_so_far rule width events far.bytes far.told follower far.followed
 
+      all_before : (piece : List ℕ) → length piece ≤ piece_limit → IsFollowedBefore rule width events (far.bytes ++ piece)
+      all_before piece few = record { before = far.bytes; piece = piece; parts = refl; few = few; text = text; whole = whole }
+
+      all_here : IsFollowedBefore rule width events far.bytes
+      all_here = subst (λ (bytes : List ℕ). IsFollowedBefore rule width events bytes) (append-nil far.bytes) (all_before [] (omega arith))
+
       till_here : (left : Option (List ℕ)) (fault : EngineFault) → Consumes (remaining (inner_of reader)) left far.bytes → IsBehind far.bytes whole.lines fault
           → IsFollowedTill rule width events (remaining (inner_of reader)) left fault text
       till_here left fault read behind =
-          record { bytes = far.bytes; read = read; front = front_of_whole rule width events fault far.bytes text whole behind; whole = λ is. whole }
+          record { bytes = far.bytes; read = read; no_further = all_here; front = inl (front_of_whole rule width events fault far.bytes text whole behind); whole = λ is. whole }
 
       -- the reader failed, or gave as much as can be counted
       pub trace_unread : (reader'' : Device R) → Keeps (remaining (inner_of reader')) (remaining (inner_of reader''))
@@ -137,10 +152,10 @@ module _ {R W : Type 0} (remaining : R → Option (List ℕ)) (contents : W → 
           read_sound = read_sound ∙ far.read_sound;
         }
 
-        module _ (writer'' : Device W) (happened : List HappenedAt) where
+        module _ (few : length piece ≤ piece_limit) (writer'' : Device W) (happened : List HappenedAt) where
           till_there : (fault : EngineFault) → IsTextOfFront rule width events fault (far.bytes ++ piece) (flat_map (told_lines events) (far.told ++ happened)) → fault ≢ Read
               → IsFollowedTill rule width events (remaining (inner_of reader)) (remaining (inner_of reader'')) fault (flat_map (told_lines events) (far.told ++ happened))
-          till_there fault front other = record { bytes = far.bytes ++ piece; read = read_both; front = front; whole = λ is. absurd (other is) }
+          till_there fault front other = record { bytes = far.bytes ++ piece; read = read_both; no_further = all_before piece few; front = inl front; whole = λ is. absurd (other is) }
 
           -- of what is known the first faulty line
           known_fault : (known left : Option (List ℕ)) (bytes : List ℕ) (fault : TraceFault) → Consumes known left bytes → IsFollowFault width bytes (Trace fault)
@@ -254,6 +269,18 @@ module _ {R W : Type 0} (remaining : R → Option (List ℕ)) (contents : W → 
           no_cause = tt;
         }
 
+        -- the lines of all that was read were followed
+        till_end : (fault : EngineFault) → (fault ≡ OutOfMemory) ⊎ (fault ≡ Write) → fault ≢ Read → (all : List ℕ)
+            → IsFollowedSoFar rule width events (lines_of far.bytes) all
+            → IsFollowedTill rule width events (remaining (inner_of reader)) (remaining (inner_of reader'')) fault all
+        till_end fault closing other all followed = record {
+          bytes = far.bytes;
+          read = read_all;
+          no_further = all_here;
+          front = inr (record { ended = end; closing = closing; followed = followed });
+          whole = λ is. absurd (other is);
+        }
+
         pub trace_ended : (writer'' : Device W) (fault : EngineFault) → EndsBy contents rule width events far.bytes far.told writer' writer'' fault
             → FollowsTrace rule width events remaining contents reader reader'' writer writer'' (Err fault)
         trace_ended writer'' (Trace fault) by =
@@ -261,9 +288,22 @@ module _ {R W : Type 0} (remaining : R → Option (List ℕ)) (contents : W → 
             (ended_at (Trace fault) by.1 (λ e. absurd cc)
             (all_of (λ input. length input < 2 ^ 64 → IsFirstFaultyLine trace_format (nothing_said_in (shape_of width default_capacity)) (lines_of input) fault) by.1))
         trace_ended writer'' (Cut fault) by = absurd by.1
-        trace_ended writer'' OutOfMemory by =
-            subst (λ (device : Device W). FollowsTrace rule width events remaining contents reader reader'' writer device (Err OutOfMemory)) (sym by.0)
+        trace_ended writer'' OutOfMemory (inl same) =
+            subst (λ (device : Device W). FollowsTrace rule width events remaining contents reader reader'' writer device (Err OutOfMemory)) (sym same)
             (ended_at OutOfMemory tt (λ e. absurd cc) tt)
+        trace_ended writer'' OutOfMemory (inr by) = record {
+          written = tt;
+          above = λ other. (
+            text ++ by.0,
+            till_end OutOfMemory (inl refl) (λ e. absurd cc) (text ++ by.0) by.1,
+            Appends-trans (contents (inner_of writer)) (contents (inner_of writer')) (contents (inner_of writer'')) text by.0 far.wrote by.2,
+          );
+          write_fault = λ is. absurd cc;
+          flushed = tt;
+          flushed_above = λ other. flushed_then writer writer' writer'' far.flushed by.3;
+          cause = tt;
+          no_cause = tt;
+        }
         trace_ended writer'' Read by = absurd by.1
         trace_ended writer'' Usage by = absurd by.1
         trace_ended writer'' (Capture fault) by = absurd by.1
@@ -272,7 +312,10 @@ module _ {R W : Type 0} (remaining : R → Option (List ℕ)) (contents : W → 
           above = λ other. absurd (other refl);
           write_fault = λ _. (
             text ++ by.0,
-            inl (all_of (λ input. IsFollowed rule width events input (text ++ by.0)) by.1),
+            elim by.1 [
+              | inl all ↦ inl (all_of (λ input. IsFollowed rule width events input (text ++ by.0)) all)
+              | inr lines ↦ inr (till_end Write (inr refl) (λ e. absurd cc) (text ++ by.0) lines)
+            ],
             AppendsFront-behind (contents (inner_of writer)) (contents (inner_of writer')) (contents (inner_of writer'')) text by.0 far.wrote by.2,
           );
           flushed = tt;

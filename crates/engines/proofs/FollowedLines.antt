@@ -3,7 +3,6 @@ use Rattle.std.proofs.Common.{◌≡◌, ℕ, ◌+◌, ◌<◌, ◌≤◌, ◌==
 use Rattle.std.specs.Prelude.{map, flat_map, min, if◌then◌else◌, Result, Ok, Err, MatchResult}
 use Rattle.std.specs.Io.KnownBytes.{Appends}
 use Rattle.std.specs.List.{slice_split}
-use Rattle.std.proofs.lemmas.Grind.{flat_map-append}
 use Rattle.loss_rule.specs.declared.rule.LossRule.{LossRule}
 use Rattle.receiver.specs.declared.width.Width.{Width}
 use Rattle.receiver.specs.HandedIn.{made_of}
@@ -22,11 +21,8 @@ use Rattle.texts.proofs.OneTrace.{trace_is_determined}
 use Rattle.std.proofs.lemmas.Bool.{cases_lt, eqb-true, eqb-false}
 use Rattle.texts.specs.declared.follow.Followed.{Followed}
 use Rattle.texts.specs.declared.follow.happening.Happening.{Happening}
-use Rattle.texts.specs.declared.follow.happening.Happening.TheVariants.{Gave}
-use Rattle.consumer.specs.declared.given.Given.{Given}
-use Rattle.texts.specs.Happening.{given_line, happening_lines}
 use Rattle.texts.specs.Happened.{HasHappened, HasHappenedFor, HappenedBy, HappenedAt, happening_of, AreNumbered}
-use Rattle.texts.specs.Follow.{told_lines, closed_lines, end_text, IsFollowed, IsFollowedTo, IsFollowedSoFar}
+use Rattle.texts.specs.Follow.{told_lines, IsFollowed, IsFollowedSoFar}
 use Rattle.texts.specs.Trace.Line.{shape_of}
 use Rattle.texts.specs.Trace.Place.{Said, nothing_said_in, trace_format}
 use Rattle.texts.specs.Inside.Followed.{ReceiverUnderWay, HasFollowedLines, IsAllPut, with_told}
@@ -42,8 +38,8 @@ use Rattle.engines.specs.Engine.{engine_fault}
 use Rattle.engines.specs.Transfer.{IsLeftFlushed}
 use Rattle.engines.specs.Writing.{IsWritten}
 use Rattle.engines.specs.Following.{IsBehind, IsTextOfFront, IsTextOfWhole}
-use Rattle.engines.proofs.NumberedHappenings.{at_line, all_of, lines_at, lines_given, within_more, one_front, few_parts, numbered_nothing, numbered_more}
-use Rattle.engines.specs.Inside.Following.{HasFollowedSoFar, HasFollowedBytes, AreWithin, IsLastLine, IsFollowFault, IsFollowFaultOr, IsEndFault, WritesTill, EndsBy}
+use Rattle.engines.proofs.NumberedHappenings.{all_of, within_more, one_front, few_parts, numbered_nothing, numbered_more}
+use Rattle.engines.specs.Inside.Following.{HasFollowedSoFar, HasFollowedBytes, AreWithin, all_at, IsLastLine, IsFollowFault, IsFollowFaultOr, IsEndFault, WritesTill}
 
 -- ---- what was taken, of one taker or of another that stands for as much
 
@@ -63,7 +59,7 @@ retaken format start S T a b follows progress bytes h = (
 )
 
 -- lines are read alike whatever was told before
-read_told : (more : List Happening) {before after : TraceState (List Happening)} {lines : List (List ℕ)} → IsRead taking_format before lines after
+pub read_told : (more : List Happening) {before after : TraceState (List Happening)} {lines : List (List ℕ)} → IsRead taking_format before lines after
     → IsRead taking_format (with_told before more) lines (with_told after more)
 read_told more no_lines = no_lines
 read_told more (skipped none read) = skipped none (read_told more read)
@@ -113,22 +109,29 @@ happened_for state width rule setup (Some now) has put =
           (ap (λ (rest : List Happening). state.state ++ rest) put.0 ∙ append-nil state.state) (followed.happened put.1);
     })
 
--- so where lines were taken
-pub happened_by : (rule : LossRule) (width : Width) (told : List Happening) (follower : Follower) (bytes : List ℕ)
-    → (took : HasTaken taking_format (nothing_taken told rule width) HasFollowedSoFar follower follower.lines bytes) → IsAllPut follower.input.taker
-    → HappenedBy rule width took.1.lines told
-happened_by rule width told follower bytes took put =
-    let are = took.1 in
-    let alone = read_alone are.read in
-    let happened = happened_for are.state follower.input.width follower.input.rule follower.input.setup follower.input.taker are.stands put in
+-- so where lines were read to what a receiver stands for
+pub happened_by : (rule : LossRule) (width : Width) (told : List Happening) (lines : List (List ℕ)) (state : TraceState (List Happening)) (wide : Width) (by : LossRule)
+    (setup : SetupSoFar) (taker : Option ReceiverUnderWay) → IsRead taking_format (nothing_taken told rule width) lines state
+    → HasFollowedLines state wide by setup taker → IsAllPut taker → HappenedBy rule width lines told
+happened_by rule width told lines state wide by setup taker read stands put =
+    let alone = read_alone read in
+    let happened = happened_for state wide by setup taker stands put in
     record {
-      said = are.state.said;
+      said = state.said;
       read = alone.3;
       happened_for =
-          subst (λ (told : List Happening). ((are.state.said.entries ≡ []) × (told ≡ [])) ⊎ HasHappenedFor rule width are.state.said told) alone.0
-          (subst (λ (by : LossRule). ((are.state.said.entries ≡ []) × (are.state.state ≡ [])) ⊎ HasHappenedFor by width are.state.said are.state.state) alone.1
-          (subst (λ (wide : Width). ((are.state.said.entries ≡ []) × (are.state.state ≡ [])) ⊎ HasHappenedFor are.state.rule wide are.state.said are.state.state) alone.2 happened));
+          subst (λ (told : List Happening). ((state.said.entries ≡ []) × (told ≡ [])) ⊎ HasHappenedFor rule width state.said told) alone.0
+          (subst (λ (by : LossRule). ((state.said.entries ≡ []) × (state.state ≡ [])) ⊎ HasHappenedFor by width state.said state.state) alone.1
+          (subst (λ (wide : Width). ((state.said.entries ≡ []) × (state.state ≡ [])) ⊎ HasHappenedFor state.rule wide state.said state.state) alone.2 happened));
     }
+
+-- so where lines were taken
+taken_by : (rule : LossRule) (width : Width) (told : List Happening) (follower : Follower) (bytes : List ℕ)
+    → (took : HasTaken taking_format (nothing_taken told rule width) HasFollowedSoFar follower follower.lines bytes) → IsAllPut follower.input.taker
+    → HappenedBy rule width took.1.lines told
+taken_by rule width told follower bytes took put =
+    let are = took.1 in
+    happened_by rule width told are.lines are.state follower.input.width follower.input.rule follower.input.setup follower.input.taker are.read are.stands put
 
 module _ (rule : LossRule) (width : Width) (events : Bool) where
   -- all whole lines of what was followed were told of
@@ -142,7 +145,7 @@ module _ (rule : LossRule) (width : Width) (events : Bool) where
         parts = are.parts;
         followed = record {
           told = told;
-          happened = happened_by rule width (map happening_of told) follower bytes has.taken has.put;
+          happened = taken_by rule width (map happening_of told) follower bytes has.taken has.put;
           numbered = has.numbered are.lines follower.lines.unfinished are.parts;
           printed = refl;
         };
@@ -314,7 +317,7 @@ pub followed_line : (rule : LossRule) (width : Width) (events : Bool) (bytes pie
     (happened : List Happening) (line : ℕ) → HasFollowedBytes rule width events bytes told before → length (lines_of piece) ≤ 1
     → after.events ≡ before.events → line ≡ after.lines.count
     → HasTaken taking_format (nothing_taken (map happening_of told ++ happened) rule width) HasFollowedSoFar after after.lines (bytes ++ piece)
-    → IsAllPut after.input.taker → HasFollowedBytes rule width events (bytes ++ piece) (told ++ at_line line happened) after
+    → IsAllPut after.input.taker → HasFollowedBytes rule width events (bytes ++ piece) (told ++ all_at line happened) after
 followed_line rule width events bytes piece told before after happened line has few same is took put =
     let was = has.taken.1 in
     let now = took.1 in
@@ -325,13 +328,13 @@ followed_line rule width events bytes piece told before after happened line has 
     omega (arith, ap length both, length-append was.lines ((before.lines.unfinished ++ next.0) ∷ next.1), length-append now.lines (after.lines.unfinished ∷ [])) in
     let short : length next.1 ≤ 1 =
     few_parts next.0 next.1 (subst (λ (parts : List (List ℕ)). length (lines_of_parts parts) ≤ 1) next.2 few) in
-    let told_now = told ++ at_line line happened in
+    let told_now = told ++ all_at line happened in
     let taken_now =
     subst (λ (all : List Happening). HasTaken taking_format (nothing_taken all rule width) HasFollowedSoFar after after.lines (bytes ++ piece))
     (sym (all_of told line happened)) took in
     let by =
     subst (λ (all : List Happening). HappenedBy rule width now.lines all) (sym (all_of told line happened))
-    (happened_by rule width (map happening_of told ++ happened) after (bytes ++ piece) took put) in
+    (taken_by rule width (map happening_of told ++ happened) after (bytes ++ piece) took put) in
     let numbered =
     numbered_more rule width was.lines now.lines ((before.lines.unfinished ++ next.0) ∷ next.1) (after.lines.unfinished ∷ []) told before.lines.count line happened
     (has.numbered was.lines before.lines.unfinished was.parts) has.within (omega (arith, is, was.counted, now.counted, long)) (is ∙ now.counted) both
@@ -395,19 +398,6 @@ fault_of_two width bytes first second third fault is =
 
 -- ---- the end
 
--- all lines were read, the last one with them, and the receiver was closed
-pub closes_followed : (rule : LossRule) (width : Width) (told : List Happening) (bytes : List ℕ) (end : TraceState (List Happening)) (followed : Followed)
-    → IsRead taking_format (nothing_taken told rule width) (lines_of bytes) end → IsFollowedTo end.rule end.width end.said end.state followed
-    → (said : Said) × IsRead trace_format (nothing_said_in (shape_of width default_capacity)) (lines_of bytes) said × IsFollowedTo rule width said told followed
-closes_followed rule width told bytes end followed read to =
-    let alone = read_alone read in (
-      end.said,
-      alone.3,
-      subst (λ (told : List Happening). IsFollowedTo rule width end.said told followed) alone.0
-          (subst (λ (by : LossRule). IsFollowedTo by width end.said end.state followed) alone.1
-          (subst (λ (wide : Width). IsFollowedTo end.rule wide end.said end.state followed) alone.2 to)),
-    )
-
 -- why the last line was not read
 pub end_fault : (rule : LossRule) (width : Width) (told : List Happening) (bytes : List ℕ) (fault : ParseFault)
     → (length bytes < 2 ^ 64 → IsReadingFault taking_format (nothing_taken told rule width) (lines_of bytes) fault)
@@ -416,7 +406,7 @@ end_fault rule width told bytes (parse.Line fault) is = λ few. faulty_alone (no
 end_fault rule width told bytes parse.OutOfMemory is = tt
 
 -- the lines of some bytes: those that line feeds end, and what is behind the last of those if there is anything
-lines_with_last : (bytes : List ℕ) (lines : List (List ℕ)) (rest : List ℕ) → slice_split is_line_feed bytes ≡ lines ++ rest ∷ []
+pub lines_with_last : (bytes : List ℕ) (lines : List (List ℕ)) (rest : List ℕ) → slice_split is_line_feed bytes ≡ lines ++ rest ∷ []
     → lines_of bytes ≡ lines ++ (if length rest == 0 then [] else rest ∷ [])
 lines_with_last bytes lines rest parts = ap lines_of_parts parts ∙ lines_of_parts-append lines rest []
 
@@ -442,80 +432,6 @@ last_is follower line is = λ rule width events bytes told has.
       by_flag true e (inr some) = absurd (omega (arith, some.0, eqb-true (length rest) 0 e))
       by_flag false e (inl empty) = absurd (eqb-false (length rest) 0 e empty.0)
       by_flag false e (inr some) = omega (arith, counted, some.1, with_flag false e, length-append lines (rest ∷ []))
-
--- the text of all that was followed, where this is the number of its last line
-pub followed_text : (rule : LossRule) (width : Width) (events : Bool) (bytes : List ℕ) (told : List HappenedAt) (follower : Follower) (line : ℕ) (end : Followed)
-    (said : Said) → HasFollowedBytes rule width events bytes told follower → IsLastLine follower line
-    → IsRead trace_format (nothing_said_in (shape_of width default_capacity)) (lines_of bytes) said → IsFollowedTo rule width said (map happening_of told) end
-    → IsFollowed rule width events bytes (flat_map (told_lines events) told ++ end_text events line end)
-followed_text rule width events bytes told follower line end said has last read to =
-    let are = has.taken.1 in
-    let number = last rule width events bytes told has in
-    let all = lines_with_last bytes are.lines follower.lines.unfinished are.parts in
-    let told_now = told ++ at_line line to.last in
-    let happened =
-    subst (λ (all : List Happening). HasHappened (made_of rule width.channels end.setup) to.handed to.given all) (sym (all_of told line to.last)) to.happened in
-    let short = one_at_most follower.lines.unfinished in
-    let long = ap length all ∙ length-append are.lines (if length follower.lines.unfinished == 0 then [] else follower.lines.unfinished ∷ []) in
-    record {
-      said = said;
-      read = read;
-      setup = end.setup;
-      is_setup = to.setup;
-      handed = to.handed;
-      entries = to.entries;
-      given = to.given;
-      told = told_now;
-      happened = happened;
-      numbered =
-          numbered_more rule width are.lines (lines_of bytes) (if length follower.lines.unfinished == 0 then [] else follower.lines.unfinished ∷ []) [] told
-          follower.lines.count line to.last (has.numbered are.lines follower.lines.unfinished are.parts) has.within (omega (arith, number, are.counted, long)) number
-          (sym all ∙ sym (append-nil (lines_of bytes))) (omega (arith, long)) (omega (arith, long, short))
-          (record {
-            said = said;
-            read = read;
-            happened_for =
-                inr (record {
-                  setup = end.setup;
-                  is_setup = to.setup;
-                  handed = to.handed;
-                  entries = to.entries;
-                  given = to.given;
-                  receiver = to.receiver;
-                  stands = to.stands;
-                  settled = to.settled;
-                  has_happened = happened;
-                });
-          });
-      rest = to.rest;
-      closed = end.closed;
-      received = to.received;
-      printed = printed_as events line told to.last to.rest end to.are;
-    }
-  where
-    one_at_most : (rest : List ℕ) → length (if length rest == 0 then [] else rest ∷ []) ≤ 1
-    one_at_most rest = by_flag (length rest == 0) where
-      by_flag : (none : Bool) → length (if none then [] else rest ∷ []) ≤ 1
-      by_flag true = omega arith
-      by_flag false = omega arith
-
-    printed_as : (events : Bool) (line : ℕ) (told : List HappenedAt) (last : List Happening) (rest : List Given) (end : Followed)
-        → end.happened.items ≡ last ++ map Gave rest
-        → flat_map (told_lines events) told ++ end_text events line end
-        ≡ flat_map (told_lines events) (told ++ at_line line last) ++ flat_map given_line rest ++ closed_lines end.setup end.closed
-    printed_as events line told last rest end are =
-        let closed = closed_lines end.setup end.closed in
-        let before = flat_map (told_lines events) told in
-        let lasts = flat_map (happening_lines events line) last in
-        let left : flat_map (happening_lines events line) end.happened.items ≡ lasts ++ flat_map given_line rest =
-        ap (flat_map (happening_lines events line)) are ∙ flat_map-append (happening_lines events line) last (map Gave rest)
-        ∙ ap (λ text. lasts ++ text) (lines_given events line rest) in
-        let all : flat_map (told_lines events) (told ++ at_line line last) ≡ before ++ lasts =
-        flat_map-append (told_lines events) told (at_line line last) ∙ ap (λ text. before ++ text) (lines_at events line last) in
-        ap (λ text. before ++ (text ++ closed)) left
-        ∙ sym (append_assoc before (lasts ++ flat_map given_line rest) closed)
-        ∙ ap (λ text. text ++ closed) (sym (append_assoc before lasts (flat_map given_line rest)))
-        ∙ ap (λ text. (text ++ flat_map given_line rest) ++ closed) (sym all)
 
 -- ---- a piece that is written
 
@@ -557,14 +473,3 @@ module _ {W : Type 0} (contents : W → Option (List ℕ)) (writer writer' : Dev
   piece_written rule width events bytes piece told happened follower (Err fault) done wrote stopped =
       let both = stopped_by width (bytes ++ piece) (flat_map (told_lines events) happened) done fault wrote stopped.1 in
       (stopped.0, both.0, both.1)
-
-  -- the end of what was followed
-  pub ends_by : (rule : LossRule) (width : Width) (events : Bool) (bytes : List ℕ) (told : List HappenedAt) (fault : EngineFault) → writer' ≡ writer → IsEndFault width bytes fault
-      → EndsBy contents rule width events bytes told writer writer' fault
-  ends_by rule width events bytes told (Trace fault) same is = (same, is)
-  ends_by rule width events bytes told (Cut fault) same is = absurd is
-  ends_by rule width events bytes told OutOfMemory same is = (same, tt)
-  ends_by rule width events bytes told Read same is = absurd is
-  ends_by rule width events bytes told Write same is = absurd is
-  ends_by rule width events bytes told Usage same is = absurd is
-  ends_by rule width events bytes told (Capture fault) same is = absurd is

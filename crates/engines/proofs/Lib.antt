@@ -9,3 +9,4 @@ pub mod TraceText
 pub mod NumberedHappenings
 pub mod FollowedLines
 pub mod FollowedDevices
+pub mod FollowedEnd

@@ -12,7 +12,7 @@ use Rattle.consumer.specs.declared.given.Given.{Given}
 use Rattle.texts.specs.Happening.{given_line, happening_lines}
 use Rattle.texts.specs.Happened.{HappenedBy, HappenedAt, happening_of, happened_till, AreNumbered}
 use Rattle.texts.specs.Follow.{told_lines}
-use Rattle.engines.specs.Inside.Following.{AreWithin}
+use Rattle.engines.specs.Inside.Following.{AreWithin, all_at}
 
 -- ---- lists
 
@@ -48,22 +48,23 @@ few_parts first (next ∷ third ∷ others) few = absurd (omega (arith, few))
 
 -- ---- things that happened by one line
 
--- all this happened by the line with this number
-abbrev pub at_line : ℕ → List Happening → List HappenedAt
-at_line line happened = map (λ one. record { line = line; happening = one }) happened
-
-of_line : (line : ℕ) (happened : List Happening) → map happening_of (at_line line happened) ≡ happened
+of_line : (line : ℕ) (happened : List Happening) → map happening_of (all_at line happened) ≡ happened
 of_line line [] = refl
 of_line line (one ∷ more) = ap (λ rest. one ∷ rest) (of_line line more)
 
 pub all_of : (told : List HappenedAt) (line : ℕ) (happened : List Happening)
-    → map happening_of (told ++ at_line line happened) ≡ map happening_of told ++ happened
+    → map happening_of (told ++ all_at line happened) ≡ map happening_of told ++ happened
 all_of [] line happened = of_line line happened
 all_of (one ∷ told) line happened = ap (λ rest. one.happening ∷ rest) (all_of told line happened)
 
+-- this, and then that
+pub both_at : (line : ℕ) (happened more : List Happening) → all_at line (happened ++ more) ≡ all_at line happened ++ all_at line more
+both_at line [] more = refl
+both_at line (one ∷ happened) more = ap (λ rest. record { line = line; happening = one } ∷ rest) (both_at line happened more)
+
 -- their lines
 pub lines_at : (events : Bool) (line : ℕ) (happened : List Happening)
-    → flat_map (told_lines events) (at_line line happened) ≡ flat_map (happening_lines events line) happened
+    → flat_map (told_lines events) (all_at line happened) ≡ flat_map (happening_lines events line) happened
 lines_at events line [] = refl
 lines_at events line (one ∷ more) = ap (λ rest. happening_lines events line one ++ rest) (lines_at events line more)
 
@@ -81,9 +82,9 @@ lines_given events line (one ∷ more) =
 -- ---- numbers
 
 -- none has a greater number than so many
-pub within_more : (n line : ℕ) (told : List HappenedAt) (happened : List Happening) → AreWithin n told → n ≤ line → AreWithin line (told ++ at_line line happened)
+pub within_more : (n line : ℕ) (told : List HappenedAt) (happened : List Happening) → AreWithin n told → n ≤ line → AreWithin line (told ++ all_at line happened)
 within_more n line [] happened within few = at line happened where
-  at : (line : ℕ) (happened : List Happening) → AreWithin line (at_line line happened)
+  at : (line : ℕ) (happened : List Happening) → AreWithin line (all_at line happened)
   at line [] = tt
   at line (one ∷ more) = (omega arith, at line more)
 within_more n line (one ∷ told) happened within few = (omega (arith, within.0, few), within_more n line told happened within.1 few)
@@ -100,10 +101,10 @@ till_all n (one ∷ told) within =
     ∙ ap (λ rest. one.happening ∷ rest) (till_all n told within.1)
 
 -- nothing of a later line
-till_later : (n line : ℕ) (happened : List Happening) → n < line → happened_till n (at_line line happened) ≡ []
+till_later : (n line : ℕ) (happened : List Happening) → n < line → happened_till n (all_at line happened) ≡ []
 till_later n line [] later = refl
 till_later n line (one ∷ more) later =
-    ap (λ keeps. map happening_of (if keeps then record { line = line; happening = one } ∷ filter (λ (one : HappenedAt). nat_le one.line n) (at_line line more) else filter (λ (one : HappenedAt). nat_le one.line n) (at_line line more)))
+    ap (λ keeps. map happening_of (if keeps then record { line = line; happening = one } ∷ filter (λ (one : HappenedAt). nat_le one.line n) (all_at line more) else filter (λ (one : HappenedAt). nat_le one.line n) (all_at line more)))
     (not_le (nat_le line n) refl) ∙ till_later n line more later
   where
     not_le : (is : Bool) → nat_le line n ≡ is → nat_le line n ≡ false
@@ -119,9 +120,9 @@ till_both n (one ∷ told) more = by_case (nat_le one.line n) (till_both n told 
   by_case true both = ap (λ rest. one.happening ∷ rest) both
   by_case false both = both
 
-till_before : (n line : ℕ) (told : List HappenedAt) (happened : List Happening) → n < line → happened_till n (told ++ at_line line happened) ≡ happened_till n told
+till_before : (n line : ℕ) (told : List HappenedAt) (happened : List Happening) → n < line → happened_till n (told ++ all_at line happened) ≡ happened_till n told
 till_before n line told happened later =
-    till_both n told (at_line line happened) ∙ ap (λ rest. happened_till n told ++ rest) (till_later n line happened later) ∙ append-nil (happened_till n told)
+    till_both n told (all_at line happened) ∙ ap (λ rest. happened_till n told ++ rest) (till_later n line happened later) ∙ append-nil (happened_till n told)
 
 module _ (rule : LossRule) (width : Width) where
   -- nothing happened where no line was read
@@ -135,13 +136,13 @@ module _ (rule : LossRule) (width : Width) where
   pub numbered_more : (lines all : List (List ℕ)) (rest others : List (List ℕ)) (told : List HappenedAt) (n line : ℕ) (happened : List Happening)
       → AreNumbered rule width lines told → AreWithin n told → n ≤ line → line ≡ min (length all) (2 ^ 64 - 1)
       → lines ++ rest ≡ all ++ others → length lines ≤ length all → length all ≤ length lines + 1
-      → HappenedBy rule width all (map happening_of (told ++ at_line line happened))
-      → AreNumbered rule width all (told ++ at_line line happened)
+      → HappenedBy rule width all (map happening_of (told ++ all_at line happened))
+      → AreNumbered rule width all (told ++ all_at line happened)
   numbered_more lines all rest others told n line happened numbered within few is same longer next by = λ above below are short.
       by_length above below are short (cases_lt (length above) (length all))
     where
       by_length : (above below : List (List ℕ)) → all ≡ above ++ below → length above < 2 ^ 64 - 1 → (length above < length all) ⊎ (length all ≤ length above)
-          → HappenedBy rule width above (happened_till (length above) (told ++ at_line line happened))
+          → HappenedBy rule width above (happened_till (length above) (told ++ all_at line happened))
       by_length above below are short (inl before) =
           let parts = shorter_front above lines (below ++ others) rest (sym (append_assoc above below others) ∙ ap (λ xs. xs ++ others) (sym are) ∙ sym same) (omega (arith, before, next)) in
           subst (λ (happened : List Happening). HappenedBy rule width above happened)
@@ -149,7 +150,7 @@ module _ (rule : LossRule) (width : Width) where
           (numbered above (drop (length above) lines) (sym parts) short)
       by_length above below are short (inr whole) =
           let equal = same_front above all (below ++ []) [] (ap (λ xs. above ++ xs) (append-nil below) ∙ sym are ∙ sym (append-nil all)) (omega (arith, whole, ap length are, length-append above below)) in
-          subst (λ (lines : List (List ℕ)). HappenedBy rule width lines (happened_till (length above) (told ++ at_line line happened))) (sym equal)
+          subst (λ (lines : List (List ℕ)). HappenedBy rule width lines (happened_till (length above) (told ++ all_at line happened))) (sym equal)
           (subst (λ (happened : List Happening). HappenedBy rule width all happened)
-          (sym (till_all (length above) (told ++ at_line line happened) (within_longer line (length above) (told ++ at_line line happened) (within_more n line told happened within few)
+          (sym (till_all (length above) (told ++ all_at line happened) (within_longer line (length above) (told ++ all_at line happened) (within_more n line told happened within few)
           (omega (arith, is, whole))))) by)

@@ -15,6 +15,7 @@ use Rattle.engines.specs.declared.fault.EngineFault.{EngineFault}
 use Rattle.engines.specs.declared.fault.EngineFault.TheVariants.{Trace, Cut, Capture, OutOfMemory, Read, Write, Usage}
 use Rattle.engines.specs.Device.{inner_of, has_failed, given_of}
 use Rattle.engines.specs.Engine.{WritesText}
+use Rattle.engines.specs.Limits.{piece_limit}
 use Rattle.engines.specs.Transfer.{AppendsFront, IsLeftFlushed}
 
 -- why no more of a trace was followed: its first faulty line, where it is known; an allocation; the reader, which failed or gave 2^64 - 1 bytes; the
@@ -52,11 +53,29 @@ module _ (rule : LossRule) (width : Width) (events : Bool) where
     pub parts : slice_split is_line_feed bytes ≡ lines ++ rest ∷ []
     pub followed : IsFollowedSoFar rule width events lines text
 
-  -- What was read where a fault is reported, and the text of what was followed of it: where the reader failed, of all its lines.
+  -- All whole lines of some bytes were followed without a fault but for those that end in a last piece.
+  pub record IsFollowedBefore (bytes : List ℕ) : Type 0 where
+    pub before : List ℕ
+    pub piece : List ℕ
+    pub parts : bytes ≡ before ++ piece
+    pub few : length piece ≤ piece_limit
+    pub text : List ℕ
+    pub whole : IsTextOfWhole before text
+
+  -- All lines of some bytes were followed, also a last one that no line feed ends, and this is the text of all of them: the reader gave no more, and
+  -- then an allocation failed as the receiver was closed, or the writer failed.
+  pub record IsTextOfAll (left : Option (List ℕ)) (fault : EngineFault) (bytes text : List ℕ) : Type 0 where
+    pub ended : IsAtEnd left
+    pub closing : (fault ≡ OutOfMemory) ⊎ (fault ≡ Write)
+    pub followed : IsFollowedSoFar rule width events (lines_of bytes) text
+
+  -- What was read where a fault is reported, and the text of what was followed of it: where the reader failed, of all its lines. **A fault ends the
+  -- reading**: all that was read before the last piece was followed.
   pub record IsFollowedTill (known left : Option (List ℕ)) (fault : EngineFault) (text : List ℕ) : Type 0 where
     pub bytes : List ℕ
     pub read : Consumes known left bytes
-    pub front : IsTextOfFront fault bytes text
+    pub no_further : IsFollowedBefore bytes
+    pub front : IsTextOfFront fault bytes text ⊎ IsTextOfAll left fault bytes text
     pub whole : fault ≡ Read → IsTextOfWhole bytes text
 
   -- **What following a trace promises**, whatever becomes of it: `remaining` are the bytes that a reader is known to have left, `contents` those that a

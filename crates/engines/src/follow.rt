@@ -5,21 +5,22 @@ ghost use Rattle.engines.specs.Device.{IsFresh};
 ghost use Rattle.engines.specs.Following.{FollowsTrace};
 ghost use Rattle.engines.specs.Inside.Following.{HasFollowedBytes, FollowsPiece, IsLastLine};
 ghost use Rattle.engines.specs.Inside.Following.{FollowsWritten, FollowsEnd};
-ghost use Rattle.engines.specs.Inside.Following.{WritesPiece, ClosesFollowed, CannotClose};
-ghost use Rattle.engines.specs.Writing.{IsWritten};
+ghost use Rattle.engines.specs.Inside.Following.{WritesPiece, EndsLines, CannotEnd};
 ghost use Rattle.text_lines.specs.Lines.{lines_of};
-ghost use Rattle.texts.specs.Follow.{end_text};
 
 use crate::device::Device;
 use crate::fault::{EngineFault, WriteFault};
 use crate::text_writer::{TextWriter, held_room};
 use crate::transfer::{read_some, zeros};
+use ended::EndedTrace;
 use loss_rule::LossRule;
 use receiver::Width;
 use std::alloc::{AllocError, Global};
 use std::io::{Read, Write};
 use text_lines::{LineReader, PutText, split_behind_line};
-use texts::{FollowInput, Followed, finish_follow, put_end};
+use texts::FollowInput;
+
+mod ended;
 
 /// How many bytes are asked of the reader at once.
 const PIECE_BYTES: usize = 262_144;
@@ -131,21 +132,27 @@ impl Follower {
         ended.saturating_add(1)
     }
 
-    /// Takes the last line, which no line feed ends, and closes the receiver.
-    fn close(self, alloc: Global) -> Result<Followed, EngineFault>
-        ensures end { IfOk result (ClosesFollowed self) }
-        ensures fault { IfErr result (CannotClose self) }
+    /// Takes the last line, which no line feed ends, if there is one.
+    fn end_lines(self, alloc: Global) -> Result<EndedTrace, EngineFault>
+        ensures end { IfOk result (EndsLines self) }
+        ensures fault { IfErr result (CannotEnd self) }
     {
+        let line = self.last_line();
         let Follower {
             lines,
             mut input,
-            ..
+            events,
         } = self;
         lines.finish(alloc, &mut input)?;
-        Ok(finish_follow(alloc, input)?)
+        Ok(EndedTrace {
+            input,
+            line,
+            events,
+        })
     }
 
-    /// Takes the last line, closes the receiver, and writes what is left to be written.
+    /// Takes the last line, and writes what happens by it; then it closes the receiver, and writes
+    /// what is left to be written.
     fn finish<W: Write>(
         self,
         alloc: Global,
@@ -154,30 +161,10 @@ impl Follower {
     ) -> Result<(), EngineFault>
         ensures { FollowsEnd W.contents self writer.old writer.new result }
     {
-        let line = self.last_line();
-        let events = self.events;
-        let end = self.close(alloc)?;
-        room.clear();
-        write_end(line, events, &end, room, writer)?;
-        Ok(())
+        let mut ended = self.end_lines(alloc)?;
+        ended.write_pending(room, writer)?;
+        ended.close(alloc, room, writer)
     }
-}
-
-/// Writes what is left to be written at the end of a trace that is followed, whose last line has this
-/// number. The room is empty.
-fn write_end<W: Write>(
-    line: u64,
-    events: bool,
-    end: &Followed,
-    room: &mut Vec<u8>,
-    writer: &mut Device<W>,
-) -> Result<(), WriteFault>
-    requires { room.old.items ≡ [] }
-    ensures { IsWritten W.contents (end_text events line end.now) writer.old writer.new result }
-{
-    let mut text = TextWriter::new(writer, room);
-    put_end(&mut text, line, events, end);
-    text.finish()
 }
 
 /// Follows the trace that a reader gives, of a receiver of this width, where besides the decisions

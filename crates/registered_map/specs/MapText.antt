@@ -4,6 +4,7 @@ use Rattle.std.specs.Int.{w64, to_be_bytes}
 use Rattle.std.specs.Fmt.{decimal}
 use Rattle.hex.specs.Hex.{encode_lower}
 use Rattle.text_lines.specs.Lines.{line_feed}
+use Rattle.text_lines.specs.Putting.{spaced}
 use Rattle.registrations.specs.declared.part.MessageName.{MessageName}
 use Rattle.registrations.specs.declared.part.MessageName.TheVariants.{RegRspMp, DbcReq}
 use Rattle.registered_map.specs.Registered.{Registered, RemarksMade}
@@ -14,10 +15,6 @@ use Rattle.registered_map.specs.declared.telling.RegisteredSid.{RegisteredSid}
 use Rattle.registered_map.specs.declared.telling.Remark.{Remark}
 use Rattle.registered_map.specs.declared.telling.RemarkKind.{RemarkKind}
 use Rattle.registered_map.specs.declared.telling.RemarkKind.TheVariants.{Deleted, OfAnotherFlow, LeftOut}
-
--- a space and a number
-abbrev pub spaced : ℕ → List ℕ
-spaced number = codes " " ++ decimal number
 
 -- an octet in hexadecimal, behind a colon
 abbrev pub colon_octet : ℕ → List ℕ

@@ -10,8 +10,8 @@ use crate::remarks::Remarks;
 use crate::telling::{
     RegisteredChannel, RegisteredFlow, RegisteredSid, Remark, RemarkKind, Telling,
 };
-use crate::words::{put_spaced, put_telling, put_word};
-use text_lines::PutText;
+use crate::words::put_telling;
+use text_lines::{PutText, put_spaced, put_word};
 
 /// The window that a flow is given, which no registration says.
 const USUAL_WINDOW: u64 = 1024;

@@ -1,30 +1,15 @@
 //! The words of a map's lines.
 ghost use Rattle.std.specs.Prelude.{flat_map};
 ghost use Rattle.text_lines.specs.Putting.{Puts};
-ghost use Rattle.registered_map.specs.MapText.{spaced, colon_octet, modem_text, seconds_text, message_text, telling_text};
+ghost use Rattle.registered_map.specs.MapText.{colon_octet, modem_text, seconds_text, message_text, telling_text};
 
 use crate::telling::Telling;
 use itoa::Buffer;
 use registrations::MessageName;
-use text_lines::{PutText, put_hex, put_number};
+use text_lines::{PutText, put_hex, put_number, put_spaced, put_word};
 
 /// So many nanoseconds are a second.
 const SECOND: u64 = 1_000_000_000;
-
-/// Puts a word.
-pub(crate) fn put_word<O: PutText>(out: &mut O, word: &str)
-    ensures { Puts O.after out.old word.now out.new }
-{
-    out.put(word.as_bytes());
-}
-
-/// Puts a space and a number.
-pub(crate) fn put_spaced<O: PutText>(out: &mut O, number: u64)
-    ensures { Puts O.after out.old (spaced number) out.new }
-{
-    put_word(out, " ");
-    put_number(out, number);
-}
 
 /// Puts a colon and the two digits of an octet.
 fn put_colon_octet<O: PutText>(out: &mut O, octet: u8)

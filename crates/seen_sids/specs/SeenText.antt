@@ -1,14 +1,10 @@
 -- The table of what was seen.
 use Rattle.std.specs.Prelude.{ℕ, ◌==◌, List, [], ◌∷◌, ◌++◌, codes, slice_index, Option, Some, None, if◌then◌else◌}
-use Rattle.std.specs.Fmt.{decimal}
 use Rattle.text_lines.specs.Lines.{line_feed}
+use Rattle.text_lines.specs.Putting.{spaced}
 use Rattle.seen_sids.specs.Seen.{Seen}
 use Rattle.seen_sids.specs.Guess.{twin_of}
 use Rattle.seen_sids.specs.declared.seen_sid.SeenSid.{SeenSid}
-
--- a space and a number
-abbrev pub spaced : ℕ → List ℕ
-spaced number = codes " " ++ decimal number
 
 -- a SID of a channel
 abbrev pub sid_text : SeenSid → List ℕ

@@ -21,7 +21,6 @@ mod guess;
 mod seen;
 mod seen_sid;
 mod seen_text;
-mod words;
 
 pub use seen::{MOST_PAIRS, SeenSids};
 pub use seen_sid::{KEPT_NUMBERS, SeenSid};

@@ -7,8 +7,7 @@ ghost use Rattle.seen_sids.specs.SeenText.{sid_text, numbers_text, twin_text, ro
 use crate::guess::twin_of;
 use crate::seen::SeenSids;
 use crate::seen_sid::SeenSid;
-use crate::words::{put_spaced, put_word};
-use text_lines::PutText;
+use text_lines::{PutText, put_spaced, put_word};
 
 /// Puts a SID of a channel.
 fn put_sid<O: PutText>(out: &mut O, row: &SeenSid)

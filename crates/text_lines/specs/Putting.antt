@@ -1,5 +1,6 @@
 -- What is put to a text.
-use Rattle.std.specs.Prelude.{◌≡◌, ℕ, IsTrue, List, ◌++◌}
+use Rattle.std.specs.Prelude.{◌≡◌, ℕ, IsTrue, List, ◌++◌, codes}
+use Rattle.std.specs.Fmt.{decimal}
 use Rattle.text_lines.specs.declared.text_buffer.TextBuffer.{TextBuffer}
 
 -- Whatever had been put, now this was put besides: by the relation that what takes the text keeps.
@@ -13,3 +14,7 @@ IsClosed {T} after now = (more : List ℕ) → Puts after now more now
 -- a text in memory that is whole was whole before, and grew by just what was put
 abbrev pub HasGrown : TextBuffer → List ℕ → TextBuffer → Type 0
 HasGrown start text end = IsTrue end.whole → IsTrue start.whole × (end.text.items ≡ start.text.items ++ text)
+
+-- a space and a number
+abbrev pub spaced : ℕ → List ℕ
+spaced number = codes " " ++ decimal number

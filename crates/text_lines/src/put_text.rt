@@ -2,7 +2,7 @@
 ghost use Rattle.std.specs.Prelude.{◌*◌, ◌/◌, ◌++◌, ◌≤◌, IsTrue, List, ℕ, length};
 ghost use Rattle.std.specs.Fmt.{decimal};
 ghost use Rattle.hex.specs.Hex.{encode_lower};
-ghost use Rattle.text_lines.specs.Putting.{Puts, IsClosed};
+ghost use Rattle.text_lines.specs.Putting.{Puts, IsClosed, spaced};
 
 use itoa::Buffer;
 
@@ -22,6 +22,21 @@ pub trait PutText {
     /// Whether what follows makes no difference any more, so that it may be left out.
     fn is_closed(&self) -> bool
         ensures { IsTrue result → IsClosed after self.now };
+}
+
+/// Puts a word, or more than one.
+pub fn put_word<O: PutText>(out: &mut O, word: &str)
+    ensures { Puts O.after out.old word.now out.new }
+{
+    out.put(word.as_bytes());
+}
+
+/// Puts a space and the decimal digits of a number.
+pub fn put_spaced<O: PutText>(out: &mut O, number: u64)
+    ensures { Puts O.after out.old (spaced number) out.new }
+{
+    put_word(out, " ");
+    put_number(out, number);
 }
 
 /// Puts the decimal digits of a number.

@@ -13,7 +13,8 @@ use Rattle.lane.specs.declared.report.LaneReport.{LaneReport}
 use Rattle.receiver.specs.declared.outcome.Outcome.{Outcome}
 use Rattle.receiver.specs.SameOutcome.{GaveTheSame, ReportTheSame, IsSameOutcome}
 use Rattle.text_lines.specs.Lines.{line_feed}
-use Rattle.texts.specs.Report.{spaced, named, counts_text, frame_line, flow_lines, request_line, refused_text, lane_line, numbered_lines, report_text}
+use Rattle.text_lines.specs.Putting.{spaced}
+use Rattle.texts.specs.Report.{named, counts_text, frame_line, flow_lines, request_line, refused_text, lane_line, numbered_lines, report_text}
 
 -- the lines of items are those of others, if those of each place are
 lines_from_same : {T : Type 0} (lines : ℕ → T → List ℕ) (n : ℕ) (items others : List T) → length items ≡ length others

@@ -23,7 +23,8 @@ use Rattle.texts.specs.AnyHeader.{any_header, no_check}
 use Rattle.texts.specs.Happening.{given_line, happening_lines}
 use Rattle.texts.specs.Happened.{AreHandedIn, HasHappened, HappenedBy, HappenedAt, happening_of, AreNumbered}
 use Rattle.texts.specs.Replay.{IsSetupOf}
-use Rattle.texts.specs.Report.{spaced, named, flow_line, numbered_lines}
+use Rattle.text_lines.specs.Putting.{spaced}
+use Rattle.texts.specs.Report.{named, flow_line, numbered_lines}
 use Rattle.texts.specs.Trace.Line.{shape_of}
 use Rattle.texts.specs.Trace.Place.{Said, nothing_said_in, trace_format}
 

@@ -20,7 +20,8 @@ use Rattle.texts.specs.declared.follow.happening.Happening.TheVariants.{Gave, To
 use Rattle.texts.specs.declared.follow.happening.InputKind.{InputKind}
 use Rattle.texts.specs.declared.follow.happening.InputKind.TheVariants as kind
 use Rattle.texts.specs.declared.follow.happening.InputName.{InputName}
-use Rattle.texts.specs.Report.{spaced, named, frame_line, request_line}
+use Rattle.text_lines.specs.Putting.{spaced}
+use Rattle.texts.specs.Report.{named, frame_line, request_line}
 
 -- the name of an input that came on this channel
 abbrev pub name_of_input : ℕ → Input → InputName

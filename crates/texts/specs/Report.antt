@@ -1,7 +1,6 @@
 -- The report of an outcome, line by line.
 use Rattle.std.specs.Prelude.{ℕ, List, [], ◌∷◌, ◌++◌, flat_map, codes}
 use Rattle.std.specs.List.{enumerate_from}
-use Rattle.std.specs.Fmt.{decimal}
 use Rattle.hex.specs.Hex.{encode_lower}
 use Rattle.flow_core.specs.declared.counts.FlowCounts.{FlowCounts}
 use Rattle.lane.specs.declared.admitted.Request.{Request}
@@ -9,10 +8,7 @@ use Rattle.receiver.specs.declared.outcome.FlowOutcome.{FlowOutcome}
 use Rattle.lane.specs.declared.report.LaneReport.{LaneReport}
 use Rattle.receiver.specs.declared.outcome.Outcome.{Outcome}
 use Rattle.text_lines.specs.Lines.{line_feed}
-
--- a space and a number
-abbrev pub spaced : ℕ → List ℕ
-spaced number = codes " " ++ decimal number
+use Rattle.text_lines.specs.Putting.{spaced}
 
 -- a space, a word, a space and a number
 abbrev pub named : List ℕ → ℕ → List ℕ

@@ -1,27 +1,12 @@
 //! The lines of a report.
 ghost use Rattle.std.specs.Prelude.{flat_map};
 ghost use Rattle.text_lines.specs.Putting.{Puts};
-ghost use Rattle.texts.specs.Report.{spaced, named, counts_text, frame_line, flow_line};
+ghost use Rattle.texts.specs.Report.{named, counts_text, frame_line, flow_line};
 ghost use Rattle.texts.specs.Report.{request_line, refused_text, lane_line};
 
 use flow_core::FlowCounts;
 use lane::{LaneReport, Request};
-use text_lines::{PutText, put_hex, put_number};
-
-/// Puts a word.
-pub(crate) fn put_word<O: PutText>(out: &mut O, word: &str)
-    ensures { Puts O.after out.old word.now out.new }
-{
-    out.put(word.as_bytes());
-}
-
-/// Puts a space and a number.
-pub(crate) fn put_spaced<O: PutText>(out: &mut O, number: u64)
-    ensures { Puts O.after out.old (spaced number) out.new }
-{
-    put_word(out, " ");
-    put_number(out, number);
-}
+use text_lines::{PutText, put_hex, put_spaced, put_word};
 
 /// Puts a space, a word, a space and a number.
 pub(crate) fn put_named<O: PutText>(out: &mut O, word: &str, number: u64)

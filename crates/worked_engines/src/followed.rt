@@ -155,6 +155,38 @@ fn writer_that_fails_is_reported(rt: HostRuntime) -> Result<(), Fail> {
     Ok(())
 }
 
+/// A trace of which the last line alone brings something, which no line feed ends.
+const LAST_LINE: &str = "\
+flow 100 0 16 1
+sid 0 1 0
+grant 0 1 1 16
+burst 0 1 ok 8000000000000000000000021111aabb";
+
+#[test]
+fn last_line_is_flushed_before_the_flows_are_closed(rt: HostRuntime) -> Result<(), Fail> {
+    let mut written = Vec::new(rt.alloc());
+    let mut reader = Device::new(LAST_LINE.as_bytes());
+    let full = FitfulWriter::fails_to_flush(&mut written, ErrorKind::BrokenPipe);
+    let mut writer = Device::new(full);
+    let rule = LossRule::Decided;
+    let done = follow_text(
+        rule,
+        Width::PROFILE,
+        false,
+        rt.alloc(),
+        &mut reader,
+        &mut writer,
+    );
+    reader.into_inner();
+    writer.into_inner();
+    assert_eq!(rt; done, Err(EngineFault::Write));
+    assert_eq!(rt;
+        written.as_slice(),
+        b"frame 0 000000021111aabb\n".as_slice()
+    );
+    Ok(())
+}
+
 /// The first of three segments is lost, which channel 1 passes and then channel 0; a line that is no
 /// input stands between. One grant is refused, one burst has none, and one segment comes twice.
 const LOSSY: &str = "\

@@ -46,7 +46,7 @@ fn what_is_asked(alloc: Global, words: &[&str]) -> Asked {
 const USAGE: Asked = Asked::Fault(UsageFault::Usage);
 
 /// Words, each with the name of its case, and what is asked for.
-const WORDS: [(&str, &[&str], Asked); 52] = [
+const WORDS: [(&str, &[&str], Asked); 56] = [
     ("no words at all", &[], Asked::Join),
     ("no command", &["segrx"], Asked::Join),
     ("join", &["segrx", "join"], Asked::Join),
@@ -219,6 +219,26 @@ const WORDS: [(&str, &[&str], Asked); 52] = [
     (
         "a channel too many",
         &["segrx", "follow", "--channels=17"],
+        USAGE,
+    ),
+    (
+        "channels twice",
+        &["segrx", "follow", "--channels=4", "--channels", "4"],
+        USAGE,
+    ),
+    (
+        "channels without a number",
+        &["segrx", "follow", "--channels"],
+        USAGE,
+    ),
+    (
+        "channels that are no number",
+        &["segrx", "follow", "--channels", "--events"],
+        USAGE,
+    ),
+    (
+        "too many channels before help",
+        &["segrx", "follow", "--channels=17", "--help"],
         USAGE,
     ),
     ("channels of run", &["segrx", "run", "--channels=4"], USAGE),

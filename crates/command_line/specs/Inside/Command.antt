@@ -3,7 +3,7 @@ use Rattle.std.specs.Prelude.{◌<◌, ◌≤◌, ℕ, List}
 use Rattle.docsis_wire.specs.Limits.{sequence_modulus}
 use Rattle.command_line.specs.declared.command.Command.{Command}
 use Rattle.command_line.specs.declared.command.Command.TheVariants.{Join, Cut, Replay, Run, Follow, Map, Help}
-use Rattle.command_line.specs.Command.{AsksToCut, AsksToRunBy, AsksToFollow, AskForEvents, options_in, channels_max}
+use Rattle.command_line.specs.Command.{AsksToCut, AsksToRunBy, AsksToFollow, AskForEvents, options_in}
 
 -- the words begin with a command that has options, and this is it
 abbrev pub AsksWithOptions : List (List ℕ) → Command → Type 0
@@ -11,7 +11,6 @@ AsksWithOptions words Join = ⊥
 AsksWithOptions words (Cut first fill) = AsksToCut words × (first < sequence_modulus)
 AsksWithOptions words (Replay rule) = ⊥
 AsksWithOptions words (Run rule mailbox ring) = AsksToRunBy rule words × (1 ≤ mailbox) × (1 ≤ ring)
-AsksWithOptions words (Follow rule channels events) =
-    AsksToFollow rule words × (1 ≤ channels) × (channels ≤ channels_max) × AskForEvents events (options_in words)
+AsksWithOptions words (Follow rule channels events) = AsksToFollow rule channels words × AskForEvents events (options_in words)
 AsksWithOptions words Map = ⊥
 AsksWithOptions words (Help text) = ⊥

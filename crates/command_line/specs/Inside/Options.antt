@@ -5,7 +5,6 @@ use Rattle.docsis_wire.specs.declared.pieces.FillByte.TheVariants.{Zero, Ones}
 use Rattle.text_lines.specs.declared.capacities.Capacities.{Capacities}
 use Rattle.text_lines.specs.Number.{IsNumber}
 use Rattle.text_lines.specs.Capacities.{default_capacity}
-use Rattle.command_line.specs.Command.{channels_max}
 use Rattle.command_line.specs.declared.command.UsageFault.{UsageFault}
 use Rattle.command_line.specs.declared.command.UsageFault.TheVariants.{Usage, OutOfMemory}
 
@@ -47,10 +46,6 @@ ReadsCount most default option (Err OutOfMemory) = ⊥
 -- the capacity that an option asks for
 abbrev pub IsCapacity : Option (List ℕ) → ℕ → Type 0
 IsCapacity = IsCount capacity_max default_capacity
-
--- how many channels the option of `follow` asks for
-abbrev pub ReadsChannels : Option (List ℕ) → Result ℕ UsageFault → Type 0
-ReadsChannels = ReadsCount channels_max channels_max
 
 -- the options of `run` were read: both have a value, or one has none
 abbrev pub ReadsCapacities : Option (List ℕ) → Option (List ℕ) → Result Capacities UsageFault → Type 0

@@ -1,17 +1,14 @@
 -- What a command does.
-use Rattle.std.specs.Prelude.{◌≡◌, ◌<◌, ◌≤◌, ℕ, List, Option, Result, string_bytes}
+use Rattle.std.specs.Prelude.{◌<◌, ◌≤◌, ℕ, List, Option, Result, string_bytes}
 use Rattle.docsis_wire.specs.Limits.{sequence_modulus}
-use Rattle.command_line.specs.Command.{channels_max}
+use Rattle.command_line.specs.Channels.{channels_max}
 use Rattle.command_line.specs.declared.command.Command.{Command}
 use Rattle.command_line.specs.declared.command.Command.TheVariants.{Join, Cut, Replay, Run, Follow, Map, Help}
 use Rattle.engines.specs.declared.device.Device.{Device}
 use Rattle.engines.specs.declared.fault.EngineFault.{EngineFault}
 use Rattle.engines.specs.Engine.{RunsEngine}
-use Rattle.engines.specs.Following.{FollowsTrace}
-use Rattle.flow_records.specs.Limits.{most_flows}
-use Rattle.receiver.specs.declared.width.Width.{Width}
 use Rattle.capture_engines.specs.Mapping.{MapsCapture}
-use Rattle.commands.specs.Program.{WritesHelp}
+use Rattle.commands.specs.Program.{WritesHelp, RunsFollowBy}
 use Rattle.texts.specs.Join.{IsJoined, IsJoinFault}
 use Rattle.texts.specs.Cut.{IsCutText, IsCutFault}
 use Rattle.texts.specs.Replay.{IsReplayedBy, IsReplayFault, IsReportFault}
@@ -26,7 +23,7 @@ Performs remaining contents (Replay rule) reader reader' writer writer' result =
 Performs remaining contents (Run rule mailbox ring) reader reader' writer writer' result =
     RunsEngine remaining contents (IsRunTextBy rule ring mailbox) (IsReportFault ring) reader reader' writer writer' result
 Performs remaining contents (Follow rule channels events) reader reader' writer writer' result =
-    (width : Width) × (width.channels ≡ channels) × (width.flows ≡ most_flows) × FollowsTrace rule width events remaining contents reader reader' writer writer' result
+    RunsFollowBy rule channels events remaining contents reader reader' writer writer' result
 Performs remaining contents Map reader reader' writer writer' result = MapsCapture remaining contents reader reader' writer writer' result
 Performs remaining contents (Help text) reader reader' writer writer' result = WritesHelp contents (string_bytes text) reader reader' writer writer' result
 

@@ -1,7 +1,8 @@
 -- How far a trace was followed.
-use Rattle.std.specs.Prelude.{◌≡◌, ◌<◌, ◌≤◌, ◌^◌, ◌-◌, ◌∷◌, ◌++◌, min, ℕ, Bool, List, [], Option, true, Result, MatchResult, length, map, flat_map}
+use Rattle.std.specs.Prelude.{◌≡◌, ◌⊎◌, ◌<◌, ◌≤◌, ◌^◌, ◌-◌, ◌∷◌, ◌++◌, min, ℕ, Bool, List, [], Option, true, Result, MatchResult, length, map, flat_map}
 use Rattle.std.specs.List.{slice_split}
 use Rattle.std.specs.Io.KnownBytes.{Appends}
+use Rattle.std.specs.declared.alloc.AllocError.{AllocError}
 use Rattle.loss_rule.specs.declared.rule.LossRule.{LossRule}
 use Rattle.receiver.specs.declared.width.Width.{Width}
 use Rattle.text_lines.specs.Capacities.{default_capacity}
@@ -10,17 +11,17 @@ use Rattle.text_lines.specs.Format.{IsRead, IsFirstFaultyLine}
 use Rattle.text_lines.specs.LineReading.{HasTaken, IsSettledFault}
 use Rattle.text_lines.specs.Lines.{lines_of, is_line_feed}
 use Rattle.text_lines.specs.Putting.{Puts}
-use Rattle.texts.specs.declared.follow.Followed.{Followed}
 use Rattle.texts.specs.declared.follow.happening.Happening.{Happening}
-use Rattle.texts.specs.Follow.{told_lines, IsFollowed, IsFollowedTo}
-use Rattle.texts.specs.Happened.{HappenedAt, happening_of, AreNumbered}
+use Rattle.texts.specs.Follow.{told_lines, IsFollowed, IsFollowedSoFar}
+use Rattle.texts.specs.Happened.{HappenedBy, HappenedAt, happening_of, AreNumbered}
 use Rattle.texts.specs.Inside.Followed.{HasFollowedLines, IsAllPut}
 use Rattle.texts.specs.Trace.Line.{shape_of}
-use Rattle.texts.specs.Trace.Place.{Said, nothing_said_in, trace_format}
+use Rattle.texts.specs.Trace.Place.{nothing_said_in, trace_format}
 use Rattle.texts.specs.Inside.TraceInput.{TraceState, taking_format, nothing_taken}
 use Rattle.engines.specs.declared.device.Device.{Device}
 use Rattle.engines.specs.declared.fault.EngineFault.{EngineFault}
 use Rattle.engines.specs.declared.follow.Follower.{Follower}
+use Rattle.engines.specs.declared.follow.ended.EndedTrace.{EndedTrace}
 use Rattle.engines.specs.declared.fault.EngineFault.TheVariants.{Trace, OutOfMemory, Write}
 use Rattle.engines.specs.declared.fault.WriteFault.{WriteFault}
 use Rattle.engines.specs.Device.{inner_of, has_failed}
@@ -61,22 +62,36 @@ FollowsPiece after follower out piece follower' out' result =
     × MatchResult result (λ _. HasFollowedBytes rule width events (bytes ++ piece) (told ++ more) follower')
     (λ fault. IsTextOfFront rule width events fault (bytes ++ piece) (flat_map (told_lines events) (told ++ more)) × IsFollowFault width (bytes ++ piece) fault)
 
--- why the last line was not followed, or the receiver not closed
+-- why the last line was not taken
 abbrev pub IsEndFault : Width → List ℕ → EngineFault → Type 0
 IsEndFault width bytes (Trace fault) =
     length bytes < 2 ^ 64 → IsFirstFaultyLine trace_format (nothing_said_in (shape_of width default_capacity)) (lines_of bytes) fault
 IsEndFault width bytes OutOfMemory = Unit {0}
 IsEndFault width bytes _ = ⊥
 
-abbrev pub CannotClose : Follower → EngineFault → Type 0
-CannotClose follower fault =
+abbrev pub CannotEnd : Follower → EngineFault → Type 0
+CannotEnd follower fault =
     (rule : LossRule) (width : Width) (events : Bool) (bytes : List ℕ) (told : List HappenedAt) → HasFollowedBytes rule width events bytes told follower → IsEndFault width bytes fault
 
--- whatever was followed, all lines were read, the last one with them, and the receiver was closed
-abbrev pub ClosesFollowed : Follower → Followed → Type 0
-ClosesFollowed follower end =
+-- all this happened by the line with this number
+abbrev pub all_at : ℕ → List Happening → List HappenedAt
+all_at line happened = map (λ one. record { line = line; happening = one }) happened
+
+-- All lines of these bytes were followed by this rule for this width, also a last one that no line feed ends, and this was told of what happened by
+-- them: each thing by the number of its line, and what is told besides happens by the last one.
+pub record HasEnded (rule : LossRule) (width : Width) (events : Bool) (bytes : List ℕ) (told : List HappenedAt) (ended : EndedTrace) : Type 0 where
+  pub events_are : ended.events ≡ events
+  pub state : TraceState (List Happening)
+  pub read : IsRead taking_format (nothing_taken (map happening_of told) rule width) (lines_of bytes) state
+  pub stands : HasFollowedLines state ended.input.width ended.input.rule ended.input.setup ended.input.taker
+  pub numbered : (happened : List Happening) → HappenedBy rule width (lines_of bytes) (map happening_of told ++ happened)
+      → AreNumbered rule width (lines_of bytes) (told ++ all_at ended.line happened)
+
+-- whatever was followed, all its lines were
+abbrev pub EndsLines : Follower → EndedTrace → Type 0
+EndsLines follower ended =
     (rule : LossRule) (width : Width) (events : Bool) (bytes : List ℕ) (told : List HappenedAt) → HasFollowedBytes rule width events bytes told follower
-    → (said : Said) × IsRead trace_format (nothing_said_in (shape_of width default_capacity)) (lines_of bytes) said × IsFollowedTo rule width said (map happening_of told) end
+    → HasEnded rule width events bytes told ended
 
 -- this is the number of the last line of whatever was followed, which may not be ended yet
 abbrev pub IsLastLine : Follower → ℕ → Type 0
@@ -115,14 +130,64 @@ module _ {W : Type 0} (contents : W → Option (List ℕ)) where
       (λ fault. IsTextOfFront rule width events fault (bytes ++ piece) (flat_map (told_lines events) (told ++ more)) × IsFollowFaultOr width (bytes ++ piece) fault
       × WritesTill writer writer' (flat_map (told_lines events) more) fault)
 
-  -- by a fault at the end nothing was written or, where the writer failed, a front of the rest of the text
-  abbrev pub EndsBy : LossRule → Width → Bool → List ℕ → List HappenedAt → Device W → Device W → EngineFault → Type 0
-  EndsBy rule width events bytes told writer writer' Write =
+  -- Whatever was followed and told, what was pending was written besides, or not; or it was not there, and nothing was written.
+  abbrev pub PutsPending : EndedTrace → Device W → EndedTrace → Device W → Result (Unit {0}) WriteFault → Result (Unit {0}) AllocError → Type 0
+  PutsPending ended writer ended' writer' written put =
+      (rule : LossRule) (width : Width) (events : Bool) (bytes : List ℕ) (told : List HappenedAt) → HasEnded rule width events bytes told ended
+      → (more : List HappenedAt) × IsWritten contents (flat_map (told_lines events) more) writer writer' written
+      × MatchResult put (λ _. HasEnded rule width events bytes (told ++ more) ended' × IsAllPut ended'.input.taker) (λ _. more ≡ [])
+
+  -- why what was pending was not written: an allocation had failed for it, and nothing was; or the writer failed, and a front went out
+  abbrev pub PendsBy : LossRule → Width → Bool → List ℕ → List HappenedAt → Device W → Device W → EngineFault → Type 0
+  PendsBy rule width events bytes told writer writer' Write =
+      (rest : List ℕ) × IsFollowedSoFar rule width events (lines_of bytes) (flat_map (told_lines events) told ++ rest)
+      × AppendsFront (contents (inner_of writer)) (contents (inner_of writer')) rest × (has_failed writer' ≡ true)
+  PendsBy rule width events bytes told writer writer' OutOfMemory = writer' ≡ writer
+  PendsBy rule width events bytes told writer writer' fault = ⊥
+
+  -- Whatever was followed and told, what was pending was written besides, or there was a fault.
+  abbrev pub WritesPending : EndedTrace → Device W → EndedTrace → Device W → Result (Unit {0}) EngineFault → Type 0
+  WritesPending ended writer ended' writer' result =
+      (rule : LossRule) (width : Width) (events : Bool) (bytes : List ℕ) (told : List HappenedAt) → HasEnded rule width events bytes told ended
+      → MatchResult result
+      (λ _. (more : List HappenedAt) × HasEnded rule width events bytes (told ++ more) ended' × IsAllPut ended'.input.taker
+      × Appends (contents (inner_of writer)) (contents (inner_of writer')) (flat_map (told_lines events) more) × IsLeftFlushed writer writer'
+      × (has_failed writer' ≡ has_failed writer))
+      (λ fault. PendsBy rule width events bytes told writer writer' fault)
+
+  -- why the receiver was not closed, or what is left not written: an allocation failed, and nothing was written; or the writer failed, and a front went
+  -- out
+  abbrev pub ClosesBy : LossRule → Width → Bool → List ℕ → List HappenedAt → Device W → Device W → EngineFault → Type 0
+  ClosesBy rule width events bytes told writer writer' Write =
       (rest : List ℕ) × IsFollowed rule width events bytes (flat_map (told_lines events) told ++ rest)
       × AppendsFront (contents (inner_of writer)) (contents (inner_of writer')) rest × (has_failed writer' ≡ true)
+  ClosesBy rule width events bytes told writer writer' OutOfMemory = writer' ≡ writer
+  ClosesBy rule width events bytes told writer writer' fault = ⊥
+
+  -- Whatever was followed and told, the receiver was closed and the rest of the text was written, or there was a fault.
+  abbrev pub ClosesFollowed : EndedTrace → Device W → Device W → Result (Unit {0}) EngineFault → Type 0
+  ClosesFollowed ended writer writer' result =
+      (rule : LossRule) (width : Width) (events : Bool) (bytes : List ℕ) (told : List HappenedAt) → HasEnded rule width events bytes told ended
+      → MatchResult result
+      (λ _. (rest : List ℕ) × IsFollowed rule width events bytes (flat_map (told_lines events) told ++ rest)
+      × Appends (contents (inner_of writer)) (contents (inner_of writer')) rest × IsLeftFlushed writer writer' × (has_failed writer' ≡ has_failed writer))
+      (λ fault. ClosesBy rule width events bytes told writer writer' fault)
+
+  -- By a fault at the end nothing was written, or the rest of the text of all lines; where the writer failed, a front of that or of the rest of the whole
+  -- text.
+  abbrev pub EndsBy : LossRule → Width → Bool → List ℕ → List HappenedAt → Device W → Device W → EngineFault → Type 0
+  EndsBy rule width events bytes told writer writer' Write =
+      (rest : List ℕ)
+      × (IsFollowed rule width events bytes (flat_map (told_lines events) told ++ rest)
+      ⊎ IsFollowedSoFar rule width events (lines_of bytes) (flat_map (told_lines events) told ++ rest))
+      × AppendsFront (contents (inner_of writer)) (contents (inner_of writer')) rest × (has_failed writer' ≡ true)
+  EndsBy rule width events bytes told writer writer' OutOfMemory =
+      (writer' ≡ writer)
+      ⊎ ((rest : List ℕ) × IsFollowedSoFar rule width events (lines_of bytes) (flat_map (told_lines events) told ++ rest)
+      × Appends (contents (inner_of writer)) (contents (inner_of writer')) rest × IsLeftFlushed writer writer')
   EndsBy rule width events bytes told writer writer' fault = (writer' ≡ writer) × IsEndFault width bytes fault
 
-  -- The end of some bytes that were followed and told of: the rest of their text was written; or, by a fault, nothing, or a front of it.
+  -- The end of some bytes that were followed and told of: the rest of their text was written, or there was a fault.
   abbrev pub FollowsEnd : Follower → Device W → Device W → Result (Unit {0}) EngineFault → Type 0
   FollowsEnd follower writer writer' result =
       (rule : LossRule) (width : Width) (events : Bool) (bytes : List ℕ) (told : List HappenedAt) → HasFollowedBytes rule width events bytes told follower

@@ -7,10 +7,10 @@ ghost use Rattle.texts.specs.Happening.{refused_line, admitted_lines, took_lines
 ghost use Rattle.texts.specs.Happening.{decision_words, stands_line, event_lines};
 
 use super::happening::{Happening, InputKind, InputName};
-use crate::report_lines::{put_named, put_spaced, put_word};
+use crate::report_lines::put_named;
 use lane::Refusal;
 use receiver::{DecisionReply, Reply, SegmentVerdict, Told};
-use text_lines::PutText;
+use text_lines::{PutText, put_spaced, put_word};
 
 /// Puts the front of a line that is about the line of a trace with this number.
 fn put_head<O: PutText>(out: &mut O, line: u64)

@@ -7,13 +7,11 @@ ghost use Rattle.texts.specs.Report.{numbered_lines};
 
 use super::event_lines::put_event;
 use super::happening::Happening;
-use crate::report_lines::{
-    put_flow_line, put_frame_line, put_named, put_request_line, put_spaced, put_word,
-};
+use crate::report_lines::{put_flow_line, put_frame_line, put_named, put_request_line};
 use consumer::Given;
 use flow_core::{FlowCounts, FlowRecord};
 use receiver::{Closed, LaneTally, Setup};
-use text_lines::PutText;
+use text_lines::{PutText, put_spaced, put_word};
 
 /// Puts the line of a frame or of a request.
 fn put_given<O: PutText>(out: &mut O, given: &Given)

@@ -7,4 +7,6 @@ returns-2 g c = ((c.asked_rule_of-run_rule.ensures c.in-Some-run_rule.rule).0 c.
 pub returns-3 : goal.returns-3
 returns-3 g c =
     let asks = (c.asked_rule_of-follow_rule.ensures c.in-Some-follow_rule.rule).0 c.in-Some-follow_rule.is in
-    (asks, search rules, search rules, c.asked_events-events.ensures asks.0)
+    let channels = c.in-Some-asked_channels_of.channels in
+    let wide = (c.asked_channels_of.ensures channels).0 c.in-Some-asked_channels_of.is in
+    ((asks.0, asks.1, wide.1), c.asked_events-events.ensures asks.0)

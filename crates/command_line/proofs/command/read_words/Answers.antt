@@ -4,9 +4,11 @@ use Rattle.std.proofs.lemmas.Option.{same_Some}
 use Rattle.std.specs.Prelude.{map, not, codes}
 use Rattle.loss_rule.specs.declared.rule.LossRule.{LossRule}
 use Rattle.command_line.specs.declared.command.Command.TheVariants.{Follow}
-use Rattle.command_line.specs.Command.{options_in, channels_max}
+use Rattle.command_line.specs.Channels.{channels_max}
+use Rattle.command_line.specs.Command.{options_in}
 use Rattle.command_line.proofs.AskedRules.{AskForRule-alone}
 use Rattle.command_line.proofs.AskedEvents.{AskForRule-follow, AskForEvents-alone}
+use Rattle.command_line.proofs.AskedChannels.{AskForChannels-alone}
 use Rattle.command_line.proofs.AskedWithoutHelp.{runs_without_help, follows_without_help}
 use Rattle.command_line.proofs.CommandsApart.{commands_apart, replay_is_not_run, follow_is_not_replay, follow_is_not_run}
 use Rattle.command_line.proofs.AskedWords.{AsksForAnEngine-with_options}
@@ -83,10 +85,8 @@ returns-in-Some-asked_follow_alone-clause-asked g c =
     let rule = c.in-Some-asked_follow_alone.rule in
     let events = c.in-Some-asked_follow_alone.events in
     let follows = (c.asked_follow_alone.ensures rule events).0 c.in-Some-asked_follow_alone.is in (
-      (follows.0, AskForRule-follow rule events (options_in words) follows.1),
+      (follows.0, AskForRule-follow rule events (options_in words) follows.1, AskForChannels-alone rule events (options_in words) follows.1),
       follows_without_help rule events words follows,
-      omega arith,
-      omega arith,
       AskForEvents-alone rule events (options_in words) follows.1,
     )
 

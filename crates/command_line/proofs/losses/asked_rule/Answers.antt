@@ -11,8 +11,8 @@ returns-in-None g c =
     AskForRule-named (map g.S.AsStr.text c.args.options.now) c.in-Some.name.now c.rule_named.result (behind, c.in-Some.ensures, c.in-None.ensures)
     c.rule_named.ensures
 
-pub returns-in-Some-first_losses : goal.returns-in-Some-first_losses
-returns-in-Some-first_losses g c =
-    let second = c.in-Some-first_losses.field-0 in
+pub returns-in-Some-first_value : goal.returns-in-Some-first_value
+returns-in-Some-first_value g c =
+    let second = c.in-Some-first_value.field-0 in
     AskForRule-twice (map g.S.AsStr.text c.args.options.now) c.in-Some.name.now second.0.now (map g.S.AsStr.text c.in-Some.behind.now)
-    (map g.S.AsStr.text second.1.now) c.in-Some.ensures c.in-Some-first_losses.ensures
+    (map g.S.AsStr.text second.1.now) c.in-Some.ensures c.in-Some-first_value.ensures

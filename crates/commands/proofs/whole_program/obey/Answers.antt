@@ -3,7 +3,8 @@ use Rattle.std.specs.Prelude.{map}
 use Rattle.loss_rule.specs.declared.rule.LossRule.{LossRule}
 use Rattle.command_line.specs.declared.command.Command.TheVariants.{Join, Replay, Run, Follow, Map}
 use Rattle.engines.specs.Fault.{usage_fault}
-use Rattle.command_line.specs.Command.{AsksToJoin, AsksToReplayBy, AsksToRunByAlone, AsksToFollowAlone, AsksToMap, channels_max}
+use Rattle.command_line.specs.Command.{AsksToJoin, AsksToReplayBy, AsksToRunByAlone, AsksToFollowAlone, AsksToMap}
+use Rattle.command_line.specs.Channels.{channels_max}
 use Rattle.text_lines.specs.Capacities.{default_capacity}
 use Rattle.commands.proofs.ObeyedWords.{Obeys-performed, Obeys-refused, is_fault}
 use Rattle.commands.proofs.whole_program.obey.Goals as goal

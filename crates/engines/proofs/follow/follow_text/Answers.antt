@@ -1,4 +1,4 @@
-use Rattle.std.proofs.Common.{◌≡◌, inl, inr, take, length, sym, ap, subst, ◌∙◌, rules}
+use Rattle.std.proofs.Common.{◌≡◌, ◌≤◌, inl, inr, take, length, length-take, sym, ap, subst, ◌∙◌, arith, rules}
 use Rattle.std.specs.Io.KnownBytes.{Consumes}
 use Rattle.std.proofs.KnownBytes.{Keeps-refl}
 use Rattle.std.proofs.lemmas.Result.{err_from_is_err_and}
@@ -49,11 +49,13 @@ returns-in_err-take_piece g c =
     let front_is = of_room c.in_ok-count.count c.loop.piece.len front _ c.in_ok-count.ensures.within long in
     let p = err_from_is_err_and c.from_residual-in_err-take_piece.result c.from_residual-in_err-take_piece.ensures.1 in
     let followed = c.in_err-take_piece.ensures c.args.rule c.args.width c.args.events far.bytes far.told far.followed in
+    let few : length (take c.in_ok-count.count c.deref.result.now) ≤ 262144 =
+    omega (arith, length-take c.in_ok-count.count c.deref.result.now, c.in_ok-count.ensures.within, long, c.loop.invariant.room) in
     rw (p.1, p.2)
     (trace_stopped g.R.Read.remaining g.W.Write.contents c.args.rule c.args.width c.args.events c.args.reader.now c.args.writer.now c.loop.reader c.loop.writer c.loop.follower far
     c.read_some.new.reader (take c.in_ok-count.count c.deref.result.now)
     (subst (Consumes (g.R.Read.remaining (inner_of c.loop.reader)) (g.R.Read.remaining (inner_of c.read_some.new.reader))) (sym (ap (take c.in_ok-count.count) piece ∙ front_is))
-    c.in_ok-count.ensures.taken) c.take_piece.new.writer followed.0 _ followed.1.0 followed.1.1 followed.1.2)
+    c.in_ok-count.ensures.taken) few c.take_piece.new.writer followed.0 _ followed.1.0 followed.1.1 followed.1.2)
 
 pub loop-preserved : goal.loop-preserved
 loop-preserved g c =

@@ -1,7 +1,6 @@
 use Rattle.std.proofs.Common.{take}
 use Rattle.std.specs.Prelude.{flat_map}
-use Rattle.text_lines.specs.Putting.{Puts}
-use Rattle.texts.specs.Report.{spaced}
+use Rattle.text_lines.specs.Putting.{Puts, spaced}
 use Rattle.texts.proofs.report_lines.put_refused.Given as goal
 
 abbrev pub invariant-loop-number : goal.invariant-loop-number

@@ -7,8 +7,8 @@ use Rattle.texts.specs.Happened.{happening_of}
 use Rattle.std.proofs.lemmas.Result.{err_from_is_err_and}
 use Rattle.texts.proofs.PutLines.{puts-nothing}
 use Rattle.engines.specs.declared.fault.EngineFault.TheVariants.{OutOfMemory}
-use Rattle.engines.specs.Inside.Following.{HasFollowedSoFar}
-use Rattle.engines.proofs.NumberedHappenings.{at_line, lines_at}
+use Rattle.engines.specs.Inside.Following.{HasFollowedSoFar, all_at}
+use Rattle.engines.proofs.NumberedHappenings.{lines_at}
 use Rattle.engines.proofs.FollowedLines.{retaken, taken_told, told_above, fault_of_piece, followed_line}
 use Rattle.engines.proofs.follow.Follower.take_line.Goals as goal
 
@@ -42,7 +42,7 @@ returns g c = λ rule width events bytes told has.
     let line = c.line_count-line.result in
     let was = retaken _ _ HasFollowedSoFar _ c.args.self.now c.args.self.now.input (λ state stands. stands) c.args.self.now.lines bytes has.taken in
     let taken = c.in_ok-take_piece.ensures.taken _ bytes was in (
-      at_line line put.happened,
+      all_at line put.happened,
       subst (λ (text : List ℕ). Puts g.O.PutText.after c.args.out.now text c.put_happened.new.out) (sym (lines_at events line put.happened))
           (subst (λ (told_of : Bool). Puts g.O.PutText.after c.args.out.now (flat_map (happening_lines told_of line) put.happened) c.put_happened.new.out) has.events_are put.put),
       followed_line rule width events bytes c.args.piece.now told c.args.self.now _ put.happened line has c.requires refl c.line_count-line.ensures
