@@ -2,7 +2,7 @@
 ghost use Rattle.std.specs.Prelude.{◌≡◌, ◌≢◌, ℕ, Bool, List, IfErr, OnOk};
 ghost use Rattle.std.specs.List.{AllByRecursion};
 ghost use Rattle.docsis_wire.specs.Frame.{IsGenericFrame, IsFrame};
-ghost use Rattle.docsis_wire.specs.Pieces.{IsUnlawful, IsCuttable, Reports};
+ghost use Rattle.docsis_wire.specs.Pieces.{fill_byte, IsUnlawful, IsCuttable, Reports};
 
 use crate::buffer::Bytes;
 use crate::cursor::{START, advance, first_start};
@@ -50,6 +50,18 @@ pub enum CutFault {
     /// An allocation failed. It is reported only of frames and pieces without a fault.
     #[error("out of memory")]
     OutOfMemory,
+}
+
+impl FillByte {
+    /// The byte itself.
+    pub fn byte(self) -> u8
+        ensures { result ≡ fill_byte self }
+    {
+        match self {
+            FillByte::Zero => 0x00,
+            FillByte::Ones => 0xFF,
+        }
+    }
 }
 
 /// Looks for the first fault of the frames and then of the pieces. It takes no memory.
