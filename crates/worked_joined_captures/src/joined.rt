@@ -1,0 +1,162 @@
+//! What comes of a capture that is joined.
+use crate::samples::{joined_file, map_of_two_channels, two_segments};
+use captured_flows::Waits;
+use engines::{Device, EngineFault};
+use frame_engine::{CaptureSettings, CaptureTally, FrameReading, InnerCheck, join_capture};
+use frame_records::FrameLink;
+use loss_rule::LossRule;
+use std::alloc::Global;
+use std::io;
+use std::io::{Error, ErrorKind, Read, Write};
+use std::test::Fail;
+
+/// Gives some bytes, so many at once.
+#[derive(Drop)]
+struct InPieces<'a> {
+    rest: &'a [u8],
+    size: usize,
+}
+
+impl Read for InPieces<'_> {
+    fn read(&mut self, buf: &mut [u8]) -> io::Result<usize> {
+        let count = self.size.min(self.rest.len()).min(buf.len());
+        let (front, rest) = self.rest.split_at(count);
+        buf[..count].copy_from_slice(front);
+        self.rest = rest;
+        Ok(count)
+    }
+}
+
+/// Takes nothing.
+#[derive(Drop)]
+struct Full;
+
+impl Write for Full {
+    fn write(&mut self, _buf: &[u8]) -> io::Result<usize> {
+        Err(Error::new(ErrorKind::StorageFull, "full"))
+    }
+
+    fn flush(&mut self) -> io::Result<()> {
+        Ok(())
+    }
+}
+
+/// The settings that are usual, with this link type.
+fn settings(link: FrameLink) -> CaptureSettings {
+    CaptureSettings {
+        rule: LossRule::PassedOrSlid,
+        waits: Waits {
+            reorder: 2_000_000,
+            wait: 20_000_000,
+        },
+        check: InnerCheck::Sequence,
+        link,
+    }
+}
+
+/// What came of a capture.
+#[derive(Drop)]
+struct Joined {
+    done: Result<(), EngineFault>,
+    frames: Vec<u8>,
+    requests: Vec<u8>,
+    tally: CaptureTally,
+}
+
+/// Joins a capture that is read in pieces of this size.
+fn join(alloc: Global, bytes: &[u8], size: usize, link: FrameLink) -> Result<Joined, Fail> {
+    let capture_map = map_of_two_channels(alloc)?;
+    let mut tally = CaptureTally::new(alloc, &capture_map, true)?;
+    let Ok(reading) = FrameReading::new(alloc, settings(link), capture_map) else {
+        return Err("the map can't be set up".into());
+    };
+    let mut frames = Vec::new(alloc);
+    let mut requests = Vec::new(alloc);
+    let mut reader = Device::new(InPieces { rest: bytes, size });
+    let mut writer = Device::new(&mut frames);
+    let mut lines = Some(Device::new(&mut requests));
+    let done = join_capture(alloc, reading, &mut tally, &mut lines, &mut reader, &mut writer);
+    reader.into_inner();
+    writer.into_inner();
+    if let Some(lines) = lines {
+        lines.into_inner();
+    }
+    Ok(Joined {
+        done,
+        frames,
+        requests,
+        tally,
+    })
+}
+
+#[test]
+fn a_capture_is_joined_in_pieces_of_any_size(rt: HostRuntime) -> Result<(), Fail> {
+    let bytes = two_segments(rt.alloc())?;
+    for (link, size) in [(FrameLink::Docsis, 7), (FrameLink::Xra, 1_000_000)] {
+        let wanted = joined_file(rt.alloc(), link)?;
+        let joined = join(rt.alloc(), &bytes, size, link)?;
+        assert!(rt; joined.done.is_ok());
+        assert!(rt; joined.frames == wanted);
+        assert!(rt; joined.requests.as_slice()
+            == b"time,channel,sid,flow,cluster,units\n1.000000001,0,7,0,0,9\n".as_slice());
+    }
+    Ok(())
+}
+
+#[test]
+fn a_capture_is_counted(rt: HostRuntime) -> Result<(), Fail> {
+    let bytes = two_segments(rt.alloc())?;
+    let joined = join(rt.alloc(), &bytes, 50, FrameLink::Docsis)?;
+    let summary = &joined.tally.summary;
+    assert!(rt; summary.records == 3 && summary.earlier == 0);
+    assert!(rt; summary.passed.unknown_channel == 1);
+    let flow = &summary.flows[0];
+    assert!(rt; flow.counts.kept == 2 && flow.counts.frames == 1 && flow.counts.lost == 0);
+    assert!(rt; flow.wrong == 1 && flow.requests == 1 && flow.units == 9);
+    for channel in &summary.channels {
+        assert!(rt; channel.bursts == 1 && channel.admitted == 1 && channel.refused.is_empty());
+    }
+    assert!(rt; !joined.tally.lost_requests());
+    Ok(())
+}
+
+#[test]
+fn a_fault_is_told_behind_the_frames_before_it(rt: HostRuntime) -> Result<(), Fail> {
+    let mut bytes = two_segments(rt.alloc())?;
+    bytes.pop();
+    let joined = join(rt.alloc(), &bytes, 50, FrameLink::Docsis)?;
+    match joined.done {
+        Err(EngineFault::Capture(fault)) => assert!(rt; fault.records == 2),
+        _ => return Err("another outcome".into()),
+    }
+    // The header alone: the frame isn't whole.
+    assert!(rt; joined.frames.len() == 24);
+    let joined = join(rt.alloc(), &[], 50, FrameLink::Docsis)?;
+    assert!(rt; matches!(joined.done, Err(EngineFault::Capture(_))));
+    Ok(())
+}
+
+#[test]
+fn a_full_writer_is_a_fault(rt: HostRuntime) -> Result<(), Fail> {
+    let alloc = rt.alloc();
+    let bytes = two_segments(alloc)?;
+    let capture_map = map_of_two_channels(alloc)?;
+    let mut tally = CaptureTally::new(alloc, &capture_map, false)?;
+    let Ok(reading) = FrameReading::new(alloc, settings(FrameLink::Xra), capture_map) else {
+        return Err("the map can't be set up".into());
+    };
+    let mut reader = Device::new(InPieces {
+        rest: &bytes,
+        size: 50,
+    });
+    let mut writer = Device::new(Full);
+    let mut lines: Option<Device<Full>> = None;
+    let done = join_capture(alloc, reading, &mut tally, &mut lines, &mut reader, &mut writer);
+    reader.into_inner();
+    writer.into_inner();
+    if let Some(lines) = lines {
+        lines.into_inner();
+    }
+    assert!(rt; matches!(done, Err(EngineFault::Write)));
+    Ok(())
+}

@@ -1,0 +1,88 @@
+//! A capture of a frame in two segments on two channels, and its map.
+use capture_map::{CaptureMap, MapChannel, MapFlow, MapSid};
+use docsis_wire::check_sequence;
+use frame_records::{FrameLink, FrameOrigin, put_file_header, put_frame};
+use std::alloc::{AllocError, Global};
+
+/// The map of one flow, which begins at 0, with a service identifier, 7, on the upstream channels 100
+/// and 101.
+pub(crate) fn map_of_two_channels(alloc: Global) -> Result<CaptureMap, AllocError> {
+    let flow = MapFlow {
+        sfid: 1,
+        first: Some(0),
+        window: 64,
+        clusters: 1,
+    };
+    let mut capture_map = CaptureMap {
+        flows: vec![in alloc; flow]?,
+        channels: Vec::new(alloc),
+        sids: Vec::new(alloc),
+    };
+    for channel in 0..2_u8 {
+        let id = 100 + u32::from(channel);
+        capture_map.channels.push(MapChannel { channel, id })?;
+        capture_map.sids.push(MapSid {
+            channel,
+            sid: 7,
+            flow: 0,
+        })?;
+    }
+    Ok(capture_map)
+}
+
+/// A frame of eight bytes, whose header check sequence is right.
+pub(crate) fn frame() -> [u8; 8] {
+    let [low, high] = check_sequence(&[0, 0, 0, 2]).to_le_bytes();
+    [0, 0, 0, 2, low, high, 0xaa, 0xbb]
+}
+
+/// The header of the segment with this number, in which a frame begins at its front or none does, and
+/// which asks for so many units.
+fn header(number: u8, begins: bool, units: u8) -> [u8; 8] {
+    let first = if begins { 0x80 } else { 0 };
+    let front = [first, 0, 0, number.wrapping_mul(8), 0, units];
+    let [low, high] = check_sequence(&front).to_le_bytes();
+    [front[0], front[1], front[2], front[3], front[4], front[5], low, high]
+}
+
+/// Appends a record of a packet with a burst on this upstream channel, which came at this second.
+fn put_burst(
+    out: &mut Vec<u8>,
+    second: u8,
+    channel: u8,
+    header: [u8; 8],
+    payload: &[u8],
+) -> Result<(), AllocError> {
+    let length = (22 + payload.len()) as u8;
+    out.extend_from_slice(&[0, 0, 0, second, 0, 0, 0, 1, 0, 0, 0, length, 0, 0, 0, length])?;
+    out.extend_from_slice(&[1, 0x41, 0, 10, 10, 1, channel, 11, 2, 0, 7, 18, 1, 1])?;
+    out.extend_from_slice(&header)?;
+    out.extend_from_slice(payload)
+}
+
+/// A capture of the frame in two segments, the second a second after the first, and between them of a
+/// burst on an upstream channel that the map doesn't have.
+pub(crate) fn two_segments(alloc: Global) -> Result<Vec<u8>, AllocError> {
+    let frame = frame();
+    let mut file = Vec::new(alloc);
+    file.extend_from_slice(&[
+        0xa1, 0xb2, 0x3c, 0x4d, 0, 2, 0, 4, 0, 0, 0, 0, 0, 0, 0, 0, 0, 4, 0, 0, 0, 0, 1, 0x11,
+    ])?;
+    put_burst(&mut file, 1, 100, header(0, true, 9), &frame[..5])?;
+    put_burst(&mut file, 1, 102, header(0, true, 0), &frame)?;
+    put_burst(&mut file, 2, 101, header(1, false, 0), &frame[5..])?;
+    Ok(file)
+}
+
+/// The file of that frame, at the time of the second segment.
+pub(crate) fn joined_file(alloc: Global, link: FrameLink) -> Result<Vec<u8>, AllocError> {
+    let origin = FrameOrigin {
+        channel: 101,
+        sid: 7,
+        burst_id: None,
+    };
+    let mut file = Vec::new(alloc);
+    put_file_header(&mut file, link)?;
+    put_frame(alloc, &mut file, link, 2_000_000_001, &origin, &frame())?;
+    Ok(file)
+}

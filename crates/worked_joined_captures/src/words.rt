@@ -1,0 +1,87 @@
+//! What words ask of a capture.
+use capture_command::{CaptureWords, asks_to_capture, read_capture_words};
+use command_line::UsageFault;
+use frame_engine::InnerCheck;
+use frame_records::FrameLink;
+use loss_rule::LossRule;
+use std::test::Fail;
+
+#[test]
+fn words_without_options_are_the_usual(rt: HostRuntime) -> Result<(), Fail> {
+    let words = ["segrx", "capture", "map.txt"];
+    assert!(rt; asks_to_capture(&words));
+    match read_capture_words(rt.alloc(), &words)? {
+        CaptureWords::Capture(asked) => {
+            assert!(rt; asked.map.as_str() == "map.txt");
+            assert!(rt; asked.settings.rule == LossRule::PassedOrSlid);
+            assert!(rt; asked.settings.waits.wait == 20_000_000);
+            assert!(rt; asked.settings.waits.reorder == 2_000_000);
+            assert!(rt; asked.settings.check == InnerCheck::Sequence);
+            assert!(rt; asked.settings.link == FrameLink::Docsis);
+            assert!(rt; asked.report.is_none() && asked.requests.is_none());
+        }
+        CaptureWords::Help(_) => return Err("help".into()),
+    }
+    Ok(())
+}
+
+#[test]
+fn options_are_read(rt: HostRuntime) -> Result<(), Fail> {
+    let words = [
+        "segrx", "capture", "--losses=decided", "--wait", "0", "m", "--reorder=3600000", "--link",
+        "xra", "--no-check", "--report", "r", "--requests=q",
+    ];
+    match read_capture_words(rt.alloc(), &words)? {
+        CaptureWords::Capture(asked) => {
+            assert!(rt; asked.settings.rule == LossRule::Decided);
+            assert!(rt; asked.settings.waits.wait == 0);
+            assert!(rt; asked.settings.waits.reorder == 3_600_000_000_000);
+            assert!(rt; asked.settings.check == InnerCheck::Nothing);
+            assert!(rt; asked.settings.link == FrameLink::Xra);
+            assert!(rt; asked.report.is_some() && asked.requests.is_some());
+        }
+        CaptureWords::Help(_) => return Err("help".into()),
+    }
+    Ok(())
+}
+
+#[test]
+fn words_that_are_not_understood(rt: HostRuntime) -> Result<(), Fail> {
+    assert!(rt; !asks_to_capture(&["segrx", "map"]) && !asks_to_capture(&["segrx"]));
+    for words in [
+        ["capture", "", "", ""],
+        ["capture", "m", "n", ""],
+        ["capture", "m", "--losses", "other"],
+        ["capture", "m", "--wait", "3600001"],
+        ["capture", "m", "--reorder", "-1"],
+        ["capture", "m", "--link", "ethernet"],
+        ["capture", "m", "--no-check", "--no-check"],
+        ["capture", "m", "--channels", "4"],
+        ["capture", "m", "--report", ""],
+    ] {
+        let count = if words[1].is_empty() {
+            1
+        } else if words[3].is_empty() && words[2] != "--report" {
+            3
+        } else if words[3].is_empty() {
+            3
+        } else {
+            4
+        };
+        let mut all = Vec::new(rt.alloc());
+        all.push("segrx")?;
+        all.extend_from_slice(&words[..count])?;
+        let read = read_capture_words(rt.alloc(), &all);
+        assert!(rt; matches!(read, Err(UsageFault::Usage)));
+    }
+    Ok(())
+}
+
+#[test]
+fn help_is_asked_for(rt: HostRuntime) -> Result<(), Fail> {
+    match read_capture_words(rt.alloc(), &["segrx", "capture", "--help"])? {
+        CaptureWords::Help(text) => assert!(rt; text.as_str().contains("segrx capture MAP")),
+        CaptureWords::Capture(_) => return Err("no help".into()),
+    }
+    Ok(())
+}
