@@ -26,7 +26,14 @@ fn words_of(rt: &HostRuntime) -> Result<Vec<String>, UsageFault> {
 fn main(rt: HostRuntime) -> ExitCode {
     let status = match words_of(&rt) {
         Ok(words) if asks_to_capture(&words) => {
-            capture_program(rt.alloc(), &rt, &words, rt.stdin(), rt.stdout(), rt.stderr())
+            capture_program(
+                rt.alloc(),
+                &rt,
+                &words,
+                rt.stdin(),
+                rt.stdout(),
+                rt.stderr(),
+            )
         }
         Ok(words) => program(rt.alloc(), rt, &words, rt.stdin(), rt.stdout(), rt.stderr()),
         Err(fault) => {

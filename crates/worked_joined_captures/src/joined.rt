@@ -75,7 +75,14 @@ fn join(alloc: Global, bytes: &[u8], size: usize, link: FrameLink) -> Result<Joi
     let mut reader = Device::new(InPieces { rest: bytes, size });
     let mut writer = Device::new(&mut frames);
     let mut lines = Some(Device::new(&mut requests));
-    let done = join_capture(alloc, reading, &mut tally, &mut lines, &mut reader, &mut writer);
+    let done = join_capture(
+        alloc,
+        reading,
+        &mut tally,
+        &mut lines,
+        &mut reader,
+        &mut writer,
+    );
     reader.into_inner();
     writer.into_inner();
     if let Some(lines) = lines {
@@ -97,8 +104,10 @@ fn a_capture_is_joined_in_pieces_of_any_size(rt: HostRuntime) -> Result<(), Fail
         let joined = join(rt.alloc(), &bytes, size, link)?;
         assert!(rt; joined.done.is_ok());
         assert!(rt; joined.frames == wanted);
-        assert!(rt; joined.requests.as_slice()
-            == b"time,channel,sid,flow,cluster,units\n1.000000001,0,7,0,0,9\n".as_slice());
+        assert!(rt;
+            joined.requests.as_slice()
+                == b"time,channel,sid,flow,cluster,units\n1.000000001,0,7,0,0,9\n".as_slice()
+        );
     }
     Ok(())
 }
@@ -151,7 +160,14 @@ fn a_full_writer_is_a_fault(rt: HostRuntime) -> Result<(), Fail> {
     });
     let mut writer = Device::new(Full);
     let mut lines: Option<Device<Full>> = None;
-    let done = join_capture(alloc, reading, &mut tally, &mut lines, &mut reader, &mut writer);
+    let done = join_capture(
+        alloc,
+        reading,
+        &mut tally,
+        &mut lines,
+        &mut reader,
+        &mut writer,
+    );
     reader.into_inner();
     writer.into_inner();
     if let Some(lines) = lines {

@@ -42,7 +42,9 @@ fn header(number: u8, begins: bool, units: u8) -> [u8; 8] {
     let first = if begins { 0x80 } else { 0 };
     let front = [first, 0, 0, number.wrapping_mul(8), 0, units];
     let [low, high] = check_sequence(&front).to_le_bytes();
-    [front[0], front[1], front[2], front[3], front[4], front[5], low, high]
+    [
+        front[0], front[1], front[2], front[3], front[4], front[5], low, high,
+    ]
 }
 
 /// Appends a record of a packet with a burst on this upstream channel, which came at this second.
@@ -54,7 +56,9 @@ fn put_burst(
     payload: &[u8],
 ) -> Result<(), AllocError> {
     let length = (22 + payload.len()) as u8;
-    out.extend_from_slice(&[0, 0, 0, second, 0, 0, 0, 1, 0, 0, 0, length, 0, 0, 0, length])?;
+    out.extend_from_slice(&[
+        0, 0, 0, second, 0, 0, 0, 1, 0, 0, 0, length, 0, 0, 0, length,
+    ])?;
     out.extend_from_slice(&[1, 0x41, 0, 10, 10, 1, channel, 11, 2, 0, 7, 18, 1, 1])?;
     out.extend_from_slice(&header)?;
     out.extend_from_slice(payload)

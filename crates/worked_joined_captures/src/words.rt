@@ -28,8 +28,19 @@ fn words_without_options_are_the_usual(rt: HostRuntime) -> Result<(), Fail> {
 #[test]
 fn options_are_read(rt: HostRuntime) -> Result<(), Fail> {
     let words = [
-        "segrx", "capture", "--losses=decided", "--wait", "0", "m", "--reorder=3600000", "--link",
-        "xra", "--no-check", "--report", "r", "--requests=q",
+        "segrx",
+        "capture",
+        "--losses=decided",
+        "--wait",
+        "0",
+        "m",
+        "--reorder=3600000",
+        "--link",
+        "xra",
+        "--no-check",
+        "--report",
+        "r",
+        "--requests=q",
     ];
     match read_capture_words(rt.alloc(), &words)? {
         CaptureWords::Capture(asked) => {
