@@ -168,11 +168,21 @@ impl CaptureTally {
             TimedStep::HandedIn { burst, .. } => self.count_admitted(burst.channel),
             TimedStep::Frame { flow, frame, .. } => self.count_frame(*flow, frame),
             TimedStep::Asked { burst, request } => self.count_request(*burst, request),
-            TimedStep::Ended { flow, counts } => {
-                self.count_closed(*flow, *counts);
-                if let Some(summary) = self.summary.flows.get_mut(*flow) {
-                    summary.count_restart();
-                }
+            TimedStep::Ended { flow, counts } => self.count_ended(*flow, *counts),
+        }
+    }
+
+    /// Counts the end of a flow that begins anew. One of which nothing came before begins for the
+    /// first time.
+    fn count_ended(&mut self, flow: usize, counts: FlowCounts) {
+        self.count_closed(flow, counts);
+        let has_begun = counts.kept > 0
+            || counts.late > 0
+            || counts.repeat > 0
+            || counts.beyond > 0;
+        if let Some(summary) = self.summary.flows.get_mut(flow) {
+            if has_begun {
+                summary.count_restart();
             }
         }
     }

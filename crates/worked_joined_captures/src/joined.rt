@@ -122,6 +122,7 @@ fn a_capture_is_counted(rt: HostRuntime) -> Result<(), Fail> {
     let flow = &summary.flows[0];
     assert!(rt; flow.counts.kept == 2 && flow.counts.frames == 1 && flow.counts.lost == 0);
     assert!(rt; flow.wrong == 1 && flow.requests == 1 && flow.units == 9);
+    assert!(rt; flow.restarts == 0);
     for channel in &summary.channels {
         assert!(rt; channel.bursts == 1 && channel.admitted == 1 && channel.refused.is_empty());
     }
