@@ -5,10 +5,12 @@
 //! gave; `run` does so too, with a thread for each channel, and `follow` prints what comes of each
 //! line as it is read. `join` reads one segment in hexadecimal a line and prints one frame a line.
 //! `cut` reads frames and pieces, one a line, and prints one segment a line. `map` reads a capture
-//! and writes its map.
+//! and writes its map, and `capture` joins one with a map and writes its frames.
 //!
-//! It hands its arguments, its standard input and its two outputs to [`commands::program`], which is
-//! all of it over any reader and any two writers, and answers the exit status.
+//! It hands its arguments, its standard input and its two outputs to
+//! [`capture_command::capture_program`], which also opens files, where they ask to capture, else to
+//! [`commands::program`]. Either is all of it over any reader and any two writers, and answers the
+//! exit status.
 #![tactic(auto)]
 
 use capture_command::{asks_to_capture, capture_program};
