@@ -19,12 +19,13 @@ def load():
     return f"{os.getloadavg()[0]:.1f}"
 
 
-def once(program, words, file, cores=None):
-    """The seconds that the program takes with these words, on these cores or all, and what the system says of it."""
+def once(program, words, file, cores=None, told=None):
+    """The seconds that the program takes with these words, on these cores or all, and what the system says of it. What it says
+    on standard error goes there."""
     with open(file, "rb") as given, open(os.devnull, "wb") as taken:
         began = time.monotonic()
         bound = [] if cores is None else ["taskset", "-c", cores]
-        child = subprocess.Popen([*bound, program, *words], stdin=given, stdout=taken)
+        child = subprocess.Popen([*bound, program, *words], stdin=given, stdout=taken, stderr=told)
         _, status, usage = os.wait4(child.pid, 0)
         seconds = time.monotonic() - began
     if status != 0:

@@ -1,0 +1,68 @@
+"""A capture of any length for `segrx capture`, and its map. One flow sends Ethernet frames of 64 to 1,518 bytes in segments of
+1,500 on four channels, one segment each 100 microseconds.
+"""
+
+import random
+
+from shared.check_sequences import header_sequence
+from shared.long_texts import CHANNELS, segments
+from shared.modem_frames import PACKET, ethernet, mac_frame
+from shared.plain_packets import CHANNEL_TLV, GRANT_TLV, SEGMENT_HEADER_TLV, SID_TLV, TDMA_BURST, XRA, Record
+from shared.written_captures import NANOSECONDS, number, pcap_header, pcap_record, tlv, xra_packet
+
+SEGMENTS, SIZE = 8192, 1500
+APART = 100_000  # nanoseconds
+HEADER = 6  # bytes of a MAC frame before its Ethernet frame
+
+
+def map_lines():
+    channels = "".join(f"channel {channel} {channel + 1}\n" for channel in range(CHANNELS))
+    sids = "".join(f"sid {channel} {channel + 1} 0\n" for channel in range(CHANNELS))
+    return f"flow 1 auto 1024 1\n{channels}{sids}"
+
+
+def frame_of(rng, size):
+    return mac_frame(PACKET, b"", ethernet(rng, size))
+
+
+def frames_of(rng, length):
+    """Frames of so many bytes together, of a pool of them."""
+    pool = [frame_of(rng, rng.randint(64, 1518)) for _ in range(256)]
+    while length > 2 * SIZE:
+        one = rng.choice(pool)
+        length -= len(one)
+        yield one
+    yield frame_of(rng, length // 2 - HEADER)
+    yield frame_of(rng, length - length // 2 - HEADER)
+
+
+def packet_of(place, segment):
+    """The packet of a burst, with its right header check sequence."""
+    words = bytes(segment[:6])
+    burst = words + header_sequence(words) + bytes(segment[8:])
+    channel = place % CHANNELS + 1
+    values = {SEGMENT_HEADER_TLV: b"\x01", CHANNEL_TLV: number(channel, 1), SID_TLV: number(channel, 2)}
+    values[GRANT_TLV] = number(8 * len(burst), 4)
+    return xra_packet(TDMA_BURST, b"".join(tlv(*pair) for pair in values.items()), burst)
+
+
+def packets_of_a_round():
+    """As many packets as there are numbers. The last one ends with a frame, so they may come again and again."""
+    cut = segments(frames_of(random.Random(20), SEGMENTS * SIZE), SIZE)
+    packets = [packet_of(place, segment) for place, segment in enumerate(cut)]
+    assert len(packets) == SEGMENTS
+    return packets
+
+
+def pieces_of_capture(size):
+    """A pcap file of so many bytes or a few more, piece by piece."""
+    packets, time, given = packets_of_a_round(), 0, 0
+    yield pcap_header(NANOSECONDS, XRA)
+    while given < size:
+        records = []
+        for packet in packets:
+            records.append(pcap_record(NANOSECONDS, Record(XRA, time, len(packet), packet)))
+            time += APART
+        piece = b"".join(records)
+        given += len(piece)
+        yield piece
