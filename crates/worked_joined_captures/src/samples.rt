@@ -47,7 +47,8 @@ fn header(number: u8, begins: bool, units: u8) -> [u8; 8] {
     ]
 }
 
-/// Appends a record of a packet with a burst on this upstream channel, which came at this second.
+/// Appends a record of a packet with a burst on this upstream channel, which came at this second. Its
+/// payload has at most 100 bytes.
 fn put_burst(
     out: &mut Vec<u8>,
     second: u8,
@@ -55,7 +56,11 @@ fn put_burst(
     header: [u8; 8],
     payload: &[u8],
 ) -> Result<(), AllocError> {
-    let length = (22 + payload.len()) as u8;
+    let length = if payload.len() <= 100 {
+        (22 + payload.len()) as u8
+    } else {
+        0
+    };
     out.extend_from_slice(&[
         0, 0, 0, second, 0, 0, 0, 1, 0, 0, 0, length, 0, 0, 0, length,
     ])?;

@@ -4,6 +4,7 @@ use command_line::UsageFault;
 use frame_engine::InnerCheck;
 use frame_records::FrameLink;
 use loss_rule::LossRule;
+use std::alloc::Global;
 use std::test::Fail;
 
 #[test]
@@ -56,35 +57,29 @@ fn options_are_read(rt: HostRuntime) -> Result<(), Fail> {
     Ok(())
 }
 
+/// Whether these words are not understood.
+fn is_refused(alloc: Global, words: &[&str]) -> bool {
+    matches!(read_capture_words(alloc, words), Err(UsageFault::Usage))
+}
+
 #[test]
 fn words_that_are_not_understood(rt: HostRuntime) -> Result<(), Fail> {
+    let alloc = rt.alloc();
     assert!(rt; !asks_to_capture(&["segrx", "map"]) && !asks_to_capture(&["segrx"]));
-    for words in [
-        ["capture", "", "", ""],
-        ["capture", "m", "n", ""],
-        ["capture", "m", "--losses", "other"],
-        ["capture", "m", "--wait", "3600001"],
-        ["capture", "m", "--reorder", "-1"],
-        ["capture", "m", "--link", "ethernet"],
-        ["capture", "m", "--no-check", "--no-check"],
-        ["capture", "m", "--channels", "4"],
-        ["capture", "m", "--report", ""],
-    ] {
-        let count = if words[1].is_empty() {
-            1
-        } else if words[3].is_empty() && words[2] != "--report" {
-            3
-        } else if words[3].is_empty() {
-            3
-        } else {
-            4
-        };
-        let mut all = Vec::new(rt.alloc());
-        all.push("segrx")?;
-        all.extend_from_slice(&words[..count])?;
-        let read = read_capture_words(rt.alloc(), &all);
-        assert!(rt; matches!(read, Err(UsageFault::Usage)));
-    }
+    assert!(rt; is_refused(alloc, &["segrx", "capture"]));
+    assert!(rt; is_refused(alloc, &["segrx", "capture", "m", "n"]));
+    assert!(rt; is_refused(alloc, &["segrx", "capture", "m", "--losses", "other"]));
+    assert!(rt; is_refused(alloc, &["segrx", "capture", "m", "--wait", "3600001"]));
+    assert!(rt; is_refused(alloc, &["segrx", "capture", "m", "--reorder", "-1"]));
+    assert!(rt; is_refused(alloc, &["segrx", "capture", "m", "--link", "ethernet"]));
+    assert!(rt;
+        is_refused(
+            alloc,
+            &["segrx", "capture", "m", "--no-check", "--no-check"]
+        )
+    );
+    assert!(rt; is_refused(alloc, &["segrx", "capture", "m", "--channels", "4"]));
+    assert!(rt; is_refused(alloc, &["segrx", "capture", "m", "--report"]));
     Ok(())
 }
 
