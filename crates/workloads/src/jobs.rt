@@ -1,0 +1,300 @@
+//! The jobs, and the inputs that each gives.
+use crate::dice::Dice;
+use crate::digest::{Digest, Digested};
+use crate::feed::Feed;
+use crate::pool::Mix;
+use crate::receiving::{ReceivingKind, receive};
+use crate::recording::{Recording, RecordingKind};
+use crate::trace::{Trace, TraceKind};
+use capture_command::capture_program;
+use commands::program;
+use loss_rule::LossRule;
+use std::alloc::Global;
+use std::io::{Error, ErrorKind, Result};
+use std::rt::Files;
+use std::sync::Wait;
+use std::thread::Threads;
+
+const MIB: u64 = 1 << 20;
+
+/// What a user waits for.
+#[derive(Clone, Copy, Debug)]
+pub enum Job {
+    /// Frames of a recording.
+    Capture,
+    /// Frames of recordings whose bursts wait: small ones for half a second, and ones whose times
+    /// were lost.
+    Waiting,
+    /// Replays of long traces, by each of two loss rules.
+    Replay,
+    /// Runs of long traces on threads, with little room between them and with much.
+    Run,
+    /// Traces of many small segments, followed with events and without.
+    Follow,
+    /// A receiver in a program of one's own: many flows, numbers that jump, windows that are filled
+    /// backwards.
+    Receiver,
+}
+
+pub const JOBS: [Job; 6] = [
+    Job::Capture,
+    Job::Waiting,
+    Job::Replay,
+    Job::Run,
+    Job::Follow,
+    Job::Receiver,
+];
+
+impl Job {
+    pub fn name(self) -> &'static str {
+        match self {
+            Job::Capture => "capture",
+            Job::Waiting => "waiting",
+            Job::Replay => "replay",
+            Job::Run => "run",
+            Job::Follow => "follow",
+            Job::Receiver => "receiver",
+        }
+    }
+}
+
+/// How much is given to a job.
+#[derive(Clone, Copy, Debug)]
+pub enum Scale {
+    Whole,
+    /// A 256th part.
+    Trial,
+}
+
+impl Scale {
+    fn of(self, size: u64) -> u64 {
+        match self {
+            Scale::Whole => size,
+            Scale::Trial => size / 256,
+        }
+    }
+}
+
+/// An ordinary recording.
+const ORDINARY: RecordingKind = RecordingKind {
+    mix: Mix::Ordinary,
+    flows: 48,
+    least: 112,
+    most: 1992,
+    lost: 200,
+    apart: 60_000,
+    size: 480 * MIB,
+};
+
+/// One of small frames and few flows.
+const SMALL: RecordingKind = RecordingKind {
+    mix: Mix::Small,
+    flows: 6,
+    least: 112,
+    most: 292,
+    lost: 200,
+    apart: 60_000,
+    size: 64 * MIB,
+};
+
+/// One whose times were lost.
+const STILL: RecordingKind = RecordingKind {
+    mix: Mix::Ordinary,
+    flows: 6,
+    least: 112,
+    most: 1992,
+    lost: 200,
+    apart: 0,
+    size: 64 * MIB,
+};
+
+/// A long trace.
+const LONG: TraceKind = TraceKind {
+    mix: Mix::Ordinary,
+    channels: 4,
+    flows: 64,
+    window: 256,
+    least: 1300,
+    most: 1700,
+    skew: 2,
+    lost: 100,
+    first_ahead: 8,
+    ahead: 8,
+    size: 240 * MIB,
+};
+
+/// One in which nothing is lost, so that its report is the same in every run.
+const LOSSLESS: TraceKind = TraceKind {
+    window: 4096,
+    lost: 0,
+    ..LONG
+};
+
+/// A trace of small segments of many flows.
+const SHORT: TraceKind = TraceKind {
+    mix: Mix::Tiny,
+    channels: 8,
+    flows: 4000,
+    window: 64,
+    least: 8,
+    most: 200,
+    skew: 2,
+    lost: 100,
+    first_ahead: 60_000,
+    ahead: 64,
+    size: 128 * MIB,
+};
+
+/// Segments of many flows.
+const MANY: ReceivingKind = ReceivingKind {
+    rule: LossRule::Passed,
+    channels: 10,
+    flows: 5000,
+    window: 256,
+    behind: 512,
+    lost: 100,
+    jumps: 0,
+    backwards: 1,
+    segments: 1_200_000,
+};
+
+/// Segments of modems whose numbers jump.
+const JUMPING: ReceivingKind = ReceivingKind {
+    rule: LossRule::PassedOrSlid,
+    behind: 0,
+    jumps: 4,
+    segments: 800_000,
+    ..MANY
+};
+
+/// Segments that fill windows backwards.
+const BACKWARDS: ReceivingKind = ReceivingKind {
+    rule: LossRule::Decided,
+    channels: 4,
+    flows: 64,
+    window: 4096,
+    behind: 0,
+    lost: 0,
+    jumps: 0,
+    backwards: 1024,
+    segments: 600_000,
+};
+
+/// A job isn't done where the program ends with another status than 0.
+fn done(status: u8) -> Result<()> {
+    match status {
+        0 => Ok(()),
+        _ => Err(Error::from(ErrorKind::Other)),
+    }
+}
+
+/// Gives a recording to `segrx capture` with these words.
+fn capture<T: Files>(
+    alloc: Global,
+    rt: &T,
+    words: &[&str],
+    kind: RecordingKind,
+    scale: Scale,
+    dice: &mut Dice,
+    digest: &mut Digest,
+) -> Result<()> {
+    let kind = RecordingKind {
+        size: scale.of(kind.size),
+        ..kind
+    };
+    let recording = Recording::new(alloc, kind, Dice::new(dice.next()))?;
+    let reader = Feed::new(Vec::new(alloc), recording);
+    let mut told = Digest::new();
+    let (out, err) = (Digested { digest }, Digested { digest: &mut told });
+    let status = capture_program(alloc, rt, words, reader, out, err);
+    digest.take_number(told.value());
+    done(status)
+}
+
+/// Gives a trace to `segrx` with these words.
+fn trace<T: Threads + Wait + Copy + Send + 'static>(
+    alloc: Global,
+    rt: T,
+    words: &[&str],
+    kind: TraceKind,
+    scale: Scale,
+    dice: &mut Dice,
+    digest: &mut Digest,
+) -> Result<()> {
+    let kind = TraceKind {
+        size: scale.of(kind.size),
+        ..kind
+    };
+    let trace = Trace::new(alloc, kind, Dice::new(dice.next()))?;
+    let reader = Feed::new(Vec::new(alloc), trace);
+    let mut told = Digest::new();
+    let (out, err) = (Digested { digest }, Digested { digest: &mut told });
+    let status = program(alloc, rt, words, reader, out, err);
+    digest.take_number(told.value());
+    done(status)
+}
+
+/// Hands segments in to a receiver.
+fn hand_in(
+    alloc: Global,
+    kind: ReceivingKind,
+    scale: Scale,
+    dice: &mut Dice,
+    digest: &mut Digest,
+) -> Result<()> {
+    let kind = ReceivingKind {
+        segments: scale.of(kind.segments),
+        ..kind
+    };
+    receive(alloc, kind, Dice::new(dice.next()), digest)?;
+    Ok(())
+}
+
+/// Does a job.
+pub fn do_job<T: Files + Threads + Wait + Copy + Send + 'static>(
+    alloc: Global,
+    rt: T,
+    job: Job,
+    scale: Scale,
+    dice: Dice,
+    map: &str,
+    digest: &mut Digest,
+) -> Result<()> {
+    let mut dice = dice;
+    let dice = &mut dice;
+    match job {
+        Job::Capture => {
+            let words = ["segrx", "capture", map];
+            capture(alloc, &rt, &words, ORDINARY, scale, dice, digest)
+        }
+        Job::Waiting => {
+            let words = ["segrx", "capture", map, "--reorder", "500"];
+            capture(alloc, &rt, &words, SMALL, scale, dice, digest)?;
+            let words = ["segrx", "capture", map];
+            capture(alloc, &rt, &words, STILL, scale, dice, digest)
+        }
+        Job::Replay => {
+            let words = ["segrx", "replay", "--losses", "passed"];
+            trace(alloc, rt, &words, LONG, scale, dice, digest)?;
+            let words = ["segrx", "replay", "--losses", "slid"];
+            trace(alloc, rt, &words, LONG, scale, dice, digest)
+        }
+        Job::Run => {
+            let words = ["segrx", "run"];
+            trace(alloc, rt, &words, LOSSLESS, scale, dice, digest)?;
+            let words = ["segrx", "run", "--mailbox", "1024", "--ring", "1024"];
+            trace(alloc, rt, &words, LOSSLESS, scale, dice, digest)
+        }
+        Job::Follow => {
+            let words = ["segrx", "follow", "--channels", "8", "--losses", "passed"];
+            trace(alloc, rt, &words, SHORT, scale, dice, digest)?;
+            let words = ["segrx", "follow", "--channels", "8", "--events"];
+            trace(alloc, rt, &words, SHORT, scale, dice, digest)
+        }
+        Job::Receiver => {
+            hand_in(alloc, MANY, scale, dice, digest)?;
+            hand_in(alloc, JUMPING, scale, dice, digest)?;
+            hand_in(alloc, BACKWARDS, scale, dice, digest)
+        }
+    }
+}
