@@ -1,6 +1,7 @@
 pub mod FrameHeads
 pub mod HeaderWords
 pub mod Dividing
+pub mod Digits
 pub mod Remainders
 pub mod Quotients
 pub mod StreamPlaces

@@ -37,6 +37,7 @@ mod buffer;
 mod cursor;
 mod cutter;
 mod frame;
+mod frame_remainders;
 mod frame_sequence;
 mod header;
 mod header_check;
