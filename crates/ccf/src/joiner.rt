@@ -5,6 +5,7 @@ ghost use Rattle.docsis_wire.specs.Ready.{IsReady};
 ghost use Rattle.ccf.specs.Feed.{Feeds, FeedsAs};
 
 use crate::front::{Front, front_of, walk};
+use crate::unfinished::with_room;
 use docsis_wire::{Bytes, HeaderCheck, Segment, well_formed};
 use std::alloc::{AllocError, Global};
 use std::marker::Model;
@@ -162,7 +163,7 @@ fn complete<C: HeaderCheck>(
     let (front, after) = payload.split_at(pointer);
     // All allocations come first, so that one that fails leaves everything as it was.
     let walked = walk(alloc, after, check)?;
-    let next = Vec::from_slice(alloc, walked.unfinished)?;
+    let next = with_room(alloc, walked.unfinished)?;
     let mut frames = walked.frames;
     if unfinished.is_empty() {
         *unfinished = next;

@@ -27,5 +27,6 @@
 mod front;
 mod joiner;
 pub mod laws;
+mod unfinished;
 
 pub use joiner::{Fed, Joiner};
