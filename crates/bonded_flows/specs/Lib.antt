@@ -7,3 +7,4 @@ pub mod Channels
 pub mod Parts
 pub mod Slots
 pub mod Table
+pub mod Inside

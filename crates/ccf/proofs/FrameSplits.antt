@@ -6,7 +6,8 @@ use Rattle.std.proofs.lemmas.List.{append-nil, append_assoc, take-append-drop}
 use Rattle.std.proofs.lemmas.List.Folds.{concat-append}
 use Rattle.docsis_wire.specs.Frame.{IsFrame}
 use Rattle.ccf.specs.Walk.{Walks}
-use Rattle.ccf.specs.Feed.{GoesOn, Completes, FeedsAs}
+use Rattle.docsis_wire.specs.declared.segment.Segment.{Segment}
+use Rattle.ccf.specs.Feed.{GoesOn, Completes, FeedsAs, Feeds, IsOneFrame}
 
 -- what holds of each of some and of one more holds of each of all
 pub AllByRecursion-push : {X : Type 0} (P : X → Type 0) (xs : List X) (y : X) → AllByRecursion P xs → P y → AllByRecursion P (xs ++ y ∷ [])
@@ -71,3 +72,14 @@ pub Completes-either : (check : List ℕ → Bool) (bytes behind : List ℕ) (wa
     → (IsFrame check bytes × (frames ≡ bytes ∷ walked)) ⊎ ((IsFrame check bytes → ⊥) × (frames ≡ walked)) → Walks check behind walked after → Completes check bytes behind frames after
 Completes-either check bytes behind walked frames after (inl h) walks = record { done = bytes ∷ []; walked = walked; delivered = h.1; is_done = inl (h.0, refl); walks = walks }
 Completes-either check bytes behind walked frames after (inr h) walks = record { done = []; walked = walked; delivered = h.1; is_done = inr (h.0, refl); walks = walks }
+
+-- a segment that is one whole frame, where nothing is unfinished
+pub one_frame-Feeds : (check : List ℕ → Bool) (before : List ℕ) (segment : Segment) → IsOneFrame check before segment → Feeds check before segment (segment.payload ∷ []) []
+one_frame-Feeds check before segment one =
+    let walks : Walks check segment.payload (segment.payload ∷ []) [] = record {
+      rest = [];
+      whole = sym (append-nil (concat (segment.payload ∷ [])) ∙ append-nil segment.payload);
+      each = (one.is_frame, tt);
+      ends = refl;
+    } in
+    rw (one.nothing_unfinished, one.begins, one.first) walks

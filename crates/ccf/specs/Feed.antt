@@ -43,3 +43,10 @@ FeedsAs check true (b ∷ bs) pointer payload frames after = Completes check (b 
 -- With these bytes unfinished before, the segment completes these frames, and then these bytes are unfinished.
 abbrev pub Feeds : (List ℕ → Bool) → List ℕ → Segment → List (List ℕ) → List ℕ → Type 0
 Feeds check before segment frames after = FeedsAs check segment.head.pfi before segment.head.pointer segment.payload frames after
+
+-- Nothing is unfinished, and the segment is one whole frame by itself: the frame begins at the first byte of its payload, and ends with the last.
+pub record IsOneFrame (check : List ℕ → Bool) (before : List ℕ) (segment : Segment) : Type 0 where
+  pub nothing_unfinished : before ≡ []
+  pub begins : segment.head.pfi ≡ true
+  pub first : segment.head.pointer ≡ 0
+  pub is_frame : IsFrame check segment.payload

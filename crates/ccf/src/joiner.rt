@@ -2,7 +2,7 @@
 ghost use Rattle.std.specs.Prelude.{◌≡◌, ◌+◌, ◌≤◌, ◌↔◌, ℕ, true, false, List, [], length, vec_len, IsTrue, IfOk, OnErr};
 ghost use Rattle.std.specs.List.{concat};
 ghost use Rattle.docsis_wire.specs.Ready.{IsReady};
-ghost use Rattle.ccf.specs.Feed.{Feeds, FeedsAs};
+ghost use Rattle.ccf.specs.Feed.{Feeds, FeedsAs, IsOneFrame};
 
 use crate::front::{Front, front_of, walk};
 use crate::unfinished::with_room;
@@ -89,6 +89,23 @@ impl Joiner {
         let dropped = self.unfinished.len();
         self.unfinished.clear();
         dropped
+    }
+
+    /// Whether nothing is unfinished and this segment is one whole frame by itself: its header, which
+    /// passes the check, begins at the first byte of the payload, and the frame ends with the last.
+    /// A segment that is fed then gives its payload as it is, and leaves nothing unfinished:
+    /// `laws::one_frame_is_given_as_it_is`. So a caller can keep the payload, and needn't feed it.
+    pub fn is_one_frame<C: HeaderCheck>(&self, segment: &Segment, check: &C) -> bool
+        ensures { IsTrue result ↔ IsOneFrame (C.accepts check.now) self.now segment.now }
+    {
+        if !self.is_idle() {
+            return false;
+        }
+        let head = &segment.head;
+        if !head.pfi {
+            return false;
+        }
+        head.pointer == 0 && well_formed(segment.payload.as_slice(), check)
     }
 
     /// Whether nothing is unfinished.

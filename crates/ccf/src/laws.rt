@@ -15,7 +15,7 @@ ghost use Rattle.ccf.specs.Completed.{IsCompletedBy};
 ghost use Rattle.ccf.specs.Filter.{FiltersTo};
 ghost use Rattle.ccf.specs.Unfinished.{IsLeftUnfinished};
 ghost use Rattle.ccf.specs.Walk.{Walks};
-ghost use Rattle.ccf.specs.Feed.{GoesOn, IsDoneWith, Feeds};
+ghost use Rattle.ccf.specs.Feed.{GoesOn, IsDoneWith, Feeds, IsOneFrame};
 ghost use Rattle.ccf.specs.Join.{Joins};
 
 /// The same bytes are walked in one way only.
@@ -46,6 +46,14 @@ pub fn feed_has_one_answer()
         (frames others : List (List ℕ)) (after rest : List ℕ)
         → Feeds check before segment frames after → Feeds check before segment others rest
         → (frames ≡ others) × (after ≡ rest) }
+{}
+
+/// A segment that is one whole frame by itself, where nothing is unfinished, completes just that
+/// frame, which is its payload, and leaves nothing unfinished.
+pub fn one_frame_is_given_as_it_is()
+    ensures { (check : List ℕ → Bool) (before : List ℕ) (segment : Segment)
+        → IsOneFrame check before segment
+        → Feeds check before segment (segment.payload ∷ []) [] }
 {}
 
 /// A settled list joins to the same frames each time, and leaves the same bytes unfinished.

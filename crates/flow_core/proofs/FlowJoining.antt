@@ -1,15 +1,16 @@
 -- The next segment of a flow is joined.
-use Rattle.std.proofs.Common.{◌≡◌, ℕ, zero, suc, cond, not, is_some, ◌+◌, ◌<◌, inl, inr, ⊎_elim, Bool, Option, None, Some, List, [], ◌∷◌, ◌++◌, length, min, slice_get, refl, sym, ap, subst, ◌∙◌, arith}
+use Rattle.std.proofs.Common.{◌≡◌, ℕ, zero, suc, cond, not, is_some, ◌+◌, ◌<◌, inl, inr, ⊎_elim, Bool, Option, None, Some, List, [], ◌∷◌, ◌++◌, length, slice_get, refl, sym, ap, subst, ◌∙◌, arith}
 use Rattle.std.specs.List.{concat}
 use Rattle.std.specs.Option.{option_map}
 use Rattle.std.specs.FinMap as map
 use Rattle.std.proofs.lemmas.List.{append-nil, length-append}
 use Rattle.std.proofs.lemmas.List.Folds.{concat-append}
 use Rattle.std.proofs.lemmas.List.Sums.{sum_by_push}
-use Rattle.std.proofs.lemmas.Option.{slice_get_within}
+use Rattle.std.proofs.lemmas.Option.{slice_get_within, same_Some}
 use Rattle.docsis_wire.specs.declared.segment.Segment.{Segment}
 use Rattle.docsis_wire.specs.declared.segment.ReadySegment.{ReadySegment}
-use Rattle.ccf.specs.Feed.{Feeds}
+use Rattle.ccf.specs.Feed.{Feeds, IsOneFrame}
+use Rattle.ccf.proofs.FrameSplits.{one_frame-Feeds}
 use Rattle.ccf.proofs.OneJoining.{Joins-append}
 use Rattle.reorder.specs.Number.{number_ahead, following}
 use Rattle.reorder.specs.View.{WindowView, held_at, IsLawful, next_taken, moved_on_by}
@@ -22,27 +23,20 @@ use Rattle.flow_core.specs.Fates.{Fates, number_of, IsKeptAs}
 use Rattle.flow_core.specs.Events.{FlowEvent}
 use Rattle.flow_core.specs.Counts.{payload_bytes, AreCounts}
 use Rattle.flow_core.specs.Inside.Losses.{after_passing, count_to, GoesOn, GoesOnTo}
+use Rattle.flow_core.specs.Inside.Steps.{counts_joined, IsNextOneFrame}
 use Rattle.flow_core.specs.Stands.{IsRemembered, StandsFor, AreLost, Gives}
 use Rattle.flow_core.proofs.Windows.{kept-from-segment, window-taken}
 use Rattle.flow_core.proofs.Standing.{stands}
 use Rattle.flow_core.proofs.Losing.{HasComeTo, come-same, settled-more, losses-window, losses-memory}
 use Rattle.flow_core.proofs.IndexNumbers.{following-index, ahead-index}
-use Rattle.flow_core.proofs.Stopping.{held-CanLose, Stops, StopsEverywhere}
+use Rattle.flow_core.proofs.Stopping.{held-CanLose, Stops, StopsEverywhere, stops-everywhere}
 use Rattle.flow_core.proofs.FlowDeclaring.{IsToGoOn, passed-lost, comes-further, forgotten, still-remembered}
-
--- the counts after a segment was joined
-abbrev pub fed_counts : FlowCounts → List (List ℕ) → ℕ → FlowCounts
-fed_counts counts frames skipped =
-    record counts {
-      frames = min (counts.frames + length frames) 18446744073709551615;
-      skipped = min (counts.skipped + skipped) 18446744073709551615;
-    }
 
 counts-fed : (answers : List Applied) (settled : List (Option Segment)) (given frames : List (List ℕ)) (unfinished after : List ℕ) (counts : FlowCounts)
     (segment : Segment) (skipped : ℕ)
     → AreCounts answers settled given unfinished counts
     → skipped + length (concat frames) + length after ≡ length unfinished + length segment.payload
-    → AreCounts answers (settled ++ Some segment ∷ []) (given ++ frames) after (fed_counts counts frames skipped)
+    → AreCounts answers (settled ++ Some segment ∷ []) (given ++ frames) after (counts_joined counts (length frames) skipped)
 counts-fed answers settled given frames unfinished after counts segment skipped are balance =
     let before = are.balance in
     let bytes = sum_by_push payload_bytes settled (Some segment) in
@@ -84,7 +78,7 @@ module _ (check : List ℕ → Bool) (r : FlowRecord) (flow : Flow) (events : Li
 
   -- the flow with the segment joined
   abbrev fed_flow : Flow
-  fed_flow = record flow { window = next_taken flow.window; joiner = after; counts = fed_counts flow.counts frames skipped }
+  fed_flow = record flow { window = next_taken flow.window; joiner = after; counts = counts_joined flow.counts (length frames) skipped }
 
   fed-come : HasComeTo check r s.fates answers (y + 1) (given ++ frames) fed_flow
   fed-come =
@@ -172,8 +166,26 @@ pub step-gives : (check : List ℕ → Bool) (flow gone : Flow) (ready : ReadySe
     → skipped + length (concat frames) + length after ≡ length flow.joiner + length ready.segment.payload
     → IsLawful (next_taken flow.window)
     → StopsEverywhere
-    → GoesOn flow.going_on (record flow { window = next_taken flow.window; joiner = after; counts = fed_counts flow.counts frames skipped }) gone
+    → GoesOn flow.going_on (record flow { window = next_taken flow.window; joiner = after; counts = counts_joined flow.counts (length frames) skipped }) gone
     → IsLawful gone.window
     → Gives check flow frames gone
 step-gives check flow gone ready frames after skipped next feeds balance lawful law goes gone_lawful r events answers y given s =
     goes-on check r flow events answers y given s ready next frames after skipped feeds balance lawful law gone gone_lawful flow.going_on refl goes
+
+-- a frame alone, and nothing unfinished on either side
+one-balance : (before frame : List ℕ) → before ≡ [] → 0 + length (concat (frame ∷ [])) + length {A = ℕ} [] ≡ length before + length frame
+one-balance before frame none = let e = ap length (append-nil frame) in let f = ap length none in omega arith
+
+-- A step of a flow whose next segment is one whole frame gives just that frame.
+pub one-frame-gives : (check : List ℕ → Bool) (flow gone : Flow) (one : IsNextOneFrame check flow) (ready : ReadySegment)
+    → held_at flow.window flow.window.expected ≡ Some ready → IsLawful (next_taken flow.window)
+    → GoesOn flow.going_on (record flow { window = next_taken flow.window; counts = counts_joined flow.counts 1 0 }) gone → IsLawful gone.window
+    → Gives check flow (ready.segment.payload ∷ []) gone
+one-frame-gives check flow gone one ready next lawful goes gone_lawful =
+    let same : one.ready ≡ ready = same_Some one.ready ready (sym one.next ∙ next) in
+    let whole : IsOneFrame check flow.joiner ready.segment = subst (λ (r : ReadySegment). IsOneFrame check flow.joiner r.segment) same one.one in
+    let none = whole.nothing_unfinished in
+    step-gives check flow gone ready (ready.segment.payload ∷ []) [] 0 next (one_frame-Feeds check flow.joiner ready.segment whole)
+    (one-balance flow.joiner ready.segment.payload none) lawful stops-everywhere
+    (subst (λ (unfinished : List ℕ). GoesOn flow.going_on (record flow { window = next_taken flow.window; joiner = unfinished; counts = counts_joined flow.counts 1 0 }) gone) none goes)
+    gone_lawful

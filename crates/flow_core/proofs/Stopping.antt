@@ -8,6 +8,8 @@ use Rattle.reorder.specs.Number.{offset, number_ahead}
 use Rattle.reorder.specs.View.{WindowView, offset_in, IsHeld, IsLawful}
 use Rattle.reorder.specs.Verdicts.{declared_count, skipped_count}
 use Rattle.reorder.proofs.AgreeingWindows.{free-none_held}
+use Rattle.reorder.proofs.DeclaredCount.{declared_count-le, declared_count-le_held, declared_count-reaches, declared_count-none}
+use Rattle.reorder.proofs.SkippedCount.{skipped_count-le, skipped_count-le_held, skipped_count-reaches, skipped_count-none}
 use Rattle.flow_records.specs.declared.record.FlowRecord.{FlowRecord}
 use Rattle.flow_core.specs.declared.sequence.SequenceNumber.{SequenceNumber}
 use Rattle.flow_core.specs.declared.up_to.UpTo.{UpTo}
@@ -98,10 +100,16 @@ module _ (sequence : SequenceNumber) (w : WindowView ReadySegment) where
         none_held = λ never. absurd (never tt);
       }
 
-pub stops-everywhere : ((sequence : SequenceNumber) (w : WindowView ReadySegment) → IsLawful w → Stops (Declare sequence) w (declared_count w sequence.number))
-    → ((sequence : SequenceNumber) (w : WindowView ReadySegment) → IsLawful w → Stops (Skip sequence) w (skipped_count w sequence.number)) → StopsEverywhere
-stops-everywhere declares skips (Declare sequence) w lawful = declares sequence w lawful
-stops-everywhere declares skips (Skip sequence) w lawful = skips sequence w lawful
+-- so of both, by what windows say of them
+pub stops-everywhere : StopsEverywhere
+stops-everywhere (Declare sequence) w lawful =
+    declared-stops sequence w (declared_count-le w sequence.number lawful)
+    (λ held is. declared_count-le_held w sequence.number lawful held is)
+    (λ ahead near some. declared_count-reaches w sequence.number lawful ahead near some) (declared_count-none w sequence.number)
+stops-everywhere (Skip sequence) w lawful =
+    skipped-stops sequence w (skipped_count-le w sequence.number)
+    (λ held is. skipped_count-le_held w sequence.number held is)
+    (λ near. skipped_count-reaches w sequence.number lawful near) (skipped_count-none w sequence.number)
 
 module _ (r : FlowRecord) (fates : Fates) (y : ℕ) (w : WindowView ReadySegment) (from_y : IsWindowFrom r fates y w) where
   -- an index from y on has as offset how far it lies after y

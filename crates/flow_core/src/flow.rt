@@ -1,6 +1,6 @@
 //! One service flow: its window, its joiner, its counts.
 ghost use Rattle.std.specs.FinMap as map;
-ghost use Rattle.std.specs.Prelude.{◌≡◌, ◌<◌, ◌↔◌, ℕ, Bool, List, [], length, IsTrue, Ok, IfOk, OnErr};
+ghost use Rattle.std.specs.Prelude.{◌≡◌, ◌<◌, ◌↔◌, ℕ, Bool, List, [], ◌∷◌, length, IsTrue, None, Ok, IfOk, OnErr, IfSome, IfNone};
 ghost use Rattle.docsis_wire.specs.Limits.{sequence_modulus};
 ghost use Rattle.docsis_wire.specs.Ready.{IsReady};
 ghost use Rattle.flow_records.specs.Setup.{IsInRange, CanBeSetUp};
@@ -9,7 +9,8 @@ ghost use Rattle.reorder.specs.View.{IsLawful};
 ghost use Rattle.flow_core.specs.Flows.{IsLoss, AreNewFlows};
 ghost use Rattle.flow_core.specs.Inside.Losses.{event_to, answer_to, count_to};
 ghost use Rattle.flow_core.specs.Inside.Losses.{after_losses, after_passing, GoesOn};
-ghost use Rattle.flow_core.specs.Stands.{StandsFor, IsDrained, TakesEvent, Advances};
+ghost use Rattle.flow_core.specs.Inside.Steps.{counts_joined, IsNextOneFrame};
+ghost use Rattle.flow_core.specs.Stands.{StandsFor, IsDrained, TakesEvent, Gives, Advances};
 ghost use Rattle.flow_core.specs.declared.event.Applied.{Applied};
 ghost use Rattle.flow_core.specs.declared.event.Step.{Step};
 
@@ -18,9 +19,9 @@ use crate::event::Step;
 use crate::sequence::SequenceNumber;
 use crate::up_to::UpTo;
 use ccf::Joiner;
-use docsis_wire::{HeaderCheck, ReadySegment, Segment};
+use docsis_wire::{Bytes, HeaderCheck, ReadySegment, Segment};
 use flow_records::FlowRecord;
-use reorder::{Declared, Verdict, Window, laws};
+use reorder::{Declared, Verdict, Window};
 use std::alloc::{AllocError, Global};
 
 /// One service flow by itself, for a caller that keeps its flows in a table of its own.
@@ -127,8 +128,6 @@ impl Flow {
         requires { IsDrained self.old }
         ensures { TakesEvent self.old (event_to up_to) (answer_to up_to result) self.new }
     {
-        laws::declare_to_stops_at_number_or_held::<ReadySegment>();
-        laws::skip_to_stops_at_number_or_held::<ReadySegment>();
         let count = self.pass_to(up_to);
         if count > 0 && self.window.expected() != up_to.number() {
             self.going_on = Some(up_to);
@@ -144,17 +143,58 @@ impl Flow {
         ensures nothing { result ≡ Ok Step.Nothing ↔ IsDrained self.old }
         ensures refused { OnErr result (self.new ≡ self.old) }
     {
-        laws::declare_to_stops_at_number_or_held::<ReadySegment>();
-        laws::skip_to_stops_at_number_or_held::<ReadySegment>();
         let Some(ready) = self.window.next() else {
             return Ok(Step::Nothing);
         };
+        if self.joiner.is_one_frame(&ready.segment, check) {
+            let mut frames = Vec::with_capacity(alloc, 1)?;
+            frames.push_reserved(self.give_next());
+            return Ok(Step::Frames(frames));
+        }
         let fed = self.joiner.feed(alloc, &ready.segment, check)?;
         self.window.take_next();
-        self.counts.frames = self.counts.frames.saturating_add(fed.frames.len() as u64);
-        self.counts.skipped = self.counts.skipped.saturating_add(fed.skipped as u64);
-        self.go_on();
+        self.end_step(fed.frames.len(), fed.skipped);
         Ok(Step::Frames(fed.frames))
+    }
+
+    /// Joins the next segment, if there is one, if it is one whole frame by itself and nothing is
+    /// unfinished, and answers the frame: the segment's own payload. It takes no memory. `None`:
+    /// nothing changed, and the next segment, if there is one, is joined by [`Flow::advance`].
+    pub fn advance_whole<C: HeaderCheck>(&mut self, check: &C) -> Option<Bytes>
+        ensures step { IfSome result
+            (λ frame. ¬ (IsDrained self.old)
+            × Gives (C.accepts check.now) self.old (frame ∷ []) self.new) }
+        ensures none { result ≡ None ↔ ¬ (IsNextOneFrame (C.accepts check.now) self.old) }
+        ensures unchanged { IfNone result (self.new ≡ self.old) }
+    {
+        let ready = self.window.next()?;
+        if !self.joiner.is_one_frame(&ready.segment, check) {
+            return None;
+        }
+        Some(self.give_next())
+    }
+
+    /// Takes the next segment, which is one whole frame, and answers the frame.
+    fn give_next(&mut self) -> Bytes
+        requires { (check : List ℕ → Bool) × IsNextOneFrame check self.old }
+        ensures { (check : List ℕ → Bool) → IsNextOneFrame check self.old
+            → Gives check self.old (result ∷ []) self.new }
+    {
+        let ready = self.window.take_next().unwrap();
+        self.end_step(1, 0);
+        ready.segment.payload
+    }
+
+    /// Counts what a segment gave that was taken and joined, and goes on with the decision that is
+    /// remembered.
+    fn end_step(&mut self, frames: usize, skipped: usize)
+        ensures after { GoesOn self.old.going_on
+            (record self.old { counts = counts_joined self.old.counts frames skipped }) self.new }
+        ensures lawful { IsLawful self.old.window → IsLawful self.new.window }
+    {
+        self.counts.frames = self.counts.frames.saturating_add(frames as u64);
+        self.counts.skipped = self.counts.skipped.saturating_add(skipped as u64);
+        self.go_on();
     }
 
     /// Goes on with the decision that is remembered, and forgets it once its number is reached.

@@ -11,6 +11,7 @@ mod order;
 mod records;
 mod skips;
 mod verdicts;
+mod whole;
 
 use docsis_wire::{HeaderCheck, NoCheck, Segment};
 use flow_core::{Applied, Core, Event, FlowCounts, FlowRecord, Step};

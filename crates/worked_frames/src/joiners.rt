@@ -191,6 +191,84 @@ fn joins(rt: HostRuntime) -> Result<(), Fail> {
     Ok(())
 }
 
+/// A segment behind another one, if there is one, and whether it is one whole frame by itself.
+#[derive(Clone, Copy)]
+struct Whole {
+    name: &'static str,
+    before: Option<&'static [u8]>,
+    segment: &'static [u8],
+    is_one: bool,
+}
+
+const PLAIN_ALONE: &[u8] = &[
+    0x80, 0, 0, 0, 0, 0, 0, 0, 0, 0, 0, 2, 0x11, 0x11, 0xaa, 0xbb,
+];
+
+const WHOLE: [Whole; 7] = [
+    Whole {
+        name: "a frame alone",
+        before: None,
+        segment: PLAIN_ALONE,
+        is_one: true,
+    },
+    Whole {
+        name: "a frame behind unfinished bytes",
+        before: Some(FIRST),
+        segment: PLAIN_ALONE,
+        is_one: false,
+    },
+    Whole {
+        name: "no header begins",
+        before: None,
+        segment: &[0, 0, 0, 0, 0, 0, 0, 0, 0, 0, 0, 2, 0x11, 0x11, 0xaa, 0xbb],
+        is_one: false,
+    },
+    Whole {
+        name: "the header begins behind a byte",
+        before: None,
+        segment: &[
+            0x80, 1, 0, 0, 0, 0, 0, 0, 0, 0, 0, 0, 2, 0x11, 0x11, 0xaa, 0xbb,
+        ],
+        is_one: false,
+    },
+    Whole {
+        name: "a byte behind the frame",
+        before: None,
+        segment: &[
+            0x80, 0, 0, 0, 0, 0, 0, 0, 0, 0, 0, 2, 0x11, 0x11, 0xaa, 0xbb, 0,
+        ],
+        is_one: false,
+    },
+    Whole {
+        name: "the frame's last byte is missing",
+        before: None,
+        segment: &[0x80, 0, 0, 0, 0, 0, 0, 0, 0, 0, 0, 2, 0x11, 0x11, 0xaa],
+        is_one: false,
+    },
+    Whole {
+        name: "a spoiled header",
+        before: None,
+        segment: &[
+            0x80, 0, 0, 0, 0, 0, 0, 0, 0, 0, 0, 2, 0x11, 0x12, 0xaa, 0xbb,
+        ],
+        is_one: false,
+    },
+];
+
+#[test]
+fn tells_one_whole_frame(rt: HostRuntime) -> Result<(), Fail> {
+    for whole in &WHOLE {
+        let mut joiner = Joiner::new(rt.alloc());
+        if let Some(before) = whole.before {
+            feed_bytes(&rt, rt.alloc(), &mut joiner, before, &NotEndingIn12)?;
+        }
+        let next = Segment::read(rt.alloc(), whole.segment)?;
+        let is_one = joiner.is_one_frame(&next, &NotEndingIn12);
+        expect_same(&rt, whole.name, is_one, whole.is_one);
+    }
+    Ok(())
+}
+
 /// The second of three segments is lost: five bytes are dropped, and those after it belong to no
 /// frame.
 fn gap_before(

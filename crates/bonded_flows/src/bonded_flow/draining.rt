@@ -1,8 +1,9 @@
 //! Joining all segments of a flow that are next.
-ghost use Rattle.std.specs.Prelude.{◌≡◌, ℕ, Bool, List, IfOk};
+ghost use Rattle.std.specs.Prelude.{◌≡◌, ℕ, Bool, List, IfOk, OnErr};
 ghost use Rattle.flow_core.specs.Stands.{IsDrained};
 ghost use Rattle.bonded_flows.specs.Stands.{HasTakenSome, IsUpToDate};
 ghost use Rattle.bonded_flows.specs.Taking.{IsRunning, Joins, GivesMore};
+ghost use Rattle.bonded_flows.specs.Inside.Steps.{JoinsNext};
 
 use super::BondedFlow;
 use consumer::{Consumer, give_frames};
@@ -44,10 +45,39 @@ fn join_all<C: HeaderCheck, O: Consumer>(
     ensures drained { IfOk result (λ _. IsDrained flow.new) }
 {
     for _joined in 0..=WINDOW_MAX {
-        match flow.advance(alloc, check)? {
-            Step::Frames(frames) => give_frames(out, index, frames),
-            Step::Nothing => return Ok(()),
+        let was_next = join_next(alloc, check, index, flow, out)?;
+        if !was_next {
+            return Ok(());
         }
     }
     Ok(())
+}
+
+/// Joins the next segment of a flow, gives the frames that it completes, and answers whether there
+/// was one. A segment that is one whole frame is given as it is.
+fn join_next<C: HeaderCheck, O: Consumer>(
+    alloc: Global,
+    check: &C,
+    index: usize,
+    flow: &mut Flow,
+    out: &mut O,
+) -> Result<bool, AllocError>
+    ensures joins { IfOk result (λ joined.
+        JoinsNext O.after (C.accepts check.now) index flow.old out.old joined flow.new out.new) }
+    ensures refused { OnErr result ((flow.new ≡ flow.old) × (out.new ≡ out.old)) }
+{
+    if flow.is_drained() {
+        return Ok(false);
+    }
+    if let Some(frame) = flow.advance_whole(check) {
+        out.frame(index, frame);
+        return Ok(true);
+    }
+    match flow.advance(alloc, check)? {
+        Step::Frames(frames) => {
+            give_frames(out, index, frames);
+            Ok(true)
+        }
+        Step::Nothing => Ok(false),
+    }
 }

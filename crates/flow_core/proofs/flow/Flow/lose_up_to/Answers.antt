@@ -1,6 +1,6 @@
 -- The flow takes the decision up to its number.
 use Rattle.std.proofs.Common.{inl, inr, sym, ◌∙◌, arith}
-use Rattle.flow_core.proofs.Stopping.{declared-stops, skipped-stops, stops-everywhere}
+use Rattle.flow_core.proofs.Stopping.{stops-everywhere}
 use Rattle.flow_core.proofs.FlowDeclaring.{decision-event}
 use Rattle.flow_core.proofs.flow.Flow.lose_up_to.Goals as goal
 use Rattle.flow_core.proofs.flow.Flow.lose_up_to.Goals.{then-count-gt0+then-expected-number, else-count-gt0, else-count-gt0-via-then-count-gt0+else-expected-number, else-count-gt0-via-else-count-gt0}
@@ -8,13 +8,7 @@ use Rattle.flow_core.proofs.flow.Flow.lose_up_to.Goals.{then-count-gt0+then-expe
 pub returns : goal.returns
 returns c =
     decision-event c.args.up_to c.args.self.now c.pass_to-count.new.self c.if-count-gt0.self c.pass_to-count.result _
-    (stops-everywhere
-    (λ sequence w lawful. declared-stops sequence w (c.declare_to_stops_at_number_or_held.ensures.up_to_number w sequence.number lawful)
-    (λ held is. c.declare_to_stops_at_number_or_held.ensures.up_to_held w sequence.number held lawful is)
-    (c.declare_to_stops_at_number_or_held.ensures.reached w sequence.number lawful) (c.declare_to_stops_at_number_or_held.ensures.none w sequence.number))
-    (λ sequence w lawful. skipped-stops sequence w (c.skip_to_stops_at_number_or_held.ensures.up_to_number w sequence.number)
-    (c.skip_to_stops_at_number_or_held.ensures.up_to_held w sequence.number)
-    (c.skip_to_stops_at_number_or_held.ensures.reached w sequence.number lawful) (c.skip_to_stops_at_number_or_held.ensures.none w sequence.number)))
+    stops-everywhere
     c.requires
     c.pass_to-count.ensures.count c.pass_to-count.ensures.after c.pass_to-count.ensures.lawful
     (elim c.if-count-gt0.branch [
