@@ -224,6 +224,11 @@ impl BondedFlow {
         ensures open_still { self.old.pending ≢ Pending.Close
             → self.new.pending ≢ Pending.Close }
     {
+        // Nearly always nothing is left. What is left may have a segment in it, and taking it out by
+        // `mem::replace` moves as many bytes each time.
+        if let Pending::Nothing = self.pending {
+            return self.drain(alloc, check, out);
+        }
         match mem::replace(&mut self.pending, Pending::Nothing) {
             Pending::Nothing => self.drain(alloc, check, out),
             Pending::Slide(ready) => {

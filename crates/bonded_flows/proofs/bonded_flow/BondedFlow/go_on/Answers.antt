@@ -5,7 +5,7 @@ use Rattle.bonded_flows.proofs.GoneOn.{still-under_way, some-anyhow, joined-goes
 use Rattle.bonded_flows.proofs.bonded_flow.BondedFlow.go_on.Goals as goal
 
 pub drain-requires : goal.drain-requires
-drain-requires g c = some-anyhow (g.C.HeaderCheck.accepts c.args.check.now) c.args.self.now c.replace.new.dest c.requires
+drain-requires g c = some-anyhow (g.C.HeaderCheck.accepts c.args.check.now) c.args.self.now c.args.self.now.pending c.requires
 
 pub slide-requires-clause-has_taken : goal.slide-requires-clause-has_taken
 slide-requires-clause-has_taken g c = some-anyhow (g.C.HeaderCheck.accepts c.args.check.now) c.args.self.now c.replace.new.dest c.requires
@@ -15,8 +15,8 @@ arrive-requires-clause-has_taken g c = some-anyhow (g.C.HeaderCheck.accepts c.ar
 
 pub returns-in-Nothing-clause-takes : goal.returns-in-Nothing-clause-takes
 returns-in-Nothing-clause-takes g c =
-    joined-goes-on g.O.Consumer.after (g.C.HeaderCheck.accepts c.args.check.now) c.args.self.now c.drain.new.self c.args.out.now c.drain.new.out c.replace.new.dest
-    (sym c.replace.ensures.value ∙ c.in-Nothing.is ∙ sym (c.drain.ensures.pending ∙ c.replace.ensures.after)) c.drain.ensures.gives
+    joined-goes-on g.O.Consumer.after (g.C.HeaderCheck.accepts c.args.check.now) c.args.self.now c.drain.new.self c.args.out.now c.drain.new.out c.args.self.now.pending
+    (sym c.drain.ensures.pending) c.drain.ensures.gives
 
 pub returns-in_err-slide-in-Slide-clause-takes : goal.returns-in_err-slide-in-Slide-clause-takes
 returns-in_err-slide-in-Slide-clause-takes g c =
