@@ -7,4 +7,5 @@ pub mod WindowFields
 pub mod OpenNumbers
 pub mod DeclaredCount
 pub mod SkippedCount
+pub mod NothingHeld
 pub mod Passing

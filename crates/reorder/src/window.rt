@@ -174,6 +174,12 @@ impl<T> Window<T> {
         if distance >= NUMBERS_AHEAD {
             return 0;
         }
+        if self.held() == 0 {
+            // All places are empty, so that none has to move, whichever number comes first. Where
+            // numbers jump by thousands nearly all that a window skips is skipped here.
+            self.expected = number;
+            return distance;
+        }
         for count in 0..distance {
             if self.next().is_some() {
                 return count;

@@ -1,6 +1,7 @@
 //! Calls on windows: that the definitions give the answers that were worked out by hand.
 ghost use Rattle.std.specs.Prelude.{◌<◌};
 
+mod by_chance;
 mod failed_allocations;
 mod giving_up;
 
