@@ -7,5 +7,7 @@ pub mod BytesTaken
 pub mod LinesReadOneWay
 pub mod KeptByEachLine
 pub mod NumberFields
+pub mod DigitLanes
+pub mod DigitBlocks
 pub mod DigitValues
 pub mod SpelledBytes

@@ -2,3 +2,4 @@
 pub mod LineFault
 pub mod LineFeeds
 pub mod Digits
+pub mod DigitBlocks

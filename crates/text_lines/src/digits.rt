@@ -1,7 +1,10 @@
-//! Hexadecimal digits, read by a table: a branch for each digit would be guessed wrongly as often as
-//! digits and letters change.
-ghost use Rattle.std.specs.Prelude.{◌≡◌, ◌≤◌, ◌/◌, ◌%◌, ◌⊎◌, IsTrue, IsFalse, length, vec_capacity};
+//! Hexadecimal digits, read in blocks ([`spell_block`]) and the last ones by a table: a branch for
+//! each digit would be guessed wrongly as often as digits and letters change.
+ghost use Rattle.std.specs.Prelude.{◌≡◌, ◌<◌, ◌≤◌, ◌*◌, ◌/◌, ◌%◌, ◌⊎◌, IsTrue, IsFalse, length, take, drop, vec_capacity};
 ghost use Rattle.text_lines.specs.Inside.Digits.{IsDigitEntry, SpellsPairs, SpellsNothing};
+ghost use Rattle.text_lines.specs.Inside.DigitBlocks.{SpellsFront};
+
+use crate::digit_block::spell_block;
 
 /// What the table has for a byte that is no digit.
 const NO_DIGIT: u8 = 16;
@@ -49,12 +52,35 @@ pub fn append_spelled(bytes: &mut Vec<u8>, digits: &[u8]) -> bool
     ensures spelled { IsTrue result → SpellsPairs digits.now bytes.new.items }
     ensures refused { IsFalse result → SpellsNothing digits.now }
 {
+    append_blocks(bytes, digits);
     let mut greatest = 0;
-    for place in 0..digits.len() / 2 {
+    for place in bytes.len()..digits.len() / 2 {
         let high = digit_value(digits[2 * place]);
         let low = digit_value(digits[2 * place + 1]);
         greatest = greater(greatest, greater(high, low));
         bytes.push_reserved(high % NO_DIGIT * NO_DIGIT + low % NO_DIGIT);
     }
     greatest < NO_DIGIT
+}
+
+/// Appends to an empty vector, which has room for them, the bytes that these digits spell, thirty-two
+/// digits at a time as long as all of those are digits.
+fn append_blocks(bytes: &mut Vec<u8>, digits: &[u8])
+    requires none { length bytes.old.items ≡ 0 }
+    requires room { length digits.now / 2 ≤ vec_capacity bytes.old }
+    ensures spelled { SpellsFront digits.now bytes.new.items }
+    ensures within { 2 * length bytes.new.items ≤ length digits.now }
+    ensures stopped { let others = drop (2 * length bytes.new.items) digits.now in
+        (length others < 32) ⊎ SpellsNothing (take 32 others) }
+    ensures room { vec_capacity bytes.old ≤ vec_capacity bytes.new }
+{
+    let mut rest = digits;
+    while let Some((block, others)) = rest.split_first_chunk::<32>() {
+        let Some(spelled) = spell_block(block) else {
+            return;
+        };
+        // There is room, so this asks for no memory.
+        bytes.extend_from_slice(&spelled).unwrap();
+        rest = others;
+    }
 }

@@ -28,6 +28,7 @@
 #![tactic(auto)]
 
 mod capacities;
+mod digit_block;
 mod digits;
 mod fault;
 mod field;

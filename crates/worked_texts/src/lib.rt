@@ -21,6 +21,8 @@ mod flow_lines;
 #[cfg(test)]
 mod greatest_frame;
 #[cfg(test)]
+mod hex_blocks;
+#[cfg(test)]
 mod hex_fields;
 #[cfg(test)]
 mod join_texts;
