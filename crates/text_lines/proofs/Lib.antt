@@ -9,5 +9,6 @@ pub mod KeptByEachLine
 pub mod NumberFields
 pub mod DigitLanes
 pub mod DigitBlocks
+pub mod DigitsWritten
 pub mod DigitValues
 pub mod SpelledBytes

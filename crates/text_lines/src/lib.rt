@@ -29,6 +29,7 @@
 
 mod capacities;
 mod digit_block;
+mod digit_writer;
 mod digits;
 mod fault;
 mod field;

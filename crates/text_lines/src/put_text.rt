@@ -4,6 +4,7 @@ ghost use Rattle.std.specs.Fmt.{decimal};
 ghost use Rattle.hex.specs.Hex.{encode_lower};
 ghost use Rattle.text_lines.specs.Putting.{Puts, IsClosed, spaced};
 
+use crate::digit_writer::write_digits;
 use itoa::Buffer;
 
 /// How many bytes are spelled at once.
@@ -65,7 +66,6 @@ fn put_spelled<O: PutText>(out: &mut O, bytes: &[u8], digits: &mut [u8])
     ensures put { Puts O.after out.old (encode_lower bytes.now) out.new }
 {
     let spelled = &mut digits[..2 * bytes.len()];
-    if hex::encode_to_slice(bytes, spelled).is_ok() {
-        out.put(spelled);
-    }
+    write_digits(bytes, spelled);
+    out.put(spelled);
 }

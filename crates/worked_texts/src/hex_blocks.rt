@@ -1,8 +1,8 @@
-//! Hexadecimal fields against the table by which they were read, one digit after the other, before
-//! they were read thirty-two digits at a time.
+//! Hexadecimal fields against the tables by which they were read and written, one digit after the
+//! other, before they were read thirty-two digits and written sixteen bytes at a time.
 use std::alloc::{AllocError, Global};
 use std::test::Fail;
-use text_lines::{LineFault, read_hex};
+use text_lines::{LineFault, TextBuffer, put_hex, read_hex};
 use texts::TraceKind;
 
 /// What the table has for a byte that is no digit.
@@ -46,6 +46,23 @@ fn is_read_by_table(alloc: Global, field: &[u8]) -> Result<bool, AllocError> {
     }
 }
 
+/// The digits of some bytes, by a table of the sixteen.
+fn digits_by_table(alloc: Global, bytes: &[u8]) -> Result<Vec<u8>, AllocError> {
+    let mut digits = Vec::new(alloc);
+    for byte in bytes {
+        digits.push(b"0123456789abcdef"[usize::from(*byte / 16)])?;
+        digits.push(b"0123456789abcdef"[usize::from(*byte % 16)])?;
+    }
+    Ok(digits)
+}
+
+/// Whether some bytes are written as the table has their digits.
+fn is_written_by_table(alloc: Global, bytes: &[u8]) -> Result<bool, AllocError> {
+    let mut text = TextBuffer::new(alloc);
+    put_hex(&mut text, bytes);
+    Ok(text.finish()?.as_slice() == digits_by_table(alloc, bytes)?.as_slice())
+}
+
 /// Digits in either case, by a row of numbers that begins with the seed.
 fn made_digits(alloc: Global, count: usize, seed: u32) -> Result<Vec<u8>, AllocError> {
     let mut digits = Vec::new(alloc);
@@ -82,6 +99,35 @@ fn each_byte_at_each_place_is_read_as_by_the_table(rt: HostRuntime) -> Result<()
                 }
                 let same = is_read_by_table(alloc, digits.as_slice())?;
                 assert!(rt; same, "byte {byte} at {place} of {pairs} pairs");
+            }
+        }
+    }
+    Ok(())
+}
+
+#[test]
+fn bytes_of_each_count_are_written_as_by_the_table(rt: HostRuntime) -> Result<(), Fail> {
+    let alloc = rt.alloc();
+    for count in 0..600 {
+        let bytes = made_digits(alloc, count, count as u32)?;
+        let same = is_written_by_table(alloc, bytes.as_slice())?;
+        assert!(rt; same, "{count} bytes");
+    }
+    Ok(())
+}
+
+#[test]
+fn each_byte_at_each_place_is_written_as_by_the_table(rt: HostRuntime) -> Result<(), Fail> {
+    let alloc = rt.alloc();
+    for count in [1, 15, 16, 17, 32, 33] {
+        for place in 0..count {
+            for byte in 0..=255 {
+                let mut bytes = made_digits(alloc, count, 7)?;
+                if place < bytes.len() {
+                    bytes[place] = byte;
+                }
+                let same = is_written_by_table(alloc, bytes.as_slice())?;
+                assert!(rt; same, "byte {byte} at {place} of {count}");
             }
         }
     }
