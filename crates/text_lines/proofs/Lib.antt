@@ -1,4 +1,5 @@
 pub mod FirstBytes
+pub mod SeparatorMarks
 pub mod WordsOfLines
 pub mod CutAtLineFeeds
 pub mod LinesTaken

@@ -1,8 +1,10 @@
 //! The words of a line, and its fields: the words of a line that is no comment.
-ghost use Rattle.std.specs.Prelude.{◌≡◌, ◌≢◌, ◌↔◌, ◌∷◌, [], length, IsTrue, MatchOption, not, position};
+ghost use Rattle.std.specs.Prelude.{◌≡◌, ◌≢◌, ◌↔◌, ◌∷◌, [], length, IsTrue, MatchOption, map, not, position};
+ghost use Rattle.std.specs.Simd.Lanes.{mask_l};
 ghost use Rattle.text_lines.specs.Lines.{words_of, fields_of, is_separator};
 
 use memchr::memchr3;
+use std::simd::prelude::*;
 
 /// Whether a byte separates words: a space, a tab or a carriage return.
 fn separates(byte: u8) -> bool
@@ -18,11 +20,40 @@ fn word_start(line: &[u8]) -> Option<usize>
     line.iter().position(|byte| !separates(*byte))
 }
 
-/// The place of the first byte that separates words.
+/// The place of the first byte that separates words. Most words are short: where a line has sixteen
+/// bytes, these are looked at first, all at once, and no branch depends on how long the word is.
+#[inline(always)]
 fn word_end(line: &[u8]) -> Option<usize>
     ensures { result ≡ position is_separator line.now }
 {
+    let Some(front) = line.first_chunk::<16>() else {
+        return line.iter().position(|byte| separates(*byte));
+    };
+    let marks = separators(u8x16::from_array(*front));
+    if marks == 0 {
+        return long_word_end(line);
+    }
+    Some(marks.trailing_zeros() as usize)
+}
+
+/// The same of a long word. It stands apart, since its search takes all registers, and they would be
+/// saved for each short word too.
+#[inline(never)]
+fn long_word_end(line: &[u8]) -> Option<usize>
+    ensures { result ≡ position is_separator line.now }
+{
     memchr3(b' ', b'\t', b'\r', line)
+}
+
+/// A bit for each of sixteen bytes, the lowest for the first: whether it separates words.
+#[inline(always)]
+fn separators(bytes: u8x16) -> u64
+    ensures { result ≡ mask_l (map is_separator bytes) }
+{
+    let spaces = bytes.simd_eq(u8x16::splat(b' '));
+    let tabs = bytes.simd_eq(u8x16::splat(b'\t'));
+    let returns = bytes.simd_eq(u8x16::splat(b'\r'));
+    (spaces | tabs | returns).to_bitmask()
 }
 
 /// The first word of a line and what follows it.

@@ -29,6 +29,8 @@ mod join_texts;
 #[cfg(test)]
 mod line_fields;
 #[cfg(test)]
+mod line_words;
+#[cfg(test)]
 mod lines_in_pieces;
 #[cfg(test)]
 mod number_fields;

@@ -1,6 +1,8 @@
 use Rattle.text_lines.specs.Lines.{is_separator}
-use Rattle.text_lines.proofs.FirstBytes.{position-first}
+use Rattle.text_lines.proofs.SeparatorMarks.{first_marked}
 use Rattle.text_lines.proofs.words.word_end.Goals as goal
 
 pub returns : goal.returns
-returns c = position-first is_separator c.args.line.now c.memchr3.result c.memchr3.ensures
+returns c =
+    first_marked is_separator c.args.line.now c.in-Some.front.now c.separators-marks.result c.in-Some.ensures.cases.same c.in-Some.ensures.cases.enough
+    c.separators-marks.ensures c.if-marks-eq0.false
