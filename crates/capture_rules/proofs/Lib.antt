@@ -5,3 +5,6 @@ pub mod OneNumber
 pub mod HeldSoFar
 pub mod BeginningSoFar
 pub mod WaitingSoFar
+pub mod EmptySlots
+pub mod KeyedSlots
+pub mod LeftToLook

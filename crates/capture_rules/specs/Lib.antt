@@ -2,3 +2,4 @@ pub mod Order
 pub mod Waiting
 pub mod Begin
 pub mod Held
+pub mod Inside

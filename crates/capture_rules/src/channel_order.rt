@@ -1,12 +1,18 @@
 //! The order of the bursts of one flow on each of its channels.
-ghost use Rattle.std.specs.Prelude.{◌≡◌, ◌<◌, ◌++◌, ◌∷◌, [], IfOk, IfErr, IfSome, IfNone, OnOk, OnErr, length, is_some, nat_lt};
-ghost use Rattle.capture_rules.specs.Order.{is_due, is_near, IsNext};
-ghost use Rattle.capture_rules.specs.Waiting.{waiting_in, reorder_of, IsLeastTo};
+ghost use Rattle.std.specs.Prelude.{◌≡◌, ◌+◌, ◌^◌, ◌<◌, ◌++◌, ◌∷◌, [], true, IfOk, IfErr, IfSome, IfNone, OnOk, OnErr, length, is_some, nat_lt};
+ghost use Rattle.capture_rules.specs.declared.arrival.Arrival.{Arrival};
+ghost use Rattle.capture_rules.specs.Order.{is_due, IsNext};
+ghost use Rattle.capture_rules.specs.Inside.Index.{HasKeys, IsLeastSlot};
 
 use crate::arrival::{Arrival, HandedOn};
-use crate::numbers::place_from;
+use crate::next_slot::{indexed_slot, scanned_slot};
+use crate::number_index::NumberIndex;
+use crate::slots::Slots;
 use std::alloc::{AllocFailed, Global};
-use std::collections::VecDeque;
+
+/// Where so many slots are waiting or more, an index is made before one is handed on: below that a
+/// look at each is as fast.
+const MANY: usize = 32;
 
 /// Lets the bursts of one flow wait for `reorder` nanoseconds, and hands them on, on each channel in
 /// the order of their numbers as far as they came within `reorder`.
@@ -17,10 +23,16 @@ use std::collections::VecDeque;
 pub struct ChannelOrder<T> {
     reorder: u64,
     /// In the order in which they came.
-    waiting: VecDeque<Arrival<T>>,
+    waiting: Slots<Arrival<T>>,
+    /// Of those that wait, while it is made.
+    index: NumberIndex,
+    ghost fits: { index.is_made ≡ true → index.first + length waiting.slots < 2 ^ 64 },
+    ghost keys: { index.is_made ≡ true → HasKeys index.keys index.first waiting.slots },
 }
 
 impl<T> ChannelOrder<T> {
+    ghost use Rattle.capture_rules.specs.Waiting.{waiting_in, reorder_of};
+
     /// Nothing waits. Bursts wait for `reorder` nanoseconds.
     pub fn new(alloc: Global, reorder: u64) -> ChannelOrder<T>
         ensures none { waiting_in result ≡ [] }
@@ -28,7 +40,8 @@ impl<T> ChannelOrder<T> {
     {
         ChannelOrder {
             reorder,
-            waiting: VecDeque::new(alloc),
+            waiting: Slots::new(alloc),
+            index: NumberIndex::new(alloc),
         }
     }
 
@@ -39,13 +52,18 @@ impl<T> ChannelOrder<T> {
         ensures unchanged { OnErr result (waiting_in self.new ≡ waiting_in self.old) }
         ensures reorder { reorder_of self.new ≡ reorder_of self.old }
     {
-        self.waiting.push_back(arrival)
+        let at = self.waiting.slot_count();
+        let (channel, number) = (arrival.channel, arrival.number);
+        self.waiting.push(arrival)?;
+        self.index.add(channel, number, at);
+        Ok(())
     }
 
     /// Hands on the next burst, if the oldest one has waited for longer than `reorder` at this time:
     /// in the oldest one's place and at its time, the one of the least number (from the oldest one's,
     /// modulo 8192) of those that came on its channel and not more than `reorder` after it. It is to
-    /// be called until it gives none. It looks once at each burst that waits.
+    /// be called until it gives none. It looks once at each burst that waits, or where many wait is
+    /// led to it by an index.
     pub fn next(&mut self, now: u64) -> Option<HandedOn<T>>
         ensures due { is_some result ≡ is_due (reorder_of self.old) now (waiting_in self.old) }
         ensures next { IfSome result (λ next.
@@ -70,8 +88,10 @@ impl<T> ChannelOrder<T> {
         ensures reorder { reorder_of self.new ≡ reorder_of self.old }
     {
         let time = self.waiting.front()?.time;
-        let at = self.next_place();
-        let arrival = self.waiting.remove(at)?;
+        self.index_many();
+        let at = self.next_slot();
+        let (arrival, gone) = self.waiting.take(at)?;
+        self.index.remove(arrival.channel, arrival.number, at, gone);
         Some(HandedOn { time, arrival })
     }
 
@@ -82,30 +102,28 @@ impl<T> ChannelOrder<T> {
         self.waiting.len()
     }
 
-    /// Where the burst stands that is handed on next.
-    fn next_place(&self) -> usize
-        requires { 0 < length (waiting_in self.now) }
-        ensures { (oldest : Arrival T) × (one : Arrival T) × IsLeastTo (reorder_of self.now)
-            (waiting_in self.now) (length (waiting_in self.now)) result oldest one }
+    /// Makes the index, where it isn't made and many wait.
+    fn index_many(&mut self)
+        ensures waiting { self.new.waiting ≡ self.old.waiting }
+        ensures reorder { reorder_of self.new ≡ reorder_of self.old }
     {
-        let oldest = &self.waiting[0];
-        let mut least = 0;
-        let mut least_place = place_from(oldest.number, oldest.number);
-        for at in 1..self.waiting.len() {
-            let one = &self.waiting[at];
-            let place = place_from(oldest.number, one.number);
-            if place < least_place && is_near(self.reorder, oldest, one) {
-                least = at;
-                least_place = place;
-            }
+        if !self.index.is_made && self.waiting.slot_count() >= MANY {
+            self.index.make(&self.waiting);
         }
-        least
     }
-}
 
-/// Whether a burst came on the oldest one's channel, and not more than `reorder` after it.
-fn is_near<T>(reorder: u64, oldest: &Arrival<T>, one: &Arrival<T>) -> bool
-    ensures { result ≡ is_near reorder oldest.now one.now }
-{
-    one.channel == oldest.channel && one.time.saturating_sub(oldest.time) <= reorder
+    /// Where the burst stands that is handed on next.
+    fn next_slot(&self) -> usize
+        requires { 0 < length (waiting_in self.now) }
+        ensures { (oldest : Arrival T) × (one : Arrival T) × IsLeastSlot (reorder_of self.now)
+            self.now.waiting.slots (length self.now.waiting.slots) result oldest one }
+    {
+        match self.waiting.front() {
+            Some(oldest) if self.index.is_made => {
+                indexed_slot(&self.index, &self.waiting, self.reorder, oldest)
+            }
+            Some(oldest) => scanned_slot(&self.waiting, self.reorder, oldest),
+            None => 0,
+        }
+    }
 }

@@ -28,6 +28,38 @@ fn a_burst_waits_the_next_time(rt: HostRuntime) -> Result<(), Fail> {
 }
 
 #[test]
+fn many_bursts_are_handed_on_without_memory_for_an_index(rt: HostRuntime) -> Result<(), Fail> {
+    let mut order = ChannelOrder::new(rt.alloc(), 0);
+    // Greatest numbers first, and then more while they are handed on.
+    for number in 0..200_u16 {
+        if let Err(back) = order.push(arrival(200_u16.wrapping_sub(number))) {
+            assert!(rt; order.len() == usize::from(number));
+            order.push(back.value)?;
+        }
+    }
+    for number in 1..=200_u16 {
+        assert!(rt;
+            order
+                .next_left()
+                .is_some_and(|next| next.arrival.item == number)
+        );
+        if let Err(back) = order.push(arrival(number.wrapping_add(200))) {
+            order.push(back.value)?;
+        }
+        assert!(rt; order.len() == 200);
+    }
+    for number in 201..=400_u16 {
+        assert!(rt;
+            order
+                .next_left()
+                .is_some_and(|next| next.arrival.item == number)
+        );
+    }
+    assert!(rt; order.next_left().is_none());
+    Ok(())
+}
+
+#[test]
 fn a_burst_is_kept_the_next_time(rt: HostRuntime) -> Result<(), Fail> {
     let mut flow = Beginning::new(rt.alloc(), 0, false);
     for number in 0..20 {

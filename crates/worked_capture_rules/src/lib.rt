@@ -11,6 +11,8 @@ mod failed_allocations;
 #[cfg(test)]
 mod held;
 #[cfg(test)]
+mod many;
+#[cfg(test)]
 mod model;
 #[cfg(test)]
 mod model_cases;

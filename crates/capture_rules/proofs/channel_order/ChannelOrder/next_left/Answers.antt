@@ -1,8 +1,47 @@
-use Rattle.capture_rules.proofs.WaitingSoFar.{next-is}
+use Rattle.std.proofs.Common.{◌+◌, false, cond, None, length, slice_set, refl, ap, sym, ◌∙◌, arith, length-drop, length-set}
+use Rattle.std.specs.Ordering.{is_eq}
+use Rattle.capture_rules.specs.Inside.Index.{key_cmp, is_key}
+use Rattle.capture_rules.proofs.EmptySlots.{held-within}
+use Rattle.capture_rules.proofs.KeyedSlots.{key-taken}
+use Rattle.capture_rules.proofs.WaitingSoFar.{taken-is}
 use Rattle.capture_rules.proofs.channel_order.ChannelOrder.next_left.Goals as goal
+
+pub remove-requires-clause-at_fits : goal.remove-requires-clause-at_fits
+remove-requires-clause-at_fits g c = λ made.
+    let slots = c.index_many.new.self.waiting.slots in
+    let fits = c.index_many.new.self.fits made in
+    let within = held-within slots c.next_slot-at.result c.in_ok-arrival.arrival (sym c.in_ok-arrival.ensures.taken) in
+    omega (arith, fits, within)
+
+pub remove-requires-clause-gone_fits : goal.remove-requires-clause-gone_fits
+remove-requires-clause-gone_fits g c = λ made.
+    let fits = c.index_many.new.self.fits made in
+    let few = c.in_ok-arrival.ensures.gone.1 in
+    omega (arith, fits, few)
+
+pub invariant_of-self-2 : goal.invariant_of-self-2
+invariant_of-self-2 g c =
+    let before = c.index_many.new.self in
+    let slots = before.waiting.slots in
+    let at = c.next_slot-at.result in
+    let gone = c.in_ok-arrival.gone in
+    let one = c.in_ok-arrival.arrival in
+    let left = c.in_ok-arrival.ensures.slots in
+    record {
+      fits = λ made.
+          let fits = before.fits (c.remove.ensures.made made) in
+          let few = c.in_ok-arrival.ensures.gone.1 in
+          omega (arith, c.remove.ensures.first made, fits, few, ap length left, length-drop gone (slice_set slots at None), length-set slots at None);
+      keys = λ made key.
+          c.remove.ensures.keys made key
+          ∙ ap (λ b. cond (is_eq (key_cmp (one.channel, one.number, before.index.first + at) key)) false b) (before.keys (c.remove.ensures.made made) key)
+          ∙ key-taken before.index.first slots (slice_set slots at None) c.take.new.self.slots at gone one key (sym c.in_ok-arrival.ensures.taken) refl left c.in_ok-arrival.ensures.gone.0
+          ∙ ap (λ first. is_key first c.take.new.self.slots key) (sym (c.remove.ensures.first made));
+    }
 
 pub returns-clause-next : goal.returns-clause-next
 returns-clause-next g c =
-    let least = c.next_place-at.ensures in
-    next-is c.args.self.now.reorder c.args.self.now.waiting.items least.0 c.next_place-at.result least.1 c.in_ok-arrival.arrival c.in_ok-time.field-0.now c.remove.new.self.items least.2
-    c.in_ok-time.ensures.lookup c.in_ok-arrival.ensures.value c.in_ok-arrival.ensures.items
+    let least = c.next_slot-at.ensures in
+    taken-is c.args.self.now.reorder c.index_many.new.self.reorder c.args.self.now.waiting c.index_many.new.self.waiting c.take.new.self.items c.next_slot-at.result least.0 least.1
+    c.in_ok-arrival.arrival c.in_ok-time.field-0.now c.index_many.ensures.waiting c.index_many.ensures.reorder c.in_ok-time.ensures.filled least.2 c.in_ok-arrival.ensures.taken
+    c.in_ok-time.ensures.item c.in_ok-arrival.ensures.items

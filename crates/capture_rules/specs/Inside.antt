@@ -1,0 +1,3 @@
+-- What only contracts of private functions, and proofs, speak of.
+pub mod Slots
+pub mod Index
