@@ -4,13 +4,11 @@ use Rattle.std.specs.FinMap as map
 use Rattle.std.proofs.lemmas.Bool.{cases_eq, lt-ltb, ltb-true}
 use Rattle.reorder.specs.Number.{number_ahead}
 use Rattle.reorder.specs.View.{WindowView, offset_in, IsHeld, IsLawful, moved_on, moved_on_by}
-use Rattle.reorder.specs.Verdicts.{open_before, has_gap_to, declared_count, IsDeclared, after_declare}
-use Rattle.reorder.specs.declared.verdict.Declared.{Declared}
-use Rattle.reorder.specs.declared.verdict.Declared.TheVariants.{NextIsHere, NothingHeld, Lost}
+use Rattle.reorder.specs.Verdicts.{open_before, has_gap_to, declared_count, IsDeclared}
+use Rattle.reorder.specs.declared.verdict.Declared.TheVariants.{Lost}
 use Rattle.reorder.specs.Calls.{LosesInTurn}
 use Rattle.reorder.proofs.Offsets.{number_ahead-offset}
-use Rattle.reorder.proofs.AgreeingWindows.{free-none_held}
-use Rattle.reorder.proofs.OpenNumbers.{AreOpen, open_before-at_number, open_before-at_held, open_before-le, open_before-le_held, AreOpen-open_before, open_before-reaches, AreOpen-first, AreOpen-rest, moved_on_by-zero, moved_on_by-first}
+use Rattle.reorder.proofs.OpenNumbers.{AreOpen, open_before-le, open_before-le_held, AreOpen-open_before, open_before-reaches, AreOpen-first, AreOpen-rest, moved_on_by-zero, moved_on_by-first}
 
 -- what a gap up to a number is
 gap : (d n : ℕ) → 0 < d → d < 4096 → 0 < n → (nat_lt 0 d && nat_lt d 4096 && nat_lt 0 n) ≡ true
@@ -66,39 +64,6 @@ module _ {T : Type 0} (w : WindowView T) where
   -- none
   pub AreLost-none : AreLost 0
   AreLost-none = record { free = λ k below. absurd (omega arith); some_held = λ some. absurd (omega arith) }
-
-  module _ (lawful : IsLawful w) (number count : ℕ) (lost : AreLost count) where
-    -- the number is reached
-    pub declared_count-reached : count ≡ offset_in w number → count < 4096 → count ≡ declared_count w number
-    declared_count-reached reached near =
-        ⊎_elim
-        (λ (none : count ≡ 0). none ∙ sym (declared_count-none number (inl (inl (sym reached ∙ none)))))
-        (λ (some : count ≢ 0).
-        let positive : 0 < count = omega arith in
-        open_before-at_number w lawful count lost.free number reached ∙ sym (declared_count-gap number (omega arith) (omega arith) (lost.some_held positive)))
-        (cases_eq count 0)
-
-    -- the next number is held
-    pub declared_count-at_held : count < offset_in w number → offset_in w number < 4096 → IsHeld w (number_ahead w.expected count) → count ≡ declared_count w number
-    declared_count-at_held before near held =
-        let some : 0 < map.len w.held = ⊎_elim (λ (none : map.len w.held ≡ 0). absurd (free-none_held w _ none held)) (λ (some : map.len w.held ≢ 0). let some : 0 < map.len w.held = omega arith in some) (cases_eq (map.len w.held) 0) in
-        open_before-at_held w lawful count lost.free number (omega arith) held ∙ sym (declared_count-gap number (omega arith) near some)
-
-    -- nothing is held
-    pub declared_count-none_held : map.len w.held ≡ 0 → count ≡ declared_count w number
-    declared_count-none_held none =
-        ⊎_elim
-        (λ (zero : count ≡ 0). zero ∙ sym (declared_count-none number (inr none)))
-        (λ (some : count ≢ 0). let held = lost.some_held in absurd (omega arith))
-        (cases_eq count 0)
-
-    -- `declare` answers that it stops
-    pub declared_count-stopped : count < offset_in w number → offset_in w number < 4096 → (declared : Declared) → (declared ≡ NextIsHere) ⊎ (declared ≡ NothingHeld) → IsDeclared (moved_on_by w count) declared → (count ≡ declared_count w number) × (after_declare (moved_on_by w count) declared ≡ moved_on_by w count)
-    declared_count-stopped before near declared stops answer =
-        ⊎_elim
-        (λ (here : declared ≡ NextIsHere). (declared_count-at_held before near (subst (IsDeclared (moved_on_by w count)) here answer), ap (after_declare (moved_on_by w count)) here))
-        (λ (nothing : declared ≡ NothingHeld). (declared_count-none_held (subst (IsDeclared (moved_on_by w count)) nothing answer), ap (after_declare (moved_on_by w count)) nothing))
-        stops
 
   -- what `declare_to` declares may be declared lost
   pub AreLost-declared_count : (number : ℕ) → IsLawful w → AreLost (declared_count w number)

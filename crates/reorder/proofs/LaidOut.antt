@@ -1,5 +1,5 @@
 -- A ring of places stands for one window, and how it changes with the window.
-use Rattle.std.proofs.Common.{◌≡◌, ◌≢◌, ℕ, zero, suc, ◌+◌, ◌<◌, ◌≤◌, ⊎_elim, List, [], ◌∷◌, ◌++◌, length, replicate, slice_set, Option, None, Some, is_some, cond, Bool, true, false, refl, ap, sym, subst, ◌∙◌, arith, add-one}
+use Rattle.std.proofs.Common.{◌≡◌, ◌≢◌, ℕ, zero, suc, ◌+◌, ◌<◌, ◌≤◌, ⊎_elim, List, [], ◌∷◌, length, replicate, slice_set, Option, None, Some, is_some, cond, Bool, true, false, refl, ap, sym, subst, ◌∙◌, arith, add-one}
 use Rattle.std.specs.Ordering.{nat_cmp}
 use Rattle.std.specs.Cmp.{nat_cmp_total}
 use Rattle.std.specs.FinMap as map
@@ -21,13 +21,6 @@ module _ {T : Type 0} where
   -- the first place
   item_at-first : (p : Option T) (ps : List (Option T)) (i : ℕ) → i ≡ 0 → item_at (p ∷ ps) i ≡ p
   item_at-first p ps i first = ap (item_at (p ∷ ps)) first
-
-  -- an empty place more at the end changes no item
-  pub item_at-append_empty : (ps : List (Option T)) (i : ℕ) → item_at (ps ++ None ∷ []) i ≡ item_at ps i
-  item_at-append_empty [] zero = refl
-  item_at-append_empty [] (suc i) = refl
-  item_at-append_empty (p ∷ ps) zero = refl
-  item_at-append_empty (p ∷ ps) (suc i) = item_at-append_empty ps i
 
   -- there is no item at empty places
   item_at-replicate : (n i : ℕ) → item_at (replicate {A = Option T} n None) i ≡ None

@@ -3,9 +3,11 @@ pub mod Items
 pub mod LawfulWindow
 pub mod AgreeingWindows
 pub mod LaidOut
+pub mod Rings
 pub mod WindowFields
 pub mod OpenNumbers
 pub mod DeclaredCount
 pub mod SkippedCount
 pub mod NothingHeld
+pub mod Jumps
 pub mod Passing

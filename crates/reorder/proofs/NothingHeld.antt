@@ -2,11 +2,11 @@
 use Rattle.std.proofs.Common.{◌≡◌, ℕ, ◌<◌, List, [], ◌∷◌, length, Option, None, Some, is_some, refl, ap, sym, ◌∙◌}
 use Rattle.std.specs.Ordering.{nat_cmp}
 use Rattle.std.specs.FinMap as map
-use Rattle.circular_buffer.specs.Buffer.{Buffer}
 use Rattle.reorder.specs.Number.{offset, following, number_ahead}
 use Rattle.reorder.specs.View.{WindowView, offset_in, IsLawful, moved_on_by}
 use Rattle.reorder.specs.Verdicts.{skipped_count}
-use Rattle.reorder.specs.Inside.Places.{items_from, seen, IsKept}
+use Rattle.reorder.specs.Inside.Places.{items_from, seen}
+use Rattle.reorder.specs.Inside.Ring.{from_start, IsKept}
 use Rattle.reorder.proofs.Offsets.{number_ahead-offset}
 use Rattle.reorder.proofs.Items.{get-insert_same}
 use Rattle.reorder.proofs.AgreeingWindows.{free-none_held}
@@ -28,28 +28,31 @@ module _ {T : Type 0} where
       let free : AreOpen w (offset_in w number) = λ k below held. free-none_held w (number_ahead w.expected k) none held in
       skipped_count-reached w number lawful (offset_in w number) free refl near
 
-  module _ (e count : ℕ) (b : Buffer (Option T)) (kept : IsKept e count b) (none : count ≡ 0) (number : ℕ) (in_range : number < 8192) where
-    none_held : map.len (items_from e b.items) ≡ 0
+  module _ (e count start : ℕ) (ring : List (Option T)) (kept : IsKept e count start ring) (none : count ≡ 0) (number : ℕ) (in_range : number < 8192) where
+    abbrev places : List (Option T)
+    places = from_start start ring
+
+    none_held : map.len (items_from e places) ≡ 0
     none_held = sym kept.counted ∙ none
 
     -- no place has moved, and another number is expected
-    pub seen-jumped : seen number b.items ≡ moved_on_by (seen e b.items) (offset e number)
+    pub seen-jumped : seen number places ≡ moved_on_by (seen e places) (offset e number)
     seen-jumped =
-        let same_items = items_from-none b.items e number none_held ∙ sym (items_from-none b.items e e none_held) in
+        let same_items = items_from-none places e number none_held ∙ sym (items_from-none places e e none_held) in
         let same_number = number_ahead-offset e number kept.lawful.expected_in_range in_range in
-        λ i. record { expected = sym same_number i; width = length b.items; held = same_items i }
+        λ i. record { expected = sym same_number i; width = length places; held = same_items i }
 
-    pub kept-jumped : IsKept number count b
+    pub kept-jumped : IsKept number count start ring
     kept-jumped =
-        let none_later : map.len (items_from number b.items) ≡ 0 = ap map.len (items_from-none b.items e number none_held) ∙ map.len-empty nat_cmp T in
+        let none_later : map.len (items_from number places) ≡ 0 = ap map.len (items_from-none places e number none_held) ∙ map.len-empty nat_cmp T in
         record {
           lawful = record {
             expected_in_range = in_range;
             width_positive = kept.lawful.width_positive;
             width_in_range = kept.lawful.width_in_range;
-            held_in_range = λ q held. absurd (free-none_held (seen number b.items) q none_later held);
-            held_within = λ q held. absurd (free-none_held (seen number b.items) q none_later held);
+            held_in_range = λ q held. absurd (free-none_held (seen number places) q none_later held);
+            held_within = λ q held. absurd (free-none_held (seen number places) q none_later held);
           };
-          full = kept.full;
+          starts_within = kept.starts_within;
           counted = none ∙ sym none_later;
         }

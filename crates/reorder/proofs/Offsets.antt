@@ -1,5 +1,5 @@
 -- How the offset of a number changes as the expected number moves on.
-use Rattle.std.proofs.Common.{◌≡◌, ◌≢◌, ℕ, ◌+◌, ◌<◌, arith}
+use Rattle.std.proofs.Common.{◌≡◌, ◌≢◌, ℕ, ◌+◌, ◌<◌, ◌≤◌, arith}
 use Rattle.reorder.specs.Number.{offset, following, number_ahead}
 
 -- the next number is a sequence number
@@ -34,10 +34,14 @@ number_ahead-offset e n h k = omega arith
 pub number_ahead-zero : (e : ℕ) → e < 8192 → number_ahead e 0 ≡ e
 number_ahead-zero e h = omega arith
 
--- the number after one that lies ahead lies one further ahead
-pub following-number_ahead : (e d : ℕ) → following (number_ahead e d) ≡ number_ahead e (d + 1)
-following-number_ahead e d = omega arith
-
 -- one number more, and from the next number one less
 pub number_ahead-following : (e d : ℕ) → number_ahead (following e) d ≡ number_ahead e (d + 1)
 number_ahead-following e d = omega arith
+
+-- as some numbers are passed, those behind them come as much nearer
+pub offset-nearer : (e k n : ℕ) → e < 8192 → n < 8192 → k ≤ offset e n → offset (number_ahead e k) n + k ≡ offset e n
+offset-nearer e k n h l far = omega arith
+
+-- and those that were passed lie behind
+pub offset-behind : (e k n : ℕ) → e < 8192 → n < 8192 → k ≤ 8192 → offset e n < k → 8192 ≤ offset (number_ahead e k) n + k
+offset-behind e k n h l few near = omega arith

@@ -1,5 +1,5 @@
 -- The numbers from the expected one on that are open: those before the nearest that is held.
-use Rattle.std.proofs.Common.{◌≡◌, ◌≢◌, ℕ, suc, ◌+◌, ◌<◌, ◌≤◌, true, false, ◌||◌, min, ⊎_elim, ◌⊎◌, inl, inr, List, [], ◌∷◌, None, is_some, refl, ap, sym, subst, ◌∙◌, arith}
+use Rattle.std.proofs.Common.{◌≡◌, ◌≢◌, ℕ, suc, ◌+◌, ◌<◌, ◌≤◌, true, false, ◌||◌, min, ⊎_elim, ◌⊎◌, inl, inr, List, [], ◌∷◌, refl, ap, sym, subst, ◌∙◌, arith}
 use Rattle.std.specs.Ordering.{nat_cmp, eq_by_cmp, is_eq}
 use Rattle.std.specs.declared.cmp.Ordering.TheVariants.{Less, Equal, Greater}
 use Rattle.std.specs.Cmp.{nat_cmp_total, eq_by_cmp_equiv}
@@ -7,10 +7,9 @@ use Rattle.std.specs.List.{list_any}
 use Rattle.std.specs.FinMap as map
 use Rattle.std.proofs.lemmas.Bool.{cases_eq, cases_lt}
 use Rattle.reorder.specs.Number.{offset, number_ahead}
-use Rattle.reorder.specs.View.{WindowView, held_at, offset_in, IsHeld, IsLawful, moved_on, moved_on_by, next_taken}
+use Rattle.reorder.specs.View.{WindowView, offset_in, IsHeld, IsLawful, moved_on, moved_on_by}
 use Rattle.reorder.specs.Verdicts.{least_offset, open_before}
-use Rattle.reorder.proofs.Offsets.{offset-number_ahead, number_ahead-offset, number_ahead-zero, following-number_ahead, number_ahead-following}
-use Rattle.reorder.proofs.LawfulWindow.{next_taken-none}
+use Rattle.reorder.proofs.Offsets.{offset-number_ahead, number_ahead-offset, number_ahead-zero, number_ahead-following}
 
 -- a number is among some
 abbrev IsAmong : ℕ → List ℕ → Type 0
@@ -59,14 +58,6 @@ module _ {T : Type 0} (w : WindowView T) where
   -- so many numbers from the expected one on are open: none of them is held
   abbrev pub AreOpen : ℕ → Type 0
   AreOpen count = (k : ℕ) → k < count → ¬ (IsHeld w (number_ahead w.expected k))
-
-  -- one more is open where the number after them is not held
-  pub AreOpen-more : (count : ℕ) → AreOpen count → ¬ (IsHeld w (number_ahead w.expected count)) → AreOpen (count + 1)
-  AreOpen-more count free next k below =
-      ⊎_elim
-      (λ (last : k ≡ count). subst (λ n. ¬ (IsHeld w (number_ahead w.expected n))) (sym last) next)
-      (λ (other : k ≢ count). free k (omega arith))
-      (cases_eq k count)
 
   module _ (lawful : IsLawful w) (count : ℕ) (free : AreOpen count) where
     -- what is held lies no nearer
@@ -143,10 +134,6 @@ module _ {T : Type 0} (w : WindowView T) where
   pub moved_on_by-first : (count : ℕ) → moved_on_by (moved_on w) count ≡ moved_on_by w (suc count)
   moved_on_by-first count = ap (λ e. record w { expected = e }) (number_ahead-following w.expected count ∙ ap (number_ahead w.expected) (omega arith))
 
-  -- over all but one first, and then over the last
-  pub moved_on_by-last : (count : ℕ) → moved_on (moved_on_by w count) ≡ moved_on_by w (count + 1)
-  moved_on_by-last count = ap (λ e. record w { expected = e }) (following-number_ahead w.expected count)
-
   -- where some are open the expected number is the first
   pub AreOpen-first : (count : ℕ) → w.expected < 8192 → AreOpen w (suc count) → ¬ (IsHeld w w.expected)
   AreOpen-first count in_range free = subst (λ n. ¬ (IsHeld w n)) (number_ahead-zero w.expected in_range) (free 0 (omega arith))
@@ -154,13 +141,3 @@ module _ {T : Type 0} (w : WindowView T) where
   -- and the others are open once the window has moved on
   pub AreOpen-rest : (count : ℕ) → AreOpen w (suc count) → AreOpen (moved_on w) count
   AreOpen-rest count free k below = subst (λ n. ¬ (IsHeld w n)) (sym (number_ahead-following w.expected k)) (free (k + 1) (omega arith))
-
-  -- to take the next item, where it is not held, is to move on over one more open number
-  module _ (v : WindowView T) (count : ℕ) (is : v ≡ moved_on_by w count) (nothing : None ≡ held_at v v.expected) where
-    pub next_taken-moved_on_by : next_taken v ≡ moved_on_by w (count + 1)
-    next_taken-moved_on_by = next_taken-none v nothing ∙ ap moved_on is ∙ moved_on_by-last count
-
-    pub next_taken-AreOpen : AreOpen w count → AreOpen w (count + 1)
-    next_taken-AreOpen free =
-        let free_next : held_at w (number_ahead w.expected count) ≡ None = sym (nothing ∙ ap (λ (u : WindowView T). held_at u u.expected) is) in
-        AreOpen-more w count free (λ held. let found = sym (ap is_some free_next) ∙ held in cc)

@@ -30,6 +30,7 @@
 
 pub mod laws;
 mod number;
+mod ring;
 mod verdict;
 mod window;
 

@@ -1,16 +1,17 @@
 //! The resequencing window, over a ring of places: one for each number that may be held.
-ghost use Rattle.std.specs.Prelude.{◌≡◌, ◌<◌, ◌≤◌, IfOk};
+ghost use Rattle.std.specs.Prelude.{◌≡◌, ℕ, ◌<◌, ◌≤◌, IfOk};
 ghost use Rattle.std.specs.Option.{option_copied};
 ghost use Rattle.std.specs.FinMap as map;
 ghost use Rattle.reorder.specs.Limits.{modulus, width_max};
-ghost use Rattle.reorder.specs.View.{IsLawful, held_at, empty_window, next_taken, moved_on_by};
+ghost use Rattle.reorder.specs.Number.{number_ahead};
+ghost use Rattle.reorder.specs.View.{IsHeld, IsLawful, held_at, empty_window, next_taken, moved_on_by};
 ghost use Rattle.reorder.specs.Verdicts.{IsVerdict, after_offer, after_take_next};
 ghost use Rattle.reorder.specs.Verdicts.{IsDeclared, after_declare, declared_count, skipped_count};
 
-use crate::NUMBERS_AHEAD;
 use crate::number::{number_after, offset};
+use crate::ring::{empty_at_front, place_behind};
 use crate::verdict::{Declared, Verdict};
-use circular_buffer::HeapCircularBuffer;
+use crate::{MODULUS, NUMBERS_AHEAD};
 use std::alloc::{AllocError, Global};
 use std::marker::Model;
 
@@ -25,22 +26,26 @@ use std::marker::Model;
 pub struct Window<T> {
     expected: u16,
     held: usize,
-    /// The places of the expected number and of those after it, in order, as many as the width.
-    places: HeapCircularBuffer<Option<T>>,
+    /// Where the place of the expected number is.
+    start: usize,
+    /// A ring of places, as many as the width: from `start` on, going round, those of the expected
+    /// number and of those after it.
+    places: Vec<Option<T>>,
 }
 
 impl<T> Model for Window<T> {
     ghost use Rattle.reorder.specs.View.{WindowView};
     ghost use Rattle.reorder.specs.Inside.Coding.{view_code};
-    ghost use Rattle.reorder.specs.Inside.Places.{seen, IsKept};
+    ghost use Rattle.reorder.specs.Inside.Places.{seen};
+    ghost use Rattle.reorder.specs.Inside.Ring.{from_start, IsKept};
 
     ghost Value = { WindowView T };
 
     ghost coded = { view_code T.code };
 
-    ghost view = { λ w. seen w.expected w.places.items };
+    ghost view = { λ w. seen w.expected (from_start w.start w.places.items) };
 
-    ghost invariant = { λ w. IsKept w.expected w.held w.places };
+    ghost invariant = { λ w. IsKept w.expected w.held w.start w.places.items };
 }
 
 impl<T> Window<T> {
@@ -53,9 +58,9 @@ impl<T> Window<T> {
         ensures empty { IfOk result (λ window. window ≡ empty_window first width) }
         ensures lawful { IfOk result IsLawful }
     {
-        let mut places = HeapCircularBuffer::with_capacity(alloc, usize::from(width))?;
+        let mut places = Vec::with_capacity(alloc, usize::from(width))?;
         for _count in 0..width {
-            match places.try_push_back(None) {
+            match places.push(None) {
                 Ok(()) => {}
                 Err(_place) => unreachable!(),
             }
@@ -63,6 +68,7 @@ impl<T> Window<T> {
         Ok(Window {
             expected: first,
             held: 0,
+            start: 0,
             places,
         })
     }
@@ -80,20 +86,22 @@ impl<T> Window<T> {
         if offset >= NUMBERS_AHEAD {
             return Verdict::Late(item);
         }
-        match self.places.get_mut(usize::from(offset)) {
-            None => Verdict::Beyond(item),
-            Some(place) => {
-                if place.is_some() {
-                    return Verdict::Repeat(item);
-                }
-                match place.replace(item) {
-                    None => {}
-                    Some(_replaced) => unreachable!(),
-                }
-                self.held += 1;
-                Verdict::Kept
-            }
+        let width = self.places.len();
+        let offset = usize::from(offset);
+        if offset >= width {
+            return Verdict::Beyond(item);
         }
+        let at = place_behind(self.start, offset, width);
+        let place = &mut self.places[at];
+        if place.is_some() {
+            return Verdict::Repeat(item);
+        }
+        match place.replace(item) {
+            None => {}
+            Some(_replaced) => unreachable!(),
+        }
+        self.held += 1;
+        Verdict::Kept
     }
 
     /// The item that is held under the expected number, if there is one.
@@ -101,8 +109,7 @@ impl<T> Window<T> {
         ensures item { option_copied result ≡ held_at self.now self.now.expected }
         ensures lawful { IsLawful self.now }
     {
-        let front = self.places.front()?;
-        front.as_ref()
+        self.places[self.start].as_ref()
     }
 
     /// Takes out the item that is held under the expected number, and then expects the next number.
@@ -148,17 +155,11 @@ impl<T> Window<T> {
         ensures after { self.new ≡ moved_on_by self.old result }
         ensures lawful { IsLawful self.new }
     {
-        let ahead = offset(self.expected, number);
-        if ahead >= NUMBERS_AHEAD {
-            return 0;
+        if self.held() > 0 {
+            self.skip_to(number)
+        } else {
+            0
         }
-        for count in 0..ahead {
-            match self.declare() {
-                Declared::Lost(_) => {}
-                Declared::NextIsHere | Declared::NothingHeld => return count,
-            }
-        }
-        ahead
     }
 
     /// Gives up as lost, one after another, the expected number and those after it, whether or not
@@ -175,21 +176,14 @@ impl<T> Window<T> {
             return 0;
         }
         if self.held() == 0 {
-            // All places are empty, so that none has to move, whichever number comes first. Where
-            // numbers jump by thousands nearly all that a window skips is skipped here.
+            // All places are empty, so that the ring may start at any of them. Where numbers jump
+            // by thousands nearly all that a window skips is skipped here.
             self.expected = number;
             return distance;
         }
-        for count in 0..distance {
-            if self.next().is_some() {
-                return count;
-            }
-            match self.advance() {
-                None => {}
-                Some(_taken) => unreachable!(),
-            }
-        }
-        distance
+        let count = self.open_numbers(distance);
+        self.pass_numbers(count);
+        count
     }
 
     /// The number of the next item to be given out, 0 to 8191.
@@ -214,9 +208,43 @@ impl<T> Window<T> {
         ensures after { self.new ≡ next_taken self.old }
         ensures lawful { IsLawful self.new }
     {
-        let item = self.places.push_back(None).flatten();
+        let item = self.places[self.start].take();
         self.held -= usize::from(item.is_some());
+        self.start = place_behind(self.start, 1, self.places.len());
         self.expected = number_after(self.expected);
         item
+    }
+
+    /// How many numbers from the expected one on aren't held, where something is: as many as come
+    /// before the nearest that is held, or `distance`, below 4096, if those are fewer.
+    fn open_numbers(&self, distance: u16) -> u16
+        requires some_held { 0 < map.len self.now.held }
+        ensures at_most { result ≤ distance }
+        ensures none_held { (k : ℕ) → k < result
+            → ¬ (IsHeld self.now (number_ahead self.now.expected k)) }
+        ensures next_is_held { result < distance
+            → IsHeld self.now (number_ahead self.now.expected result) }
+        ensures within { result < self.now.width }
+    {
+        let most = usize::from(distance);
+        let (before, from) = self.places.split_at(self.start);
+        let empty = empty_at_front(from, most);
+        if empty < from.len() {
+            return empty as u16;
+        }
+        (empty + empty_at_front(before, most - empty)) as u16
+    }
+
+    /// Expects the number so many after the expected one. None of those that it passes is held, and
+    /// they are fewer than the window is wide.
+    fn pass_numbers(&mut self, count: u16)
+        requires none_held { (k : ℕ) → k < count
+            → ¬ (IsHeld self.old (number_ahead self.old.expected k)) }
+        requires within { count < self.old.width }
+        ensures after { self.new ≡ moved_on_by self.old count }
+        ensures lawful { IsLawful self.new }
+    {
+        self.start = place_behind(self.start, usize::from(count), self.places.len());
+        self.expected = (self.expected + count) % MODULUS;
     }
 }

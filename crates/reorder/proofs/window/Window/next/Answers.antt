@@ -1,12 +1,12 @@
-use Rattle.std.proofs.Common.{ap, sym, ◌∙◌}
+use Rattle.std.proofs.Common.{None, ap, sym, ◌∙◌}
+use Rattle.std.proofs.lemmas.List.{get_or_read}
 use Rattle.reorder.specs.View.{WindowView, held_at}
-use Rattle.reorder.proofs.Offsets.{offset-expected}
-use Rattle.reorder.proofs.WindowFields.{held-at_place}
+use Rattle.reorder.proofs.WindowFields.{held-at_start}
 use Rattle.reorder.proofs.window.Window.next.Goals as goal
 
 pub returns-clause-item : goal.returns-clause-item
 returns-clause-item g c =
-    let in_range = c.self.invariant.lawful.expected_in_range in
     c.as_ref.ensures.value
-    ∙ sym (held-at_place _ _ _ c.self.invariant c.self.inside.expected 0 c.in_ok-front.front.now in_range (sym (offset-expected _ in_range)) (sym c.in_ok-front.ensures))
+    ∙ get_or_read c.self.inside.places.items _ _ c.self.invariant.starts_within c.index.ensures None
+    ∙ sym (held-at_start _ _ _ _ c.self.invariant)
     ∙ ap (λ (w : WindowView _). held_at w w.expected) c.self.view_is
