@@ -11,3 +11,4 @@ pub mod SkippedCount
 pub mod NothingHeld
 pub mod Jumps
 pub mod Passing
+pub mod StartedAnew
