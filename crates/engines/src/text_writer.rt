@@ -80,12 +80,14 @@ impl<'a, W: Write> TextWriter<'a, W> {
     }
 
     /// Whether so many bytes more can be held back.
+    #[inline(always)]
     fn has_room(&self, count: usize) -> bool {
         count <= self.held.capacity().saturating_sub(self.held.len())
     }
 
     /// Holds some bytes back, or writes what is held back and then these. It answers how far the
     /// text has come.
+    #[inline(always)]
     fn take(&mut self, bytes: &[u8]) -> Stage
         ensures same_reference { self.new.writer.ghost_name ≡ self.old.writer.ghost_name }
         ensures taken { Takes W.contents self.old bytes.now self.new result }
@@ -99,7 +101,10 @@ impl<'a, W: Write> TextWriter<'a, W> {
         }
     }
 
-    /// Writes what is held back, and then these bytes.
+    /// Writes what is held back, and then these bytes. It stands apart, so that the test for room is
+    /// inlined.
+    #[cold]
+    #[inline(never)]
     fn write_with(&mut self, bytes: &[u8]) -> Result<(), WriteFault>
         ensures same_reference { self.new.writer.ghost_name ≡ self.old.writer.ghost_name }
         ensures written { OnOk result (Appends (W.contents (inner_of self.old.writer.now))
@@ -122,6 +127,9 @@ impl<W: Write> PutText for TextWriter<'_, W> {
 
     ghost after = { HasWritten W.contents };
 
+    // Most pieces of a text are a word or a space. Inlined, one that is known takes a store, not a call
+    // of the function that copies bytes.
+    #[inline(always)]
     fn put(&mut self, bytes: &[u8]) {
         if let Stage::Failed = self.stage {
             return;
