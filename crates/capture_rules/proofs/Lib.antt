@@ -8,3 +8,4 @@ pub mod WaitingSoFar
 pub mod EmptySlots
 pub mod KeyedSlots
 pub mod LeftToLook
+pub mod ClosedUp

@@ -102,6 +102,18 @@ impl<T> ChannelOrder<T> {
         self.waiting.len()
     }
 
+    /// Drops the empty slots, where they are more than the bursts that wait, so that what is held
+    /// follows what waits. The index, which has their places, is made anew when it is needed.
+    fn tidy(&mut self)
+        ensures waiting { waiting_in self.new ≡ waiting_in self.old }
+        ensures reorder { self.new.reorder ≡ self.old.reorder }
+    {
+        if self.waiting.is_sparse() {
+            self.index.clear();
+            self.waiting.close_up();
+        }
+    }
+
     /// Makes the index, where it isn't made and many wait.
     fn index_many(&mut self)
         ensures waiting { self.new.waiting ≡ self.old.waiting }

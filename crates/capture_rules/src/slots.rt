@@ -1,11 +1,14 @@
 //! A queue from whose middle an element is taken without moving the others.
-ghost use Rattle.std.specs.Prelude.{◌≡◌, ◌+◌, ◌<◌, ◌≤◌, ◌++◌, ◌∷◌, [], ℕ, true, None, Some, List, Option, IfOk, IfErr, IfSome, OnOk, OnErr, length, drop, slice_get, slice_set, is_some, nat_lt, remove, option_map, OnSome, IfNone};
+ghost use Rattle.std.specs.Prelude.{◌≡◌, ◌+◌, ◌<◌, ◌≤◌, ◌++◌, ◌∷◌, [], ℕ, true, None, Some, List, Option, IfOk, IfErr, IfSome, OnOk, OnErr, length, drop, map, slice_get, slice_set, is_some, nat_lt, remove, option_map, OnSome, IfNone};
 ghost use Rattle.std.specs.Option.{option_copied};
 ghost use Rattle.capture_rules.specs.Inside.Slots.{Slotted, filled, held_at, rank, begins_filled, AreEmpty};
 
 use std::alloc::{AllocFailed, Global};
 use std::collections::VecDeque;
 use std::marker::Model;
+
+/// So few empty slots are never worth dropping.
+const FEW_EMPTY: usize = 16;
 
 /// A queue whose elements keep their slots until those before them are gone: one is taken from
 /// the middle in constant time.
@@ -98,6 +101,18 @@ impl<T> Slots<T> {
         }
     }
 
+    /// Whether so many slots are empty that they are worth dropping: more than are filled, and some.
+    pub(crate) fn is_sparse(&self) -> bool {
+        self.slots.len() / 2 > self.count.saturating_add(FEW_EMPTY)
+    }
+
+    /// Drops the slots that are empty: those behind them move to the front. It takes no memory.
+    pub(crate) fn close_up(&mut self)
+        ensures items { self.new.items ≡ self.old.items }
+    {
+        drop_empty(&mut self.slots);
+    }
+
     /// Takes the element out of a slot, if there is one, and says how many slots are gone from the
     /// front: those that are empty.
     pub(crate) fn take(&mut self, at: usize) -> Option<(T, usize)>
@@ -112,6 +127,18 @@ impl<T> Slots<T> {
         self.count -= 1;
         let gone = pop_empty(&mut self.slots);
         Some((one, gone))
+    }
+}
+
+/// Drops all slots that are empty. It takes no memory.
+fn drop_empty<T>(slots: &mut VecDeque<Option<T>>)
+    ensures items { slots.new.items ≡ map Some (filled slots.old.items) }
+{
+    for _ in 0..slots.len() {
+        let slot = slots.pop_front().unwrap();
+        if let Some(one) = slot {
+            slots.push_back_reserved(Some(one));
+        }
     }
 }
 

@@ -12,7 +12,8 @@
 //!    The caller hands in the check of frames' headers, or `NoCheck`.
 //! 3. [`Joiner::gap`] says that the next segment is lost: what is unfinished is dropped, and
 //!    joining resumes at the next segment's pointer.
-//! 4. [`Joiner::is_idle`] asks whether nothing is unfinished.
+//! 4. [`Joiner::is_idle`] asks whether nothing is unfinished, and [`Joiner::is_one_frame`] whether
+//!    besides a segment is one whole frame by itself, so that its payload can be kept as it is.
 //!
 //! What matters most: the clause `fed` on [`Joiner::feed`]. It names the frames that a segment
 //! completes and what is unfinished after it, by a split of the bytes, and does not say how the

@@ -20,7 +20,8 @@
 //!    flows there are; [`Core::expected`] which number a flow expects.
 //!
 //! [`Flow`] is one flow by itself, for a caller that keeps its flows in a table of its own and makes
-//! each when it is needed; [`Flow::held`] also says how many segments wait. A gap that is declared
+//! each when it is needed; [`Flow::held`] also says how many segments wait, and
+//! [`Flow::advance_whole`] gives a segment that is one whole frame as it is. A gap that is declared
 //! of a flow to which no segment came changes nothing, so it needn't be made for that
 //! ([`laws::decisions_about_an_empty_flow_change_nothing`]); a skip does change it.
 //!

@@ -193,6 +193,16 @@ fn many_are_handed_on_as_a_look_at_each_finds_them(rt: HostRuntime) -> Result<()
     let kinds = [
         ("plain", PLAIN),
         (
+            "few numbers, so that most slots between those that wait are empty",
+            Kind {
+                channels: 1,
+                numbers: 8,
+                ahead: 2,
+                count: 2500,
+                ..PLAIN
+            },
+        ),
+        (
             "ties",
             Kind {
                 numbers: 12,

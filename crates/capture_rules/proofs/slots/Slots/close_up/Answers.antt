@@ -1,0 +1,15 @@
+use Rattle.std.proofs.Common.{length, ap, sym, ◌∙◌}
+use Rattle.capture_rules.specs.Inside.Slots.{filled, begins_filled}
+use Rattle.capture_rules.proofs.ClosedUp.{filled-same, begins-same}
+use Rattle.capture_rules.proofs.slots.Slots.close_up.Goals as goal
+
+pub invariant_of-self : goal.invariant_of-self
+invariant_of-self g c =
+    let before = filled c.self.inside.slots.items in
+    let same = ap filled c.drop_empty.ensures.items ∙ filled-same before in
+    (c.self.invariant.0 ∙ ap length (sym same), ap begins_filled c.drop_empty.ensures.items ∙ begins-same before)
+
+pub returns : goal.returns
+returns g c =
+    let before = filled c.self.inside.slots.items in
+    record { items = ap filled c.drop_empty.ensures.items ∙ filled-same before ∙ ap (λ s. s.items) c.self.view_is }
