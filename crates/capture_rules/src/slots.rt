@@ -13,7 +13,8 @@ const FEW_EMPTY: usize = 16;
 /// A queue whose elements keep their slots until those before them are gone: one is taken from
 /// the middle in constant time.
 ///
-/// It holds an empty slot for each that was taken and isn't older than the oldest one.
+/// It holds an empty slot for each that was taken and isn't older than the oldest one, until they
+/// are dropped by [`Slots::close_up`].
 #[derive(Drop)]
 pub(crate) struct Slots<T> {
     /// The first one isn't empty.
