@@ -1,5 +1,5 @@
 -- A queue of slots, some of which are empty, as the list of what isn't.
-use Rattle.std.proofs.Common.{◌≡◌, ℕ, zero, suc, ◌+◌, ◌<◌, ◌≤◌, true, Option, Some, None, List, [], ◌∷◌, ◌++◌, length, drop, slice_get, slice_set, get_or, below_more, refl, ap, sym, subst, ◌∙◌, arith}
+use Rattle.std.proofs.Common.{◌≡◌, ℕ, zero, suc, ◌+◌, ◌<◌, ◌≤◌, true, not, Option, Some, None, List, [], ◌∷◌, ◌++◌, length, drop, slice_get, slice_set, get_or, below_more, refl, ap, sym, subst, ◌∙◌, arith}
 use Rattle.std.specs.Prelude.{remove}
 use Rattle.capture_rules.specs.Inside.Slots.{filled, held_at, rank, begins_filled, AreEmpty}
 
@@ -57,12 +57,17 @@ module _ {T : Type 0} where
   held-first (None ∷ slots) begins = absurd (cc)
   held-first (Some first ∷ slots) begins = refl
 
-  pub drop-next : (n m : ℕ) (slots more : List (Option T)) (slot : Option T) → m ≡ n + 1 → slot ∷ more ≡ drop n slots → more ≡ drop m slots
-  drop-next zero m slots more slot sum is =
-      let one : m ≡ 1 = omega (arith, sum) in subst (λ (j : ℕ). more ≡ drop j slots) (sym one) (ap (λ (all : List (Option T)). drop 1 all) is)
-  drop-next (suc n) m [] more slot sum is = absurd (cc)
-  drop-next (suc n) zero (first ∷ slots) more slot sum is = absurd (omega (arith, sum))
-  drop-next (suc n) (suc m) (first ∷ slots) more slot sum is = drop-next n m slots more slot (omega (arith, sum)) is
+  pub drop-more : (n m : ℕ) (slots : List (Option T)) → m ≡ n + 1 → drop 1 (drop n slots) ≡ drop m slots
+  drop-more zero m slots sum = let one : m ≡ 1 = omega (arith, sum) in ap (λ (j : ℕ). drop j slots) (sym one)
+  drop-more (suc n) zero slots sum = absurd (omega (arith, sum))
+  drop-more (suc n) (suc m) [] sum = refl
+  drop-more (suc n) (suc m) (first ∷ slots) sum = drop-more n m slots (omega (arith, sum))
+
+  -- the first slot is there and empty
+  pub empty-first : (slots : List (Option T)) → not (begins_filled slots) ≡ true → (held_at slots 0 ≡ None) × (1 + length (drop 1 slots) ≡ length slots)
+  empty-first [] empty = absurd (cc)
+  empty-first (None ∷ slots) empty = (refl, omega arith)
+  empty-first (Some one ∷ slots) empty = absurd (cc)
 
   pub empty-none : (slots : List (Option T)) → AreEmpty 0 slots
   empty-none slots k below = absurd (omega (arith, below))

@@ -9,7 +9,7 @@ use Rattle.std.proofs.lemmas.Bool.Decides.{nat_tests}
 use Rattle.std.proofs.lemmas.List.{length-append}
 use Rattle.capture_rules.specs.declared.arrival.Arrival.{Arrival}
 use Rattle.capture_rules.specs.Inside.Slots.{held_at, AreEmpty}
-use Rattle.capture_rules.specs.Inside.Index.{key_cmp, is_keyed, is_key}
+use Rattle.capture_rules.specs.Inside.Index.{key_cmp, matches_key, is_key}
 use Rattle.capture_rules.proofs.EmptySlots.{held-past, held-pushed, held-below, held-drop, held-emptied, held-other}
 
 number-equal : (x y : ℕ) → is_eq (nat_cmp x y) ≡ (x == y)
@@ -56,25 +56,25 @@ taken-cond b e h p q = ap (λ x. cond x false h) p ∙ ap (λ x. cond b false x)
 module _ {T : Type 0} where
   -- one more burst, in the slot behind all that were looked at
   pub keyed-more : (slots : List (Option (Arrival T))) (at : ℕ) (one : Arrival T) (key : ℕ × ℕ × ℕ) → held_at slots at ≡ Some one
-      → cond (is_eq (key_cmp (one.channel, one.number, at) key)) true (nat_lt key.2 at && is_keyed key (held_at slots key.2)) ≡ (nat_lt key.2 (at + 1) && is_keyed key (held_at slots key.2))
+      → cond (is_eq (key_cmp (one.channel, one.number, at) key)) true (nat_lt key.2 at && matches_key key (held_at slots key.2)) ≡ (nat_lt key.2 (at + 1) && matches_key key (held_at slots key.2))
   keyed-more slots at one key held =
       ⊎_elim
       (λ (same : key.2 ≡ at).
       let equal : is_eq (key_cmp (one.channel, one.number, at) key) ≡ (one.channel == key.0 && one.number == key.1) =
       key-equal (one.channel, one.number, at) key ∙ grind (arith, nat_tests, same) in
-      here (one.channel == key.0 && one.number == key.1) (is_eq (key_cmp (one.channel, one.number, at) key)) (nat_lt key.2 at) (nat_lt key.2 (at + 1)) (is_keyed key (held_at slots key.2))
-      equal (grind (arith, nat_tests, same)) (grind (arith, nat_tests, same)) (ap (is_keyed key) (ap (held_at slots) same ∙ held)))
+      here (one.channel == key.0 && one.number == key.1) (is_eq (key_cmp (one.channel, one.number, at) key)) (nat_lt key.2 at) (nat_lt key.2 (at + 1)) (matches_key key (held_at slots key.2))
+      equal (grind (arith, nat_tests, same)) (grind (arith, nat_tests, same)) (ap (matches_key key) (ap (held_at slots) same ∙ held)))
       (λ (apart : key.2 ≡ at → ⊥).
-      elsewhere (is_eq (key_cmp (one.channel, one.number, at) key)) (nat_lt key.2 at) (nat_lt key.2 (at + 1)) (is_keyed key (held_at slots key.2))
+      elsewhere (is_eq (key_cmp (one.channel, one.number, at) key)) (nat_lt key.2 at) (nat_lt key.2 (at + 1)) (matches_key key (held_at slots key.2))
       (key-apart (one.channel, one.number, at) key (λ (same : at ≡ key.2). apart (sym same))) (grind (arith, nat_tests, apart)))
       (cases_eq key.2 at)
 
   pub keyed-none : (slots : List (Option (Arrival T))) (at : ℕ) (key : ℕ × ℕ × ℕ) → held_at slots at ≡ None
-      → (nat_lt key.2 at && is_keyed key (held_at slots key.2)) ≡ (nat_lt key.2 (at + 1) && is_keyed key (held_at slots key.2))
+      → (nat_lt key.2 at && matches_key key (held_at slots key.2)) ≡ (nat_lt key.2 (at + 1) && matches_key key (held_at slots key.2))
   keyed-none slots at key held =
       ⊎_elim
       (λ (same : key.2 ≡ at). rw (ap (held_at slots) same ∙ held) (both-false (nat_lt key.2 at) (nat_lt key.2 (at + 1))))
-      (λ (apart : key.2 ≡ at → ⊥). ap (λ b. b && is_keyed key (held_at slots key.2)) (grind (arith, nat_tests, apart)))
+      (λ (apart : key.2 ≡ at → ⊥). ap (λ b. b && matches_key key (held_at slots key.2)) (grind (arith, nat_tests, apart)))
       (cases_eq key.2 at)
     where
       both-false : (a b : Bool) → (a && false) ≡ (b && false)
@@ -83,28 +83,28 @@ module _ {T : Type 0} where
       both-false false true = refl
       both-false false false = refl
 
-  pub keyed-all : (slots : List (Option (Arrival T))) (n : ℕ) (key : ℕ × ℕ × ℕ) → length slots ≤ n → (nat_lt key.2 n && is_keyed key (held_at slots key.2)) ≡ is_key 0 slots key
+  pub keyed-all : (slots : List (Option (Arrival T))) (n : ℕ) (key : ℕ × ℕ × ℕ) → length slots ≤ n → (nat_lt key.2 n && matches_key key (held_at slots key.2)) ≡ is_key 0 slots key
   keyed-all slots n key all =
       let zero_on : key.2 - 0 ≡ key.2 = omega arith in
-      let whole : is_key 0 slots key ≡ is_keyed key (held_at slots key.2) =
-      ap (λ b. b && is_keyed key (held_at slots (key.2 - 0))) (let le : nat_le 0 key.2 ≡ true = grind (arith, nat_tests) in le) ∙ ap (λ k. is_keyed key (held_at slots k)) zero_on in
+      let whole : is_key 0 slots key ≡ matches_key key (held_at slots key.2) =
+      ap (λ b. b && matches_key key (held_at slots (key.2 - 0))) (let le : nat_le 0 key.2 ≡ true = grind (arith, nat_tests) in le) ∙ ap (λ k. matches_key key (held_at slots k)) zero_on in
       ⊎_elim
-      (λ (below : key.2 < n). ap (λ b. b && is_keyed key (held_at slots key.2)) (let lt : nat_lt key.2 n ≡ true = grind (arith, nat_tests, below) in lt) ∙ sym whole)
+      (λ (below : key.2 < n). ap (λ b. b && matches_key key (held_at slots key.2)) (let lt : nat_lt key.2 n ≡ true = grind (arith, nat_tests, below) in lt) ∙ sym whole)
       (λ (past : n ≤ key.2).
-      let none : is_keyed key (held_at slots key.2) ≡ false = ap (is_keyed key) (held-past slots key.2 (omega (arith, past, all))) in
-      ap (λ b. b && is_keyed key (held_at slots key.2)) (let lt : nat_lt key.2 n ≡ false = grind (arith, nat_tests, past) in lt) ∙ sym (whole ∙ none))
+      let none : matches_key key (held_at slots key.2) ≡ false = ap (matches_key key) (held-past slots key.2 (omega (arith, past, all))) in
+      ap (λ b. b && matches_key key (held_at slots key.2)) (let lt : nat_lt key.2 n ≡ false = grind (arith, nat_tests, past) in lt) ∙ sym (whole ∙ none))
       (cases_lt key.2 n)
 
   -- ---- the key of a slot
 
   key-before : (first : ℕ) (slots : List (Option (Arrival T))) (key : ℕ × ℕ × ℕ) → key.2 < first → is_key first slots key ≡ false
   key-before first slots key before =
-      ap (λ b. b && is_keyed key (held_at slots (key.2 - first))) (let le : nat_le first key.2 ≡ false = grind (arith, nat_tests, before) in le)
+      ap (λ b. b && matches_key key (held_at slots (key.2 - first))) (let le : nat_le first key.2 ≡ false = grind (arith, nat_tests, before) in le)
 
-  key-at : (first : ℕ) (slots : List (Option (Arrival T))) (key : ℕ × ℕ × ℕ) (k : ℕ) → key.2 ≡ first + k → is_key first slots key ≡ is_keyed key (held_at slots k)
+  key-at : (first : ℕ) (slots : List (Option (Arrival T))) (key : ℕ × ℕ × ℕ) (k : ℕ) → key.2 ≡ first + k → is_key first slots key ≡ matches_key key (held_at slots k)
   key-at first slots key k serial =
       let place : key.2 - first ≡ k = omega (arith, serial) in
-      ap (λ b. b && is_keyed key (held_at slots (key.2 - first))) (le-leb first key.2 (omega (arith, serial))) ∙ ap (λ j. is_keyed key (held_at slots j)) place
+      ap (λ b. b && matches_key key (held_at slots (key.2 - first))) (le-leb first key.2 (omega (arith, serial))) ∙ ap (λ j. matches_key key (held_at slots j)) place
 
   key-here : (serial : ℕ) (one : Arrival T) (key : ℕ × ℕ × ℕ) → key.2 ≡ serial → is_eq (key_cmp (one.channel, one.number, serial) key) ≡ (one.channel == key.0 && one.number == key.1)
   key-here serial one key same = key-equal (one.channel, one.number, serial) key ∙ grind (arith, nat_tests, same)
@@ -131,13 +131,13 @@ module _ {T : Type 0} where
           (λ (here : k ≡ length slots).
           put-cond (one.channel == key.0 && one.number == key.1) (is_eq (key_cmp (one.channel, one.number, first + length slots) key)) (is_key first slots key)
           (key-here (first + length slots) one key (omega (arith, serial, here)))
-          (key-at first slots key k serial ∙ ap (is_keyed key) (held-past slots k (omega (arith, here))))
-          ∙ sym (key-at first (slots ++ Some one ∷ []) key k serial ∙ ap (is_keyed key) (ap (held_at (slots ++ Some one ∷ [])) here ∙ held-pushed slots one)))
+          (key-at first slots key k serial ∙ ap (matches_key key) (held-past slots k (omega (arith, here))))
+          ∙ sym (key-at first (slots ++ Some one ∷ []) key k serial ∙ ap (matches_key key) (ap (held_at (slots ++ Some one ∷ [])) here ∙ held-pushed slots one)))
           (λ (apart : k ≡ length slots → ⊥).
           ap (λ x. cond x true (is_key first slots key))
           (key-apart (one.channel, one.number, first + length slots) key (λ (same : first + length slots ≡ key.2). apart (omega (arith, same, serial))))
           ∙ key-at first slots key k serial
-          ∙ ap (is_keyed key) (others k apart)
+          ∙ ap (matches_key key) (others k apart)
           ∙ sym (key-at first (slots ++ Some one ∷ []) key k serial))
           (cases_eq k (length slots))
         where
@@ -164,16 +164,16 @@ module _ {T : Type 0} where
       (cases_lt key.2 first)
     where
       -- what is left in each slot
-      after : (k : ℕ) → key.2 ≡ first + k → (b : Bool) → is_keyed key (held_at emptied k) ≡ b → is_key (first + gone) left key ≡ b
+      after : (k : ℕ) → key.2 ≡ first + k → (b : Bool) → matches_key key (held_at emptied k) ≡ b → is_key (first + gone) left key ≡ b
       after k serial b is =
           ⊎_elim
           (λ (dropped : k < gone).
-          key-before (first + gone) left key (omega (arith, serial, dropped)) ∙ sym (ap (is_keyed key) (empty k dropped)) ∙ is)
+          key-before (first + gone) left key (omega (arith, serial, dropped)) ∙ sym (ap (matches_key key) (empty k dropped)) ∙ is)
           (λ (kept : gone ≤ k).
           let sum : key.2 ≡ (first + gone) + (k - gone) = omega (arith, serial, kept) in
           let whole : k ≡ gone + (k - gone) = omega (arith, kept) in
-          key-at (first + gone) left key (k - gone) sum ∙ ap (λ list. is_keyed key (held_at list (k - gone))) drops
-          ∙ ap (is_keyed key) (held-drop gone emptied (k - gone) k whole) ∙ is)
+          key-at (first + gone) left key (k - gone) sum ∙ ap (λ list. matches_key key (held_at list (k - gone))) drops
+          ∙ ap (matches_key key) (held-drop gone emptied (k - gone) k whole) ∙ is)
           (cases_lt k gone)
 
       taken-at : (k : ℕ) → key.2 ≡ first + k
@@ -183,11 +183,11 @@ module _ {T : Type 0} where
           (λ (here : k ≡ at).
           taken-cond (one.channel == key.0 && one.number == key.1) (is_eq (key_cmp (one.channel, one.number, first + at) key)) (is_key first slots key)
           (key-here (first + at) one key (omega (arith, serial, here)))
-          (key-at first slots key k serial ∙ ap (is_keyed key) (ap (held_at slots) here ∙ held))
-          ∙ sym (after k serial false (ap (is_keyed key) (ap (held_at emptied) here ∙ ap (λ list. held_at list at) empties ∙ held-emptied slots at))))
+          (key-at first slots key k serial ∙ ap (matches_key key) (ap (held_at slots) here ∙ held))
+          ∙ sym (after k serial false (ap (matches_key key) (ap (held_at emptied) here ∙ ap (λ list. held_at list at) empties ∙ held-emptied slots at))))
           (λ (apart : k ≡ at → ⊥).
           ap (λ x. cond x false (is_key first slots key))
           (key-apart (one.channel, one.number, first + at) key (λ (same : first + at ≡ key.2). apart (omega (arith, same, serial))))
           ∙ key-at first slots key k serial
-          ∙ sym (after k serial (is_keyed key (held_at slots k)) (ap (is_keyed key) (ap (λ list. held_at list k) empties ∙ held-other slots at k apart))))
+          ∙ sym (after k serial (matches_key key (held_at slots k)) (ap (matches_key key) (ap (λ list. held_at list k) empties ∙ held-other slots at k apart))))
           (cases_eq k at)

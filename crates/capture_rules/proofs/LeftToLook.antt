@@ -17,7 +17,7 @@ use Rattle.std.proofs.lemmas.Map.Keys.{sorted_head, sorted_tail}
 use Rattle.capture_rules.specs.declared.arrival.Arrival.{Arrival}
 use Rattle.capture_rules.specs.Order.{is_near}
 use Rattle.capture_rules.specs.Inside.Slots.{held_at}
-use Rattle.capture_rules.specs.Inside.Index.{key_cmp, is_keyed, is_key, HasKeys, NoneNear, IsFirstNear}
+use Rattle.capture_rules.specs.Inside.Index.{key_cmp, matches_key, is_key, HasKeys, NoneNear, IsFirstNear}
 use Rattle.capture_rules.proofs.KeyedSlots.{key-equal}
 
 -- ---- how keys are compared
@@ -144,18 +144,18 @@ module _ {T : Type 0} where
   key-is : (first : ℕ) (slots : List (Option (Arrival T))) (key : ℕ × ℕ × ℕ) (one : Arrival T) → is_key first slots key ≡ true → held_at slots (key.2 - first) ≡ Some one
       → (first ≤ key.2) × ((one.channel ≡ key.0) × (one.number ≡ key.1))
   key-is first slots key one is held =
-      let both = and_parts (nat_le first key.2) (is_keyed key (held_at slots (key.2 - first))) is in
-      let parts : (one.channel == key.0 && one.number == key.1) ≡ true = sym (ap (is_keyed key) held) ∙ both.1 in
+      let both = and_parts (nat_le first key.2) (matches_key key (held_at slots (key.2 - first))) is in
+      let parts : (one.channel == key.0 && one.number == key.1) ≡ true = sym (ap (matches_key key) held) ∙ both.1 in
       let each = and_parts (one.channel == key.0) (one.number == key.1) parts in
       (leb-true first key.2 both.0, (eqb-true one.channel key.0 each.0, eqb-true one.number key.1 each.1))
 
   key-of : (first : ℕ) (slots : List (Option (Arrival T))) (k : ℕ) (one : Arrival T) → held_at slots k ≡ Some one → is_key first slots (one.channel, one.number, first + k) ≡ true
   key-of first slots k one held =
       let place : first + k - first ≡ k = omega arith in
-      let keyed : is_keyed (one.channel, one.number, first + k) (held_at slots (first + k - first)) ≡ true =
-      ap (is_keyed (one.channel, one.number, first + k)) (ap (held_at slots) place ∙ held)
+      let keyed : matches_key (one.channel, one.number, first + k) (held_at slots (first + k - first)) ≡ true =
+      ap (matches_key (one.channel, one.number, first + k)) (ap (held_at slots) place ∙ held)
       ∙ and_from (one.channel == one.channel) (one.number == one.number) (eq-eqb one.channel one.channel refl) (eq-eqb one.number one.number refl) in
-      and_from (nat_le first (first + k)) (is_keyed (one.channel, one.number, first + k) (held_at slots (first + k - first))) (le-leb first (first + k) (omega arith)) keyed
+      and_from (nat_le first (first + k)) (matches_key (one.channel, one.number, first + k) (held_at slots (first + k - first))) (le-leb first (first + k) (omega arith)) keyed
 
   module _ (reorder first : ℕ) (slots : List (Option (Arrival T))) (oldest : Arrival T) (low high : ℕ) where
     -- what was looked at isn't near the oldest one
@@ -200,7 +200,7 @@ module _ {T : Type 0} where
         later k other held near (suc j, stands) = (j, stands)
 
     pub left-serial : (key : ℕ × ℕ × ℕ) (left : List (ℕ × ℕ × ℕ)) → LeftToLook (key ∷ left) → first ≤ key.2
-    left-serial key left so_far = leb-true first key.2 (and_parts (nat_le first key.2) (is_keyed key (held_at slots (key.2 - first))) (so_far.real 0 key refl).0).0
+    left-serial key left so_far = leb-true first key.2 (and_parts (nat_le first key.2) (matches_key key (held_at slots (key.2 - first))) (so_far.real 0 key refl).0).0
 
     pub left-none : LeftToLook [] → NoneNear reorder slots oldest low high
     left-none so_far k other held near from to = let found = so_far.near k other held near from to in absurd (let none : None ≡ Some (other.channel, other.number, first + k) = found.1 in cc)

@@ -1,5 +1,5 @@
 //! The order of the bursts of one flow on each of its channels.
-ghost use Rattle.std.specs.Prelude.{◌≡◌, ◌+◌, ◌^◌, ◌<◌, ◌++◌, ◌∷◌, [], true, IfOk, IfErr, IfSome, IfNone, OnOk, OnErr, length, is_some, nat_lt};
+ghost use Rattle.std.specs.Prelude.{◌≡◌, ◌+◌, ◌*◌, ◌^◌, ◌<◌, ◌≤◌, ◌++◌, ◌∷◌, [], true, IfOk, IfErr, IfSome, IfNone, OnOk, OnErr, length, is_some, nat_lt};
 ghost use Rattle.capture_rules.specs.declared.arrival.Arrival.{Arrival};
 ghost use Rattle.capture_rules.specs.Order.{is_due, IsNext};
 ghost use Rattle.capture_rules.specs.Inside.Index.{HasKeys, IsLeastSlot};
@@ -9,10 +9,6 @@ use crate::next_slot::{indexed_slot, scanned_slot};
 use crate::number_index::NumberIndex;
 use crate::slots::Slots;
 use std::alloc::{AllocFailed, Global};
-
-/// Where so many slots are waiting or more, an index is made before one is handed on: below that a
-/// look at each is as fast.
-const MANY: usize = 32;
 
 /// Lets the bursts of one flow wait for `reorder` nanoseconds, and hands them on, on each channel in
 /// the order of their numbers as far as they came within `reorder`.
@@ -28,6 +24,8 @@ pub struct ChannelOrder<T> {
     index: NumberIndex,
     ghost fits: { index.is_made ≡ true → index.first + length waiting.slots < 2 ^ 64 },
     ghost keys: { index.is_made ≡ true → HasKeys index.keys index.first waiting.slots },
+    /// What is held follows what waits.
+    ghost dense: { length waiting.slots ≤ 2 * length waiting.items + 32 },
 }
 
 impl<T> ChannelOrder<T> {
@@ -92,6 +90,7 @@ impl<T> ChannelOrder<T> {
         let at = self.next_slot();
         let (arrival, gone) = self.waiting.take(at)?;
         self.index.remove(arrival.channel, arrival.number, at, gone);
+        tidy(&mut self.waiting, &mut self.index);
         Some(HandedOn { time, arrival })
     }
 
@@ -102,24 +101,12 @@ impl<T> ChannelOrder<T> {
         self.waiting.len()
     }
 
-    /// Drops the empty slots, where they are more than the bursts that wait, so that what is held
-    /// follows what waits. The index, which has their places, is made anew when it is needed.
-    fn tidy(&mut self)
-        ensures waiting { waiting_in self.new ≡ waiting_in self.old }
-        ensures reorder { self.new.reorder ≡ self.old.reorder }
-    {
-        if self.waiting.is_sparse() {
-            self.index.clear();
-            self.waiting.close_up();
-        }
-    }
-
     /// Makes the index, where it isn't made and many wait.
     fn index_many(&mut self)
         ensures waiting { self.new.waiting ≡ self.old.waiting }
         ensures reorder { reorder_of self.new ≡ reorder_of self.old }
     {
-        if !self.index.is_made && self.waiting.slot_count() >= MANY {
+        if !self.index.is_made && self.index.is_worthwhile(self.waiting.slot_count()) {
             self.index.make(&self.waiting);
         }
     }
@@ -137,5 +124,19 @@ impl<T> ChannelOrder<T> {
             Some(oldest) => scanned_slot(&self.waiting, self.reorder, oldest),
             None => 0,
         }
+    }
+}
+
+/// Drops the empty slots, where they are more than the bursts that wait, so that what is held follows
+/// what waits. The index, which has their places, is made anew when it is needed.
+fn tidy<T>(waiting: &mut Slots<Arrival<T>>, index: &mut NumberIndex)
+    ensures waiting { waiting.new.items ≡ waiting.old.items }
+    ensures dense { length waiting.new.slots ≤ 2 * length waiting.new.items + 32 }
+    ensures index { index.new.is_made ≡ true
+        → (index.new ≡ index.old) × (waiting.new ≡ waiting.old) }
+{
+    if waiting.is_sparse() {
+        index.clear();
+        waiting.close_up();
     }
 }

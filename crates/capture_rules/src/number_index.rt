@@ -9,6 +9,10 @@ use crate::slots::Slots;
 use std::alloc::Global;
 use std::collections::BTreeSet;
 
+/// Where so many slots are waiting or more, an index is worth making: below that a look at each is as
+/// fast.
+const MANY: usize = 64;
+
 /// Channels, numbers and serial numbers of the bursts that wait, in order, while it is made.
 ///
 /// It may be dropped at any time, where an allocation failed, and be made anew: it says nothing
@@ -20,6 +24,8 @@ pub(crate) struct NumberIndex {
     /// The serial number of the first slot; those after it follow.
     first: usize,
     pub(crate) is_made: bool,
+    /// For how many slots it was given up, since there was no memory.
+    given_up: usize,
 }
 
 impl NumberIndex {
@@ -31,6 +37,7 @@ impl NumberIndex {
             keys: BTreeSet::new(alloc),
             first: 0,
             is_made: false,
+            given_up: 0,
         }
     }
 
@@ -43,6 +50,26 @@ impl NumberIndex {
         self.is_made = false;
     }
 
+    /// It isn't made any more, since there was no memory for so many slots.
+    fn give_up(&mut self, slot_count: usize)
+        ensures { self.new.is_made ≡ false }
+    {
+        self.clear();
+        self.given_up = slot_count;
+    }
+
+    /// Whether to make it for so many slots: for many, and where there was no memory for some, not
+    /// before they are twice as many, so that attempts in vain cost less than what came between.
+    pub(crate) fn is_worthwhile(&mut self, slot_count: usize) -> bool
+        ensures index { (self.new.is_made ≡ self.old.is_made) × (self.new.first ≡ self.old.first)
+            × (self.new.keys ≡ self.old.keys) }
+    {
+        if slot_count < MANY {
+            self.given_up = 0;
+        }
+        slot_count >= MANY.max(self.given_up.saturating_mul(2))
+    }
+
     /// Makes it, if there is memory.
     pub(crate) fn make<T>(&mut self, waiting: &Slots<Arrival<T>>)
         ensures first { self.new.is_made ≡ true → self.new.first ≡ 0 }
@@ -50,10 +77,11 @@ impl NumberIndex {
     {
         self.clear();
         self.first = 0;
-        if put_keys(&mut self.keys, waiting) {
+        if put_all(&mut self.keys, waiting) {
             self.is_made = true;
+            self.given_up = 0;
         } else {
-            self.keys.clear();
+            self.give_up(waiting.slot_count());
         }
     }
 
@@ -72,7 +100,7 @@ impl NumberIndex {
         match self.first.checked_add(at) {
             Some(serial) if serial < usize::MAX => {
                 if !put_key(&mut self.keys, (channel, number, serial)) {
-                    self.clear();
+                    self.give_up(at);
                 }
             }
             _ => self.clear(),
@@ -125,7 +153,7 @@ impl NumberIndex {
 }
 
 /// Inserts the key of each burst into an empty set, and says whether there was memory.
-fn put_keys<T>(keys: &mut BTreeSet<(usize, u16, usize)>, waiting: &Slots<Arrival<T>>) -> bool
+fn put_all<T>(keys: &mut BTreeSet<(usize, u16, usize)>, waiting: &Slots<Arrival<T>>) -> bool
     requires { keys.old.keys ≡ [] }
     ensures { result ≡ true → HasKeys keys.new 0 waiting.now.slots }
 {

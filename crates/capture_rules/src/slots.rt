@@ -1,5 +1,5 @@
 //! A queue from whose middle an element is taken without moving the others.
-ghost use Rattle.std.specs.Prelude.{◌≡◌, ◌+◌, ◌<◌, ◌≤◌, ◌++◌, ◌∷◌, [], ℕ, true, None, Some, List, Option, IfOk, IfErr, IfSome, OnOk, OnErr, length, drop, map, slice_get, slice_set, is_some, nat_lt, remove, option_map, OnSome, IfNone};
+ghost use Rattle.std.specs.Prelude.{◌≡◌, ◌+◌, ◌*◌, ◌<◌, ◌≤◌, ◌++◌, ◌∷◌, [], ℕ, true, false, not, None, Some, List, Option, IfOk, IfErr, IfSome, OnOk, OnErr, length, drop, map, slice_get, slice_set, is_some, nat_lt, remove, option_map, OnSome, IfNone};
 ghost use Rattle.std.specs.Option.{option_copied};
 ghost use Rattle.capture_rules.specs.Inside.Slots.{Slotted, filled, held_at, rank, begins_filled, AreEmpty};
 
@@ -8,7 +8,7 @@ use std::collections::VecDeque;
 use std::marker::Model;
 
 /// So few empty slots are never worth dropping.
-const FEW_EMPTY: usize = 16;
+const FEW_EMPTY: usize = 32;
 
 /// A queue whose elements keep their slots until those before them are gone: one is taken from
 /// the middle in constant time.
@@ -102,14 +102,18 @@ impl<T> Slots<T> {
         }
     }
 
-    /// Whether so many slots are empty that they are worth dropping: more than are filled, and some.
-    pub(crate) fn is_sparse(&self) -> bool {
-        self.slots.len() / 2 > self.count.saturating_add(FEW_EMPTY)
+    /// Whether so many slots are empty that they are worth dropping: more than are filled, and 32
+    /// more.
+    pub(crate) fn is_sparse(&self) -> bool
+        ensures { result ≡ false → length self.now.slots ≤ 2 * length self.now.items + 32 }
+    {
+        self.slots.len() > self.count.saturating_mul(2).saturating_add(FEW_EMPTY)
     }
 
     /// Drops the slots that are empty: those behind them move to the front. It takes no memory.
     pub(crate) fn close_up(&mut self)
         ensures items { self.new.items ≡ self.old.items }
+        ensures slots { length self.new.slots ≡ length self.new.items }
     {
         drop_empty(&mut self.slots);
     }
@@ -161,12 +165,23 @@ fn pop_empty<T>(slots: &mut VecDeque<Option<T>>) -> usize
     ensures front { begins_filled slots.new.items ≡ true }
 {
     let mut gone = 0;
-    while let Some(slot) = slots.pop_front() {
-        if let Some(one) = slot {
+    while begins_empty(slots) {
+        if let Some(Some(one)) = slots.pop_front() {
+            // This isn't reached, since the first one is empty.
             slots.push_front_reserved(Some(one));
-            break;
+            return gone;
         }
         gone += 1;
     }
     gone
+}
+
+/// Whether there is a first slot, and it is empty.
+fn begins_empty<T>(slots: &VecDeque<Option<T>>) -> bool
+    ensures { result ≡ not (begins_filled slots.now.items) }
+{
+    match slots.front() {
+        Some(slot) => slot.is_none(),
+        None => false,
+    }
 }

@@ -17,13 +17,13 @@ SetsKey old new key there = (other : ℕ × ℕ × ℕ) → contains key_cmp new
 
 module _ {T : Type 0} where
   -- a burst of this channel and number stands there
-  abbrev pub is_keyed : ℕ × ℕ × ℕ → Option (Arrival T) → Bool
-  is_keyed key None = false
-  is_keyed key (Some one) = one.channel == key.0 && one.number == key.1
+  abbrev pub matches_key : ℕ × ℕ × ℕ → Option (Arrival T) → Bool
+  matches_key key None = false
+  matches_key key (Some one) = one.channel == key.0 && one.number == key.1
 
   -- it is the key of a burst in one of the slots, the first of which has this serial number
   abbrev pub is_key : ℕ → List (Option (Arrival T)) → ℕ × ℕ × ℕ → Bool
-  is_key first slots key = nat_le first key.2 && is_keyed key (held_at slots (key.2 - first))
+  is_key first slots key = nat_le first key.2 && matches_key key (held_at slots (key.2 - first))
 
   -- the keys of these slots, and no others
   abbrev pub HasKeys : BTreeSet (ℕ × ℕ × ℕ) → ℕ → List (Option (Arrival T)) → Type 0

@@ -1,4 +1,4 @@
-use Rattle.std.proofs.Common.{◌+◌, false, cond, None, length, slice_set, refl, ap, sym, ◌∙◌, arith, length-drop, length-set}
+use Rattle.std.proofs.Common.{◌≡◌, ◌+◌, true, false, cond, None, length, slice_set, refl, ap, sym, ◌∙◌, arith, length-drop, length-set}
 use Rattle.std.specs.Ordering.{is_eq}
 use Rattle.capture_rules.specs.Inside.Index.{key_cmp, is_key}
 use Rattle.capture_rules.proofs.EmptySlots.{held-within}
@@ -27,21 +27,28 @@ invariant_of-self-2 g c =
     let gone = c.in_ok-arrival.gone in
     let one = c.in_ok-arrival.arrival in
     let left = c.in_ok-arrival.ensures.slots in
+    let removed = c.remove.new.self in
+    let is_made : c.tidy.new.index.is_made ≡ true → removed.is_made ≡ true = λ made. ap (λ index. index.is_made) (sym (c.tidy.ensures.index made).0) ∙ made in
     record {
       fits = λ made.
-          let fits = before.fits (c.remove.ensures.made made) in
+          let same = c.tidy.ensures.index made in
+          let fits = before.fits (c.remove.ensures.made (is_made made)) in
           let few = c.in_ok-arrival.ensures.gone.1 in
-          omega (arith, c.remove.ensures.first made, fits, few, ap length left, length-drop gone (slice_set slots at None), length-set slots at None);
+          omega (arith, ap (λ index. index.first) same.0, ap (λ waiting. length waiting.slots) same.1, c.remove.ensures.first (is_made made), fits, few, ap length left, length-drop gone (slice_set slots at None), length-set slots at None);
       keys = λ made key.
-          c.remove.ensures.keys made key
-          ∙ ap (λ b. cond (is_eq (key_cmp (one.channel, one.number, before.index.first + at) key)) false b) (before.keys (c.remove.ensures.made made) key)
+          let same = c.tidy.ensures.index made in
+          rw (same.0, same.1) (
+          c.remove.ensures.keys (is_made made) key
+          ∙ ap (λ b. cond (is_eq (key_cmp (one.channel, one.number, before.index.first + at) key)) false b) (before.keys (c.remove.ensures.made (is_made made)) key)
           ∙ key-taken before.index.first slots (slice_set slots at None) c.take.new.self.slots at gone one key (sym c.in_ok-arrival.ensures.taken) refl left c.in_ok-arrival.ensures.gone.0
-          ∙ ap (λ first. is_key first c.take.new.self.slots key) (sym (c.remove.ensures.first made));
+          ∙ ap (λ first. is_key first c.take.new.self.slots key) (sym (c.remove.ensures.first (is_made made)))
+          );
+      dense = c.tidy.ensures.dense;
     }
 
 pub returns-clause-next : goal.returns-clause-next
 returns-clause-next g c =
     let least = c.next_slot-at.ensures in
-    taken-is c.args.self.now.reorder c.index_many.new.self.reorder c.args.self.now.waiting c.index_many.new.self.waiting c.take.new.self.items c.next_slot-at.result least.0 least.1
+    taken-is c.args.self.now.reorder c.index_many.new.self.reorder c.args.self.now.waiting c.index_many.new.self.waiting c.tidy.new.waiting.items c.next_slot-at.result least.0 least.1
     c.in_ok-arrival.arrival c.in_ok-time.field-0.now c.index_many.ensures.waiting c.index_many.ensures.reorder c.in_ok-time.ensures.filled least.2 c.in_ok-arrival.ensures.taken
-    c.in_ok-time.ensures.item c.in_ok-arrival.ensures.items
+    c.in_ok-time.ensures.item (c.tidy.ensures.waiting ∙ c.in_ok-arrival.ensures.items)

@@ -21,4 +21,5 @@ invariant_of-self-2 g c =
           ∙ key-put first old one key
           ∙ ap (λ f. is_key f (old ++ Some one ∷ []) key) (sym (c.add.ensures.first made))
           ∙ ap (λ list. is_key c.add.new.self.first list key) (sym slots);
+      dense = omega (arith, c.args.self.now.dense, ap length slots, length-append old (Some one ∷ []), ap length c.in_ok-push.ensures.items, length-append c.args.self.now.waiting.items (one ∷ []));
     }

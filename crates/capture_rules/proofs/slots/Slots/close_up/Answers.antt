@@ -1,4 +1,5 @@
-use Rattle.std.proofs.Common.{length, ap, sym, ◌∙◌}
+use Rattle.std.proofs.Common.{Some, length, ap, sym, ◌∙◌}
+use Rattle.std.proofs.lemmas.List.{length-map}
 use Rattle.capture_rules.specs.Inside.Slots.{filled, begins_filled}
 use Rattle.capture_rules.proofs.ClosedUp.{filled-same, begins-same}
 use Rattle.capture_rules.proofs.slots.Slots.close_up.Goals as goal
@@ -12,4 +13,8 @@ invariant_of-self g c =
 pub returns : goal.returns
 returns g c =
     let before = filled c.self.inside.slots.items in
-    record { items = ap filled c.drop_empty.ensures.items ∙ filled-same before ∙ ap (λ s. s.items) c.self.view_is }
+    let same = ap filled c.drop_empty.ensures.items ∙ filled-same before in
+    record {
+      items = same ∙ ap (λ s. s.items) c.self.view_is;
+      slots = ap length c.drop_empty.ensures.items ∙ length-map before Some ∙ ap length (sym same);
+    }

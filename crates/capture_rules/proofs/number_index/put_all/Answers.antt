@@ -3,8 +3,8 @@ use Rattle.std.specs.Ordering.{is_eq}
 use Rattle.capture_rules.specs.Inside.Index.{key_cmp}
 use Rattle.capture_rules.specs.Inside.Slots.{held_at}
 use Rattle.capture_rules.proofs.KeyedSlots.{keyed-more, keyed-none, keyed-all}
-use Rattle.capture_rules.proofs.number_index.put_keys.Goals as goal
-use Rattle.capture_rules.proofs.number_index.put_keys.Goals.{in_default-via-in-None-1, in_default-via-in-Some+else-not-put_key}
+use Rattle.capture_rules.proofs.number_index.put_all.Goals as goal
+use Rattle.capture_rules.proofs.number_index.put_all.Goals.{in_default-via-in-None-1, in_default-via-in-Some+else-not-put_key}
 
 pub loop-at-preserved : goal.loop-at-preserved
 loop-at-preserved g c = λ key.
