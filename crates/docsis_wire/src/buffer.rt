@@ -1,7 +1,11 @@
 //! The bytes of a payload or of a frame, which contracts see as a list.
 ghost use Rattle.std.specs.Prelude.{◌≡◌, ◌≤◌, ◌↔◌, ℕ, List, [], length, drop, IsTrue};
 
+use std::alloc::{AllocError, Global};
 use std::marker::Model;
+
+/// Room for so many bytes more than twice those that there are is never worth a copy.
+const SPARE_MAX: usize = 64;
 
 /// Bytes that are owned: a segment's payload or a whole frame. Contracts see the list of the bytes.
 ///
@@ -71,6 +75,22 @@ impl Bytes {
         Bytes {
             bytes,
             skipped: skipped + count,
+        }
+    }
+
+    /// The bytes in memory of just their size, where what they stand in has room for more than twice
+    /// as many and 64 more: they are copied, and that memory is freed. Where an allocation fails they
+    /// stay where they are.
+    pub fn shrunk_to_fit(self, alloc: Global) -> Bytes
+        ensures { result ≡ self }
+    {
+        let room = self.bytes.capacity();
+        if room <= self.len().saturating_mul(2).saturating_add(SPARE_MAX) {
+            return self;
+        }
+        match Vec::from_slice(alloc, self.as_slice()) {
+            Ok(copied) => Bytes::from(copied),
+            Err(AllocError) => self,
         }
     }
 }

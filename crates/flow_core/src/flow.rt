@@ -148,7 +148,7 @@ impl Flow {
         };
         if self.joiner.is_one_frame(&ready.segment, check) {
             let mut frames = Vec::with_capacity(alloc, 1)?;
-            frames.push_reserved(self.give_next());
+            frames.push_reserved(self.give_next(alloc));
             return Ok(Step::Frames(frames));
         }
         let fed = self.joiner.feed(alloc, &ready.segment, check)?;
@@ -158,9 +158,10 @@ impl Flow {
     }
 
     /// Joins the next segment, if there is one, if it is one whole frame by itself and nothing is
-    /// unfinished, and answers the frame: the segment's own payload. It takes no memory. `None`:
-    /// nothing changed, and the next segment, if there is one, is joined by [`Flow::advance`].
-    pub fn advance_whole<C: HeaderCheck>(&mut self, check: &C) -> Option<Bytes>
+    /// unfinished, and answers the frame: the segment's own payload, which is copied only out of
+    /// memory that is much larger. No failed allocation fails it. `None`: nothing changed, and the
+    /// next segment, if there is one, is joined by [`Flow::advance`].
+    pub fn advance_whole<C: HeaderCheck>(&mut self, alloc: Global, check: &C) -> Option<Bytes>
         ensures step { IfSome result
             (λ frame. ¬ (IsDrained self.old)
             × Gives (C.accepts check.now) self.old (frame ∷ []) self.new) }
@@ -171,18 +172,18 @@ impl Flow {
         if !self.joiner.is_one_frame(&ready.segment, check) {
             return None;
         }
-        Some(self.give_next())
+        Some(self.give_next(alloc))
     }
 
     /// Takes the next segment, which is one whole frame, and answers the frame.
-    fn give_next(&mut self) -> Bytes
+    fn give_next(&mut self, alloc: Global) -> Bytes
         requires { (check : List ℕ → Bool) × IsNextOneFrame check self.old }
         ensures { (check : List ℕ → Bool) → IsNextOneFrame check self.old
             → Gives check self.old (result ∷ []) self.new }
     {
         let ready = self.window.take_next().unwrap();
         self.end_step(1, 0);
-        ready.segment.payload
+        ready.segment.payload.shrunk_to_fit(alloc)
     }
 
     /// Counts what a segment gave that was taken and joined, and goes on with the decision that is

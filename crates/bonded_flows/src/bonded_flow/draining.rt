@@ -69,7 +69,7 @@ fn join_next<C: HeaderCheck, O: Consumer>(
     if flow.is_drained() {
         return Ok(false);
     }
-    if let Some(frame) = flow.advance_whole(check) {
+    if let Some(frame) = flow.advance_whole(alloc, check) {
         out.frame(index, frame);
         return Ok(true);
     }
