@@ -1,15 +1,11 @@
 //! Room for what is unfinished.
-ghost use Rattle.std.specs.Prelude.{◌≡◌, IfOk};
+ghost use Rattle.std.specs.Prelude.{◌≡◌, ◌≤◌, ◌*◌, length, IfOk};
 
 use docsis_wire::{HeadRead, read_head};
 use std::alloc::{AllocError, Global};
 
-/// The longest frame for which there is room at once, in bytes. A packet's frame of 1,522 bytes with
-/// the longest extended header is shorter.
-const ROOM_MAX: u32 = 2048;
-
-/// Bytes that are unfinished. Where they announce a frame of at most 2,048 bytes there is room for
-/// all of it, so that no other room is asked for once more of it comes.
+/// Bytes that are unfinished. Where they are a quarter of the frame that they announce, or more,
+/// there is room for all of it, so that no other room is asked for once the rest comes.
 pub fn with_room(alloc: Global, bytes: &[u8]) -> Result<Vec<u8>, AllocError>
     ensures { IfOk result (λ unfinished. unfinished.items ≡ bytes.now) }
 {
@@ -18,10 +14,13 @@ pub fn with_room(alloc: Global, bytes: &[u8]) -> Result<Vec<u8>, AllocError>
     Ok(unfinished)
 }
 
-/// For how many bytes there is to be room.
-fn room_for(bytes: &[u8]) -> usize {
+/// For how many bytes there is to be room: for no more than four times those that are there.
+fn room_for(bytes: &[u8]) -> usize
+    ensures { result ≤ 4 * length bytes.now }
+{
+    let most = bytes.len().saturating_mul(4);
     match read_head(bytes) {
-        HeadRead::Head { total, .. } if total <= ROOM_MAX => bytes.len().max(total as usize),
+        HeadRead::Head { total, .. } if total as usize <= most => bytes.len().max(total as usize),
         _ => bytes.len(),
     }
 }
