@@ -15,8 +15,8 @@ pub(crate) fn spell_block(digits: &[u8; 32]) -> Option<[u8; 16]>
     ensures { MatchOption result (SpellsNothing digits.now) (SpellsPairs digits.now) }
 {
     let (high_digits, low_digits) = split_pairs(digits);
-    let high = digit_values(high_digits);
-    let low = digit_values(low_digits);
+    let high = values_of_digits(high_digits);
+    let low = values_of_digits(low_digits);
     if are_all_values(high, low) {
         Some((high * u8x16::splat(16) + low).to_array())
     } else {
@@ -40,7 +40,7 @@ fn split_pairs(digits: &[u8; 32]) -> (u8x16, u8x16)
 /// 10 to 15, and a difference or a sum that stops at the end of a byte's range keeps each other byte
 /// at 16 or more. So the lesser of the two is the value.
 #[inline(always)]
-fn digit_values(digits: u8x16) -> u8x16
+fn values_of_digits(digits: u8x16) -> u8x16
     ensures { result ≡ map value_or_16 digits }
 {
     let decimal = moved_down(excess(moved_down(digits, b'9' + 1), 6), 0xF0);

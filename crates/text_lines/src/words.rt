@@ -29,7 +29,7 @@ fn word_end(line: &[u8]) -> Option<usize>
     let Some(front) = line.first_chunk::<16>() else {
         return line.iter().position(|byte| separates(*byte));
     };
-    let marks = separators(u8x16::from_array(*front));
+    let marks = separator_marks(u8x16::from_array(*front));
     if marks == 0 {
         return long_word_end(line);
     }
@@ -47,7 +47,7 @@ fn long_word_end(line: &[u8]) -> Option<usize>
 
 /// A bit for each of sixteen bytes, the lowest for the first: whether it separates words.
 #[inline(always)]
-fn separators(bytes: u8x16) -> u64
+fn separator_marks(bytes: u8x16) -> u64
     ensures { result ≡ mask_l (map is_separator bytes) }
 {
     let spaces = bytes.simd_eq(u8x16::splat(b' '));

@@ -1,5 +1,5 @@
 use Rattle.text_lines.proofs.DigitLanes.{values_are}
-use Rattle.text_lines.proofs.digit_block.digit_values.Goals as goal
+use Rattle.text_lines.proofs.digit_block.values_of_digits.Goals as goal
 
 pub returns : goal.returns
 returns c = let all = values_are 16 c.args.digits c.fits-digits.0 c.fits-digits.1 in cc
