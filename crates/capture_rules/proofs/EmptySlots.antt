@@ -1,5 +1,5 @@
 -- A queue of slots, some of which are empty, as the list of what isn't.
-use Rattle.std.proofs.Common.{◌≡◌, ℕ, zero, suc, ◌+◌, ◌<◌, ◌≤◌, true, not, Option, Some, None, List, [], ◌∷◌, ◌++◌, length, drop, slice_get, slice_set, get_or, below_more, refl, ap, sym, subst, ◌∙◌, arith}
+use Rattle.std.proofs.Common.{◌≡◌, ℕ, zero, suc, ◌+◌, ◌<◌, ◌≤◌, true, not, Option, Some, None, List, [], ◌∷◌, ◌++◌, length, drop, slice_get, slice_set, get_or, below_more, refl, ap, sym, ◌∙◌, arith}
 use Rattle.std.specs.Prelude.{remove}
 use Rattle.capture_rules.specs.Inside.Slots.{filled, held_at, rank, begins_filled, AreEmpty}
 

@@ -1,6 +1,6 @@
 -- The keys of the bursts in some slots.
-use Rattle.std.proofs.Common.{◌≡◌, ℕ, ◌+◌, ◌-◌, ◌<◌, ◌≤◌, Bool, true, false, ◌==◌, ◌&&◌, cond, Option, Some, None, List, [], ◌∷◌, ◌++◌, length, drop, slice_set, refl, ap, sym, ◌∙◌, ⊎_elim, arith}
-use Rattle.std.specs.Prelude.{nat_le, nat_lt}
+use Rattle.std.proofs.Common.{◌≡◌, ℕ, zero, suc, take, ◌+◌, ◌-◌, ◌<◌, ◌≤◌, Bool, true, false, ◌==◌, ◌&&◌, cond, Option, Some, None, List, [], ◌∷◌, ◌++◌, length, drop, slice_set, refl, ap, sym, ◌∙◌, ⊎_elim, add-one, arith}
+use Rattle.std.specs.Prelude.{nat_le}
 use Rattle.std.specs.Ordering.{nat_cmp, ordering_then, is_eq}
 use Rattle.std.specs.declared.cmp.Ordering.{Ordering}
 use Rattle.std.specs.declared.cmp.Ordering.TheVariants.{Less, Equal, Greater}
@@ -54,47 +54,6 @@ taken-cond b e h p q = ap (λ x. cond x false h) p ∙ ap (λ x. cond b false x)
     none false = refl
 
 module _ {T : Type 0} where
-  -- one more burst, in the slot behind all that were looked at
-  pub keyed-more : (slots : List (Option (Arrival T))) (at : ℕ) (one : Arrival T) (key : ℕ × ℕ × ℕ) → held_at slots at ≡ Some one
-      → cond (is_eq (key_cmp (one.channel, one.number, at) key)) true (nat_lt key.2 at && matches_key key (held_at slots key.2)) ≡ (nat_lt key.2 (at + 1) && matches_key key (held_at slots key.2))
-  keyed-more slots at one key held =
-      ⊎_elim
-      (λ (same : key.2 ≡ at).
-      let equal : is_eq (key_cmp (one.channel, one.number, at) key) ≡ (one.channel == key.0 && one.number == key.1) =
-      key-equal (one.channel, one.number, at) key ∙ grind (arith, nat_tests, same) in
-      here (one.channel == key.0 && one.number == key.1) (is_eq (key_cmp (one.channel, one.number, at) key)) (nat_lt key.2 at) (nat_lt key.2 (at + 1)) (matches_key key (held_at slots key.2))
-      equal (grind (arith, nat_tests, same)) (grind (arith, nat_tests, same)) (ap (matches_key key) (ap (held_at slots) same ∙ held)))
-      (λ (apart : key.2 ≡ at → ⊥).
-      elsewhere (is_eq (key_cmp (one.channel, one.number, at) key)) (nat_lt key.2 at) (nat_lt key.2 (at + 1)) (matches_key key (held_at slots key.2))
-      (key-apart (one.channel, one.number, at) key (λ (same : at ≡ key.2). apart (sym same))) (grind (arith, nat_tests, apart)))
-      (cases_eq key.2 at)
-
-  pub keyed-none : (slots : List (Option (Arrival T))) (at : ℕ) (key : ℕ × ℕ × ℕ) → held_at slots at ≡ None
-      → (nat_lt key.2 at && matches_key key (held_at slots key.2)) ≡ (nat_lt key.2 (at + 1) && matches_key key (held_at slots key.2))
-  keyed-none slots at key held =
-      ⊎_elim
-      (λ (same : key.2 ≡ at). rw (ap (held_at slots) same ∙ held) (both-false (nat_lt key.2 at) (nat_lt key.2 (at + 1))))
-      (λ (apart : key.2 ≡ at → ⊥). ap (λ b. b && matches_key key (held_at slots key.2)) (grind (arith, nat_tests, apart)))
-      (cases_eq key.2 at)
-    where
-      both-false : (a b : Bool) → (a && false) ≡ (b && false)
-      both-false true true = refl
-      both-false true false = refl
-      both-false false true = refl
-      both-false false false = refl
-
-  pub keyed-all : (slots : List (Option (Arrival T))) (n : ℕ) (key : ℕ × ℕ × ℕ) → length slots ≤ n → (nat_lt key.2 n && matches_key key (held_at slots key.2)) ≡ is_key 0 slots key
-  keyed-all slots n key all =
-      let zero_on : key.2 - 0 ≡ key.2 = omega arith in
-      let whole : is_key 0 slots key ≡ matches_key key (held_at slots key.2) =
-      ap (λ b. b && matches_key key (held_at slots (key.2 - 0))) (let le : nat_le 0 key.2 ≡ true = grind (arith, nat_tests) in le) ∙ ap (λ k. matches_key key (held_at slots k)) zero_on in
-      ⊎_elim
-      (λ (below : key.2 < n). ap (λ b. b && matches_key key (held_at slots key.2)) (let lt : nat_lt key.2 n ≡ true = grind (arith, nat_tests, below) in lt) ∙ sym whole)
-      (λ (past : n ≤ key.2).
-      let none : matches_key key (held_at slots key.2) ≡ false = ap (matches_key key) (held-past slots key.2 (omega (arith, past, all))) in
-      ap (λ b. b && matches_key key (held_at slots key.2)) (let lt : nat_lt key.2 n ≡ false = grind (arith, nat_tests, past) in lt) ∙ sym (whole ∙ none))
-      (cases_lt key.2 n)
-
   -- ---- the key of a slot
 
   key-before : (first : ℕ) (slots : List (Option (Arrival T))) (key : ℕ × ℕ × ℕ) → key.2 < first → is_key first slots key ≡ false
@@ -191,3 +150,57 @@ module _ {T : Type 0} where
           ∙ key-at first slots key k serial
           ∙ sym (after k serial (matches_key key (held_at slots k)) (ap (matches_key key) (ap (λ list. held_at list k) empties ∙ held-other slots at k apart))))
           (cases_eq k at)
+
+  -- ---- the keys of the first slots
+
+  -- one slot more
+  pub taken-more : (slots : List (Option (Arrival T))) (at : ℕ) → at < length slots → take (suc at) slots ≡ take at slots ++ held_at slots at ∷ []
+  taken-more [] at below = absurd (omega (arith, below))
+  taken-more (slot ∷ slots) zero below = refl
+  taken-more (slot ∷ slots) (suc at) below = ap (λ (all : List (Option (Arrival T))). slot ∷ all) (taken-more slots at (omega (arith, below)))
+
+  taken-length : (slots : List (Option (Arrival T))) (at : ℕ) → at < length slots → length (take at slots) ≡ at
+  taken-length [] at below = absurd (omega (arith, below))
+  taken-length (slot ∷ slots) zero below = refl
+  taken-length (slot ∷ slots) (suc at) below = let rest = taken-length slots at (omega (arith, below)) in omega (arith, rest)
+
+  pub taken-all : (slots : List (Option (Arrival T))) (at : ℕ) → length slots ≤ at → take at slots ≡ slots
+  taken-all [] zero all = refl
+  taken-all [] (suc at) all = refl
+  taken-all (slot ∷ slots) zero all = absurd (omega (arith, all))
+  taken-all (slot ∷ slots) (suc at) all = ap (λ (rest : List (Option (Arrival T))). slot ∷ rest) (taken-all slots at (omega (arith, all)))
+
+  pub taken-before : (slots more : List (Option (Arrival T))) (at : ℕ) → at ≤ length slots → take at (slots ++ more) ≡ take at slots
+  taken-before [] more zero within = refl
+  taken-before [] more (suc at) within = absurd (omega (arith, within))
+  taken-before (slot ∷ slots) more zero within = refl
+  taken-before (slot ∷ slots) more (suc at) within = ap (λ (rest : List (Option (Arrival T))). slot ∷ rest) (taken-before slots more at (omega (arith, within)))
+
+  pub keyed-more : (first : ℕ) (slots : List (Option (Arrival T))) (at : ℕ) (one : Arrival T) (key : ℕ × ℕ × ℕ) → at < length slots → held_at slots at ≡ Some one
+      → cond (is_eq (key_cmp (one.channel, one.number, first + at) key)) true (is_key first (take at slots) key) ≡ is_key first (take (at + 1) slots) key
+  keyed-more first slots at one key below held =
+      ap (λ n. cond (is_eq (key_cmp (one.channel, one.number, first + n) key)) true (is_key first (take at slots) key)) (sym (taken-length slots at below))
+      ∙ key-put first (take at slots) one key
+      ∙ ap (λ list. is_key first list key) (ap (λ slot. take at slots ++ slot ∷ []) (sym held) ∙ sym (taken-more slots at below) ∙ ap (λ n. take n slots) (sym (add-one at)))
+
+  pub keyed-none : (first : ℕ) (slots : List (Option (Arrival T))) (at : ℕ) (key : ℕ × ℕ × ℕ) → at < length slots → held_at slots at ≡ None
+      → is_key first (take at slots) key ≡ is_key first (take (at + 1) slots) key
+  keyed-none first slots at key below held =
+      ap (λ slot. nat_le first key.2 && matches_key key slot) (held-none (take at slots) (key.2 - first))
+      ∙ ap (λ list. is_key first list key) (ap (λ slot. take at slots ++ slot ∷ []) (sym held) ∙ sym (taken-more slots at below) ∙ ap (λ n. take n slots) (sym (add-one at)))
+    where
+      held-none : (slots : List (Option (Arrival T))) (k : ℕ) → held_at slots k ≡ held_at (slots ++ None ∷ []) k
+      held-none [] zero = refl
+      held-none [] (suc k) = refl
+      held-none (slot ∷ slots) zero = refl
+      held-none (slot ∷ slots) (suc k) = held-none slots k
+
+  pub keyed-all : (first : ℕ) (slots : List (Option (Arrival T))) (n : ℕ) (key : ℕ × ℕ × ℕ) → length slots ≤ n → is_key first (take n slots) key ≡ is_key first slots key
+  keyed-all first slots n key all = ap (λ list. is_key first list key) (taken-all slots n all)
+
+  pub keyed-start : (first : ℕ) (slots : List (Option (Arrival T))) (key : ℕ × ℕ × ℕ) → is_key first (take 0 slots) key ≡ false
+  keyed-start first slots key = no (nat_le first key.2)
+    where
+      no : (b : Bool) → (b && false) ≡ false
+      no true = refl
+      no false = refl

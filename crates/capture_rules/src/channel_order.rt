@@ -1,5 +1,5 @@
 //! The order of the bursts of one flow on each of its channels.
-ghost use Rattle.std.specs.Prelude.{◌≡◌, ◌+◌, ◌*◌, ◌^◌, ◌<◌, ◌≤◌, ◌++◌, ◌∷◌, [], true, IfOk, IfErr, IfSome, IfNone, OnOk, OnErr, length, is_some, nat_lt};
+ghost use Rattle.std.specs.Prelude.{◌≡◌, ◌+◌, ◌*◌, ◌^◌, ◌<◌, ◌≤◌, ◌++◌, ◌∷◌, [], true, IfOk, IfErr, IfSome, IfNone, OnOk, OnErr, length, take, is_some, nat_lt};
 ghost use Rattle.capture_rules.specs.declared.arrival.Arrival.{Arrival};
 ghost use Rattle.capture_rules.specs.Order.{is_due, IsNext};
 ghost use Rattle.capture_rules.specs.Inside.Index.{HasKeys, IsLeastSlot};
@@ -22,8 +22,9 @@ pub struct ChannelOrder<T> {
     waiting: Slots<Arrival<T>>,
     /// Of those that wait, while it is made.
     index: NumberIndex,
-    ghost fits: { index.is_made ≡ true → index.first + length waiting.slots < 2 ^ 64 },
-    ghost keys: { index.is_made ≡ true → HasKeys index.keys index.first waiting.slots },
+    ghost covered: { index.is_made ≡ true → index.covered ≤ length waiting.slots },
+    ghost keys: { index.is_made ≡ true
+        → HasKeys index.keys index.first (take index.covered waiting.slots) },
     /// What is held follows what waits.
     ghost dense: { length waiting.slots ≤ 2 * length waiting.items + 32 },
 }
@@ -50,11 +51,26 @@ impl<T> ChannelOrder<T> {
         ensures unchanged { OnErr result (waiting_in self.new ≡ waiting_in self.old) }
         ensures reorder { reorder_of self.new ≡ reorder_of self.old }
     {
-        let at = self.waiting.slot_count();
-        let (channel, number) = (arrival.channel, arrival.number);
-        self.waiting.push(arrival)?;
-        self.index.add(channel, number, at);
-        Ok(())
+        match self.waiting.push(arrival) {
+            Ok(()) => Ok(()),
+            Err(back) => self.push_closed_up(back.value),
+        }
+    }
+
+    /// A burst comes for which there was no room behind the slots: the empty ones are dropped, which
+    /// makes room where there are some.
+    fn push_closed_up(&mut self, arrival: Arrival<T>) -> Result<(), AllocFailed<Arrival<T>>>
+        ensures waits { OnOk result (waiting_in self.new ≡ waiting_in self.old ++ arrival ∷ []) }
+        ensures failed { IfErr result (λ back. back.value ≡ arrival) }
+        ensures unchanged { OnErr result (waiting_in self.new ≡ waiting_in self.old) }
+        ensures reorder { reorder_of self.new ≡ reorder_of self.old }
+    {
+        if self.waiting.len() == self.waiting.slot_count() {
+            return Err(AllocFailed { value: arrival });
+        }
+        self.index.clear();
+        self.waiting.close_up();
+        self.waiting.push(arrival)
     }
 
     /// Hands on the next burst, if the oldest one has waited for longer than `reorder` at this time:
@@ -86,7 +102,7 @@ impl<T> ChannelOrder<T> {
         ensures reorder { reorder_of self.new ≡ reorder_of self.old }
     {
         let time = self.waiting.front()?.time;
-        self.index_many();
+        self.ready_index();
         let at = self.next_slot();
         let (arrival, gone) = self.waiting.take(at)?;
         self.index.remove(arrival.channel, arrival.number, at, gone);
@@ -101,19 +117,27 @@ impl<T> ChannelOrder<T> {
         self.waiting.len()
     }
 
-    /// Makes the index, where it isn't made and many wait.
-    fn index_many(&mut self)
+    /// Brings the index up to date, where that is worthwhile, or drops it.
+    fn ready_index(&mut self)
         ensures waiting { self.new.waiting ≡ self.old.waiting }
         ensures reorder { reorder_of self.new ≡ reorder_of self.old }
+        ensures covered { self.new.index.is_made ≡ true
+            → self.new.index.covered ≡ length self.new.waiting.slots }
+        ensures fits { self.new.index.is_made ≡ true
+            → self.new.index.first + length self.new.waiting.slots < 2 ^ 64 }
     {
-        if !self.index.is_made && self.index.is_worthwhile(self.waiting.slot_count()) {
-            self.index.make(&self.waiting);
+        if self.index.is_worthwhile(self.waiting.slot_count()) {
+            self.index.catch_up(&self.waiting);
+        } else {
+            self.index.clear();
         }
     }
 
     /// Where the burst stands that is handed on next.
     fn next_slot(&self) -> usize
-        requires { 0 < length (waiting_in self.now) }
+        requires some { 0 < length (waiting_in self.now) }
+        requires covered { self.now.index.is_made ≡ true
+            → self.now.index.covered ≡ length self.now.waiting.slots }
         ensures { (oldest : Arrival T) × (one : Arrival T) × IsLeastSlot (reorder_of self.now)
             self.now.waiting.slots (length self.now.waiting.slots) result oldest one }
     {
@@ -127,8 +151,8 @@ impl<T> ChannelOrder<T> {
     }
 }
 
-/// Drops the empty slots, where they are more than the bursts that wait, so that what is held follows
-/// what waits. The index, which has their places, is made anew when it is needed.
+/// Drops the empty slots, where they are by 32 more than the bursts that wait, so that what is held
+/// follows what waits. The index, which has their places, is dropped too.
 fn tidy<T>(waiting: &mut Slots<Arrival<T>>, index: &mut NumberIndex)
     ensures waiting { waiting.new.items ≡ waiting.old.items }
     ensures dense { length waiting.new.slots ≤ 2 * length waiting.new.items + 32 }

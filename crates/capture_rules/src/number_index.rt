@@ -1,5 +1,5 @@
 //! An index of the bursts that wait: where those of a channel stand, in the order of their numbers.
-ghost use Rattle.std.specs.Prelude.{◌≡◌, ◌+◌, ◌^◌, ◌<◌, ◌≤◌, true, false, MatchOption, []};
+ghost use Rattle.std.specs.Prelude.{◌≡◌, ◌+◌, ◌^◌, ◌<◌, ◌≤◌, true, false, MatchOption, [], length, take};
 ghost use Rattle.capture_rules.specs.declared.arrival.Arrival.{Arrival};
 ghost use Rattle.capture_rules.specs.Inside.Index.{HasKeys, SetsKey, NoneNear, IsFirstNear};
 
@@ -9,11 +9,16 @@ use crate::slots::Slots;
 use std::alloc::Global;
 use std::collections::BTreeSet;
 
-/// Where so many slots are waiting or more, an index is worth making: below that a look at each is as
-/// fast.
+/// From so many slots on an index is worth making: below that a look at each is as fast.
 const MANY: usize = 64;
 
-/// Channels, numbers and serial numbers of the bursts that wait, in order, while it is made.
+/// Below so many slots an index that is made isn't worth keeping.
+const FEW: usize = 32;
+
+/// A key costs no more than looks at so many slots.
+const KEY_COST: usize = 16;
+
+/// Channels, numbers and serial numbers of the bursts in the first slots, in order, while it is made.
 ///
 /// It may be dropped at any time, where an allocation failed, and be made anew: it says nothing
 /// that the bursts themselves don't.
@@ -23,9 +28,11 @@ pub(crate) struct NumberIndex {
     keys: BTreeSet<(usize, u16, usize)>,
     /// The serial number of the first slot; those after it follow.
     first: usize,
+    /// Of how many slots it has the keys, from the first one on.
+    covered: usize,
     pub(crate) is_made: bool,
-    /// For how many slots it was given up, since there was no memory.
-    given_up: usize,
+    /// At how many slots was looked since it was brought up to date.
+    looks: usize,
 }
 
 impl NumberIndex {
@@ -36,74 +43,68 @@ impl NumberIndex {
         NumberIndex {
             keys: BTreeSet::new(alloc),
             first: 0,
+            covered: 0,
             is_made: false,
-            given_up: 0,
+            looks: 0,
         }
     }
 
     /// It isn't made any more.
     pub(crate) fn clear(&mut self)
         ensures made { self.new.is_made ≡ false }
-        ensures empty { self.new.keys.keys ≡ [] }
+        ensures first { self.new.first ≡ 0 }
+        ensures covered { self.new.covered ≡ 0 }
+        ensures keys { self.new.keys.keys ≡ [] }
     {
         self.keys.clear();
+        self.first = 0;
+        self.covered = 0;
         self.is_made = false;
     }
 
-    /// It isn't made any more, since there was no memory for so many slots.
-    fn give_up(&mut self, slot_count: usize)
-        ensures { self.new.is_made ≡ false }
-    {
-        self.clear();
-        self.given_up = slot_count;
-    }
-
-    /// Whether to make it for so many slots: for many, and where there was no memory for some, not
-    /// before they are twice as many, so that attempts in vain cost less than what came between.
+    /// Whether to bring it up to date with so many slots, in place of a look at each: where they are
+    /// many, and the keys that it lacks cost no more than a look at each slot and the looks since it
+    /// was up to date. So a call of `push` needn't know of it, and no sequence of calls costs more
+    /// than a few times the looks that it would take without it.
     pub(crate) fn is_worthwhile(&mut self, slot_count: usize) -> bool
-        ensures index { (self.new.is_made ≡ self.old.is_made) × (self.new.first ≡ self.old.first)
-            × (self.new.keys ≡ self.old.keys) }
+        ensures made { self.new.is_made ≡ self.old.is_made }
+        ensures first { self.new.first ≡ self.old.first }
+        ensures covered { self.new.covered ≡ self.old.covered }
+        ensures keys { self.new.keys ≡ self.old.keys }
     {
-        if slot_count < MANY {
-            self.given_up = 0;
-        }
-        slot_count >= MANY.max(self.given_up.saturating_mul(2))
+        let least = if self.is_made { FEW } else { MANY };
+        let cost = slot_count
+            .saturating_sub(self.covered)
+            .saturating_mul(KEY_COST);
+        let looks = self.looks.saturating_add(slot_count);
+        let pays = slot_count >= least && cost <= looks;
+        self.looks = if pays { 0 } else { looks };
+        pays
     }
 
-    /// Makes it, if there is memory.
-    pub(crate) fn make<T>(&mut self, waiting: &Slots<Arrival<T>>)
-        ensures first { self.new.is_made ≡ true → self.new.first ≡ 0 }
-        ensures keys { self.new.is_made ≡ true → HasKeys self.new.keys 0 waiting.now.slots }
-    {
-        self.clear();
-        self.first = 0;
-        if put_all(&mut self.keys, waiting) {
-            self.is_made = true;
-            self.given_up = 0;
-        } else {
-            self.give_up(waiting.slot_count());
-        }
-    }
-
-    /// If it is made, a burst of this channel and number was put into a slot behind all others. The
-    /// index is dropped where an allocation failed.
-    pub(crate) fn add(&mut self, channel: usize, number: u16, at: usize)
-        ensures made { self.new.is_made ≡ true → self.old.is_made ≡ true }
-        ensures first { self.new.is_made ≡ true → self.new.first ≡ self.old.first }
-        ensures fits { self.new.is_made ≡ true → self.new.first + at + 1 < 2 ^ 64 }
+    /// Brings it up to date with all slots, or makes it. It isn't made where an allocation failed.
+    pub(crate) fn catch_up<T>(&mut self, waiting: &Slots<Arrival<T>>)
+        requires within { self.old.is_made ≡ true → self.old.covered ≤ length waiting.now.slots }
+        requires keys { self.old.is_made ≡ true
+            → HasKeys self.old.keys self.old.first (take self.old.covered waiting.now.slots) }
+        ensures covered { self.new.is_made ≡ true
+            → self.new.covered ≡ length waiting.now.slots }
+        ensures fits { self.new.is_made ≡ true
+            → self.new.first + length waiting.now.slots < 2 ^ 64 }
         ensures keys { self.new.is_made ≡ true
-            → SetsKey self.old.keys self.new.keys (channel, number, self.old.first + at) true }
+            → HasKeys self.new.keys self.new.first waiting.now.slots }
     {
         if !self.is_made {
-            return;
+            self.clear();
         }
-        match self.first.checked_add(at) {
-            Some(serial) if serial < usize::MAX => {
-                if !put_key(&mut self.keys, (channel, number, serial)) {
-                    self.give_up(at);
-                }
-            }
-            _ => self.clear(),
+        let count = waiting.slot_count();
+        if self.first.checked_add(count).is_some()
+            && put_from(&mut self.keys, self.first, self.covered, waiting)
+        {
+            self.covered = count;
+            self.is_made = true;
+        } else {
+            self.clear();
         }
     }
 
@@ -112,15 +113,17 @@ impl NumberIndex {
     pub(crate) fn remove(&mut self, channel: usize, number: u16, at: usize, gone: usize)
         requires at_fits { self.old.is_made ≡ true → self.old.first + at < 2 ^ 64 }
         requires gone_fits { self.old.is_made ≡ true → self.old.first + gone < 2 ^ 64 }
+        requires gone_within { self.old.is_made ≡ true → gone ≤ self.old.covered }
         ensures made { self.new.is_made ≡ true → self.old.is_made ≡ true }
         ensures first { self.new.is_made ≡ true → self.new.first ≡ self.old.first + gone }
+        ensures covered { self.new.is_made ≡ true → self.new.covered + gone ≡ self.old.covered }
         ensures keys { self.new.is_made ≡ true
             → SetsKey self.old.keys self.new.keys (channel, number, self.old.first + at) false }
     {
         if self.is_made {
             self.keys.remove(&(channel, number, self.first + at));
             self.first += gone;
-            self.is_made = !self.keys.is_empty();
+            self.covered -= gone;
         }
     }
 
@@ -152,14 +155,22 @@ impl NumberIndex {
     }
 }
 
-/// Inserts the key of each burst into an empty set, and says whether there was memory.
-fn put_all<T>(keys: &mut BTreeSet<(usize, u16, usize)>, waiting: &Slots<Arrival<T>>) -> bool
-    requires { keys.old.keys ≡ [] }
-    ensures { result ≡ true → HasKeys keys.new 0 waiting.now.slots }
+/// Inserts the keys of the bursts from this slot on, where those of the slots before it are there,
+/// and says whether there was memory. The first slot has the serial number `first`.
+fn put_from<T>(
+    keys: &mut BTreeSet<(usize, u16, usize)>,
+    first: usize,
+    from: usize,
+    waiting: &Slots<Arrival<T>>,
+) -> bool
+    requires fits { first + length waiting.now.slots < 2 ^ 64 }
+    requires within { from ≤ length waiting.now.slots }
+    requires keys { HasKeys keys.old first (take from waiting.now.slots) }
+    ensures { result ≡ true → HasKeys keys.new first waiting.now.slots }
 {
-    for at in 0..waiting.slot_count() {
+    for at in from..waiting.slot_count() {
         if let Some(one) = waiting.get(at)
-            && !put_key(keys, (one.channel, one.number, at))
+            && !put_key(keys, (one.channel, one.number, first + at))
         {
             return false;
         }

@@ -11,7 +11,7 @@ use std::marker::Model;
 const FEW_EMPTY: usize = 32;
 
 /// A queue whose elements keep their slots until those before them are gone: one is taken from
-/// the middle in constant time.
+/// the middle without moving the others, in constant time on average.
 ///
 /// It holds an empty slot for each that was taken and isn't older than the oldest one, until they
 /// are dropped by [`Slots::close_up`].

@@ -311,7 +311,7 @@ fn many_are_handed_on_as_a_look_at_each_finds_them(rt: HostRuntime) -> Result<()
         state: 0x9E37_79B9_7F4A_7C15,
     };
     for (name, kind) in kinds {
-        for _ in 0..24 {
+        for _ in 0..16 {
             let alike = handed_alike(rt.alloc(), kind, &mut dice)?;
             assert!(rt; alike == kind.count, "{name}: {alike}");
         }
