@@ -20,7 +20,7 @@ pub struct ChannelOrder<T> {
     reorder: u64,
     /// In the order in which they came.
     waiting: Slots<Arrival<T>>,
-    /// Of those that wait, while it is made.
+    /// Of the first of those that wait, while it is made.
     index: NumberIndex,
     ghost covered: { index.is_made ≡ true → index.covered ≤ length waiting.slots },
     ghost keys: { index.is_made ≡ true
@@ -151,8 +151,8 @@ impl<T> ChannelOrder<T> {
     }
 }
 
-/// Drops the empty slots, where they are by 32 more than the bursts that wait, so that what is held
-/// follows what waits. The index, which has their places, is dropped too.
+/// Drops the empty slots, where they are by more than 32 more than the bursts that wait, so that what
+/// is held follows what waits. The index, which has their places, is dropped too.
 fn tidy<T>(waiting: &mut Slots<Arrival<T>>, index: &mut NumberIndex)
     ensures waiting { waiting.new.items ≡ waiting.old.items }
     ensures dense { length waiting.new.slots ≤ 2 * length waiting.new.items + 32 }

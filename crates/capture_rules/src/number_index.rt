@@ -15,7 +15,7 @@ const MANY: usize = 64;
 /// Below so many slots an index that is made isn't worth keeping.
 const FEW: usize = 32;
 
-/// A key costs no more than looks at so many slots.
+/// A key costs as much as looks at so many slots, or at one for each bit of how many slots there are.
 const KEY_COST: usize = 16;
 
 /// Channels, numbers and serial numbers of the bursts in the first slots, in order, while it is made.
@@ -31,7 +31,7 @@ pub(crate) struct NumberIndex {
     /// Of how many slots it has the keys, from the first one on.
     covered: usize,
     pub(crate) is_made: bool,
-    /// At how many slots was looked since it was brought up to date.
+    /// At how many slots was looked since it was last brought up to date, or that was tried.
     looks: usize,
 }
 
@@ -64,8 +64,8 @@ impl NumberIndex {
 
     /// Whether to bring it up to date with so many slots, in place of a look at each: where they are
     /// many, and the keys that it lacks cost no more than a look at each slot and the looks since it
-    /// was up to date. So a call of `push` needn't know of it, and no sequence of calls costs more
-    /// than a few times the looks that it would take without it.
+    /// was up to date. So a burst that comes needn't be put into it at once, and no sequence of calls
+    /// costs more than a few times the looks that it would take without it.
     pub(crate) fn is_worthwhile(&mut self, slot_count: usize) -> bool
         ensures made { self.new.is_made ≡ self.old.is_made }
         ensures first { self.new.first ≡ self.old.first }
@@ -73,9 +73,10 @@ impl NumberIndex {
         ensures keys { self.new.keys ≡ self.old.keys }
     {
         let least = if self.is_made { FEW } else { MANY };
+        let steps = usize::BITS - slot_count.leading_zeros();
         let cost = slot_count
             .saturating_sub(self.covered)
-            .saturating_mul(KEY_COST);
+            .saturating_mul(KEY_COST.max(steps as usize));
         let looks = self.looks.saturating_add(slot_count);
         let pays = slot_count >= least && cost <= looks;
         self.looks = if pays { 0 } else { looks };
