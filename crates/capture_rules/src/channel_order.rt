@@ -126,10 +126,20 @@ impl<T> ChannelOrder<T> {
         ensures fits { self.new.index.is_made ≡ true
             → self.new.index.first + length self.new.waiting.slots < 2 ^ 64 }
     {
-        if self.index.is_worthwhile(self.waiting.slot_count()) {
+        if self.is_mostly_near() && self.index.is_worthwhile(self.waiting.slot_count()) {
             self.index.catch_up(&self.waiting);
         } else {
             self.index.clear();
+        }
+    }
+
+    /// Whether the burst in the middle, if there is one, came within the wait after the oldest one:
+    /// else a walk in the index would pass many that didn't.
+    fn is_mostly_near(&self) -> bool {
+        let middle = self.waiting.get(self.waiting.slot_count() / 2);
+        match (self.waiting.front(), middle) {
+            (Some(oldest), Some(one)) => one.time.saturating_sub(oldest.time) <= self.reorder,
+            _ => true,
         }
     }
 
