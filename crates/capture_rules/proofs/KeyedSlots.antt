@@ -1,5 +1,5 @@
 -- The keys of the bursts in some slots.
-use Rattle.std.proofs.Common.{◌≡◌, ℕ, zero, suc, take, ◌+◌, ◌-◌, ◌<◌, ◌≤◌, Bool, true, false, ◌==◌, ◌&&◌, cond, Option, Some, None, List, [], ◌∷◌, ◌++◌, length, drop, slice_set, refl, ap, sym, ◌∙◌, ⊎_elim, add-one, arith}
+use Rattle.std.proofs.Common.{◌≡◌, ℕ, zero, suc, take, ◌+◌, ◌-◌, ◌<◌, ◌≤◌, Bool, true, false, ◌==◌, ◌&&◌, cond, Option, Some, None, List, [], ◌∷◌, ◌++◌, length, drop, slice_set, refl, ap, sym, ◌∙◌, ⊎_elim, add-one, length-take-le, take_all, arith}
 use Rattle.std.specs.Prelude.{nat_le}
 use Rattle.std.specs.Ordering.{nat_cmp, ordering_then, is_eq}
 use Rattle.std.specs.declared.cmp.Ordering.{Ordering}
@@ -31,13 +31,6 @@ key-equal x y =
 
 key-apart : (x y : ℕ × ℕ × ℕ) → (x.2 ≡ y.2 → ⊥) → is_eq (key_cmp x y) ≡ false
 key-apart x y apart = key-equal x y ∙ grind (arith, nat_tests, apart)
-
-here : (b e lt lt' h : Bool) → e ≡ b → lt ≡ false → lt' ≡ true → h ≡ b → cond e true (lt && h) ≡ (lt' && h)
-here true e lt lt' h p q r s = ap (λ x. cond x true (lt && h)) p ∙ sym (ap (λ x. x && h) r ∙ s)
-here false e lt lt' h p q r s = ap (λ x. cond x true (lt && h)) p ∙ ap (λ x. x && h) q ∙ sym (ap (λ x. x && h) r ∙ s)
-
-elsewhere : (e lt lt' h : Bool) → e ≡ false → lt ≡ lt' → cond e true (lt && h) ≡ (lt' && h)
-elsewhere e lt lt' h p q = ap (λ x. cond x true (lt && h)) p ∙ ap (λ x. x && h) q
 
 put-cond : (b e h : Bool) → e ≡ b → h ≡ false → cond e true h ≡ b
 put-cond b e h p q = ap (λ x. cond x true h) p ∙ ap (λ x. cond b true x) q ∙ same b
@@ -154,32 +147,15 @@ module _ {T : Type 0} where
   -- ---- the keys of the first slots
 
   -- one slot more
-  pub taken-more : (slots : List (Option (Arrival T))) (at : ℕ) → at < length slots → take (suc at) slots ≡ take at slots ++ held_at slots at ∷ []
+  taken-more : (slots : List (Option (Arrival T))) (at : ℕ) → at < length slots → take (suc at) slots ≡ take at slots ++ held_at slots at ∷ []
   taken-more [] at below = absurd (omega (arith, below))
   taken-more (slot ∷ slots) zero below = refl
   taken-more (slot ∷ slots) (suc at) below = ap (λ (all : List (Option (Arrival T))). slot ∷ all) (taken-more slots at (omega (arith, below)))
 
-  taken-length : (slots : List (Option (Arrival T))) (at : ℕ) → at < length slots → length (take at slots) ≡ at
-  taken-length [] at below = absurd (omega (arith, below))
-  taken-length (slot ∷ slots) zero below = refl
-  taken-length (slot ∷ slots) (suc at) below = let rest = taken-length slots at (omega (arith, below)) in omega (arith, rest)
-
-  pub taken-all : (slots : List (Option (Arrival T))) (at : ℕ) → length slots ≤ at → take at slots ≡ slots
-  taken-all [] zero all = refl
-  taken-all [] (suc at) all = refl
-  taken-all (slot ∷ slots) zero all = absurd (omega (arith, all))
-  taken-all (slot ∷ slots) (suc at) all = ap (λ (rest : List (Option (Arrival T))). slot ∷ rest) (taken-all slots at (omega (arith, all)))
-
-  pub taken-before : (slots more : List (Option (Arrival T))) (at : ℕ) → at ≤ length slots → take at (slots ++ more) ≡ take at slots
-  taken-before [] more zero within = refl
-  taken-before [] more (suc at) within = absurd (omega (arith, within))
-  taken-before (slot ∷ slots) more zero within = refl
-  taken-before (slot ∷ slots) more (suc at) within = ap (λ (rest : List (Option (Arrival T))). slot ∷ rest) (taken-before slots more at (omega (arith, within)))
-
   pub keyed-more : (first : ℕ) (slots : List (Option (Arrival T))) (at : ℕ) (one : Arrival T) (key : ℕ × ℕ × ℕ) → at < length slots → held_at slots at ≡ Some one
       → cond (is_eq (key_cmp (one.channel, one.number, first + at) key)) true (is_key first (take at slots) key) ≡ is_key first (take (at + 1) slots) key
   keyed-more first slots at one key below held =
-      ap (λ n. cond (is_eq (key_cmp (one.channel, one.number, first + n) key)) true (is_key first (take at slots) key)) (sym (taken-length slots at below))
+      ap (λ n. cond (is_eq (key_cmp (one.channel, one.number, first + n) key)) true (is_key first (take at slots) key)) (sym (length-take-le at slots (omega (arith, below))))
       ∙ key-put first (take at slots) one key
       ∙ ap (λ list. is_key first list key) (ap (λ slot. take at slots ++ slot ∷ []) (sym held) ∙ sym (taken-more slots at below) ∙ ap (λ n. take n slots) (sym (add-one at)))
 
@@ -196,11 +172,4 @@ module _ {T : Type 0} where
       held-none (slot ∷ slots) (suc k) = held-none slots k
 
   pub keyed-all : (first : ℕ) (slots : List (Option (Arrival T))) (n : ℕ) (key : ℕ × ℕ × ℕ) → length slots ≤ n → is_key first (take n slots) key ≡ is_key first slots key
-  keyed-all first slots n key all = ap (λ list. is_key first list key) (taken-all slots n all)
-
-  pub keyed-start : (first : ℕ) (slots : List (Option (Arrival T))) (key : ℕ × ℕ × ℕ) → is_key first (take 0 slots) key ≡ false
-  keyed-start first slots key = no (nat_le first key.2)
-    where
-      no : (b : Bool) → (b && false) ≡ false
-      no true = refl
-      no false = refl
+  keyed-all first slots n key all = ap (λ list. is_key first list key) (take_all n slots all)
