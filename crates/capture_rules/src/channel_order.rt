@@ -5,6 +5,7 @@ ghost use Rattle.capture_rules.specs.Order.{is_due, IsNext};
 ghost use Rattle.capture_rules.specs.Inside.Index.{HasKeys, IsLeastSlot};
 
 use crate::arrival::{Arrival, HandedOn};
+use crate::near::came_within;
 use crate::next_slot::{indexed_slot, scanned_slot};
 use crate::number_index::NumberIndex;
 use crate::slots::Slots;
@@ -57,8 +58,8 @@ impl<T> ChannelOrder<T> {
         }
     }
 
-    /// A burst comes for which there was no room behind the slots: the empty ones are dropped, which
-    /// makes room where there are some.
+    /// A burst comes for which there was no room behind the slots: the empty ones are dropped,
+    /// which makes room where there are some.
     fn push_closed_up(&mut self, arrival: Arrival<T>) -> Result<(), AllocFailed<Arrival<T>>>
         ensures waits { OnOk result (waiting_in self.new ≡ waiting_in self.old ++ arrival ∷ []) }
         ensures failed { IfErr result (λ back. back.value ≡ arrival) }
@@ -138,7 +139,7 @@ impl<T> ChannelOrder<T> {
     fn is_mostly_near(&self) -> bool {
         let middle = self.waiting.get(self.waiting.slot_count() / 2);
         match (self.waiting.front(), middle) {
-            (Some(oldest), Some(one)) => one.time.saturating_sub(oldest.time) <= self.reorder,
+            (Some(oldest), Some(one)) => came_within(self.reorder, oldest, one),
             _ => true,
         }
     }
@@ -161,8 +162,8 @@ impl<T> ChannelOrder<T> {
     }
 }
 
-/// Drops the empty slots, where they are by more than 32 more than the bursts that wait, so that what
-/// is held follows what waits. The index, which has their places, is dropped too.
+/// Drops the empty slots, where they are by more than 32 more than the bursts that wait, so that
+/// what is held follows what waits. The index, which has their places, is dropped too.
 fn tidy<T>(waiting: &mut Slots<Arrival<T>>, index: &mut NumberIndex)
     ensures waiting { waiting.new.items ≡ waiting.old.items }
     ensures dense { length waiting.new.slots ≤ 2 * length waiting.new.items + 32 }

@@ -15,10 +15,12 @@ const MANY: usize = 64;
 /// Below so many slots an index that is made isn't worth keeping.
 const FEW: usize = 32;
 
-/// A key costs as much as looks at so many slots, or at one for each bit of how many slots there are.
+/// A key costs as much as looks at so many slots, or at one for each bit of how many slots there
+/// are.
 const KEY_COST: usize = 16;
 
-/// Channels, numbers and serial numbers of the bursts in the first slots, in order, while it is made.
+/// Channels, numbers and serial numbers of the bursts in the first slots, in order, while it is
+/// made.
 ///
 /// It may be dropped at any time, where an allocation failed, and be made anew: it says nothing
 /// that the bursts themselves don't.
@@ -62,10 +64,10 @@ impl NumberIndex {
         self.is_made = false;
     }
 
-    /// Whether to bring it up to date with so many slots, in place of a look at each: where they are
-    /// many, and the keys that it lacks cost no more than a look at each slot and the looks since it
-    /// was up to date. So a burst that comes needn't be put into it at once, and no sequence of calls
-    /// costs more than a few times the looks that it would take without it.
+    /// Whether to bring it up to date with so many slots, in place of a look at each: where they
+    /// are many, and the keys that it lacks cost no more than a look at each slot and the looks
+    /// since it was up to date. So a burst that comes needn't be put into it at once, and no
+    /// sequence of calls costs more than a few times the looks that it would take without it.
     pub(crate) fn is_worthwhile(&mut self, slot_count: usize) -> bool
         ensures made { self.new.is_made ≡ self.old.is_made }
         ensures first { self.new.first ≡ self.old.first }
