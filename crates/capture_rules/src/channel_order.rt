@@ -7,7 +7,7 @@ ghost use Rattle.capture_rules.specs.Inside.Index.{HasKeys, IsLeastSlot};
 use crate::arrival::{Arrival, HandedOn};
 use crate::near::came_within;
 use crate::next_slot::{indexed_slot, scanned_slot};
-use crate::number_index::NumberIndex;
+use crate::number_index::{NumberIndex, TooManyPassed};
 use crate::slots::Slots;
 use std::alloc::{AllocFailed, Global};
 
@@ -154,7 +154,10 @@ impl<T> ChannelOrder<T> {
     {
         match self.waiting.front() {
             Some(oldest) if self.index.is_made => {
-                indexed_slot(&self.index, &self.waiting, self.reorder, oldest)
+                match indexed_slot(&self.index, &self.waiting, self.reorder, oldest) {
+                    Ok(at) => at,
+                    Err(TooManyPassed) => scanned_slot(&self.waiting, self.reorder, oldest),
+                }
             }
             Some(oldest) => scanned_slot(&self.waiting, self.reorder, oldest),
             None => 0,

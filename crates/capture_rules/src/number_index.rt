@@ -1,5 +1,5 @@
 //! An index of the bursts that wait: where those of a channel stand, in the order of their numbers.
-ghost use Rattle.std.specs.Prelude.{◌≡◌, ◌+◌, ◌^◌, ◌<◌, ◌≤◌, true, false, MatchOption, [], length, take};
+ghost use Rattle.std.specs.Prelude.{◌≡◌, ◌+◌, ◌^◌, ◌<◌, ◌≤◌, true, false, IfOk, MatchOption, [], length, take};
 ghost use Rattle.capture_rules.specs.declared.arrival.Arrival.{Arrival};
 ghost use Rattle.capture_rules.specs.Inside.Index.{HasKeys, SetsKey, NoneNear, IsFirstNear};
 
@@ -36,6 +36,9 @@ pub(crate) struct NumberIndex {
     /// At how many slots was looked since it was last brought up to date, or that was tried.
     looks: usize,
 }
+
+/// More keys were passed than are worth passing: a look at each slot costs less.
+pub(crate) struct TooManyPassed;
 
 impl NumberIndex {
     /// It isn't made.
@@ -131,7 +134,8 @@ impl NumberIndex {
     }
 
     /// Where the burst stands of the least number from `low` up to before `high`, among those near
-    /// the oldest one; of several of one number the first.
+    /// the oldest one; of several of one number the first. An error is that too many came first that
+    /// aren't near: a key that is passed takes longer than a look at a slot.
     pub(crate) fn first_near<T>(
         &self,
         waiting: &Slots<Arrival<T>>,
@@ -139,22 +143,28 @@ impl NumberIndex {
         oldest: &Arrival<T>,
         low: u16,
         high: u16,
-    ) -> Option<usize>
+    ) -> Result<Option<usize>, TooManyPassed>
         requires order { low ≤ high }
         requires keys { HasKeys self.now.keys self.now.first waiting.now.slots }
-        ensures { MatchOption result (NoneNear reorder waiting.now.slots oldest.now low high)
-            (λ at. (one : Arrival T) × IsFirstNear reorder waiting.now.slots oldest.now low high at one) }
+        ensures { IfOk result (λ found. MatchOption found (NoneNear reorder waiting.now.slots oldest.now low high)
+            (λ at. (one : Arrival T) × IsFirstNear reorder waiting.now.slots oldest.now low high at one)) }
     {
         let channel = oldest.channel;
+        let most = waiting.slot_count() / KEY_COST;
+        let mut passed = 0;
         for key in self.keys.range((channel, low, 0)..(channel, high, 0)) {
             let at = key.2 - self.first;
             if let Some(one) = waiting.get(at)
                 && is_near(reorder, oldest, one)
             {
-                return Some(at);
+                return Ok(Some(at));
             }
+            if passed >= most {
+                return Err(TooManyPassed);
+            }
+            passed += 1;
         }
-        None
+        Ok(None)
     }
 }
 

@@ -284,6 +284,19 @@ fn many_are_handed_on_as_a_look_at_each_finds_them(rt: HostRuntime) -> Result<()
             },
         ),
         (
+            "some of those that are left, most of which came too late for the oldest one",
+            Kind {
+                channels: 1,
+                numbers: 900,
+                ahead: 2000,
+                back: 1990,
+                reorder: 300,
+                left: 2,
+                count: 1200,
+                ..PLAIN
+            },
+        ),
+        (
             "none waits",
             Kind {
                 reorder: 0,
