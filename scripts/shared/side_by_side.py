@@ -15,6 +15,7 @@ WITHOUT_PROOF = [
     Part("links, names and proofs in the documents", ["scripts/documents"]),
     Part("the reading order of the definitions", ["scripts/reading", "--check"]),
     Part("planted mistakes that can be applied", ["scripts/mutants", "--check"]),
+    Part("the benchmark's jobs and their files", ["bench/run", "--check"]),
 ]
 
 

@@ -1,16 +1,23 @@
 -- What was left is done.
-use Rattle.std.proofs.Common.{◌≡◌, ℕ, Bool, List, [], ◌++◌, sym, subst, append-nil}
+use Rattle.std.proofs.Common.{◌≡◌, ℕ, Bool, List, [], ◌++◌, refl, sym, subst, append-nil}
 use Rattle.docsis_wire.specs.declared.segment.ReadySegment.{ReadySegment}
 use Rattle.flow_core.specs.Events.{FlowEvent}
 use Rattle.loss_rule.specs.Rule.{Coming, Lasts}
 use Rattle.consumer.specs.declared.given.Given.{Given}
 use Rattle.bonded_flows.specs.declared.bonded_flow.BondedFlow.{BondedFlow}
 use Rattle.bonded_flows.specs.declared.pending.Pending.{Pending}
-use Rattle.bonded_flows.specs.declared.pending.Pending.TheVariants.{Slide, Arrive}
+use Rattle.bonded_flows.specs.declared.pending.Pending.TheVariants.{Nothing, Slide, Arrive, Close}
 use Rattle.bonded_flows.specs.FlowSetup.{FlowSetup}
 use Rattle.bonded_flows.specs.Stands.{HasTakenSome, IsPending, IsTaking, HasCome, IsUnderWay}
 use Rattle.bonded_flows.specs.Taking.{WasGiven, GivesMore, TakesArrival, TakesSliding, Takes}
 use Rattle.bonded_flows.proofs.TakenEvents.{left-anyhow}
+
+-- what is left is the close, if it is nothing else
+pub only-Close : (pending : Pending) → (pending ≡ Nothing → ⊥) → ((ready : ReadySegment) → pending ≡ Slide ready → ⊥) → ((ready : ReadySegment) → pending ≡ Arrive ready → ⊥) → pending ≡ Close
+only-Close Nothing some stays comes = absurd (some refl)
+only-Close (Slide ready) some stays comes = absurd (stays ready refl)
+only-Close (Arrive ready) some stays comes = absurd (comes ready refl)
+only-Close Close some stays comes = refl
 
 -- whatever is said to be left, it has taken something
 pub some-anyhow : (check : List ℕ → Bool) (bonded : BondedFlow) (pending' : Pending) → IsUnderWay check bonded → HasTakenSome check (record bonded { pending = pending' })

@@ -5,7 +5,3 @@ pub mod OneNumber
 pub mod HeldSoFar
 pub mod BeginningSoFar
 pub mod WaitingSoFar
-pub mod EmptySlots
-pub mod KeyedSlots
-pub mod LeftToLook
-pub mod ClosedUp

@@ -2,4 +2,3 @@ pub mod Order
 pub mod Waiting
 pub mod Begin
 pub mod Held
-pub mod Inside

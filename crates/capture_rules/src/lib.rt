@@ -26,11 +26,7 @@ mod channel_order;
 mod held_time;
 mod held_times;
 pub mod laws;
-mod near;
-mod next_slot;
-mod number_index;
 mod numbers;
-mod slots;
 
 pub use arrival::{Arrival, HandedOn};
 pub use beginning::{BEGINNING, Beginning, Begun};

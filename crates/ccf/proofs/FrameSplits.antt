@@ -5,7 +5,7 @@ use Rattle.std.proofs.lemmas.Bool.{false≢true, eq-eqb}
 use Rattle.std.proofs.lemmas.List.{append-nil, append_assoc, take-append-drop}
 use Rattle.std.proofs.lemmas.List.Folds.{concat-append}
 use Rattle.docsis_wire.specs.Frame.{IsFrame}
-use Rattle.ccf.specs.Walk.{Walks}
+use Rattle.ccf.specs.Walk.{Ends, Walks}
 use Rattle.docsis_wire.specs.declared.segment.Segment.{Segment}
 use Rattle.ccf.specs.Feed.{GoesOn, Completes, FeedsAs, Feeds, IsOneFrame}
 
@@ -47,14 +47,14 @@ pub FeedsAs-go_on : (check : List ℕ → Bool) (before payload bytes : List ℕ
 FeedsAs-go_on check [] payload bytes frames after some is goes_on = absurd (some refl)
 FeedsAs-go_on check (b ∷ bs) payload bytes frames after some is goes_on = let P : List ℕ → Type 0 = λ t. GoesOn check t frames after in subst P is goes_on
 
--- the frame at the front of what was unfinished is delivered
-pub GoesOn-delivers : (check : List ℕ → Bool) (bytes frame : List ℕ) (n : ℕ) (frames none : List (List ℕ)) (after : List ℕ) → IsFrame check (take n bytes)
-    → frame ≡ take n bytes → none ≡ [] → frames ≡ none ++ frame ∷ [] → after ≡ [] → GoesOn check bytes frames after
-GoesOn-delivers check bytes frame n frames none after is_frame taken is_none frames_are nothing =
+-- the frame at the front of what was unfinished, and of what was appended, is delivered
+pub GoesOn-delivers : (check : List ℕ → Bool) (bytes left frame : List ℕ) (n : ℕ) (frames none : List (List ℕ)) (after : List ℕ) → IsFrame check (take n bytes)
+    → frame ≡ take n bytes → none ≡ [] → frames ≡ none ++ frame ∷ [] → after ≡ [] → GoesOn check (bytes ++ left) frames after
+GoesOn-delivers check bytes left frame n frames none after is_frame taken is_none frames_are nothing =
     inl record {
       frame = frame;
-      skipped = drop n bytes;
-      whole = sym (take-append-drop n bytes) ∙ ap (λ t. t ++ drop n bytes) (sym taken);
+      skipped = drop n bytes ++ left;
+      whole = ap (λ t. t ++ left) (sym (take-append-drop n bytes)) ∙ append_assoc (take n bytes) (drop n bytes) left ∙ ap (λ t. t ++ (drop n bytes ++ left)) (sym taken);
       is_frame = subst (IsFrame check) (sym taken) is_frame;
       delivered = frames_are ∙ ap (λ t. t ++ frame ∷ []) is_none;
       nothing_left = nothing;
@@ -83,3 +83,10 @@ one_frame-Feeds check before segment one =
       ends = refl;
     } in
     rw (one.nothing_unfinished, one.begins, one.first) walks
+
+-- a segment in which only such bytes begin that are dropped, where nothing is unfinished
+pub dropped-Feeds : (check : List ℕ → Bool) (before : List ℕ) (segment : Segment) → before ≡ [] → segment.head.pfi ≡ true → segment.head.pointer ≡ 0
+    → Ends check segment.payload [] → Feeds check before segment [] []
+dropped-Feeds check before segment none begins first ends =
+    let walks : Walks check segment.payload [] [] = record { rest = segment.payload; whole = refl; each = tt; ends = ends } in
+    rw (none, begins, first) walks

@@ -3,6 +3,7 @@ pub mod OneJoining
 pub mod TwoSplits
 pub mod Filters
 pub mod Waiting
+pub mod Lacking
 pub mod Onward
 pub mod Pointers
 pub mod OneStep

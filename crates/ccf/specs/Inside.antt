@@ -1,2 +1,3 @@
 -- What only contracts of private functions, and proofs, speak of.
 pub mod Front
+pub mod Rooms

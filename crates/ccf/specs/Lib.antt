@@ -1,5 +1,6 @@
 pub mod Walk
 pub mod Feed
+pub mod Whole
 pub mod Join
 pub mod Filter
 pub mod Completed

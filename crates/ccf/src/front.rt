@@ -1,8 +1,9 @@
 //! What is at the front of some bytes, and the frames that follow one another from there.
-ghost use Rattle.std.specs.Prelude.{◌≡◌, ◌+◌, ◌≤◌, ◌↔◌, true, false, length, take, IfOk, IsTrue};
+ghost use Rattle.std.specs.Prelude.{◌≡◌, ◌+◌, ◌≤◌, ◌↔◌, ℕ, Bool, true, false, List, [], length, take, IfOk, IsTrue};
 ghost use Rattle.std.specs.List.{concat};
+ghost use Rattle.docsis_wire.specs.Frame.{IsFrame};
 ghost use Rattle.ccf.specs.Inside.Front.{IsFrontOf};
-ghost use Rattle.ccf.specs.Walk.{Walks};
+ghost use Rattle.ccf.specs.Walk.{Ends, Walks};
 
 use docsis_wire::{Bytes, HeadRead, HeaderCheck, read_head};
 use std::alloc::{AllocError, Global};
@@ -37,6 +38,19 @@ pub fn front_of<C: HeaderCheck>(bytes: &[u8], check: &C) -> Front
                 Front::Whole(total)
             }
         }
+    }
+}
+
+/// Whether the bytes announce one frame of just their length. They are that frame, unless the
+/// check, which is not called, says no of its header.
+pub fn announces_itself(bytes: &[u8]) -> bool
+    ensures frame { (check : List ℕ → Bool) → IsFrame check bytes.now → IsTrue result }
+    ensures dropped { IsTrue result → (check : List ℕ → Bool) → ¬ (IsFrame check bytes.now)
+        → Ends check bytes.now [] }
+{
+    match read_head(bytes) {
+        HeadRead::Head { total, .. } => total as usize == bytes.len(),
+        _ => false,
     }
 }
 

@@ -1,11 +1,15 @@
 //! Joining segments into frames, one segment at a time.
-ghost use Rattle.std.specs.Prelude.{◌≡◌, ◌+◌, ◌≤◌, ◌↔◌, ℕ, true, false, List, [], length, vec_len, IsTrue, IfOk, OnErr};
+ghost use Rattle.std.specs.Prelude.{◌≡◌, ◌≢◌, ◌+◌, ◌≤◌, ◌↔◌, ℕ, Bool, true, false, List, [], length, vec_len, IsTrue, IfOk, OnErr};
 ghost use Rattle.std.specs.List.{concat};
+ghost use Rattle.docsis_wire.specs.Frame.{IsFrame};
 ghost use Rattle.docsis_wire.specs.Ready.{IsReady};
+ghost use Rattle.ccf.specs.Walk.{Ends};
 ghost use Rattle.ccf.specs.Feed.{Feeds, FeedsAs, IsOneFrame};
+ghost use Rattle.ccf.specs.Whole.{FeedsUnlessWhole};
+ghost use Rattle.ccf.specs.Inside.Rooms.{FreesAll};
 
-use crate::front::{Front, front_of, walk};
-use crate::unfinished::with_room;
+use crate::front::{Front, announces_itself, front_of, walk};
+use crate::unfinished::{append_lacking, drop_all, with_room};
 use docsis_wire::{Bytes, HeaderCheck, Segment, well_formed};
 use std::alloc::{AllocError, Global};
 use std::marker::Model;
@@ -20,9 +24,22 @@ pub struct Fed {
     pub skipped: usize,
 }
 
+/// What became of a segment that was to be fed unless it is one whole frame by itself.
+#[derive(Debug, Drop)]
+pub enum FedUnlessWhole {
+    /// It is one, which is its payload, and it was not fed.
+    Whole,
+    /// It was fed.
+    Fed(Fed),
+}
+
 /// Joins the segments of one service flow, fed in order, into frames. Contracts see the bytes that
 /// are unfinished: those that wait for more, as the front of a frame whose other bytes have not
 /// come.
+///
+/// While nothing is unfinished it holds no memory. Room for a frame's front is for the whole frame
+/// that it announces, but for at most four times as many bytes as there are; it never grows beyond
+/// the frame, save for a few bytes where a segment ends within a head's first four.
 #[derive(Debug, Drop)]
 pub struct Joiner {
     unfinished: Vec<u8>,
@@ -32,6 +49,8 @@ impl Model for Joiner {
     ghost Value = { List ℕ };
 
     ghost view = { λ joiner. joiner.unfinished.items };
+
+    ghost invariant = { λ joiner. FreesAll joiner.unfinished };
 }
 
 impl Joiner {
@@ -80,32 +99,60 @@ impl Joiner {
         complete(&mut self.unfinished, alloc, payload, pointer, check)
     }
 
+    /// Takes the next segment as [`Joiner::feed`] does, unless nothing is unfinished and the
+    /// segment is one whole frame by itself: its header, which passes the check, begins at the
+    /// first byte of the payload, and the frame ends with the last. Fed, such a segment would
+    /// give its payload, and leave nothing unfinished: `laws::one_frame_is_given_as_it_is`. So
+    /// the caller can keep the payload, and no memory is asked for. The check is called no more
+    /// often than by `feed`.
+    pub fn feed_unless_whole<C: HeaderCheck>(
+        &mut self,
+        alloc: Global,
+        segment: &Segment,
+        check: &C,
+    ) -> Result<FedUnlessWhole, AllocError>
+        requires { IsReady segment.now }
+        ensures fed { IfOk result (λ answer. FeedsUnlessWhole
+            (C.accepts check.now) self.old segment.now answer self.new) }
+        ensures refused { OnErr result ((self.new ≡ self.old)
+            × ¬ (IsOneFrame (C.accepts check.now) self.old segment.now)) }
+    {
+        let payload = segment.payload.as_slice();
+        if !self.announces_one_frame(segment) {
+            return Ok(FedUnlessWhole::Fed(self.feed(alloc, segment, check)?));
+        }
+        if well_formed(payload, check) {
+            return Ok(FedUnlessWhole::Whole);
+        }
+        Ok(FedUnlessWhole::Fed(Fed {
+            frames: Vec::new(alloc),
+            skipped: payload.len(),
+        }))
+    }
+
+    /// Whether nothing is unfinished and the segment announces one whole frame by itself.
+    fn announces_one_frame(&self, segment: &Segment) -> bool
+        ensures frame { (check : List ℕ → Bool) → IsOneFrame check self.now segment.now
+            → IsTrue result }
+        ensures begins { IsTrue result → (self.now ≡ []) × (segment.now.head.pfi ≡ true)
+            × (segment.now.head.pointer ≡ 0) }
+        ensures dropped { IsTrue result → (check : List ℕ → Bool)
+            → ¬ (IsFrame check segment.now.payload) → Ends check segment.now.payload [] }
+    {
+        let head = &segment.head;
+        if !self.is_idle() || !head.pfi || head.pointer != 0 {
+            return false;
+        }
+        announces_itself(segment.payload.as_slice())
+    }
+
     /// Drops what is unfinished, since a segment was lost, and answers how many bytes that was. It
     /// takes no memory. It is what a lost segment does in a settled list: `laws::gap_is_a_loss`.
     pub fn gap(&mut self) -> usize
         ensures dropped { result ≡ length self.old }
         ensures nothing_left { self.new ≡ [] }
     {
-        let dropped = self.unfinished.len();
-        self.unfinished.clear();
-        dropped
-    }
-
-    /// Whether nothing is unfinished and this segment is one whole frame by itself: its header, which
-    /// passes the check, begins at the first byte of the payload, and the frame ends with the last.
-    /// A segment that is fed then gives its payload as it is, and leaves nothing unfinished:
-    /// `laws::one_frame_is_given_as_it_is`. So a caller can keep the payload, and needn't feed it.
-    pub fn is_one_frame<C: HeaderCheck>(&self, segment: &Segment, check: &C) -> bool
-        ensures { IsTrue result ↔ IsOneFrame (C.accepts check.now) self.now segment.now }
-    {
-        if !self.is_idle() {
-            return false;
-        }
-        let head = &segment.head;
-        if !head.pfi {
-            return false;
-        }
-        head.pointer == 0 && well_formed(segment.payload.as_slice(), check)
+        drop_all(&mut self.unfinished)
     }
 
     /// Whether nothing is unfinished.
@@ -130,6 +177,7 @@ fn go_on<C: HeaderCheck>(
         (λ fed. fed.skipped + length (concat fed.frames.items) + vec_len unfinished.new
         ≡ vec_len unfinished.old + length payload.now) }
     ensures refused { OnErr result (unfinished.new.items ≡ unfinished.old.items) }
+    ensures frees { FreesAll unfinished.old → FreesAll unfinished.new }
 {
     let mut frames = Vec::new(alloc);
     if unfinished.is_empty() {
@@ -139,20 +187,17 @@ fn go_on<C: HeaderCheck>(
         });
     }
     let kept = unfinished.len();
-    unfinished.extend_from_slice(payload)?;
-    let mut skipped = 0;
+    let left = append_lacking(unfinished, payload)?;
+    let mut skipped = left.len();
     match front_of(unfinished, check) {
         Front::Waits => {}
-        Front::Dropped => {
-            skipped = unfinished.len();
-            unfinished.clear();
-        }
+        Front::Dropped => skipped += drop_all(unfinished),
         Front::Whole(length) => {
             if frames.reserve(1).is_err() {
                 unfinished.truncate(kept);
                 return Err(AllocError);
             }
-            skipped = unfinished.len() - length;
+            skipped += unfinished.len() - length;
             unfinished.truncate(length);
             frames.push_reserved(Bytes::from(mem::replace(unfinished, Vec::new(alloc))));
         }
@@ -176,6 +221,7 @@ fn complete<C: HeaderCheck>(
         (λ fed. fed.skipped + length (concat fed.frames.items) + vec_len unfinished.new
         ≡ vec_len unfinished.old + length payload.now) }
     ensures refused { OnErr result (unfinished.new.items ≡ unfinished.old.items) }
+    ensures frees { FreesAll unfinished.old → FreesAll unfinished.new }
 {
     let (front, after) = payload.split_at(pointer);
     // All allocations come first, so that one that fails leaves everything as it was.
@@ -190,6 +236,7 @@ fn complete<C: HeaderCheck>(
         });
     }
     frames.reserve(1)?;
+    unfinished.reserve_exact(front.len())?;
     unfinished.extend_from_slice(front)?;
     let mut skipped = walked.skipped;
     let done = mem::replace(unfinished, next);

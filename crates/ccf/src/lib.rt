@@ -12,8 +12,10 @@
 //!    The caller hands in the check of frames' headers, or `NoCheck`.
 //! 3. [`Joiner::gap`] says that the next segment is lost: what is unfinished is dropped, and
 //!    joining resumes at the next segment's pointer.
-//! 4. [`Joiner::is_idle`] asks whether nothing is unfinished, and [`Joiner::is_one_frame`] whether
-//!    besides a segment is one whole frame by itself, so that its payload can be kept as it is.
+//! 4. [`Joiner::is_idle`] asks whether nothing is unfinished.
+//!
+//! [`Joiner::feed_unless_whole`] in place of `feed` leaves a segment that is one whole frame by
+//! itself to the caller, who can keep its payload as it is.
 //!
 //! What matters most: the clause `fed` on [`Joiner::feed`]. It names the frames that a segment
 //! completes and what is unfinished after it, by a split of the bytes, and does not say how the
@@ -30,4 +32,4 @@ mod joiner;
 pub mod laws;
 mod unfinished;
 
-pub use joiner::{Fed, Joiner};
+pub use joiner::{Fed, FedUnlessWhole, Joiner};

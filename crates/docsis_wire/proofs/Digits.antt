@@ -55,7 +55,7 @@ once_sum divisor a b zero (suc (suc q)) _ small _ _ = absurd (omega arith)
 once_sum divisor a b (suc zero) (suc (suc q)) _ small _ _ = absurd (omega arith)
 
 -- What is left of a sum is the sum of what is left of its parts.
-pub remainder_after-sum : (n divisor a b : ℕ) → remainder_after divisor n (bit_xor a b) ≡ bit_xor (remainder_after divisor n a) (remainder_after divisor n b)
+remainder_after-sum : (n divisor a b : ℕ) → remainder_after divisor n (bit_xor a b) ≡ bit_xor (remainder_after divisor n a) (remainder_after divisor n b)
 unfolding remainder_after
 remainder_after-sum zero divisor a b = refl
 remainder_after-sum (suc n) divisor a b =
@@ -72,7 +72,7 @@ low_byte n =
     sum ∙ sym (xor_shifted (n / 256) 8 (n % 256) small) ∙ xor_comm (n / 256 * 2 ^ 8) (n % 256)
 
 -- what stands behind the low byte is divided by itself, and the low byte with zeros behind it
-pub by_low_byte : (divisor n dividend : ℕ)
+by_low_byte : (divisor n dividend : ℕ)
     → remainder_after divisor (8 + n) dividend ≡ bit_xor (remainder_after divisor n (dividend / 256)) (remainder_after divisor (8 + n) (dividend % 256))
 by_low_byte divisor n dividend =
     let low = dividend % 256 in

@@ -49,7 +49,7 @@ remainder_after-xor (suc n) divisor a b =
     ∙ remainder_after-xor n divisor (divide_once divisor a) b
 
 -- no step
-pub remainder_after-none : (divisor n : ℕ) → remainder_after divisor 0 n ≡ n
+remainder_after-none : (divisor n : ℕ) → remainder_after divisor 0 n ≡ n
 unfolding remainder_after
 remainder_after-none divisor n = refl
 

@@ -3,7 +3,8 @@
 //!
 //! A segment is eight bytes of header and a payload. A frame is a generic MAC frame of 6 to 65,541
 //! bytes. Continuous concatenation and fragmentation puts a flow's frames end to end and cuts them
-//! into payloads anywhere (CM-SP-MULPIv3.0).
+//! into payloads anywhere (CM-SP-MULPIv3.0). Payloads and frames are [`Bytes`], which may stand in
+//! the memory of the burst that they came in.
 //!
 //! The calls, in the order of use:
 //!

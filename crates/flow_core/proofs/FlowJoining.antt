@@ -23,7 +23,8 @@ use Rattle.flow_core.specs.Fates.{Fates, number_of, IsKeptAs}
 use Rattle.flow_core.specs.Events.{FlowEvent}
 use Rattle.flow_core.specs.Counts.{payload_bytes, AreCounts}
 use Rattle.flow_core.specs.Inside.Losses.{after_passing, count_to, GoesOn, GoesOnTo}
-use Rattle.flow_core.specs.Inside.Steps.{counts_joined, IsNextOneFrame}
+use Rattle.flow_core.specs.Inside.Steps.{counts_joined}
+use Rattle.flow_core.specs.AsItIs.{IsNextOneFrame}
 use Rattle.flow_core.specs.Stands.{IsRemembered, StandsFor, AreLost, Gives}
 use Rattle.flow_core.proofs.Windows.{kept-from-segment, window-taken}
 use Rattle.flow_core.proofs.Standing.{stands}

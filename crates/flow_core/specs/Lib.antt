@@ -4,6 +4,7 @@ pub mod Near
 pub mod Delivery
 pub mod Counts
 pub mod Stands
+pub mod AsItIs
 pub mod Flows
 pub mod Closing
 pub mod Outcome

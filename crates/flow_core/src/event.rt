@@ -26,3 +26,15 @@ pub enum Step {
     /// No segment is next.
     Nothing,
 }
+
+/// What joining the next segment gave, where a segment that is one whole frame by itself is given
+/// as it is.
+#[derive(Debug, Drop)]
+pub enum StepAsItIs {
+    /// The segment's payload, which is the frame.
+    Whole(Bytes),
+    /// The frames that the segment completed, possibly none.
+    Frames(Vec<Bytes>),
+    /// No segment is next.
+    Nothing,
+}

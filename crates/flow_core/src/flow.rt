@@ -1,6 +1,6 @@
 //! One service flow: its window, its joiner, its counts.
 ghost use Rattle.std.specs.FinMap as map;
-ghost use Rattle.std.specs.Prelude.{◌≡◌, ◌<◌, ◌↔◌, ℕ, Bool, List, [], ◌∷◌, length, IsTrue, None, Ok, IfOk, OnErr, IfSome, IfNone};
+ghost use Rattle.std.specs.Prelude.{◌≡◌, ◌<◌, ◌↔◌, ℕ, Bool, List, [], ◌∷◌, length, IsTrue, Ok, IfOk, OnErr};
 ghost use Rattle.docsis_wire.specs.Limits.{sequence_modulus};
 ghost use Rattle.docsis_wire.specs.Ready.{IsReady};
 ghost use Rattle.flow_records.specs.Setup.{IsInRange, CanBeSetUp};
@@ -9,16 +9,18 @@ ghost use Rattle.reorder.specs.View.{IsLawful};
 ghost use Rattle.flow_core.specs.Flows.{IsLoss, AreNewFlows};
 ghost use Rattle.flow_core.specs.Inside.Losses.{event_to, answer_to, count_to};
 ghost use Rattle.flow_core.specs.Inside.Losses.{after_losses, after_passing, GoesOn};
-ghost use Rattle.flow_core.specs.Inside.Steps.{counts_joined, IsNextOneFrame};
+ghost use Rattle.flow_core.specs.Inside.Steps.{counts_joined, JoinsUnlessWhole};
 ghost use Rattle.flow_core.specs.Stands.{StandsFor, IsDrained, TakesEvent, Gives, Advances};
+ghost use Rattle.flow_core.specs.AsItIs.{IsNextOneFrame, AdvancesAsItIs};
 ghost use Rattle.flow_core.specs.declared.event.Applied.{Applied};
 ghost use Rattle.flow_core.specs.declared.event.Step.{Step};
+ghost use Rattle.flow_core.specs.declared.event.StepAsItIs.{StepAsItIs};
 
 use crate::counts::FlowCounts;
-use crate::event::Step;
+use crate::event::{Step, StepAsItIs};
 use crate::sequence::SequenceNumber;
 use crate::up_to::UpTo;
-use ccf::Joiner;
+use ccf::{FedUnlessWhole, Joiner};
 use docsis_wire::{Bytes, HeaderCheck, ReadySegment, Segment};
 use flow_records::FlowRecord;
 use reorder::{Declared, Verdict, Window};
@@ -143,36 +145,62 @@ impl Flow {
         ensures nothing { result ≡ Ok Step.Nothing ↔ IsDrained self.old }
         ensures refused { OnErr result (self.new ≡ self.old) }
     {
-        let Some(ready) = self.window.next() else {
-            return Ok(Step::Nothing);
-        };
-        if self.joiner.is_one_frame(&ready.segment, check) {
-            let mut frames = Vec::with_capacity(alloc, 1)?;
-            frames.push_reserved(self.give_next(alloc));
-            return Ok(Step::Frames(frames));
+        match self.join_unless_whole(alloc, check)? {
+            None => Ok(Step::Nothing),
+            Some(FedUnlessWhole::Whole) => {
+                let mut frames = Vec::with_capacity(alloc, 1)?;
+                frames.push_reserved(self.give_next(alloc));
+                Ok(Step::Frames(frames))
+            }
+            Some(FedUnlessWhole::Fed(fed)) => Ok(Step::Frames(fed.frames)),
         }
-        let fed = self.joiner.feed(alloc, &ready.segment, check)?;
-        self.window.take_next();
-        self.end_step(fed.frames.len(), fed.skipped);
-        Ok(Step::Frames(fed.frames))
     }
 
-    /// Joins the next segment, if there is one, if it is one whole frame by itself and nothing is
-    /// unfinished, and answers the frame: the segment's own payload, which is copied only out of
-    /// memory that is much larger. No failed allocation fails it. `None`: nothing changed, and the
-    /// next segment, if there is one, is joined by [`Flow::advance`].
-    pub fn advance_whole<C: HeaderCheck>(&mut self, alloc: Global, check: &C) -> Option<Bytes>
-        ensures step { IfSome result
-            (λ frame. ¬ (IsDrained self.old)
-            × Gives (C.accepts check.now) self.old (frame ∷ []) self.new) }
-        ensures none { result ≡ None ↔ ¬ (IsNextOneFrame (C.accepts check.now) self.old) }
-        ensures unchanged { IfNone result (self.new ≡ self.old) }
+    /// The same, but where nothing is unfinished and the next segment is one whole frame by
+    /// itself, the answer is that frame alone: the segment's own payload, which is copied only
+    /// out of memory that is much larger. No failed allocation fails such a step.
+    pub fn advance_as_it_is<C: HeaderCheck>(
+        &mut self,
+        alloc: Global,
+        check: &C,
+    ) -> Result<StepAsItIs, AllocError>
+        ensures step { IfOk result
+            (λ step. AdvancesAsItIs (C.accepts check.now) self.old step self.new) }
+        ensures nothing { result ≡ Ok StepAsItIs.Nothing ↔ IsDrained self.old }
+        ensures refused { OnErr result ((self.new ≡ self.old)
+            × ¬ (IsNextOneFrame (C.accepts check.now) self.old)) }
     {
-        let ready = self.window.next()?;
-        if !self.joiner.is_one_frame(&ready.segment, check) {
-            return None;
+        match self.join_unless_whole(alloc, check)? {
+            None => Ok(StepAsItIs::Nothing),
+            Some(FedUnlessWhole::Whole) => Ok(StepAsItIs::Whole(self.give_next(alloc))),
+            Some(FedUnlessWhole::Fed(fed)) => Ok(StepAsItIs::Frames(fed.frames)),
         }
-        Some(self.give_next(alloc))
+    }
+
+    /// Joins the next segment, if there is one, unless it is one whole frame by itself and nothing
+    /// is unfinished: then nothing changes.
+    fn join_unless_whole<C: HeaderCheck>(
+        &mut self,
+        alloc: Global,
+        check: &C,
+    ) -> Result<Option<FedUnlessWhole>, AllocError>
+        ensures joins { IfOk result
+            (λ joined. JoinsUnlessWhole (C.accepts check.now) self.old joined self.new) }
+        ensures refused { OnErr result ((self.new ≡ self.old) × ¬ (IsDrained self.old)
+            × ¬ (IsNextOneFrame (C.accepts check.now) self.old)) }
+    {
+        let Some(ready) = self.window.next() else {
+            return Ok(None);
+        };
+        let joined = self.joiner.feed_unless_whole(alloc, &ready.segment, check)?;
+        match joined {
+            FedUnlessWhole::Whole => Ok(Some(FedUnlessWhole::Whole)),
+            FedUnlessWhole::Fed(fed) => {
+                self.window.take_next();
+                self.end_step(fed.frames.len(), fed.skipped);
+                Ok(Some(FedUnlessWhole::Fed(fed)))
+            }
+        }
     }
 
     /// Takes the next segment, which is one whole frame, and answers the frame.
@@ -183,7 +211,7 @@ impl Flow {
     {
         let ready = self.window.take_next().unwrap();
         self.end_step(1, 0);
-        ready.segment.payload.shrunk_to_fit(alloc)
+        ready.segment.payload.without_spare_room(alloc)
     }
 
     /// Counts what a segment gave that was taken and joined, and goes on with the decision that is

@@ -21,7 +21,7 @@
 //!
 //! [`Flow`] is one flow by itself, for a caller that keeps its flows in a table of its own and makes
 //! each when it is needed; [`Flow::held`] also says how many segments wait, and
-//! [`Flow::advance_whole`] gives a segment that is one whole frame as it is. A gap that is declared
+//! [`Flow::advance_as_it_is`] gives a segment that is one whole frame as it is. A gap that is declared
 //! of a flow to which no segment came changes nothing, so it needn't be made for that
 //! ([`laws::decisions_about_an_empty_flow_change_nothing`]); a skip does change it.
 //!
@@ -43,7 +43,7 @@ mod sequence;
 mod up_to;
 
 pub use counts::FlowCounts;
-pub use event::{Applied, Step};
+pub use event::{Applied, Step, StepAsItIs};
 pub use flow::Flow;
 pub use flow_records::{
     CLUSTERS_MAX, Event, FLOWS_MAX, FlowRecord, SetupFault, WINDOW_MAX, check_records,

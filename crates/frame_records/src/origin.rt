@@ -14,11 +14,6 @@ const BURST: u8 = 14;
 /// In that, the type of the TLV with the analyser's number of the burst.
 const BURST_ID: u8 = 1;
 
-/// More bytes than the value of the TLV with the burst has, so that its room is asked for once.
-const VALUE_ROOM: usize = 32;
-/// More bytes than all TLVs of a packet have.
-const TLVS_ROOM: usize = 64;
-
 /// The burst that completed a frame, as its record in the capture names it.
 #[derive(Clone, Copy, Debug, PartialEq, Eq)]
 pub struct FrameOrigin {
@@ -62,7 +57,7 @@ impl FrameOrigin {
     fn burst_value(&self, alloc: Global) -> Result<Vec<u8>, AllocError>
         ensures ok { IfOk result (λ value. value.items ≡ (burst_field self.now).value) }
     {
-        let mut value = Vec::with_capacity(alloc, VALUE_ROOM)?;
+        let mut value = Vec::new(alloc);
         if let Some(id) = self.burst_id {
             value.extend_from_slice(&[BURST_ID, 8])?;
             value.extend_from_slice(&id.to_be_bytes())?;
@@ -75,7 +70,7 @@ impl FrameOrigin {
     pub(crate) fn tlvs(&self, alloc: Global) -> Result<Vec<u8>, AllocError>
         ensures ok { IfOk result (λ tlvs. tlvs.items ≡ fields_bytes (origin_fields self.now)) }
     {
-        let mut tlvs = Vec::with_capacity(alloc, TLVS_ROOM)?;
+        let mut tlvs = Vec::new(alloc);
         self.push_address(&mut tlvs)?;
         let value = self.burst_value(alloc)?;
         tlvs.extend_from_slice(&[BURST, value.len() as u8])?;

@@ -6,14 +6,15 @@ use Rattle.std.proofs.lemmas.Bool.{cases_lt}
 use Rattle.std.proofs.lemmas.List.{length-append, get_or_append_left, get_or-append_right, get_or_past}
 use Rattle.reorder.specs.Number.{offset, following, number_ahead}
 use Rattle.reorder.specs.View.{WindowView, held_at, IsHeld, IsLawful, moved_on_by}
-use Rattle.reorder.specs.Inside.Places.{item_at, IsLaidOut, items_from, seen}
-use Rattle.reorder.specs.Inside.Ring.{LiesBehind, from_start, IsEmptyFront, IsKept}
+use Rattle.circular_buffer.specs.Buffer.{Buffer, buffer}
+use Rattle.reorder.specs.Inside.Places.{item_at, IsLaidOut, items_from, seen, IsKept}
+use Rattle.reorder.specs.Inside.Ring.{turned, IsEmptyFront}
 use Rattle.reorder.proofs.Offsets.{offset-number_ahead, number_ahead-offset, offset-nearer, offset-behind}
 use Rattle.reorder.proofs.Items.{none}
 use Rattle.reorder.proofs.LaidOut.{seen-is}
 use Rattle.reorder.proofs.OpenNumbers.{AreOpen}
-use Rattle.reorder.proofs.Rings.{length-from_start, item_at-later}
-use Rattle.reorder.proofs.WindowFields.{wide, narrow, laid}
+use Rattle.reorder.proofs.Rings.{length-turned, item_at-turned}
+use Rattle.reorder.proofs.WindowFields.{laid}
 
 module _ {T : Type 0} where
   -- empty places hold nothing
@@ -89,59 +90,79 @@ module _ {T : Type 0} where
             (cases_lt (offset w.expected q) k);
       }
 
-  module _ (e count start : ℕ) (ring : List (Option T)) (kept : IsKept e count start ring) where
-    abbrev places : List (Option T)
-    places = from_start start ring
+  -- So many numbers from the expected one on are open, fewer than the window is wide, and the next
+  -- one is held where more are asked about.
+  pub record IsOpen (w : WindowView T) (most count : ℕ) : Type 0 where
+    pub none_held : AreOpen w count
+    pub next_is_held : count < most → IsHeld w (number_ahead w.expected count)
+    pub within : count < w.width
 
+  module _ (e count : ℕ) (b : Buffer (Option T)) (kept : IsKept e count b) where
     abbrev window : WindowView T
-    window = seen e places
+    window = seen e b.items
 
     -- what is held at an offset
-    held-ahead : (k : ℕ) → k < 8192 → held_at window (number_ahead e k) ≡ item_at places k
+    held-ahead : (k : ℕ) → k < 8192 → held_at window (number_ahead e k) ≡ item_at b.items k
     held-ahead k few =
-        let out = laid e count start ring kept in
-        out.items (number_ahead e k) (omega arith) ∙ ap (item_at places) (offset-number_ahead e k kept.lawful.expected_in_range few)
+        let out = laid e count b kept in
+        out.items (number_ahead e k) (omega arith) ∙ ap (item_at b.items) (offset-number_ahead e k kept.lawful.expected_in_range few)
 
     -- numbers are open where places are empty
-    pub AreOpen-empty : (k : ℕ) → k ≤ 8192 → ((i : ℕ) → i < k → item_at places i ≡ None) → AreOpen window k
+    AreOpen-empty : (k : ℕ) → k ≤ 8192 → ((i : ℕ) → i < k → item_at b.items i ≡ None) → AreOpen window k
     AreOpen-empty k few empty i below held =
         let nothing = held-ahead i (omega arith) ∙ empty i below in
         let found = sym (ap is_some nothing) ∙ held in
         cc
 
     -- and places are empty where numbers are open
-    empty-AreOpen : (k : ℕ) → k ≤ 8192 → AreOpen window k → (i : ℕ) → i < k → item_at places i ≡ None
+    empty-AreOpen : (k : ℕ) → k ≤ 8192 → AreOpen window k → (i : ℕ) → i < k → item_at b.items i ≡ None
     empty-AreOpen k few free i below = sym (held-ahead i (omega arith)) ∙ none (held_at window (number_ahead e i)) (free i below)
 
-    -- where something is held some place is not empty
-    pub front-stops : (most k : ℕ) → 0 < map.len window.held → IsEmptyFront places most k → k < length places
-    front-stops most k some front =
+    -- where something is held, an empty front of the places says how many numbers are open
+    pub IsOpen-front : (most k : ℕ) → 0 < map.len window.held → IsEmptyFront b.items most k → IsOpen window most k
+    IsOpen-front most k some front =
+        let widest = kept.lawful.width_in_range in
+        let stops : k < length b.items =
         ⊎_elim
-        (λ (stops : k < length places). stops)
-        (λ (all : length places ≤ k). let nothing = items_from-empty places e (λ i below. front.empty i (omega arith)) in absurd (omega arith))
-        (cases_lt k (length places))
+        (λ (stops : k < length b.items). stops)
+        (λ (all : length b.items ≤ k). let nothing = items_from-empty b.items e (λ i below. front.empty i (omega arith)) in absurd (omega arith))
+        (cases_lt k (length b.items)) in
+        record {
+          none_held = AreOpen-empty k (omega arith) front.empty;
+          next_is_held = λ more. ap is_some (held-ahead k (omega arith)) ∙ front.next more stops;
+          within = stops;
+        }
 
-    -- and the number at which the empty front stops is held
-    pub front-held : (most k : ℕ) → 0 < map.len window.held → IsEmptyFront places most k → k < most → IsHeld window (number_ahead e k)
-    front-held most k some front more =
-        let stops = front-stops most k some front in
-        let small = narrow e count start ring kept in
-        let long = wide e count start ring kept in
-        ap is_some (held-ahead k (omega arith)) ∙ front.next more stops
-
-    module _ (k t : ℕ) (few : k ≤ length ring) (lies : LiesBehind start k (length ring) t) (free : AreOpen window k) where
-      pub seen-later : seen (number_ahead e k) (from_start t ring) ≡ moved_on_by window k
-      seen-later =
-          let small = narrow e count start ring kept in
-          let long = wide e count start ring kept in
-          let as_many : length (from_start t ring) ≡ length places = length-from_start t ring lies.within ∙ sym long in
+    -- so many open numbers are passed as the ring is turned
+    module _ (k : ℕ) (few : k ≤ length b.items) (free : AreOpen window k) where
+      seen-turned : seen (number_ahead e k) (turned k b.items) ≡ moved_on_by window k
+      seen-turned =
+          let widest = kept.lawful.width_in_range in
+          let as_many = length-turned b.items k few in
           let empty = empty-AreOpen k (omega arith) free in
-          seen-is (number_ahead e k) (from_start t ring) (moved_on_by window k) (omega arith) (omega arith) refl (moved_on_by-laid_out places (from_start t ring) window k kept.lawful.expected_in_range (omega arith) as_many (λ i. item_at-later start ring kept.starts_within k t i few lies empty) empty (laid e count start ring kept))
+          seen-is (number_ahead e k) (turned k b.items) (moved_on_by window k) (omega arith) (omega arith) refl (moved_on_by-laid_out b.items (turned k b.items) window k kept.lawful.expected_in_range (omega arith) as_many (λ i. item_at-turned b.items k i few empty) empty (laid e count b kept))
 
-      pub kept-later : IsKept (number_ahead e k) count t ring
-      kept-later =
+      kept-turned : IsKept (number_ahead e k) count (buffer (turned k b.items) b.capacity)
+      kept-turned =
           record {
-            lawful = subst (λ (v : WindowView T). IsLawful v) (sym seen-later) (moved_on_by-lawful window k kept.lawful free);
-            starts_within = lies.within;
-            counted = kept.counted ∙ ap (λ (v : WindowView T). map.len v.held) (sym seen-later);
+            lawful = subst (λ (v : WindowView T). IsLawful v) (sym seen-turned) (moved_on_by-lawful window k kept.lawful free);
+            full = length-turned b.items k few ∙ kept.full;
+            counted = kept.counted ∙ ap (λ (v : WindowView T). map.len v.held) (sym seen-turned);
           }
+
+    -- the places `c` are those of the ring that was turned by `n`
+    module _ (w : WindowView T) (is : window ≡ w) (k n : ℕ) (c : Buffer (Option T)) (same : n ≡ k) (is_turned : c ≡ buffer (turned n b.items) b.capacity) (within : k < w.width) (free : AreOpen w k) where
+      few : k ≤ length b.items
+      few = let same_width = ap (λ (v : WindowView T). v.width) is in omega arith
+
+      free_before : AreOpen window k
+      free_before = subst (λ (v : WindowView T). AreOpen v k) (sym is) free
+
+      turned_by : c ≡ buffer (turned k b.items) b.capacity
+      turned_by = is_turned ∙ ap (λ m. buffer (turned m b.items) b.capacity) same
+
+      pub seen-passed : seen (number_ahead e k) c.items ≡ moved_on_by w k
+      seen-passed = ap (λ (d : Buffer (Option T)). seen (number_ahead e k) d.items) turned_by ∙ seen-turned k few free_before ∙ ap (λ (v : WindowView T). moved_on_by v k) is
+
+      pub kept-passed : IsKept (number_ahead e k) count c
+      kept-passed = subst (λ (d : Buffer (Option T)). IsKept (number_ahead e k) count d) (sym turned_by) (kept-turned k few free_before)

@@ -1,5 +1,5 @@
 -- A ring of places stands for one window, and how it changes with the window.
-use Rattle.std.proofs.Common.{◌≡◌, ◌≢◌, ℕ, zero, suc, ◌+◌, ◌<◌, ◌≤◌, ⊎_elim, List, [], ◌∷◌, length, replicate, slice_set, Option, None, Some, is_some, cond, Bool, true, false, refl, ap, sym, subst, ◌∙◌, arith, add-one}
+use Rattle.std.proofs.Common.{◌≡◌, ◌≢◌, ℕ, zero, suc, ◌+◌, ◌<◌, ◌≤◌, ⊎_elim, List, [], ◌∷◌, ◌++◌, length, replicate, slice_set, Option, None, Some, is_some, cond, Bool, true, false, refl, ap, sym, subst, ◌∙◌, arith, add-one}
 use Rattle.std.specs.Ordering.{nat_cmp}
 use Rattle.std.specs.Cmp.{nat_cmp_total}
 use Rattle.std.specs.FinMap as map
@@ -21,6 +21,13 @@ module _ {T : Type 0} where
   -- the first place
   item_at-first : (p : Option T) (ps : List (Option T)) (i : ℕ) → i ≡ 0 → item_at (p ∷ ps) i ≡ p
   item_at-first p ps i first = ap (item_at (p ∷ ps)) first
+
+  -- an empty place more at the end changes no item
+  pub item_at-append_empty : (ps : List (Option T)) (i : ℕ) → item_at (ps ++ None ∷ []) i ≡ item_at ps i
+  item_at-append_empty [] zero = refl
+  item_at-append_empty [] (suc i) = refl
+  item_at-append_empty (p ∷ ps) zero = refl
+  item_at-append_empty (p ∷ ps) (suc i) = item_at-append_empty ps i
 
   -- there is no item at empty places
   item_at-replicate : (n i : ℕ) → item_at (replicate {A = Option T} n None) i ≡ None
@@ -125,6 +132,23 @@ module _ {T : Type 0} where
             (λ (same : q ≡ number). subst (λ n. n < 8192) (sym same) number_in)
             (λ (differ : q ≢ number). laid.in_range q (ap is_some (sym (get-insert_other w.held number item q differ)) ∙ h))
             (cases_eq q number);
+      }
+
+  -- where the first place is emptied the expected number's item is gone
+  pub emptied-laid_out : (ps : List (Option T)) (w : WindowView T) → w.expected < 8192 → 0 < length ps → IsLaidOut ps w → IsLaidOut (slice_set ps 0 None) (record w { held = map.remove w.held w.expected })
+  emptied-laid_out ps w e_in some laid =
+      let e : ℕ = w.expected in
+      let itself : offset e e ≡ 0 = offset-expected e e_in in
+      record {
+        wide = length-set ps 0 None ∙ laid.wide;
+        items = λ q q_in.
+            ⊎_elim
+            (λ (same : q ≡ e). ap (map.get (map.remove w.held e)) same ∙ get-remove_same w.held e ∙ sym (get_or-set_same ps 0 None None some) ∙ ap (item_at (slice_set ps 0 None)) (sym (ap (offset e) same ∙ itself)))
+            (λ (differ : q ≢ e).
+            let apart : offset e q ≢ 0 = λ same. differ (offset-injective e q e e_in q_in e_in (same ∙ sym itself)) in
+            get-remove_other w.held e q differ ∙ laid.items q q_in ∙ sym (get_or-set_other ps 0 (offset e q) None None apart))
+            (cases_eq q e);
+        in_range = λ q h. laid.in_range q (held_before w e q h).1;
       }
 
   -- places of which each has moved one to the front stand for the window that gave out its next item

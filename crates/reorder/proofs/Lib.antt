@@ -2,13 +2,12 @@ pub mod Offsets
 pub mod Items
 pub mod LawfulWindow
 pub mod AgreeingWindows
-pub mod LaidOut
 pub mod Rings
+pub mod LaidOut
 pub mod WindowFields
 pub mod OpenNumbers
+pub mod Jumps
 pub mod DeclaredCount
 pub mod SkippedCount
 pub mod NothingHeld
-pub mod Jumps
 pub mod Passing
-pub mod StartedAnew

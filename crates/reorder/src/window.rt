@@ -4,14 +4,16 @@ ghost use Rattle.std.specs.Option.{option_copied};
 ghost use Rattle.std.specs.FinMap as map;
 ghost use Rattle.reorder.specs.Limits.{modulus, width_max};
 ghost use Rattle.reorder.specs.Number.{number_ahead};
-ghost use Rattle.reorder.specs.View.{IsHeld, IsLawful, held_at, empty_window, next_taken, moved_on_by};
+ghost use Rattle.reorder.specs.View.{IsHeld, IsLawful, held_at};
+ghost use Rattle.reorder.specs.View.{empty_window, next_taken, moved_on_by};
 ghost use Rattle.reorder.specs.Verdicts.{IsVerdict, after_offer, after_take_next};
 ghost use Rattle.reorder.specs.Verdicts.{IsDeclared, after_declare, declared_count, skipped_count};
 
 use crate::number::{number_after, offset};
-use crate::ring::{empty_at_front, place_behind};
+use crate::ring::{empty_at_front, turn};
 use crate::verdict::{Declared, Verdict};
 use crate::{MODULUS, NUMBERS_AHEAD};
+use circular_buffer::HeapCircularBuffer;
 use std::alloc::{AllocError, Global};
 use std::marker::Model;
 
@@ -26,26 +28,22 @@ use std::marker::Model;
 pub struct Window<T> {
     expected: u16,
     held: usize,
-    /// Where the place of the expected number is.
-    start: usize,
-    /// A ring of places, as many as the width: from `start` on, going round, those of the expected
-    /// number and of those after it.
-    places: Vec<Option<T>>,
+    /// The places of the expected number and of those after it, in order, as many as the width.
+    places: HeapCircularBuffer<Option<T>>,
 }
 
 impl<T> Model for Window<T> {
     ghost use Rattle.reorder.specs.View.{WindowView};
     ghost use Rattle.reorder.specs.Inside.Coding.{view_code};
-    ghost use Rattle.reorder.specs.Inside.Places.{seen};
-    ghost use Rattle.reorder.specs.Inside.Ring.{from_start, IsKept};
+    ghost use Rattle.reorder.specs.Inside.Places.{seen, IsKept};
 
     ghost Value = { WindowView T };
 
     ghost coded = { view_code T.code };
 
-    ghost view = { λ w. seen w.expected (from_start w.start w.places.items) };
+    ghost view = { λ w. seen w.expected w.places.items };
 
-    ghost invariant = { λ w. IsKept w.expected w.held w.start w.places.items };
+    ghost invariant = { λ w. IsKept w.expected w.held w.places };
 }
 
 impl<T> Window<T> {
@@ -58,9 +56,9 @@ impl<T> Window<T> {
         ensures empty { IfOk result (λ window. window ≡ empty_window first width) }
         ensures lawful { IfOk result IsLawful }
     {
-        let mut places = Vec::with_capacity(alloc, usize::from(width))?;
+        let mut places = HeapCircularBuffer::with_capacity(alloc, usize::from(width))?;
         for _count in 0..width {
-            match places.push(None) {
+            match places.try_push_back(None) {
                 Ok(()) => {}
                 Err(_place) => unreachable!(),
             }
@@ -68,7 +66,6 @@ impl<T> Window<T> {
         Ok(Window {
             expected: first,
             held: 0,
-            start: 0,
             places,
         })
     }
@@ -86,22 +83,20 @@ impl<T> Window<T> {
         if offset >= NUMBERS_AHEAD {
             return Verdict::Late(item);
         }
-        let width = self.places.len();
-        let offset = usize::from(offset);
-        if offset >= width {
-            return Verdict::Beyond(item);
+        match self.places.get_mut(usize::from(offset)) {
+            None => Verdict::Beyond(item),
+            Some(place) => {
+                if place.is_some() {
+                    return Verdict::Repeat(item);
+                }
+                match place.replace(item) {
+                    None => {}
+                    Some(_replaced) => unreachable!(),
+                }
+                self.held += 1;
+                Verdict::Kept
+            }
         }
-        let at = place_behind(self.start, offset, width);
-        let place = &mut self.places[at];
-        if place.is_some() {
-            return Verdict::Repeat(item);
-        }
-        match place.replace(item) {
-            None => {}
-            Some(_replaced) => unreachable!(),
-        }
-        self.held += 1;
-        Verdict::Kept
     }
 
     /// The item that is held under the expected number, if there is one.
@@ -109,7 +104,8 @@ impl<T> Window<T> {
         ensures item { option_copied result ≡ held_at self.now self.now.expected }
         ensures lawful { IsLawful self.now }
     {
-        self.places[self.start].as_ref()
+        let front = self.places.front()?;
+        front.as_ref()
     }
 
     /// Takes out the item that is held under the expected number, and then expects the next number.
@@ -119,12 +115,13 @@ impl<T> Window<T> {
         ensures after { self.new ≡ after_take_next self.old result }
         ensures lawful { IsLawful self.new }
     {
+        if self.held() == 1 {
+            return self.take_the_only_one();
+        }
         if self.next().is_none() {
             return None;
         }
-        let item = self.advance();
-        self.start_anew();
-        item
+        self.advance()
     }
 
     /// Gives the expected number up as lost, if it is not held and something else is, and then
@@ -178,8 +175,7 @@ impl<T> Window<T> {
             return 0;
         }
         if self.held() == 0 {
-            // All places are empty, so that the ring may start at any of them. Where numbers jump
-            // by thousands nearly all that a window skips is skipped here.
+            // All places are empty, so that the first may be any number's.
             self.expected = number;
             return distance;
         }
@@ -210,24 +206,30 @@ impl<T> Window<T> {
         ensures after { self.new ≡ next_taken self.old }
         ensures lawful { IsLawful self.new }
     {
-        let item = self.places[self.start].take();
+        let item = self.places.pop_front().flatten();
+        match self.places.try_push_back(None) {
+            Ok(()) => {}
+            Err(_place) => unreachable!(),
+        }
         self.held -= usize::from(item.is_some());
-        self.start = place_behind(self.start, 1, self.places.len());
         self.expected = number_after(self.expected);
         item
     }
 
-    /// Starts the ring at its first place where nothing is held, since all places are empty then. So a
-    /// window whose items come in their order keeps each of them in the same place, which stands in
-    /// the processor's caches, and doesn't go through the memory of all its places.
-    fn start_anew(&mut self)
-        ensures unchanged { self.new ≡ self.old }
+    /// Takes out the one item that is held, if its number is expected, and then expects the next
+    /// number. No place has to move for this, since all of them are empty then: an item that comes
+    /// in its order stays in the processor's caches, whatever the width.
+    fn take_the_only_one(&mut self) -> Option<T>
+        requires one_held { map.len self.old.held ≡ 1 }
+        ensures item { result ≡ held_at self.old self.old.expected }
+        ensures after { self.new ≡ after_take_next self.old result }
         ensures lawful { IsLawful self.new }
     {
-        if self.held > 0 {
-            return;
-        }
-        self.start = 0;
+        let taken = self.expected;
+        let item = self.places.get_mut(0)?.take()?;
+        self.held = 0;
+        self.expected = number_after(taken);
+        Some(item)
     }
 
     /// How many numbers from the expected one on aren't held, where something is: as many as come
@@ -242,12 +244,12 @@ impl<T> Window<T> {
         ensures within { result < self.now.width }
     {
         let most = usize::from(distance);
-        let (before, from) = self.places.split_at(self.start);
-        let empty = empty_at_front(from, most);
-        if empty < from.len() {
+        let (first, others) = self.places.as_slices();
+        let empty = empty_at_front(first, most);
+        if empty < first.len() {
             return empty as u16;
         }
-        (empty + empty_at_front(before, most - empty)) as u16
+        (empty + empty_at_front(others, most - empty)) as u16
     }
 
     /// Expects the number so many after the expected one. None of those that it passes is held, and
@@ -259,7 +261,7 @@ impl<T> Window<T> {
         ensures after { self.new ≡ moved_on_by self.old count }
         ensures lawful { IsLawful self.new }
     {
-        self.start = place_behind(self.start, usize::from(count), self.places.len());
+        turn(&mut self.places, usize::from(count));
         self.expected = (self.expected + count) % MODULUS;
     }
 }

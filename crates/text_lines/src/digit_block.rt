@@ -1,4 +1,4 @@
-//! Thirty-two hexadecimal digits at once, by vectors of sixteen bytes.
+//! A block of hexadecimal digits at once, by vectors: 32 digits, which spell sixteen bytes.
 ghost use Rattle.std.specs.Prelude.{◌≡◌, ◌+◌, ◌-◌, ◌%◌, ◌&&◌, map, min, MatchOption};
 ghost use Rattle.std.specs.Simd.Lanes.{zip2};
 ghost use Rattle.text_lines.specs.Inside.Digits.{SpellsPairs, SpellsNothing};
@@ -6,12 +6,18 @@ ghost use Rattle.text_lines.specs.Inside.DigitBlocks.{paired, value_or_16, are_b
 
 use std::simd::prelude::*;
 
-/// What stands for a byte that is no digit, above all values of digits.
-const NO_VALUE: u8 = 16;
+/// How many bytes a vector has: so many are spelled, or written, at once.
+pub(crate) const BLOCK_BYTES: usize = 16;
 
-/// The bytes that thirty-two digits spell, if all are digits.
+/// How many digits spell them.
+pub(crate) const BLOCK_DIGITS: usize = 2 * BLOCK_BYTES;
+
+/// What stands for a byte that is no digit: one more than the greatest digit's value.
+pub(crate) const NO_DIGIT: u8 = 16;
+
+/// The bytes that the digits of a block spell, if all are digits.
 #[inline(always)]
-pub(crate) fn spell_block(digits: &[u8; 32]) -> Option<[u8; 16]>
+pub(crate) fn spell_block(digits: &[u8; BLOCK_DIGITS]) -> Option<[u8; BLOCK_BYTES]>
     ensures { MatchOption result (SpellsNothing digits.now) (SpellsPairs digits.now) }
 {
     let (high_digits, low_digits) = split_pairs(digits);
@@ -26,26 +32,26 @@ pub(crate) fn spell_block(digits: &[u8; 32]) -> Option<[u8; 16]>
 
 /// The first digit of each pair, and the second one.
 #[inline(always)]
-fn split_pairs(digits: &[u8; 32]) -> (u8x16, u8x16)
+fn split_pairs(digits: &[u8; BLOCK_DIGITS]) -> (u8x16, u8x16)
     ensures { digits.now ≡ paired result.0 result.1 }
 {
-    let front = u8x16::from_slice(&digits[..16]);
-    let back = u8x16::from_slice(&digits[16..]);
+    let front = u8x16::from_slice(&digits[..BLOCK_BYTES]);
+    let back = u8x16::from_slice(&digits[BLOCK_BYTES..]);
     front.deinterleave(back)
 }
 
 /// The values of sixteen digits, in either case, or 16 for a byte that is none.
 ///
-/// After Muła and Langdale: one way brings the ten decimal digits to 0 to 9, the other the letters to
-/// 10 to 15, and a difference or a sum that stops at the end of a byte's range keeps each other byte
-/// at 16 or more. So the lesser of the two is the value.
+/// After Muła and Langdale: one way brings the ten decimal digits to 0 to 9, the other the letters
+/// to 10 to 15, and a difference or a sum that stops at the end of a byte's range keeps each other
+/// byte at 16 or more. So the lesser of the two is the value.
 #[inline(always)]
 fn values_of_digits(digits: u8x16) -> u8x16
     ensures { result ≡ map value_or_16 digits }
 {
     let decimal = moved_down(excess(moved_down(digits, b'9' + 1), 6), 0xF0);
     let letter = raised(moved_down(digits & u8x16::splat(0xDF), b'A'), 10);
-    lesser(lesser(decimal, letter), u8x16::splat(NO_VALUE))
+    lesser(lesser(decimal, letter), u8x16::splat(NO_DIGIT))
 }
 
 /// Whether all of these are values of digits.
@@ -53,7 +59,7 @@ fn values_of_digits(digits: u8x16) -> u8x16
 fn are_all_values(high: u8x16, low: u8x16) -> bool
     ensures { result ≡ (are_below_16 high && are_below_16 low) }
 {
-    !high.simd_max(low).simd_ge(u8x16::splat(NO_VALUE)).any()
+    !high.simd_max(low).simd_ge(u8x16::splat(NO_DIGIT)).any()
 }
 
 /// Each byte less so much, from 255 on again below 0.

@@ -4,12 +4,9 @@ ghost use Rattle.std.specs.Prelude.{◌≡◌, ◌<◌, ◌≤◌, ◌*◌, ◌/
 ghost use Rattle.text_lines.specs.Inside.Digits.{IsDigitEntry, SpellsPairs, SpellsNothing};
 ghost use Rattle.text_lines.specs.Inside.DigitBlocks.{SpellsFront};
 
-use crate::digit_block::spell_block;
+use crate::digit_block::{BLOCK_DIGITS, NO_DIGIT, spell_block};
 
-/// What the table has for a byte that is no digit.
-const NO_DIGIT: u8 = 16;
-
-/// Of each byte the value of the digit that it is, in either case, or 16.
+/// Of each byte the value of the digit that it is, in either case, or [`NO_DIGIT`].
 static DIGIT_VALUES: [u8; 256] = [
     16, 16, 16, 16, 16, 16, 16, 16, 16, 16, 16, 16, 16, 16, 16, 16, 16, 16, 16, 16, 16, 16, 16, 16,
     16, 16, 16, 16, 16, 16, 16, 16, 16, 16, 16, 16, 16, 16, 16, 16, 16, 16, 16, 16, 16, 16, 16, 16,
@@ -63,8 +60,8 @@ pub fn append_spelled(bytes: &mut Vec<u8>, digits: &[u8]) -> bool
     greatest < NO_DIGIT
 }
 
-/// Appends to an empty vector, which has room for them, the bytes that these digits spell, thirty-two
-/// digits at a time as long as all of those are digits.
+/// Appends to an empty vector, which has room for them, the bytes that these digits spell, a block
+/// of them at a time as long as all of those are digits.
 fn append_blocks(bytes: &mut Vec<u8>, digits: &[u8])
     requires none { length bytes.old.items ≡ 0 }
     requires room { length digits.now / 2 ≤ vec_capacity bytes.old }
@@ -75,7 +72,7 @@ fn append_blocks(bytes: &mut Vec<u8>, digits: &[u8])
     ensures room { vec_capacity bytes.old ≤ vec_capacity bytes.new }
 {
     let mut rest = digits;
-    while let Some((block, others)) = rest.split_first_chunk::<32>() {
+    while let Some((block, others)) = rest.split_first_chunk::<BLOCK_DIGITS>() {
         let Some(spelled) = spell_block(block) else {
             return;
         };

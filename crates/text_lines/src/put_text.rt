@@ -60,7 +60,7 @@ pub fn put_hex<O: PutText>(out: &mut O, bytes: &[u8])
     }
 }
 
-/// Puts the digits of at most 256 bytes.
+/// Puts the digits of at most [`SPELLED_BYTES`] bytes.
 fn put_spelled<O: PutText>(out: &mut O, bytes: &[u8], digits: &mut [u8])
     requires { 2 * length bytes.now ≤ length digits.old }
     ensures put { Puts O.after out.old (encode_lower bytes.now) out.new }

@@ -36,8 +36,8 @@ fn word_end(line: &[u8]) -> Option<usize>
     Some(marks.trailing_zeros() as usize)
 }
 
-/// The same of a long word. It stands apart, since its search takes all registers, and they would be
-/// saved for each short word too.
+/// The same of a long word. It stands apart, since its search takes all registers, and they would
+/// be saved for each short word too.
 #[inline(never)]
 fn long_word_end(line: &[u8]) -> Option<usize>
     ensures { result ≡ position is_separator line.now }

@@ -7,6 +7,7 @@ use consumer::Consumer;
 use delivery::Feeder;
 use docsis_wire::Bytes;
 use lane::Request;
+use std::alloc::{AllocError, Global};
 use workers::flush_all;
 
 /// The feeders of all flows. Each frame that it is given is offered to the feeder of its flow; a
@@ -33,7 +34,8 @@ impl Consumer for Feeding {
     ghost after = { HasOffered };
 
     fn frame(&mut self, flow: usize, frame: Bytes) {
-        if !offer(&mut self.feeders, flow, frame) {
+        let alloc = *self.feeders.allocator();
+        if !offer(alloc, &mut self.feeders, flow, frame) {
             self.whole = false;
         }
     }
@@ -42,12 +44,24 @@ impl Consumer for Feeding {
 }
 
 /// Offers a frame to the feeder of this index, and says whether it did.
-fn offer(feeders: &mut [Feeder], flow: usize, frame: Bytes) -> bool
+fn offer(alloc: Global, feeders: &mut [Feeder], flow: usize, frame: Bytes) -> bool
     ensures rings { map feeder_ring feeders.new ≡ map feeder_ring feeders.old }
     ensures offers { IsTrue result → Offers feeders.old flow frame feeders.new }
 {
     if flow >= feeders.len() {
         return false;
     }
-    feeders[flow].offer(frame.into_vec()).is_ok()
+    feeders[flow].offer(own_copy(alloc, frame)).is_ok()
+}
+
+/// The frame in memory of its own size, or as it is where that memory can't be had. What a channel's
+/// thread asked for is freed at once, and not kept in that thread's part of the heap for as long as
+/// the frame waits.
+fn own_copy(alloc: Global, frame: Bytes) -> Vec<u8>
+    ensures { result.items ≡ frame }
+{
+    match Vec::from_slice(alloc, frame.as_slice()) {
+        Ok(copied) => copied,
+        Err(AllocError) => frame.into_vec(),
+    }
 }

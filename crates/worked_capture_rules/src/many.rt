@@ -6,7 +6,7 @@ use std::alloc::{AllocError, Global};
 use std::collections::VecDeque;
 use std::test::Fail;
 
-/// The order of bursts as it was before an index was made of many: it looks at each that waits.
+/// The order of bursts in its plainest form: it looks at each that waits.
 #[derive(Drop)]
 struct ScannedOrder {
     reorder: u64,
@@ -193,7 +193,7 @@ fn many_are_handed_on_as_a_look_at_each_finds_them(rt: HostRuntime) -> Result<()
     let kinds = [
         ("plain", PLAIN),
         (
-            "few numbers, so that most slots between those that wait are empty",
+            "few numbers of one channel",
             Kind {
                 channels: 1,
                 numbers: 8,
@@ -304,7 +304,7 @@ fn many_are_handed_on_as_a_look_at_each_finds_them(rt: HostRuntime) -> Result<()
             },
         ),
         (
-            "half as many as an index is made of",
+            "some fifty wait",
             Kind {
                 reorder: 160,
                 numbers: 500,
@@ -312,7 +312,7 @@ fn many_are_handed_on_as_a_look_at_each_finds_them(rt: HostRuntime) -> Result<()
             },
         ),
         (
-            "about as many as an index is made of",
+            "some hundred wait",
             Kind {
                 reorder: 320,
                 numbers: 500,

@@ -1,9 +1,11 @@
 //! Flows of a few segments, with what each completes, and the greatest sizes.
+mod calls;
 mod failed_allocations;
+mod room;
 
 use crate::expect::{expect_bytes, expect_same, expect_true};
 use crate::samples::{EXTENDED, FIRST, NotEndingIn12, PLAIN, SECOND, SPOILED, THIRD, same_bytes};
-use ccf::{Fed, Joiner};
+use ccf::{Fed, FedUnlessWhole, Joiner};
 use docsis_wire::{HeaderCheck, NoCheck, Segment, ready};
 use std::alloc::{AllocError, Global};
 use std::process::Abort;
@@ -191,13 +193,14 @@ fn joins(rt: HostRuntime) -> Result<(), Fail> {
     Ok(())
 }
 
-/// A segment behind another one, if there is one, and whether it is one whole frame by itself.
+/// A segment behind another one, if there is one, and how many bytes are skipped if it isn't one
+/// whole frame by itself.
 #[derive(Clone, Copy)]
 struct Whole {
     name: &'static str,
     before: Option<&'static [u8]>,
     segment: &'static [u8],
-    is_one: bool,
+    skipped: Option<usize>,
 }
 
 const PLAIN_ALONE: &[u8] = &[
@@ -209,19 +212,19 @@ const WHOLE: [Whole; 7] = [
         name: "a frame alone",
         before: None,
         segment: PLAIN_ALONE,
-        is_one: true,
+        skipped: None,
     },
     Whole {
         name: "a frame behind unfinished bytes",
         before: Some(FIRST),
         segment: PLAIN_ALONE,
-        is_one: false,
+        skipped: Some(5),
     },
     Whole {
         name: "no header begins",
         before: None,
         segment: &[0, 0, 0, 0, 0, 0, 0, 0, 0, 0, 0, 2, 0x11, 0x11, 0xaa, 0xbb],
-        is_one: false,
+        skipped: Some(8),
     },
     Whole {
         name: "the header begins behind a byte",
@@ -229,7 +232,7 @@ const WHOLE: [Whole; 7] = [
         segment: &[
             0x80, 1, 0, 0, 0, 0, 0, 0, 0, 0, 0, 0, 2, 0x11, 0x11, 0xaa, 0xbb,
         ],
-        is_one: false,
+        skipped: Some(1),
     },
     Whole {
         name: "a byte behind the frame",
@@ -237,13 +240,13 @@ const WHOLE: [Whole; 7] = [
         segment: &[
             0x80, 0, 0, 0, 0, 0, 0, 0, 0, 0, 0, 2, 0x11, 0x11, 0xaa, 0xbb, 0,
         ],
-        is_one: false,
+        skipped: Some(0),
     },
     Whole {
         name: "the frame's last byte is missing",
         before: None,
         segment: &[0x80, 0, 0, 0, 0, 0, 0, 0, 0, 0, 0, 2, 0x11, 0x11, 0xaa],
-        is_one: false,
+        skipped: Some(0),
     },
     Whole {
         name: "a spoiled header",
@@ -251,7 +254,7 @@ const WHOLE: [Whole; 7] = [
         segment: &[
             0x80, 0, 0, 0, 0, 0, 0, 0, 0, 0, 0, 2, 0x11, 0x12, 0xaa, 0xbb,
         ],
-        is_one: false,
+        skipped: Some(8),
     },
 ];
 
@@ -263,8 +266,13 @@ fn tells_one_whole_frame(rt: HostRuntime) -> Result<(), Fail> {
             feed_bytes(&rt, rt.alloc(), &mut joiner, before, &NotEndingIn12)?;
         }
         let next = Segment::read(rt.alloc(), whole.segment)?;
-        let is_one = joiner.is_one_frame(&next, &NotEndingIn12);
-        expect_same(&rt, whole.name, is_one, whole.is_one);
+        expect_true(&rt, whole.name, ready(&next));
+        let fed = joiner.feed_unless_whole(rt.alloc(), &next, &NotEndingIn12)?;
+        let skipped = match fed {
+            FedUnlessWhole::Whole => None,
+            FedUnlessWhole::Fed(fed) => Some(fed.skipped),
+        };
+        expect_same(&rt, whole.name, skipped, whole.skipped);
     }
     Ok(())
 }

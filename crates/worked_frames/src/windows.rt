@@ -2,6 +2,7 @@
 ghost use Rattle.std.specs.Prelude.{◌<◌};
 
 mod by_chance;
+mod drops;
 mod failed_allocations;
 mod giving_up;
 

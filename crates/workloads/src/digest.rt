@@ -1,4 +1,6 @@
 //! A writer that keeps a digest of what it is given.
+ghost use Rattle.std.specs.Prelude.{◌<◌};
+
 use std::io;
 use std::io::Write;
 
@@ -9,25 +11,32 @@ const BLOCK: usize = 32;
 #[derive(Clone, Copy, Debug)]
 struct Lanes(u64, u64, u64, u64);
 
-/// A digest of the bytes that it is given, however they are split, and how many they were.
+/// A digest of the bytes that it is given, however they are split, and of the numbers between them;
+/// and how many bytes these all were.
 #[derive(Clone, Copy, Debug)]
 pub struct Digest {
     lanes: Lanes,
+    /// What was mixed of the numbers.
+    numbers: u64,
     length: u64,
     /// What came since the last whole block, at its front.
     partial: [u8; BLOCK],
     filled: usize,
 }
 
-/// A lane after eight bytes more.
-fn mixed(lane: u64, bytes: &[u8]) -> u64 {
-    let word = match bytes.first_chunk::<8>() {
-        Some(eight) => u64::from_le_bytes(*eight),
-        None => 0,
-    };
-    (lane ^ word)
+/// A lane after a number more.
+fn mixed(lane: u64, number: u64) -> u64 {
+    (lane ^ number)
         .wrapping_mul(0x9FB2_1C65_1E98_DF25)
         .rotate_left(32)
+}
+
+/// The number that eight bytes spell.
+fn spelled(bytes: &[u8]) -> u64 {
+    match bytes.first_chunk::<8>() {
+        Some(eight) => u64::from_le_bytes(*eight),
+        None => 0,
+    }
 }
 
 /// The lanes after a block more.
@@ -36,10 +45,10 @@ fn mixed_block(lanes: Lanes, block: &[u8]) -> Lanes {
     let (second, rest) = rest.split_at(rest.len().min(8));
     let (third, fourth) = rest.split_at(rest.len().min(8));
     Lanes(
-        mixed(lanes.0, first),
-        mixed(lanes.1, second),
-        mixed(lanes.2, third),
-        mixed(lanes.3, fourth),
+        mixed(lanes.0, spelled(first)),
+        mixed(lanes.1, spelled(second)),
+        mixed(lanes.2, spelled(third)),
+        mixed(lanes.3, spelled(fourth)),
     )
 }
 
@@ -48,6 +57,7 @@ impl Digest {
     pub fn new() -> Digest {
         Digest {
             lanes: Lanes(1, 2, 3, 4),
+            numbers: 5,
             length: 0,
             partial: [0; BLOCK],
             filled: 0,
@@ -90,17 +100,22 @@ impl Digest {
         self.fill(last);
     }
 
-    /// Takes a number.
+    /// Takes a number, which is told from the same bytes and stands at its place among those.
     pub fn take_number(&mut self, number: u64) {
-        self.take(&number.to_le_bytes());
+        self.numbers = mixed(self.numbers.wrapping_add(self.length), number);
+        self.length = self.length.wrapping_add(8);
     }
 
     /// The digest of all that was taken.
     pub fn value(&self) -> u64 {
-        let Lanes(l0, l1, l2, l3) = mixed_block(self.lanes, &self.partial);
+        let mut last = self.partial;
+        for place in last.iter_mut().skip(self.filled) {
+            *place = 0;
+        }
+        let Lanes(l0, l1, l2, l3) = mixed_block(self.lanes, &last);
         let mut value = self.length;
-        for number in [self.filled as u64, l0, l1, l2, l3] {
-            value = mixed(value, &number.to_le_bytes());
+        for number in [self.filled as u64, self.numbers, l0, l1, l2, l3] {
+            value = mixed(value, number);
         }
         value
     }
@@ -125,5 +140,49 @@ impl Write for Digested<'_> {
 
     fn flush(&mut self) -> io::Result<()> {
         Ok(())
+    }
+}
+
+#[cfg(test)]
+mod tests {
+    use super::*;
+
+    /// The digest of bytes that are taken in pieces of this size.
+    fn of_pieces(bytes: &[u8], size: usize) -> u64
+        requires { 0 < size }
+    {
+        let mut digest = Digest::new();
+        for piece in bytes.chunks(size) {
+            digest.take(piece);
+        }
+        digest.value()
+    }
+
+    #[test]
+    fn splitting_bytes_leaves_their_digest(rt: HostRuntime) {
+        let mut bytes = [0; 3 * BLOCK + 5];
+        for (place, byte) in bytes.iter_mut().zip(1..=255) {
+            *place = byte;
+        }
+        for size in 1..bytes.len() {
+            assert_eq!(rt;
+                of_pieces(&bytes, size),
+                of_pieces(&bytes, bytes.len()),
+                "{size}"
+            );
+        }
+    }
+
+    #[test]
+    fn numbers_stand_at_their_places(rt: HostRuntime) {
+        let (mut before, mut behind, mut bytes) = (Digest::new(), Digest::new(), Digest::new());
+        before.take_number(7);
+        before.take(b"seven");
+        behind.take(b"seven");
+        behind.take_number(7);
+        bytes.take(&7_u64.to_le_bytes());
+        bytes.take(b"seven");
+        assert!(rt; before.value() != behind.value());
+        assert!(rt; before.value() != bytes.value());
     }
 }

@@ -34,15 +34,19 @@ pub enum Job {
     /// A receiver in a program of one's own: many flows, numbers that jump, windows that are filled
     /// backwards.
     Receiver,
+    /// Replays and receivers of channels that are several of a flow's own segments behind one
+    /// another, by each loss rule.
+    Disorder,
 }
 
-pub const JOBS: [Job; 6] = [
+pub const JOBS: [Job; 7] = [
     Job::Capture,
     Job::Waiting,
     Job::Replay,
     Job::Run,
     Job::Follow,
     Job::Receiver,
+    Job::Disorder,
 ];
 
 impl Job {
@@ -54,6 +58,7 @@ impl Job {
             Job::Run => "run",
             Job::Follow => "follow",
             Job::Receiver => "receiver",
+            Job::Disorder => "disorder",
         }
     }
 }
@@ -118,6 +123,7 @@ const LONG: TraceKind = TraceKind {
     most: 1700,
     skew: 2,
     lost: 100,
+    decided: 0,
     first_ahead: 8,
     ahead: 8,
     size: 240 * MIB,
@@ -140,9 +146,29 @@ const SHORT: TraceKind = TraceKind {
     most: 200,
     skew: 2,
     lost: 100,
+    decided: 0,
     first_ahead: 60_000,
     ahead: 64,
     size: 128 * MIB,
+};
+
+/// A trace of few flows, whose turns come round before the other channels have sent: the last one
+/// is 12 of a flow's own segments behind the first.
+const SKEWED: TraceKind = TraceKind {
+    flows: 8,
+    least: 200,
+    most: 600,
+    skew: 8,
+    lost: 200,
+    size: 128 * MIB,
+    ..LONG
+};
+
+/// One in which the last channel is 48 behind, as many as a window is wide.
+const FAR_SKEWED: TraceKind = TraceKind {
+    window: 48,
+    skew: 32,
+    ..SKEWED
 };
 
 /// Segments of many flows.
@@ -151,9 +177,11 @@ const MANY: ReceivingKind = ReceivingKind {
     channels: 10,
     flows: 5000,
     window: 256,
+    skew: 0,
     behind: 512,
     lost: 100,
     jumps: 0,
+    decided: 0,
     backwards: 1,
     segments: 1_200_000,
 };
@@ -173,11 +201,32 @@ const BACKWARDS: ReceivingKind = ReceivingKind {
     channels: 4,
     flows: 64,
     window: 4096,
+    skew: 0,
     behind: 0,
     lost: 0,
     jumps: 0,
+    decided: 0,
     backwards: 1024,
     segments: 600_000,
+};
+
+/// Segments of few flows, whose turns come round before the other channels have sent: the last one
+/// is 28 of a flow's own segments behind the first.
+const DISORDERED: ReceivingKind = ReceivingKind {
+    channels: 8,
+    flows: 8,
+    skew: 4,
+    behind: 0,
+    lost: 200,
+    segments: 800_000,
+    ..MANY
+};
+
+/// Segments of which the last channel is 196 behind, nearly as many as a window is wide.
+const FAR_DISORDERED: ReceivingKind = ReceivingKind {
+    window: 200,
+    skew: 28,
+    ..DISORDERED
 };
 
 /// A job isn't done where the program ends with another status than 0.
@@ -250,6 +299,41 @@ fn hand_in(
     Ok(())
 }
 
+/// Gives what comes out of its order to `segrx replay` and to a receiver, by each loss rule.
+fn put_in_order<T: Threads + Wait + Copy + Send + 'static>(
+    alloc: Global,
+    rt: T,
+    scale: Scale,
+    dice: &mut Dice,
+    digest: &mut Digest,
+) -> Result<()> {
+    let decided = TraceKind {
+        decided: 4,
+        ..SKEWED
+    };
+    for (rule, kind) in [
+        ("decided", decided),
+        ("passed", SKEWED),
+        ("slid", FAR_SKEWED),
+    ] {
+        let words = ["segrx", "replay", "--losses", rule];
+        trace(alloc, rt, &words, kind, scale, dice, digest)?;
+    }
+    let decided = ReceivingKind {
+        rule: LossRule::Decided,
+        decided: 4,
+        ..DISORDERED
+    };
+    let slid = ReceivingKind {
+        rule: LossRule::PassedOrSlid,
+        ..FAR_DISORDERED
+    };
+    for kind in [decided, DISORDERED, slid] {
+        hand_in(alloc, kind, scale, dice, digest)?;
+    }
+    Ok(())
+}
+
 /// Does a job.
 pub fn do_job<T: Files + Threads + Wait + Copy + Send + 'static>(
     alloc: Global,
@@ -296,5 +380,6 @@ pub fn do_job<T: Files + Threads + Wait + Copy + Send + 'static>(
             hand_in(alloc, JUMPING, scale, dice, digest)?;
             hand_in(alloc, BACKWARDS, scale, dice, digest)
         }
+        Job::Disorder => put_in_order(alloc, rt, scale, dice, digest),
     }
 }

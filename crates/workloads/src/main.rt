@@ -6,6 +6,7 @@
 //! run.
 #![tactic(auto)]
 
+mod behind;
 mod dice;
 mod digest;
 mod feed;

@@ -161,6 +161,12 @@ impl Cut {
     pub fn size(&self) -> u32 {
         u32::try_from(self.length.saturating_add(8)).unwrap_or(u32::MAX)
     }
+
+    /// The segment's number.
+    pub fn number(&self) -> u16 {
+        let [_, _, high, low, ..] = self.head;
+        u16::from_be_bytes([high, low]) >> 3
+    }
 }
 
 /// A segment header with its check sequence.

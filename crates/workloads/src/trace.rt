@@ -1,10 +1,10 @@
 //! Traces that are made as they are read.
+use crate::behind::Behind;
 use crate::dice::Dice;
 use crate::feed::Make;
 use crate::pool::{Cut, Mix, Pool, Stream, push_hex};
 use itoa::Buffer;
 use std::alloc::{AllocError, Global};
-use std::collections::VecDeque;
 use std::io;
 
 /// How much is made at once.
@@ -24,6 +24,9 @@ pub struct TraceKind {
     pub skew: u32,
     /// In nothing of one of so many grants; none where it is 0.
     pub lost: u32,
+    /// Behind one of so many bursts of the last channel it is decided what is lost of that which it
+    /// has passed of its flow; behind none where it is 0.
+    pub decided: u32,
     /// How many turns before its burst a grant stands, of the first channel and of the others.
     pub first_ahead: u32,
     pub ahead: u32,
@@ -39,7 +42,7 @@ pub struct Trace {
     pool: Pool,
     streams: Vec<Stream>,
     /// Of each channel what was cut and isn't sent.
-    behind: Vec<VecDeque<Cut>>,
+    behind: Behind<Cut>,
     turn: u32,
     left: u64,
     is_begun: bool,
@@ -53,10 +56,7 @@ impl Trace {
         for _ in 0..kind.flows {
             streams.push(pool.stream(&mut dice))?;
         }
-        let mut behind = Vec::new(alloc);
-        for _ in 0..kind.channels {
-            behind.push(VecDeque::new(alloc))?;
-        }
+        let behind = Behind::new(alloc, kind.channels)?;
         Ok(Trace {
             kind,
             dice,
@@ -122,9 +122,7 @@ impl Trace {
                 return Ok(());
             };
             let cut = stream.cut(&self.pool, length, units);
-            if let Some(behind) = self.behind.get_mut(channel as usize) {
-                behind.push_back(cut)?;
-            }
+            self.behind.push(channel as usize, cut)?;
         }
         for channel in 0..self.kind.channels {
             self.push_oldest(out, channel, turn)?;
@@ -132,7 +130,8 @@ impl Trace {
         Ok(())
     }
 
-    /// Appends the burst of a channel that was cut so many turns before as the channel is behind.
+    /// Appends the burst of a channel that was cut so many turns before as the channel is behind;
+    /// and behind that of the last channel a decision, now and then.
     fn push_oldest(
         &mut self,
         out: &mut Vec<u8>,
@@ -140,23 +139,33 @@ impl Trace {
         turn: u32,
     ) -> Result<(), AllocError> {
         let skew = self.kind.skew.wrapping_mul(channel);
-        let Some(behind) = self.behind.get_mut(channel as usize) else {
+        let Some(cut) = self.behind.pop(channel as usize, skew as usize) else {
             return Ok(());
         };
-        if behind.len() <= skew as usize {
-            return Ok(());
+        let turn = turn.wrapping_sub(skew);
+        self.push_burst(out, channel, turn, &cut)?;
+        let is_last = channel.wrapping_add(1) == self.kind.channels;
+        if is_last && self.dice.one_in(self.kind.decided) {
+            push_line(out, b"gap", &[self.flow_in(turn), u32::from(cut.number())])?;
         }
-        let Some(cut) = behind.pop_front() else {
-            return Ok(());
-        };
-        let is_lost = self.dice.one_in(self.kind.lost);
-        push_words(out, b"burst", &[channel, turn.wrapping_sub(skew)])?;
-        if is_lost {
+        Ok(())
+    }
+
+    /// Appends a burst, or what is heard where it is lost.
+    fn push_burst(
+        &mut self,
+        out: &mut Vec<u8>,
+        channel: u32,
+        turn: u32,
+        cut: &Cut,
+    ) -> Result<(), AllocError> {
+        push_words(out, b"burst", &[channel, turn])?;
+        if self.dice.one_in(self.kind.lost) {
             return out.extend_from_slice(b" bad -\n");
         }
         out.extend_from_slice(b" ok ")?;
         push_hex(out, &cut.head)?;
-        out.extend_from_slice(self.pool.payload_digits(&cut))?;
+        out.extend_from_slice(self.pool.payload_digits(cut))?;
         out.extend_from_slice(b"\n")
     }
 }

@@ -8,7 +8,7 @@ ghost use Rattle.bonded_flows.specs.Inside.Steps.{JoinsNext};
 use super::BondedFlow;
 use consumer::{Consumer, give_frames};
 use docsis_wire::HeaderCheck;
-use flow_core::{Flow, Step, WINDOW_MAX};
+use flow_core::{Flow, StepAsItIs, WINDOW_MAX};
 use std::alloc::{AllocError, Global};
 
 impl BondedFlow {
@@ -66,18 +66,10 @@ fn join_next<C: HeaderCheck, O: Consumer>(
         JoinsNext O.after (C.accepts check.now) index flow.old out.old joined flow.new out.new) }
     ensures refused { OnErr result ((flow.new ≡ flow.old) × (out.new ≡ out.old)) }
 {
-    if flow.is_drained() {
-        return Ok(false);
+    match flow.advance_as_it_is(alloc, check)? {
+        StepAsItIs::Whole(frame) => out.frame(index, frame),
+        StepAsItIs::Frames(frames) => give_frames(out, index, frames),
+        StepAsItIs::Nothing => return Ok(false),
     }
-    if let Some(frame) = flow.advance_whole(alloc, check) {
-        out.frame(index, frame);
-        return Ok(true);
-    }
-    match flow.advance(alloc, check)? {
-        Step::Frames(frames) => {
-            give_frames(out, index, frames);
-            Ok(true)
-        }
-        Step::Nothing => Ok(false),
-    }
+    Ok(true)
 }

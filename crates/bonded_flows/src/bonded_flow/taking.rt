@@ -224,13 +224,12 @@ impl BondedFlow {
         ensures open_still { self.old.pending ≢ Pending.Close
             → self.new.pending ≢ Pending.Close }
     {
-        // Nearly always nothing is left. What is left may have a segment in it, and taking it out by
-        // `mem::replace` moves as many bytes each time.
+        // Nearly always nothing is left, and then nothing is moved: what may be left is as large
+        // as a segment.
         if let Pending::Nothing = self.pending {
             return self.drain(alloc, check, out);
         }
         match mem::replace(&mut self.pending, Pending::Nothing) {
-            Pending::Nothing => self.drain(alloc, check, out),
             Pending::Slide(ready) => {
                 self.slide(alloc, check, ready.segment, out)?;
                 Ok(())
@@ -239,8 +238,8 @@ impl BondedFlow {
                 self.arrive(alloc, check, ready.segment, out)?;
                 Ok(())
             }
-            Pending::Close => {
-                self.pending = Pending::Close;
+            left => {
+                self.pending = left;
                 self.drain(alloc, check, out)
             }
         }

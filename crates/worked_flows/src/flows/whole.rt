@@ -3,7 +3,8 @@ ghost use Rattle.docsis_wire.specs.Ready.{IsReady};
 
 use super::*;
 use docsis_wire::Bytes;
-use flow_core::Flow;
+use flow_core::{Flow, StepAsItIs};
+use std::cell::Cell;
 
 /// A flow that has taken a segment, which is the next one.
 fn with_next(alloc: Global, next: Segment) -> Result<Flow, Fail>
@@ -23,22 +24,16 @@ fn with_next(alloc: Global, next: Segment) -> Result<Flow, Fail>
     Ok(flow)
 }
 
-/// Ends the test if the flow gives no frame of these bytes.
-fn expect_whole(rt: &impl Abort, alloc: Global, flow: &mut Flow, frame: &[u8]) {
-    let given = flow.advance_whole(alloc, &NoCheck);
-    let right = given
-        .as_ref()
-        .is_some_and(|bytes: &Bytes| bytes.as_slice() == frame);
-    assert!(rt; right, "the frame: {given:?}");
-}
-
 #[test]
 fn gives_a_whole_frame_as_it_is(rt: HostRuntime) -> Result<(), Fail> {
     let mut flow = with_next(rt.alloc(), segment(rt.alloc(), Part(0, Some(0), FRAME_0))?)?;
-    expect_whole(&rt, rt.alloc(), &mut flow, FRAME_0);
+    let step = flow.advance_as_it_is(rt.alloc(), &NoCheck)?;
+    let whole = matches!(step, StepAsItIs::Whole(ref frame) if frame.as_slice() == FRAME_0);
+    assert!(rt; whole, "the frame: {step:?}");
+    let step = flow.advance_as_it_is(rt.alloc(), &NoCheck)?;
     assert!(rt;
-        flow.advance_whole(rt.alloc(), &NoCheck).is_none(),
-        "nothing is next"
+        matches!(step, StepAsItIs::Nothing),
+        "nothing is next: {step:?}"
     );
     assert_eq!(rt; flow.counts(), counts([1, 0, 0, 0, 0, 1, 0]));
     assert_eq!(rt; flow.expected(), 1);
@@ -46,16 +41,47 @@ fn gives_a_whole_frame_as_it_is(rt: HostRuntime) -> Result<(), Fail> {
 }
 
 #[test]
-fn leaves_a_part_of_a_frame_to_a_step(rt: HostRuntime) -> Result<(), Fail> {
+fn joins_a_part_of_a_frame(rt: HostRuntime) -> Result<(), Fail> {
     let mut flow = with_next(rt.alloc(), segment(rt.alloc(), FIRST)?)?;
-    assert!(rt;
-        flow.advance_whole(rt.alloc(), &NoCheck).is_none(),
-        "a part of a frame"
-    );
-    assert_eq!(rt; flow.held(), 1);
-    let step = flow.advance(rt.alloc(), &NoCheck)?;
-    let joined = matches!(step, Step::Frames(ref frames) if frames.is_empty());
+    let step = flow.advance_as_it_is(rt.alloc(), &NoCheck)?;
+    let joined = matches!(step, StepAsItIs::Frames(ref frames) if frames.is_empty());
     assert!(rt; joined, "the part is joined: {step:?}");
+    assert_eq!(rt; flow.held(), 0);
+    Ok(())
+}
+
+/// A check that says no of each header, and counts its calls.
+#[derive(Drop)]
+struct Refusing {
+    calls: Cell<usize>,
+}
+
+impl HeaderCheck for Refusing {
+    ghost use Rattle.std.specs.Prelude.{false};
+
+    ghost accepts = { λ _ _. false };
+
+    fn passes(&self, _header: &[u8]) -> bool {
+        self.calls.set(self.calls.get().wrapping_add(1));
+        false
+    }
+}
+
+#[test]
+fn checks_a_spoiled_whole_frame_once(rt: HostRuntime) -> Result<(), Fail> {
+    let check = Refusing {
+        calls: Cell::new(0),
+    };
+    let mut flow = with_next(rt.alloc(), segment(rt.alloc(), Part(0, Some(0), FRAME_0))?)?;
+    let step = flow.advance_as_it_is(rt.alloc(), &check)?;
+    let joined = matches!(step, StepAsItIs::Frames(ref frames) if frames.is_empty());
+    assert!(rt; joined, "nothing is given: {step:?}");
+    assert_eq!(rt; check.calls.get(), 1);
+    assert_eq!(rt; flow.counts(), counts([1, 0, 0, 0, 0, 0, 7]));
+    let mut flow = with_next(rt.alloc(), segment(rt.alloc(), Part(0, Some(0), FRAME_0))?)?;
+    flow.advance(rt.alloc(), &check)?;
+    assert_eq!(rt; check.calls.get(), 2);
+    assert_eq!(rt; flow.counts(), counts([1, 0, 0, 0, 0, 0, 7]));
     Ok(())
 }
 
@@ -73,7 +99,7 @@ fn given_in_room_for(rt: &impl Abort, alloc: Global, room: usize) -> Result<usiz
         return Err("the burst is a segment".into());
     };
     let mut flow = with_next(alloc, next)?;
-    let Some(frame) = flow.advance_whole(alloc, &NoCheck) else {
+    let StepAsItIs::Whole(frame) = flow.advance_as_it_is(alloc, &NoCheck)? else {
         return Err("a whole frame is next".into());
     };
     assert!(rt; frame.as_slice() == FRAME_0, "the frame: {frame:?}");

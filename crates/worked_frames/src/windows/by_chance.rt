@@ -150,35 +150,109 @@ fn number_near(chance: &mut Chance, expected: u16) -> u16
     expected.wrapping_add(chance.below(reach)) % MODULUS
 }
 
-/// Makes a call of both, and compares what they answer. What is offered is the call's place.
-fn call_both(
+/// The ways in which a window does what it is asked to, by what it holds: whether calls came to each.
+#[derive(Clone, Copy)]
+struct Ways {
+    took_the_only_one: bool,
+    took_one_of_many: bool,
+    only_one_is_not_next: bool,
+    passed_nothing_within: bool,
+    passed_nothing_beyond: bool,
+    turned_on: bool,
+    turned_back: bool,
+}
+
+impl Ways {
+    fn none() -> Ways {
+        Ways {
+            took_the_only_one: false,
+            took_one_of_many: false,
+            only_one_is_not_next: false,
+            passed_nothing_within: false,
+            passed_nothing_beyond: false,
+            turned_on: false,
+            turned_back: false,
+        }
+    }
+
+    /// The next item is about to be taken.
+    fn see_taking(&mut self, plain: &Plain) {
+        let is_next = plain.next().is_some();
+        self.took_the_only_one |= plain.held == 1 && is_next;
+        self.took_one_of_many |= plain.held > 1 && is_next;
+        self.only_one_is_not_next |= plain.held == 1 && !is_next;
+    }
+
+    /// So many numbers were passed at once.
+    fn see_passing(&mut self, plain: &Plain, count: u16) {
+        let others = plain.width.saturating_sub(count);
+        if plain.held == 0 {
+            self.passed_nothing_within |= 0 < count && count < plain.width;
+            self.passed_nothing_beyond |= count >= plain.width;
+        } else {
+            self.turned_on |= 0 < count && count <= others;
+            self.turned_back |= count > others;
+        }
+    }
+
+    /// Calls came to each way that there is in a window so wide.
+    fn are_seen(&self, width: u16) -> bool {
+        let took = self.took_the_only_one && (self.took_one_of_many || width < 2);
+        let within = self.passed_nothing_within || width < 2;
+        let beyond = self.passed_nothing_beyond || width > 4000;
+        let stays = self.only_one_is_not_next || width < 2;
+        let turned = (self.turned_on || width < 2) && (self.turned_back || width < 3);
+        took && within && beyond && stays && turned
+    }
+}
+
+/// Gives numbers up in both, and compares how many.
+fn give_up_both(
     rt: &impl Abort,
     window: &mut Window<usize>,
     plain: &mut Plain,
     chance: &mut Chance,
     place: usize,
-) {
+) -> u16 {
     let number = number_near(chance, plain.expected);
-    match chance.below(16) {
-        0..8 => {
-            let found = window.offer(number, place);
-            expect_same_at(rt, "offered", place, found, plain.offer(number, place));
-        }
-        8..12 => {
+    if chance.below(3) == 0 {
+        let count = window.declare_to(number);
+        expect_same_at(rt, "declared to", place, count, plain.declare_to(number));
+        return count;
+    }
+    let count = window.skip_to(number);
+    expect_same_at(rt, "skipped to", place, count, plain.skip_to(number));
+    count
+}
+
+/// Makes a call of both, `offers` of 16 of which are offers, and compares what they answer. What is
+/// offered is the call's place.
+fn call_both(
+    rt: &impl Abort,
+    (window, plain): (&mut Window<usize>, &mut Plain),
+    (chance, ways): (&mut Chance, &mut Ways),
+    offers: u16,
+    place: usize,
+) {
+    if chance.below(16) < offers {
+        let number = number_near(chance, plain.expected);
+        let found = window.offer(number, place);
+        expect_same_at(rt, "offered", place, found, plain.offer(number, place));
+        return;
+    }
+    match chance.below(8) {
+        0..4 => {
+            ways.see_taking(plain);
             let found = window.take_next();
             expect_same_at(rt, "taken", place, found, plain.take_next());
         }
-        12 => {
+        4 => {
             let found = window.declare();
             expect_same_at(rt, "declared", place, found, plain.declare());
         }
-        13 => {
-            let found = window.declare_to(number);
-            expect_same_at(rt, "declared to", place, found, plain.declare_to(number));
-        }
         _ => {
-            let found = window.skip_to(number);
-            expect_same_at(rt, "skipped to", place, found, plain.skip_to(number));
+            let count = give_up_both(rt, window, plain, chance, place);
+            ways.see_passing(plain, count);
         }
     }
 }
@@ -187,15 +261,16 @@ fn call_both(
 fn plays_alike(
     rt: &impl Abort,
     alloc: Global,
-    width: u16,
+    (width, offers): (u16, u16),
     chance: &mut Chance,
+    ways: &mut Ways,
 ) -> Result<(), Fail> {
     expect_true(rt, "a width", 1 <= width && width <= WIDTH_MAX);
     let first = chance.below(MODULUS) % MODULUS;
     let mut window = Window::new(alloc, first, width)?;
     let mut plain = Plain::new(alloc, first, width)?;
     for place in 0..4000 {
-        call_both(rt, &mut window, &mut plain, chance, place);
+        call_both(rt, (&mut window, &mut plain), (chance, ways), offers, place);
         let found = (window.expected(), window.held(), window.next().copied());
         let wanted = (plain.expected, plain.held, plain.next());
         expect_same_at(rt, "after the call", place, found, wanted);
@@ -211,9 +286,11 @@ fn plays_alike(
 fn windows_answer_as_plain_ones(rt: HostRuntime) -> Result<(), Fail> {
     let mut chance = Chance { state: 1 };
     for width in [1, 2, 3, 7, 64, 4095, 4096] {
-        for _ in 0..4 {
-            plays_alike(&rt, rt.alloc(), width, &mut chance)?;
+        let mut ways = Ways::none();
+        for offers in [8, 8, 8, 1, 1] {
+            plays_alike(&rt, rt.alloc(), (width, offers), &mut chance, &mut ways)?;
         }
+        expect_true(&rt, "each way", ways.are_seen(width));
     }
     Ok(())
 }

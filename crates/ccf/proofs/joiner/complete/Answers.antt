@@ -17,8 +17,8 @@ returns-clause-fed g c =
     let frames = c.if-well_formed.frames.items in
     let after = c.replace-done.new.dest.items in
     let some = not_empty before.items before.len (omega (arith, before.ok.0)) (sym c.is_empty.ensures ∙ c.if-is_empty.false) in
-    let whole = ap (λ vec. vec.items) c.replace-done.ensures.value ∙ c.in_ok-extend_from_slice.ensures.items ∙ ap (λ t. before.items ++ t) c.split_at.ensures.front in
-    let left = ap (λ vec. vec.items) c.replace-done.ensures.after ∙ c.in_ok-next.ensures in
+    let whole = ap (λ vec. vec.items) c.replace-done.ensures.value ∙ c.in_ok-extend_from_slice.ensures.items ∙ ap (λ t. t ++ c.split_at.result.0.now) c.in_ok-reserve_exact.ensures.items ∙ ap (λ t. before.items ++ t) c.split_at.ensures.front in
+    let left = ap (λ vec. vec.items) c.replace-done.ensures.after ∙ c.in_ok-next.ensures.items in
     let P : List ℕ → Type 0 = Walks (g.C.HeaderCheck.accepts c.args.check.now) behind walked in
     let either : (IsFrame (g.C.HeaderCheck.accepts c.args.check.now) done × (frames ≡ done ∷ walked)) ⊎ ((IsFrame (g.C.HeaderCheck.accepts c.args.check.now) done → ⊥) × (frames ≡ walked)) =
     elim c.if-well_formed.branch [

@@ -5,7 +5,7 @@ use Rattle.reorder.proofs.window.Window.new.Goals as goal
 pub invariant_of-result : goal.invariant_of-result
 invariant_of-result g c =
     let all : c.loop-count._count ≡ c.args.width = omega arith in
-    kept-empty _ _ _ c.requires.first_in_range c.requires.width_positive c.requires.width_in_range (c.loop-count.invariant.empty ∙ ap (λ n. replicate n None) all)
+    kept-empty _ _ _ c.requires.first_in_range c.requires.width_positive c.requires.width_in_range (c.loop-count.invariant.empty ∙ ap (λ n. replicate n None) all) c.loop-count.invariant.capacity
 
 pub returns-clause-empty : goal.returns-clause-empty
 returns-clause-empty g c =

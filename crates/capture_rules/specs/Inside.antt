@@ -1,3 +1,0 @@
--- What only contracts of private functions, and proofs, speak of.
-pub mod Slots
-pub mod Index
