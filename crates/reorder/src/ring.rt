@@ -1,5 +1,5 @@
 //! A ring of places: how it is turned, and how many at its front are empty.
-ghost use Rattle.std.specs.Prelude.{◌≡◌, ◌-◌, ◌≤◌, length};
+ghost use Rattle.std.specs.Prelude.{◌≡◌, ◌-◌, ◌≤◌, ◌++◌, length};
 ghost use Rattle.circular_buffer.specs.Buffer.{buffer};
 ghost use Rattle.reorder.specs.Inside.Ring.{turned, IsEmptyFront};
 
@@ -53,9 +53,20 @@ fn move_to_the_front<T>(ring: &mut HeapCircularBuffer<T>, count: usize)
     }
 }
 
-/// How many places at the front are empty, of so many at most: as many as come before the first
-/// that holds something.
-pub fn empty_at_front<T>(places: &[Option<T>], most: usize) -> usize
+/// How many places at the front of a ring, whose places stand in two parts, are empty, of so many at
+/// most: as many as come before the first that holds something.
+pub fn empty_before_held<T>(first: &[Option<T>], others: &[Option<T>], most: usize) -> usize
+    ensures { IsEmptyFront (first.now ++ others.now) most result }
+{
+    let empty = empty_at_front(first, most);
+    if empty < first.len() {
+        return empty;
+    }
+    empty + empty_at_front(others, most - empty)
+}
+
+/// How many of these places at the front are empty, of so many at most.
+fn empty_at_front<T>(places: &[Option<T>], most: usize) -> usize
     ensures { IsEmptyFront places.now most result }
 {
     let count = places.len().min(most);

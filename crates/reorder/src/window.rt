@@ -10,7 +10,7 @@ ghost use Rattle.reorder.specs.Verdicts.{IsVerdict, after_offer, after_take_next
 ghost use Rattle.reorder.specs.Verdicts.{IsDeclared, after_declare, declared_count, skipped_count};
 
 use crate::number::{number_after, offset};
-use crate::ring::{empty_at_front, turn};
+use crate::ring::{empty_before_held, turn};
 use crate::verdict::{Declared, Verdict};
 use crate::{MODULUS, NUMBERS_AHEAD};
 use circular_buffer::HeapCircularBuffer;
@@ -243,13 +243,8 @@ impl<T> Window<T> {
             → IsHeld self.now (number_ahead self.now.expected result) }
         ensures within { result < self.now.width }
     {
-        let most = usize::from(distance);
         let (first, others) = self.places.as_slices();
-        let empty = empty_at_front(first, most);
-        if empty < first.len() {
-            return empty as u16;
-        }
-        (empty + empty_at_front(others, most - empty)) as u16
+        empty_before_held(first, others, usize::from(distance)) as u16
     }
 
     /// Expects the number so many after the expected one. None of those that it passes is held, and
