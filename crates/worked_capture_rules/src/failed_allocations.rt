@@ -28,7 +28,7 @@ fn a_burst_waits_the_next_time(rt: HostRuntime) -> Result<(), Fail> {
 }
 
 #[test]
-fn many_bursts_are_handed_on_without_memory(rt: HostRuntime) -> Result<(), Fail> {
+fn many_bursts_are_handed_on_after_a_refusal(rt: HostRuntime) -> Result<(), Fail> {
     let mut order = ChannelOrder::new(rt.alloc(), 0);
     // Greatest numbers first, and then more while they are handed on.
     for number in 0..200_u16 {
