@@ -53,8 +53,8 @@ fn move_to_the_front<T>(ring: &mut HeapCircularBuffer<T>, count: usize)
     }
 }
 
-/// How many places at the front of a ring, which stands in two parts, are empty, of so many at most:
-/// as many as come before the first that holds something.
+/// How many places at the front of a ring, which stands in two parts, are empty, of so many at
+/// most: as many as come before the first that holds something.
 pub fn empty_before_held<T>(first: &[Option<T>], others: &[Option<T>], most: usize) -> usize
     ensures { IsEmptyFront (first.now ++ others.now) most result }
 {
