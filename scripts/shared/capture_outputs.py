@@ -9,6 +9,7 @@ The report has the lines of replay's report but for those of frames and requests
     bursts <channel> <id> <n> above <n>
     passed <n> <why>
     records <n> earlier <n>
+    clock set_back <n> crowded <n>
 
 In the list of refusals stands behind each number, after an `x`, how often it came, since a list of all would grow. CSV begins
 with a line of names, and its times are seconds with nine decimals.
@@ -91,6 +92,8 @@ def report_of(reading):
     for why, count in sorted(reading.passed.items()):
         yield line_of("passed", count, why)
     yield line_of("records", reading.records, earlier=reading.earlier_times)
+    clocks = {name: sum(getattr(flow, name) for flow in reading.captured) for name in ("set_back", "crowded")}
+    yield line_of("clock", **clocks)
 
 
 def requests_of(reading):

@@ -11,7 +11,8 @@ import math
 from shared.made_packets import BAD_CHECK, GRANT_RANGE, POINTER_PAST
 from shared.made_packets import frame_packet, good_packet, spoiled_packet, with_bad_number_before, without_segment_header_tlv
 from shared.made_registrations import Modem, changed_sid, dealt_packets
-from shared.modem_flows import SHORT_SIZES, Arrival, ModemFlow, Way, broken_premises
+from shared.modem_flows import SHORT_SIZES, ModemFlow, Way
+from shared.odd_clocks import broken_premises_by, recorded_times, some_clock
 from shared.plain_capture import MILLISECOND, UNKNOWN_CHANNEL, UNKNOWN_SID
 from shared.plain_map import CHANNELS, CaptureMap
 from shared.plain_packets import CUT_SHORT, MALFORMED, NO_CHANNEL_OR_SID, NO_SEGMENT_HEADER, OTHER_LINK_TYPE, OTHER_TYPE
@@ -59,7 +60,7 @@ class MadeCapture:
         self.flows = [ModemFlow(rng, index, self.way, rng.randrange(*shape.segments)) for index in range(shape.flows)]
         self.sfids = rng.sample(range(1, 1 << 32), shape.flows)
         self.next_sid = dict.fromkeys(channels, rng.randrange(1, 3000))
-        self.spoils = rng.choice([0, 0.02, 0.1])
+        self.spoils, self.clock = rng.choice([0, 0.02, 0.1]), some_clock(rng)
         self.told, self.sids, self.changes = [], {}, {}
         for flow in self.flows:
             self.give_sids(flow)
@@ -112,7 +113,8 @@ class MadeCapture:
         if not self.is_calm and len(made) > 1 and self.rng.random() < 0.2:
             place = self.rng.randrange(len(made) - 1)
             made[place : place + 2] = made[place + 1], made[place]
-        self.write(made)
+        times = recorded_times(self.rng, self.clock, [one.record.nanoseconds for one in made])
+        self.write([one._replace(record=one.record._replace(nanoseconds=time)) for one, time in zip(made, times)])
 
     def made_of(self, flow, arrival):
         """A burst as it is recorded."""
@@ -193,11 +195,13 @@ class MadeCapture:
         chosen = {rng.randrange(count): rng.choice(list(kinds)) for _ in range(rng.randrange(4)) if count}
         return {place: [block(form.order, kind, kinds[kind])] for place, kind in chosen.items()}
 
+    def recorded_well(self, flow):
+        """What was made of a flow's segments that were recorded well, in the order of the file."""
+        return [one for one in self.made if one.flow is flow and one.what == GOOD]
+
     def came(self, flow):
-        """The arrivals of a flow's segments that were recorded well, in the order of the file."""
-        for one in self.made:
-            if one.flow is flow and one.what == GOOD:
-                yield Arrival(one.record.nanoseconds, one.arrival.channel, one.arrival.index)
+        """The arrivals of these, with their true times."""
+        return [one.arrival for one in self.recorded_well(flow)]
 
     def passed_over(self):
         """How many records are passed over, by the reason."""
@@ -214,7 +218,8 @@ class MadeCapture:
         return sum(one.arrival.channel == channel for one in taken)
 
     def broken_premises(self, flow):
-        return broken_premises(flow, list(self.came(flow)))
+        times = [one.record.nanoseconds for one in self.recorded_well(flow)]
+        return broken_premises_by(self.clock, flow, self.came(flow), times)
 
     def registered_sids(self):
         """Of each flow, by its SFID, the channels and SIDs that it ever has."""

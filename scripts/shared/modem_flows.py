@@ -64,8 +64,8 @@ class ModemFlow:
             self.swap_neighbours(channel)
         if not way.is_calm:
             self.disturb()
-        self.arrivals = [one._replace(time=one.time // way.grid * way.grid) for one in self.arrivals]
         self.arrivals.sort(key=lambda one: one.time)
+        self.arrivals = [one._replace(time=one.time // way.grid * way.grid) for one in self.arrivals]
 
     def dealt(self, count, outages):
         """The arrivals of all that isn't lost, on each channel in order."""

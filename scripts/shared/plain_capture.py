@@ -4,11 +4,13 @@ A burst is a grant and its burst on its channel: the grant has as many bytes as 
 burst's length, and one number does for all of them, since each is spent at once. What a lane refuses, it refuses as the burst
 comes, and its flow never sees it. With what it will admit this is done:
 
-1. It waits. The oldest burst of a flow waits for `reorder`, and then, in its place and at its time, that one of its channel
-   with the least number is handed on which came within `reorder` of it.
-2. It may stand in a beginning. One is kept for 10 ms where the flow's first number isn't known, and where after a silence of
-   `wait` a number comes that doesn't lie ahead within the window; then the flow begins, or begins anew, at the least number
-   in it.
+1. It waits. A flow has a clock of its own: a burst that is earlier than the one before it counts as of that one's time, and
+   where it is earlier by more than `reorder`, the clock is set back to it and all that waits is handed on first. Before a burst
+   is taken in, each that has waited for longer than `reorder` has its turn: in the oldest one's place and at its time that one
+   of its channel with the least number is handed on. With one more than 2,048 that wait the next is handed on, too.
+2. It may stand in a beginning. One is kept for 10 ms, and for 2,048 bursts at most, where the flow's first number isn't known,
+   and where after a silence of `wait` a number comes that doesn't lie ahead within the window; then the flow begins, or begins
+   anew, at the least number in it.
 3. It is handed in. Before that all that is missing is skipped before those that were handed in more than `wait` earlier and
    are still held.
 
@@ -30,6 +32,8 @@ from shared.plain_receiver import Burst, Grant, Lane
 
 MILLISECOND = 10**6
 BEGINNING = 10 * MILLISECOND
+# So many bursts of a flow wait at most, and make a beginning.
+MOST_WAITING = 2048
 DOCSIS = 143  # the link type of frames
 UPSTREAM_FRAME = 80  # the type of a packet that holds one
 UNKNOWN_CHANNEL, UNKNOWN_SID = "unknown channel", "unknown SID"
@@ -97,12 +101,14 @@ class CapturedFlow:
         self.index, self.setup, self.channels, self.reading = index, setup, channels, reading
         wait, reorder = reading.settings.wait, reading.settings.reorder
         self.wait, self.reorder = wait * MILLISECOND, reorder * MILLISECOND
-        self.waiting = []  # in the order in which they came
+        self.clock = None  # of this flow: when the last burst came
+        self.waiting = []  # bursts and when they came by that clock, in the order in which they came
         self.beginning, self.until = [], None  # what was handed on while the first number isn't known, and how long it isn't
         self.handed_on_at = None  # when the last one was
         self.handed_in = None  # the last one that was
         self.kept_at = {}  # when the held ones were handed on, by their indexes
         self.live, self.earlier, self.restarts = None, collections.Counter(), 0
+        self.set_back, self.crowded = 0, 0  # how often the clock was set back, and how often too many would have waited
         if setup.first != AUTO:
             self.begin_at(setup.first)
 
@@ -112,21 +118,31 @@ class CapturedFlow:
         self.kept_at = {}
 
     def come(self, coming):
-        """A burst comes: what has waited long enough is handed on."""
-        self.waiting.append(coming)
-        self.pass_on(coming.time)
+        """A burst comes: what has waited long enough is handed on, and then it waits."""
+        if self.clock is not None and coming.time < self.clock - self.reorder:
+            self.pass_on(math.inf)
+            self.clock = coming.time
+            self.set_back += 1
+        self.clock = coming.time if self.clock is None else max(self.clock, coming.time)
+        self.pass_on(self.clock)
+        self.waiting.append((self.clock, coming))
+        if len(self.waiting) > MOST_WAITING:
+            self.hand_on_next()
+            self.crowded += 1
 
     def pass_on(self, now):
-        while self.waiting and self.waiting[0].time + self.reorder < now:
-            oldest = self.waiting[0]
-            last = oldest.time + self.reorder
-            near = [one for one in self.waiting if one.channel == oldest.channel and one.time <= last]
-            least = min(near, key=lambda one: place_near(one.number, oldest.number))
-            self.waiting.remove(least)
-            self.hand_on(oldest.time, least)
+        while self.waiting and self.waiting[0][0] + self.reorder < now:
+            self.hand_on_next()
+
+    def hand_on_next(self):
+        came, oldest = self.waiting[0]
+        of_channel = [one for one in self.waiting if one[1].channel == oldest.channel]
+        least = min(of_channel, key=lambda one: place_near(one[1].number, oldest.number))
+        self.waiting.remove(least)
+        self.hand_on(came, least[1])
 
     def hand_on(self, time, coming):
-        if self.until is not None and time > self.until:
+        if self.until is not None and (time > self.until or len(self.beginning) >= MOST_WAITING):
             self.end_beginning()
         if self.until is None and (self.live is None or self.falls_out_after_silence(time, coming.number)):
             self.until = time + BEGINNING

@@ -1,7 +1,11 @@
+pub mod InOrder
+pub mod Counts
+pub mod Taken
+pub mod AtMost
 pub mod OneOrder
 pub mod NoneLost
 pub mod Lately
+pub mod InTurns
 pub mod OneNumber
 pub mod HeldSoFar
 pub mod BeginningSoFar
-pub mod WaitingSoFar

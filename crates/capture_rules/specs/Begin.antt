@@ -1,10 +1,10 @@
 -- Where a flow begins, is silent, goes on, or begins anew.
-use Rattle.std.specs.Prelude.{◌≡◌, ℕ, ◌-◌, ◌≤◌, ◌&&◌, ◌||◌, nat_lt, nat_le, not, Bool, true, false, Option, Some, None, List, [], ◌∷◌, ◌++◌, slice_get, if◌then◌else◌}
+use Rattle.std.specs.Prelude.{◌≡◌, ℕ, ◌-◌, ◌≤◌, ◌&&◌, ◌||◌, nat_lt, nat_le, not, Bool, true, false, Option, Some, None, List, [], ◌∷◌, ◌++◌, slice_get, length, if◌then◌else◌}
 use Rattle.reorder.specs.Number.{offset}
 use Rattle.capture_rules.specs.declared.arrival.HandedOn.{HandedOn}
 use Rattle.capture_rules.specs.declared.beginning.Beginning.{Beginning}
 use Rattle.capture_rules.specs.declared.beginning.Begun.{Begun}
-use Rattle.capture_rules.specs.Order.{place_from}
+use Rattle.capture_rules.specs.Order.{most_waiting, place_from}
 
 -- a beginning lasts 10 ms, from the first one in it on
 abbrev pub beginning_length : ℕ
@@ -36,10 +36,10 @@ module _ {T : Type 0} where
   is_beginning [] = false
   is_beginning (first ∷ more) = true
 
-  -- and its beginning is over at this time
+  -- and its beginning is over at this time: it has lasted long enough, or has as many bursts as wait at most
   abbrev pub is_over : List (HandedOn T) → ℕ → Bool
   is_over [] time = false
-  is_over (first ∷ more) time = nat_lt beginning_length (time - first.time)
+  is_over (first ∷ more) time = nat_lt beginning_length (time - first.time) || nat_le most_waiting (length (first ∷ more))
 
   -- **A silence is over** at this time: the flow isn't beginning, and nothing was handed on for longer than `wait`.
   abbrev pub is_silent : BeginningView T → ℕ → Bool

@@ -6,12 +6,14 @@ ghost use Rattle.capture_rules.specs.Begin.{is_beginning, is_kept, to_hand_in, a
 ghost use Rattle.capture_rules.specs.Begin.{after_end, IsEnded, IsFirstNumber};
 
 use crate::arrival::HandedOn;
+use crate::channel_order::MOST_WAITING;
 use crate::numbers::place_from;
 use reorder::offset;
 use std::alloc::{AllocFailed, Global};
 use std::mem;
 
-/// A beginning lasts so many nanoseconds, from the first burst in it on: 10 ms.
+/// A beginning lasts so many nanoseconds, from the first burst in it on: 10 ms. It is over, too, with
+/// its 2,048th burst, [`MOST_WAITING`].
 pub const BEGINNING: u64 = 10_000_000;
 
 /// Says of each burst of a flow that is handed on whether it is kept, since the flow is beginning,
@@ -19,7 +21,8 @@ pub const BEGINNING: u64 = 10_000_000;
 ///
 /// A flow begins with the first burst where its first number isn't known, and begins anew where after
 /// a silence a number comes that doesn't lie ahead within the window. A silence is more than `wait`
-/// nanoseconds in which nothing was handed on. It holds what is handed on within 10 ms.
+/// nanoseconds in which nothing was handed on. It holds what is handed on within 10 ms, and no more
+/// than [`MOST_WAITING`] bursts.
 #[derive(Drop)]
 pub struct Beginning<T> {
     wait: u64,
@@ -102,7 +105,7 @@ impl<T> Beginning<T> {
         ensures unchanged { IfNone result (beginning_seen self.new ≡ beginning_seen self.old) }
     {
         let first = self.kept.first()?;
-        if time.saturating_sub(first.time) <= BEGINNING {
+        if time.saturating_sub(first.time) <= BEGINNING && self.kept.len() < MOST_WAITING {
             return None;
         }
         self.end(alloc)

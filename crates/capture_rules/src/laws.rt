@@ -1,42 +1,54 @@
 //! What follows from the definitions alone.
-ghost use Rattle.std.specs.Prelude.{◌≡◌, ◌<◌, ◌≤◌, ◌-◌, ◌++◌, ℕ, List, Option, All, AllPairs, IsPermutation};
+ghost use Rattle.std.specs.Prelude.{◌≡◌, ◌<◌, ◌≤◌, ◌-◌, ◌++◌, ℕ, List, Option, All, AllPairs, IsPermutation, length};
 ghost use Rattle.reorder.specs.Limits.{modulus};
 ghost use Rattle.capture_rules.specs.declared.arrival.Arrival.{Arrival};
 ghost use Rattle.capture_rules.specs.declared.arrival.HandedOn.{HandedOn};
 ghost use Rattle.capture_rules.specs.declared.held_time.HeldTime.{HeldTime};
-ghost use Rattle.capture_rules.specs.Order.{IsNext, HandsOn, HandsOnAll, Orders, arrivals_of};
+ghost use Rattle.capture_rules.specs.declared.arrival.Waiting.{Waiting};
+ghost use Rattle.capture_rules.specs.Order.{OrderView, nothing_waits, most_waiting, IsNext, HandsOnAll, Orders, arrivals_of, bursts_of};
+ghost use Rattle.capture_rules.specs.Turns.{CameNearlyInOrder, FewWait, InTurn};
 ghost use Rattle.capture_rules.specs.Begin.{IsFirstNumber};
 ghost use Rattle.capture_rules.specs.Held.{IsSkip};
 
 /// Of bursts that came one after another one list alone is handed on, and the same go on waiting.
 pub fn bursts_are_handed_on_in_one_way<T>()
-    ensures next { (reorder : ℕ) (waiting rest rest' : List (Arrival T)) (next next' : HandedOn T)
-        → IsNext reorder waiting next rest → IsNext reorder waiting next' rest'
-        → (next ≡ next') × (rest ≡ rest') }
-    ensures order { (reorder : ℕ) (waiting came left left' : List (Arrival T))
-        → (handed handed' : List (HandedOn T)) → Orders reorder waiting came handed left
-        → Orders reorder waiting came handed' left' → (handed ≡ handed') × (left ≡ left') }
-    ensures end { (reorder : ℕ) (waiting : List (Arrival T)) (handed handed' : List (HandedOn T))
-        → HandsOnAll reorder waiting handed → HandsOnAll reorder waiting handed'
-        → handed ≡ handed' }
+    ensures next { (waiting rest rest' : List (Waiting T)) (next next' : HandedOn T)
+        → IsNext waiting next rest → IsNext waiting next' rest' → (next ≡ next') × (rest ≡ rest') }
+    ensures order { (order left left' : OrderView T) (came : List (Arrival T))
+        → (handed handed' : List (HandedOn T)) → Orders order came handed left
+        → Orders order came handed' left' → (handed ≡ handed') × (left ≡ left') }
+    ensures end { (waiting : List (Waiting T)) (handed handed' : List (HandedOn T))
+        → HandsOnAll waiting handed → HandsOnAll waiting handed' → handed ≡ handed' }
 {}
 
 /// What is handed on and what goes on waiting are together the bursts that waited and that came, in
 /// another order; and in the end all are handed on that wait.
 pub fn no_burst_is_lost_or_doubled<T>()
-    ensures order { (reorder : ℕ) (waiting came left : List (Arrival T)) (handed : List (HandedOn T))
-        → Orders reorder waiting came handed left
-        → IsPermutation (waiting ++ came) (arrivals_of handed ++ left) }
-    ensures end { (reorder : ℕ) (waiting : List (Arrival T)) (handed : List (HandedOn T))
-        → HandsOnAll reorder waiting handed → IsPermutation waiting (arrivals_of handed) }
+    ensures order { (order left : OrderView T) (came : List (Arrival T)) (handed : List (HandedOn T))
+        → Orders order came handed left
+        → IsPermutation (bursts_of order.waiting ++ came) (arrivals_of handed ++ bursts_of left.waiting) }
+    ensures end { (waiting : List (Waiting T)) (handed : List (HandedOn T))
+        → HandsOnAll waiting handed → IsPermutation (bursts_of waiting) (arrivals_of handed) }
 {}
 
-/// Where times don't go back, only what came within `reorder` goes on waiting.
+/// However times stand still, go back or are set back: what goes on waiting came within `reorder`,
+/// by the flow's clock, and is no more than 2,048 bursts.
 pub fn what_waits_came_lately<T>()
-    ensures { (reorder now : ℕ) (waiting left : List (Arrival T)) (handed : List (HandedOn T))
-        → HandsOn reorder now waiting handed left
-        → AllPairs (λ earlier later. earlier.time ≤ later.time) waiting
-        → All (λ one. now - one.time ≤ reorder) left }
+    ensures lately { (reorder : ℕ) (left : OrderView T) (came : List (Arrival T)) (handed : List (HandedOn T))
+        → Orders (nothing_waits reorder) came handed left
+        → All (λ one. left.clock - one.came ≤ reorder) left.waiting }
+    ensures most { (reorder : ℕ) (left : OrderView T) (came : List (Arrival T)) (handed : List (HandedOn T))
+        → Orders (nothing_waits reorder) came handed left → length left.waiting ≤ most_waiting }
+{}
+
+/// Where the bursts of each channel came in the order of their numbers, but for such as came within
+/// `reorder` of one another, and fewer than 2,048 waited, they leave in the order of their numbers.
+pub fn each_channel_leaves_in_order<T>()
+    ensures { (reorder : ℕ) (place : Arrival T → ℕ) (came : List (Arrival T)) (left : OrderView T)
+        → (handed last : List (HandedOn T)) → CameNearlyInOrder reorder place came
+        → FewWait reorder place (nothing_waits reorder) came
+        → Orders (nothing_waits reorder) came handed left → HandsOnAll left.waiting last
+        → AllPairs (InTurn reorder place) (arrivals_of handed ++ arrivals_of last) }
 {}
 
 /// A beginning has one first number.

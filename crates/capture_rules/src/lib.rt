@@ -1,12 +1,12 @@
 //! What becomes of the bursts of one flow in a capture, as far as times say it.
 //!
 //! A capture says when each burst came, but a receiver knows no time. So three rules of time stand
-//! before it, each for one flow. All times are nanoseconds of the packets' clock; an earlier one
-//! may stand after a later one.
+//! before it, each for one flow. All times are nanoseconds of the packets' clock, which may stand
+//! still, or go back.
 //!
 //! 1. [`ChannelOrder`]: an analyser may write two bursts of one channel the other way round. So each
-//!    [`Arrival`] waits, and of those that came on one channel within `reorder` the one of the least
-//!    number is [`HandedOn`] first.
+//!    [`Arrival`] waits for `reorder`, by a clock of the flow, and of those on one channel the one of
+//!    the least number is [`HandedOn`] first. No more than [`MOST_WAITING`] wait.
 //! 2. [`Beginning`]: where the first number isn't known, and where after a silence a number comes
 //!    that doesn't lie ahead within the window, what is handed on is kept for 10 ms, and the flow
 //!    begins, or begins anew, at the least number of these ([`Begun`]).
@@ -16,20 +16,23 @@
 //! here of what a burst brings: it is a type parameter.
 //!
 //! What matters most: what is handed on is what the definition `Orders` says of all bursts that came
-//! and their times, nothing is lost and nothing doubled by it, and with times that don't go back
-//! only what came within `reorder` goes on waiting ([`laws`]).
+//! and their times, nothing is lost and nothing doubled by it, only what came within `reorder` goes
+//! on waiting, and what came nearly in order leaves in order ([`laws`]).
 #![tactic(auto)]
 
 mod arrival;
 mod beginning;
 mod channel_order;
+mod clock_counts;
 mod held_time;
 mod held_times;
 pub mod laws;
 mod numbers;
+mod waiting_numbers;
 
 pub use arrival::{Arrival, HandedOn};
 pub use beginning::{BEGINNING, Beginning, Begun};
-pub use channel_order::ChannelOrder;
+pub use channel_order::{ChannelOrder, MOST_WAITING};
+pub use clock_counts::ClockCounts;
 pub use held_time::HeldTime;
 pub use held_times::HeldTimes;

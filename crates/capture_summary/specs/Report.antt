@@ -73,7 +73,12 @@ passed_lines passed = flat_map (λ why. passed_line why (count_of_reason passed 
 abbrev pub records_line : CaptureSummary → List ℕ
 records_line summary = named (codes "records") summary.records ++ named (codes " earlier") summary.earlier ++ line_feed ∷ []
 
--- **The report of a capture**: the lines of each flow and of each channel, in order, what was passed over, and how many records there were.
+-- `clock set_back <n> crowded <n>`
+abbrev pub clock_line : CaptureSummary → List ℕ
+clock_line summary = named (codes "clock set_back") summary.set_back ++ named (codes " crowded") summary.crowded ++ line_feed ∷ []
+
+-- **The report of a capture**: the lines of each flow and of each channel, in order, what was passed over, how many records there were, and how clocks were.
 abbrev pub report_text : CaptureSummary → List ℕ
 report_text summary =
     numbered_lines flow_lines summary.flows.items ++ flat_map channel_lines summary.channels.items ++ passed_lines summary.passed ++ records_line summary
+    ++ clock_line summary

@@ -32,9 +32,9 @@ requests_line flow =
 abbrev pub flow_text : FlowSummary → List ℕ
 flow_text flow = if is_quiet flow then [] else (segments_line flow ++ frames_line flow ++ requests_line flow)
 
--- how many flows there are of which nothing came, if there are any
-abbrev pub quiet_line : ℕ → List ℕ
-quiet_line count = if count == 0 then [] else (named (codes "flows of which nothing came:") count ++ line_feed ∷ [])
+-- what was counted, if something was
+abbrev pub counted_line : List ℕ → ℕ → List ℕ
+counted_line what count = if count == 0 then [] else (named what count ++ line_feed ∷ [])
 
 -- a refusal that came, by its words
 abbrev pub refusal_line : Refusal → ℕ → List ℕ
@@ -55,6 +55,12 @@ abbrev pub all_records_line : CaptureSummary → List ℕ
 all_records_line summary =
     named (codes "records") summary.records ++ named (codes ", earlier than the record before") summary.earlier ++ line_feed ∷ []
 
+-- how often the clocks of flows failed
+abbrev pub clock_lines : CaptureSummary → List ℕ
+clock_lines summary =
+    counted_line (codes "  the clock was set back by more than --reorder, so that what waited of a flow went first:") summary.set_back
+    ++ counted_line (codes "  the clock stood still or nearly, so that with 2048 of a flow waiting bursts went by number:") summary.crowded
+
 -- how many of them were passed over for a reason, if some were
 abbrev pub reason_line : PassedReason → ℕ → List ℕ
 reason_line why count = if count == 0 then [] else (codes "  passed over: " ++ named (reason_text why) count ++ line_feed ∷ [])
@@ -62,5 +68,5 @@ reason_line why count = if count == 0 then [] else (codes "  passed over: " ++ n
 -- **What people read of a capture in the end**: of each flow of which something came, of each channel, and of all records.
 abbrev pub summary_text : CaptureSummary → List ℕ
 summary_text summary =
-    flat_map flow_text summary.flows.items ++ quiet_line (count_by is_quiet summary.flows.items) ++ flat_map channel_text summary.channels.items
-    ++ all_records_line summary ++ flat_map (λ why. reason_line why (count_of_reason summary.passed why)) all_reasons
+    flat_map flow_text summary.flows.items ++ counted_line (codes "flows of which nothing came:") (count_by is_quiet summary.flows.items) ++ flat_map channel_text summary.channels.items
+    ++ all_records_line summary ++ clock_lines summary ++ flat_map (λ why. reason_line why (count_of_reason summary.passed why)) all_reasons

@@ -4,7 +4,7 @@ ghost use Rattle.text_lines.specs.Putting.{Puts};
 ghost use Rattle.capture_summary.specs.ReplayLines.{flow_line, numbered_lines};
 ghost use Rattle.lane.specs.Report.{refusal_number};
 ghost use Rattle.capture_summary.specs.Counting.{count_of_refusal, count_of_reason};
-ghost use Rattle.capture_summary.specs.Report.{joined_line, flow_lines, counted_refusal, refused_text, lane_line, bursts_line, channel_lines, passed_line, records_line, report_text};
+ghost use Rattle.capture_summary.specs.Report.{joined_line, flow_lines, counted_refusal, refused_text, lane_line, bursts_line, channel_lines, passed_line, records_line, clock_line, report_text};
 
 use crate::channel_summary::ChannelSummary;
 use crate::flow_summary::FlowSummary;
@@ -160,8 +160,17 @@ fn put_records_line<O: PutText>(out: &mut O, summary: &CaptureSummary)
     put_word(out, "\n");
 }
 
+/// Puts how often the clocks of flows failed.
+fn put_clock_line<O: PutText>(out: &mut O, summary: &CaptureSummary)
+    ensures { Puts O.after out.old (clock_line summary.now) out.new }
+{
+    put_named(out, "clock set_back", summary.set_back);
+    put_named(out, " crowded", summary.crowded);
+    put_word(out, "\n");
+}
+
 /// Puts the report of a capture: two lines for each flow, in order; two for each channel, in order;
-/// one for each reason for which records were passed over; and one for all records.
+/// one for each reason for which records were passed over; one for all records; and one for clocks.
 pub fn put_report<O: PutText>(out: &mut O, summary: &CaptureSummary)
     ensures { Puts O.after out.old (report_text summary.now) out.new }
 {
@@ -169,4 +178,5 @@ pub fn put_report<O: PutText>(out: &mut O, summary: &CaptureSummary)
     put_channels(out, &summary.channels);
     put_passed(out, &summary.passed, &ALL_REASONS);
     put_records_line(out, summary);
+    put_clock_line(out, summary);
 }

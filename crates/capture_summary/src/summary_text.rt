@@ -2,7 +2,7 @@
 ghost use Rattle.std.specs.Prelude.{◌≡◌, flat_map, count_by};
 ghost use Rattle.text_lines.specs.Putting.{Puts};
 ghost use Rattle.capture_summary.specs.Counting.{is_quiet, count_of_refusal, count_of_reason};
-ghost use Rattle.capture_summary.specs.SummaryText.{segments_line, frames_line, requests_line, flow_text, quiet_line, refusal_line, channel_line, channel_text, all_records_line, reason_line, summary_text};
+ghost use Rattle.capture_summary.specs.SummaryText.{segments_line, frames_line, requests_line, flow_text, counted_line, refusal_line, channel_line, channel_text, all_records_line, clock_lines, reason_line, summary_text};
 
 use crate::channel_summary::ChannelSummary;
 use crate::flow_summary::FlowSummary;
@@ -76,14 +76,14 @@ fn quiet_count(flows: &[FlowSummary]) -> usize
     flows.iter().filter(|flow| flow.is_quiet()).count()
 }
 
-/// Puts how many flows there are of which nothing came, if there are any.
-fn put_quiet_line<O: PutText>(out: &mut O, count: usize)
-    ensures { Puts O.after out.old (quiet_line count) out.new }
+/// Puts what was counted, if something was.
+fn put_counted_line<O: PutText>(out: &mut O, what: &str, count: u64)
+    ensures { Puts O.after out.old (counted_line what.now count) out.new }
 {
     if count == 0 {
         return;
     }
-    put_named(out, "flows of which nothing came:", count as u64);
+    put_named(out, what, count);
     put_word(out, "\n");
 }
 
@@ -148,6 +148,22 @@ fn put_records_line<O: PutText>(out: &mut O, summary: &CaptureSummary)
     put_word(out, "\n");
 }
 
+/// Puts how often the clocks of flows failed, where they did.
+fn put_clock_lines<O: PutText>(out: &mut O, summary: &CaptureSummary)
+    ensures { Puts O.after out.old (clock_lines summary.now) out.new }
+{
+    put_counted_line(
+        out,
+        "  the clock was set back by more than --reorder, so that what waited of a flow went first:",
+        summary.set_back,
+    );
+    put_counted_line(
+        out,
+        "  the clock stood still or nearly, so that with 2048 of a flow waiting bursts went by number:",
+        summary.crowded,
+    );
+}
+
 /// Puts how many records were passed over for a reason, if some were.
 fn put_reason_line<O: PutText>(out: &mut O, why: PassedReason, count: u64)
     ensures { Puts O.after out.old (reason_line why count) out.new }
@@ -172,13 +188,16 @@ fn put_reasons<O: PutText>(out: &mut O, passed: &PassedCounts, reasons: &[Passed
 
 /// Puts what people read of a capture in the end: three lines for each flow of which something
 /// came, and how many others there are; a line for each channel, and below it one for each refusal
-/// that came; one for all records, and below it one for each reason to pass some over.
+/// that came; one for all records, and below it one for each way in which clocks failed and for each
+/// reason to pass some over.
 pub fn put_summary<O: PutText>(out: &mut O, summary: &CaptureSummary)
     ensures { Puts O.after out.old (summary_text summary.now) out.new }
 {
     put_flows(out, &summary.flows);
-    put_quiet_line(out, quiet_count(&summary.flows));
+    let quiet = quiet_count(&summary.flows) as u64;
+    put_counted_line(out, "flows of which nothing came:", quiet);
     put_channels(out, &summary.channels);
     put_records_line(out, summary);
+    put_clock_lines(out, summary);
     put_reasons(out, &summary.passed, &ALL_REASONS);
 }

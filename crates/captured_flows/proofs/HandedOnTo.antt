@@ -1,5 +1,5 @@
 -- A burst is handed on.
-use Rattle.std.proofs.Common.{◌≡◌, ℕ, Bool, Option, Some, None, is_some, List, ◌++◌, ap, sym, subst, ◌∙◌, append_assoc}
+use Rattle.std.proofs.Common.{◌≡◌, ℕ, Bool, Option, Some, None, is_some, List, [], ◌∷◌, ◌++◌, refl, ap, sym, subst, ◌∙◌, append_assoc, append-nil}
 use Rattle.std.specs.Prelude.{IfSome, IfNone, OnSome}
 use Rattle.bonded_flows.specs.Table.{TableSetup}
 use Rattle.captured_flows.specs.Acts.{Act}
@@ -7,7 +7,7 @@ use Rattle.capture_rules.specs.declared.held_time.HeldTime.{HeldTime}
 use Rattle.capture_rules.specs.declared.beginning.Begun.{Begun}
 use Rattle.capture_rules.specs.Begin.{BeginningView, IsEnded, is_over, is_silent, after_end, after_hand_on, to_hand_in}
 use Rattle.captured_flows.specs.declared.sound_burst.SoundBurst.{SoundBurst}
-use Rattle.captured_flows.specs.Flow.{Next, Expects, EndsIf, goes_on_beginning, ends, BeginsIf, LetsGoIf, HandsInIf, IsHandedOn}
+use Rattle.captured_flows.specs.Flow.{Next, Expects, EndsIf, goes_on_beginning, ends, BeginsIf, LetsGoIf, HandsInIf, IsHandedOn, AreHandedOn, no_more, next_one}
 use Rattle.captured_flows.proofs.Taken.{Then}
 
 -- a beginning that ends or doesn't
@@ -44,3 +44,34 @@ module _ (made : TableSetup) (wait k window : ℕ) (one : Next) where
         beginning_is = beginning_is;
         all = all ∙ ap (λ (b : List Act). b ++ last) before_is;
       }
+
+-- bursts that are handed on one after another
+module _ (made : TableSetup) (wait k window : ℕ) where
+  -- none is, and nothing is handed in
+  pub none-handed_on : (beginning : BeginningView SoundBurst) (held : List HeldTime) (handed more : List Act) → [] ≡ more → AreHandedOn made wait k window [] beginning held handed more beginning held
+  none-handed_on beginning held handed more none = subst (λ (m : List Act). AreHandedOn made wait k window [] beginning held handed m beginning held) none no_more
+
+  -- one is
+  pub one-handed_on : (one : Next) (beginning beginning' : BeginningView SoundBurst) (held held' : List HeldTime) (handed more : List Act)
+      → IsHandedOn made wait k window one beginning held handed more beginning' held' → AreHandedOn made wait k window (one ∷ []) beginning held handed more beginning' held'
+  one-handed_on one beginning beginning' held held' handed more is =
+      next_one no_more (subst (λ (h : List Act). IsHandedOn made wait k window one beginning held h more beginning' held') (sym (append-nil handed)) is)
+
+  -- some are, and then others
+  others-handed_on : {due others : List Next} {beginning between beginning' : BeginningView SoundBurst} {held holding held' : List HeldTime} {handed first after later : List Act}
+      → AreHandedOn made wait k window due beginning held handed first between holding → AreHandedOn made wait k window others between holding after later beginning' held' → after ≡ handed ++ first
+      → AreHandedOn made wait k window (due ++ others) beginning held handed (first ++ later) beginning' held'
+  others-handed_on {due = due} {beginning = beginning} {held = held} {handed = handed} {first = first} are (no_more {beginning = b} {held = h}) same =
+      subst (λ (ds : List Next). AreHandedOn made wait k window ds beginning held handed (first ++ []) b h) (sym (append-nil due))
+      (subst (λ (m : List Act). AreHandedOn made wait k window due beginning held handed m b h) (sym (append-nil first)) are)
+  others-handed_on {due = due} {beginning = beginning} {held = held} {handed = handed} {first = first} are
+      (next_one {one = one} {before = before} {between = b} {beginning' = b'} {holding = h} {held' = h'} {first = second} {later = later} rest is) same =
+      subst (λ (ds : List Next). AreHandedOn made wait k window ds beginning held handed (first ++ (second ++ later)) b' h') (append_assoc due before (one ∷ []))
+      (subst (λ (m : List Act). AreHandedOn made wait k window ((due ++ before) ++ one ∷ []) beginning held handed m b' h') (append_assoc first second later)
+      (next_one (others-handed_on are rest same)
+      (subst (λ (hs : List Act). IsHandedOn made wait k window one b h hs later b' h') (ap (λ (hs : List Act). hs ++ second) same ∙ append_assoc handed first second) is)))
+
+  pub more-handed_on : {due others : List Next} {beginning between beginning' : BeginningView SoundBurst} {held holding held' : List HeldTime} {handed first later : List Act}
+      → AreHandedOn made wait k window due beginning held handed first between holding → AreHandedOn made wait k window others between holding (handed ++ first) later beginning' held'
+      → AreHandedOn made wait k window (due ++ others) beginning held handed (first ++ later) beginning' held'
+  more-handed_on are then = others-handed_on are then refl

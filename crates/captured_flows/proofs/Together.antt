@@ -22,7 +22,7 @@ set-cases (x ∷ xs) (suc k) v zero y there = inr there
 set-cases (x ∷ xs) (suc k) v (suc j) y there = set-cases xs k v j y there
 
 pub waits-kept : (waits : Waits) (old new : CapturedFlow) → KeepsWaits old new → HasWaits waits old → HasWaits waits new
-waits-kept waits old new keeps has = record { wait = keeps.wait ∙ has.wait; reorder = keeps.reorder ∙ has.reorder }
+waits-kept waits old new keeps has = record { wait = keeps.wait ∙ has.wait }
 
 pub waits-set : (waits : Waits) (flows : List CapturedFlow) (k : ℕ) (new : CapturedFlow) → HaveWaits waits flows → HasWaits waits new → HaveWaits waits (set flows k new)
 waits-set waits flows k new have has j flow there =
@@ -39,11 +39,11 @@ views-set flows k new = map-set flow_seen flows k new
 
 -- one flow more has ended
 pub ends-more : (waits : Waits) (made : TableSetup) (start between flows : List FlowView) (handed first later more : List Act) (n : ℕ)
-    → EndsAll made waits.reorder waits.wait start handed n first between → EndsAt waits n between made (handed ++ first) later flows → more ≡ first ++ later
-    → EndsAll made waits.reorder waits.wait start handed (n + 1) more flows
+    → EndsAll made waits.wait start handed n first between → EndsAt waits n between made (handed ++ first) later flows → more ≡ first ++ later
+    → EndsAll made waits.wait start handed (n + 1) more flows
 ends-more waits made start between flows handed first later more n before at all =
-    subst (λ (m : List Act). EndsAll made waits.reorder waits.wait start handed (n + 1) m flows) (sym all)
-    (subst (λ (fs : List FlowView). EndsAll made waits.reorder waits.wait start handed (n + 1) (first ++ later) fs) (sym at.others)
+    subst (λ (m : List Act). EndsAll made waits.wait start handed (n + 1) m flows) (sym all)
+    (subst (λ (fs : List FlowView). EndsAll made waits.wait start handed (n + 1) (first ++ later) fs) (sym at.others)
     (one_more_ends at.flow at.flow' before at.stands at.ends))
 
 -- what stands in a list with one item more

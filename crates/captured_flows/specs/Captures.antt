@@ -40,9 +40,9 @@ pub record IsRefused (channel : ℕ) (burst : CapturedBurst) (answered : Reply) 
   pub is_burst : IsInput alone channel (refused_burst burst) answered made (handed ++ granted) coming
   pub all : more ≡ granted ++ coming
 
--- **With this map**, where a receiver is made with this, bursts wait for `reorder`, and what is held for longer than `wait` is let go. In what follows
+-- **With this map**, where a receiver is made with this, and what is held for longer than `wait` is let go. In what follows
 -- `handed` is what was handed in before, and `more` what is handed in then.
-module _ (capture_map : CaptureMap) (made : TableSetup) (reorder wait : ℕ) where
+module _ (capture_map : CaptureMap) (made : TableSetup) (wait : ℕ) where
   -- **A burst comes**: one of an upstream channel or a service identifier that the map doesn't have is passed over; one that its lane refuses is handed in
   -- at once, and its flow never sees it; any other comes to its flow.
   pub data SpellsBurst (flows : List FlowView) (burst : CapturedBurst) (handed : List Act) : BurstTaken → List Act → List FlowView → Type 0 where
@@ -54,7 +54,7 @@ module _ (capture_map : CaptureMap) (made : TableSetup) (reorder wait : ℕ) whe
         → SpellsBurst flows burst handed (taken.Refused answered) more flows
     comes : {more : List Act} (channel k : ℕ) (one : Arrival SoundBurst) (flow flow' : FlowView) → channel_of capture_map.channels.items burst.channel ≡ Some channel
         → flow_of capture_map.sids.items channel burst.sid ≡ Some k → IsSound channel burst one → slice_get flows k ≡ Some flow
-        → Comes made wait k reorder one flow handed more flow' → SpellsBurst flows burst handed (taken.Waits k) more (slice_set flows k flow')
+        → Comes made wait k one flow handed more flow' → SpellsBurst flows burst handed (taken.Waits k) more (slice_set flows k flow')
 
   -- **Bursts come one after another.**
   pub data SpellsBursts (flows : List FlowView) (handed : List Act) : List CapturedBurst → List Act → List FlowView → Type 0 where
@@ -63,12 +63,12 @@ module _ (capture_map : CaptureMap) (made : TableSetup) (reorder wait : ℕ) whe
         → SpellsBursts flows handed bursts first between → SpellsBurst between burst (handed ++ first) told later flows'
         → SpellsBursts flows handed (bursts ++ burst ∷ []) (first ++ later) flows'
 
-module _ (made : TableSetup) (reorder wait : ℕ) where
+module _ (made : TableSetup) (wait : ℕ) where
   -- **Nothing more comes** of the first n flows: of one after another all that waits is handed on, and its beginning ends.
   pub data EndsAll (flows : List FlowView) (handed : List Act) : ℕ → List Act → List FlowView → Type 0 where
     none_ends : EndsAll flows handed 0 [] flows
     one_more_ends : {n : ℕ} {first later : List Act} {between : List FlowView} (flow flow' : FlowView)
-        → EndsAll flows handed n first between → slice_get between n ≡ Some flow → EndsWaiting made wait n reorder flow (handed ++ first) later flow'
+        → EndsAll flows handed n first between → slice_get between n ≡ Some flow → EndsWaiting made wait n flow (handed ++ first) later flow'
         → EndsAll flows handed (n + 1) (first ++ later) (slice_set between n flow')
 
 -- ============ What a map is to a receiver ============

@@ -16,7 +16,7 @@ use Rattle.capture_rules.specs.declared.arrival.Arrival.{Arrival}
 use Rattle.capture_rules.specs.declared.arrival.HandedOn.{HandedOn}
 use Rattle.capture_rules.specs.declared.held_time.HeldTime.{HeldTime}
 use Rattle.capture_rules.specs.declared.beginning.Begun.{Begun}
-use Rattle.capture_rules.specs.Order.{HandsOn, HandsOnAll}
+use Rattle.capture_rules.specs.Order.{OrderView, nothing_waits, HandsOn, BurstComes, HandsOnAll}
 use Rattle.capture_rules.specs.Begin.{BeginningView, nothing_handed_on, IsEnded, is_over, is_beginning, is_silent, after_end, after_hand_on, to_hand_in}
 use Rattle.capture_rules.specs.Held.{IsSkip, still_ahead}
 use Rattle.captured_flows.specs.declared.sound_burst.SoundBurst.{SoundBurst}
@@ -49,16 +49,16 @@ pub record IsInput (act : HandedIn → Act) (channel : ℕ) (input : Input) (ans
   pub told : IsToldRightly made (items_of handed) channel answer answered
   pub all : more ≡ act (came channel (record { input = input; answer = answer })) ∷ []
 
--- What is known of a flow: the window's width; the bursts that wait; its beginning; and what it holds, with times.
+-- What is known of a flow: the window's width; the order of its bursts, and those that wait; its beginning; and what it holds, with times.
 pub record FlowView : Type 0 where
   pub window : ℕ
-  pub waiting : List (Arrival SoundBurst)
+  pub order : OrderView SoundBurst
   pub beginning : BeginningView SoundBurst
   pub held : List HeldTime
 
 -- nothing of it came yet
-abbrev pub flow_begun : ℕ → Bool → ℕ → FlowView
-flow_begun window is_begun wait = record { window = window; waiting = []; beginning = nothing_handed_on wait is_begun; held = [] }
+abbrev pub flow_begun : ℕ → Bool → ℕ → ℕ → FlowView
+flow_begun window is_begun reorder wait = record { window = window; order = nothing_waits reorder; beginning = nothing_handed_on wait is_begun; held = [] }
 
 -- a beginning ends, if it is to end
 pub data EndsIf (is_to_end : Bool) (beginning : BeginningView SoundBurst) : Option (Begun SoundBurst) → BeginningView SoundBurst → Type 0 where
@@ -163,21 +163,24 @@ module _ (made : TableSetup) (wait k : ℕ) where
         → AreHandedOn window before beginning held handed first between holding → IsHandedOn window one between holding (handed ++ first) later beginning' held'
         → AreHandedOn window (before ++ one ∷ []) beginning held handed (first ++ later) beginning' held'
 
-  -- what has waited long enough is handed on
-  pub record PassesOn (reorder now : ℕ) (flow : FlowView) (handed more : List Act) (flow' : FlowView) : Type 0 where
+  -- what goes before a burst of this time comes is handed on
+  pub record PassesOn (time : ℕ) (flow : FlowView) (handed more : List Act) (flow' : FlowView) : Type 0 where
     pub due : List Next
-    pub hands_on : HandsOn reorder now flow.waiting due flow'.waiting
+    pub hands_on : HandsOn time flow.order due flow'.order
     pub handed_on : AreHandedOn flow.window due flow.beginning flow.held handed more flow'.beginning flow'.held
     pub window : flow'.window ≡ flow.window
 
-  -- **A burst of the flow comes**: it waits, and all that has waited long enough is handed on.
-  abbrev pub Comes : ℕ → Arrival SoundBurst → FlowView → List Act → List Act → FlowView → Type 0
-  Comes reorder one flow handed more flow' = PassesOn reorder one.time (record flow { waiting = flow.waiting ++ one ∷ [] }) handed more flow'
+  -- **A burst of the flow comes**: what is due is handed on, and then it waits.
+  pub record Comes (one : Arrival SoundBurst) (flow : FlowView) (handed more : List Act) (flow' : FlowView) : Type 0 where
+    pub due : List Next
+    pub burst_comes : BurstComes flow.order one due flow'.order
+    pub handed_on : AreHandedOn flow.window due flow.beginning flow.held handed more flow'.beginning flow'.held
+    pub window : flow'.window ≡ flow.window
 
   -- **Nothing more comes**: all that waits is handed on, and a beginning ends.
-  pub record EndsWaiting (reorder : ℕ) (flow : FlowView) (handed more : List Act) (flow' : FlowView) : Type 0 where
+  pub record EndsWaiting (flow : FlowView) (handed more : List Act) (flow' : FlowView) : Type 0 where
     pub due : List Next
-    pub hands_on : HandsOnAll reorder flow.waiting due
+    pub hands_on : HandsOnAll flow.order.waiting due
     pub beginning : BeginningView SoundBurst
     pub held : List HeldTime
     pub first : List Act
@@ -186,6 +189,6 @@ module _ (made : TableSetup) (wait k : ℕ) where
     pub ends : EndsIf (is_beginning beginning.kept) beginning begun flow'.beginning
     pub later : List Act
     pub begins_if : BeginsIf held (handed ++ first) begun later flow'.held
-    pub none_waits : flow'.waiting ≡ []
+    pub left : flow'.order ≡ record flow.order { waiting = [] }
     pub window : flow'.window ≡ flow.window
     pub all : more ≡ first ++ later

@@ -13,7 +13,7 @@ use Rattle.captured_flows.specs.Seen.{flow_seen, HasWaits}
 abbrev pub views_of : List CapturedFlow → List FlowView
 views_of flows = map flow_seen flows
 
--- all their bursts wait and are held so long
+-- all their segments are held so long
 abbrev pub HaveWaits : Waits → List CapturedFlow → Type 0
 HaveWaits waits flows = (k : ℕ) (flow : CapturedFlow) → slice_get flows k ≡ Some flow → HasWaits waits flow
 
@@ -22,7 +22,7 @@ pub record ComesAt (waits : Waits) (k : ℕ) (one : Arrival SoundBurst) (flows :
   pub flow : FlowView
   pub stands : slice_get flows k ≡ Some flow
   pub flow' : FlowView
-  pub comes : Comes made waits.wait k waits.reorder one flow handed more flow'
+  pub comes : Comes made waits.wait k one flow handed more flow'
   pub others : flows' ≡ slice_set flows k flow'
 
 -- nothing more comes to it
@@ -30,9 +30,9 @@ pub record EndsAt (waits : Waits) (k : ℕ) (flows : List FlowView) (made : Tabl
   pub flow : FlowView
   pub stands : slice_get flows k ≡ Some flow
   pub flow' : FlowView
-  pub ends : EndsWaiting made waits.wait k waits.reorder flow handed more flow'
+  pub ends : EndsWaiting made waits.wait k flow handed more flow'
   pub others : flows' ≡ slice_set flows k flow'
 
 -- a flow of a map, of which nothing came yet
 abbrev pub view_begun : Waits → MapFlow → FlowView
-view_begun waits flow = flow_begun flow.window (is_some flow.first) waits.wait
+view_begun waits flow = flow_begun flow.window (is_some flow.first) waits.reorder waits.wait

@@ -18,7 +18,7 @@ use crate::sound_burst::SoundBurst;
 use crate::taking::take;
 use crate::waits::Waits;
 use capture_map::CaptureMap;
-use capture_rules::Arrival;
+use capture_rules::{Arrival, ClockCounts};
 use docsis_wire::HeaderCheck;
 use lane::Input;
 use loss_rule::LossRule;
@@ -123,7 +123,7 @@ fn end_all<C: HeaderCheck + Drop, O: CaptureConsumer>(
     requires at_hand { IsAtHand C.accepts receiver.old }
     requires waits { HaveWaits waits flows.old }
     ensures takes { IfOk result (λ _. TakesBy C.accepts O.saw
-        (λ made handed more. EndsAll made waits.reorder waits.wait (views_of flows.old) handed
+        (λ made handed more. EndsAll made waits.wait (views_of flows.old) handed
         (length flows.old) more (views_of flows.new)) receiver.old out.old receiver.new out.new) }
     ensures at_hand { IfOk result (λ _. IsAtHand C.accepts receiver.new) }
     ensures breaks { OnErr result (BreaksOff C.accepts O.saw receiver.old out.old
@@ -149,7 +149,7 @@ pub struct CapturedFlows<C> {
 }
 
 impl<C: HeaderCheck + Drop> CapturedFlows<C> {
-    ghost use Rattle.captured_flows.specs.Capturing.{IsCapturing, SpellsNext, SpellsAll, EndsWaitingOfAll, views_in};
+    ghost use Rattle.captured_flows.specs.Capturing.{IsCapturing, SpellsNext, SpellsAll, EndsWaitingOfAll, views_in, clock_counts_in};
     ghost use Rattle.captured_flows.specs.Captures.{made_from, IsFaultOf};
     ghost use Rattle.receiver.specs.Receiving.{StandsFor};
 
@@ -277,6 +277,16 @@ impl<C: HeaderCheck + Drop> CapturedFlows<C> {
     {
         end_all(alloc, &mut self.receiver, &mut self.flows, self.waits, out)?;
         Ok(())
+    }
+
+    /// How often the clocks of all flows failed.
+    pub fn clock_counts(&self) -> ClockCounts
+        ensures { result ≡ clock_counts_in self.now }
+    {
+        let flows = self.flows.iter();
+        flows.fold(ClockCounts::none(), |counts, flow| {
+            counts.and(flow.order.clock_counts())
+        })
     }
 
     /// The receiver, to be closed.

@@ -1,11 +1,10 @@
 //! What becomes of the bursts of one flow.
-ghost use Rattle.std.specs.Prelude.{◌≡◌, ◌++◌, ◌∷◌, [], IfOk, OnOk, OnErr, true, false};
+ghost use Rattle.std.specs.Prelude.{◌≡◌, ◌++◌, ◌∷◌, [], IfOk, OnOk, OnErr, true, false, option_to_list};
 ghost use Rattle.receiver.specs.Receiving.{IsReceiving};
 ghost use Rattle.capture_rules.specs.Begin.{beginning_seen};
 ghost use Rattle.capture_rules.specs.Held.{held_by, wait_of};
-ghost use Rattle.capture_rules.specs.Waiting.{reorder_of};
 ghost use Rattle.captured_flows.specs.Flow.{Skips, LetsGo, HandsIn, HandsInAll, Begins, BeginsIf, LetsGoIf, HandsInIf, says_kept};
-ghost use Rattle.captured_flows.specs.Flow.{IsHandedOn, PassesOn, Comes, EndsWaiting, flow_begun};
+ghost use Rattle.captured_flows.specs.Flow.{IsHandedOn, AreHandedOn, PassesOn, Comes, EndsWaiting, flow_begun};
 ghost use Rattle.captured_flows.specs.AtHand.{IsAtHand};
 ghost use Rattle.captured_flows.specs.Taking.{TakesBy, BreaksOff};
 
@@ -289,7 +288,7 @@ impl CapturedFlow {
 
     /// Nothing of the flow came yet. Its window has this width, and its first number is known or isn't.
     pub(crate) fn new(alloc: Global, window: u16, is_begun: bool, waits: Waits) -> CapturedFlow
-        ensures seen { flow_seen result ≡ flow_begun window is_begun waits.wait }
+        ensures seen { flow_seen result ≡ flow_begun window is_begun waits.reorder waits.wait }
         ensures waits { HasWaits waits result }
     {
         CapturedFlow {
@@ -340,19 +339,19 @@ impl CapturedFlow {
         Ok(())
     }
 
-    /// What has waited long enough is handed on.
+    /// What goes before a burst of this time comes is handed on.
     fn pass_on<C: HeaderCheck + Drop, O: CaptureConsumer>(
         &mut self,
         alloc: Global,
         receiver: &mut Receiver<C>,
         flow: usize,
-        now: u64,
+        time: u64,
         out: &mut O,
     ) -> Result<(), FlowFault>
         requires at_hand { IsAtHand C.accepts receiver.old }
         ensures takes { IfOk result (λ _. TakesBy C.accepts O.saw
-            (λ made handed more. PassesOn made (wait_of self.old.held) flow (reorder_of self.old.order)
-            now (flow_seen self.old) handed more (flow_seen self.new))
+            (λ made handed more. PassesOn made (wait_of self.old.held) flow
+            time (flow_seen self.old) handed more (flow_seen self.new))
             receiver.old out.old receiver.new out.new) }
         ensures at_hand { IfOk result (λ _. IsAtHand C.accepts receiver.new) }
         ensures breaks { OnErr result (BreaksOff C.accepts O.saw receiver.old out.old
@@ -360,13 +359,44 @@ impl CapturedFlow {
         ensures receiving { IsReceiving C.accepts receiver.new }
         ensures waits { KeepsWaits self.old self.new }
     {
-        while let Some(next) = self.order.next(now) {
+        while let Some(next) = self.order.next(time) {
             self.hand_on(alloc, receiver, flow, next, out)?;
         }
         Ok(())
     }
 
-    /// A burst comes: it waits, and what has waited long enough is handed on.
+    /// A burst is handed on, if there is one.
+    fn hand_on_if<C: HeaderCheck + Drop, O: CaptureConsumer>(
+        &mut self,
+        alloc: Global,
+        receiver: &mut Receiver<C>,
+        flow: usize,
+        last: Option<HandedOn<SoundBurst>>,
+        out: &mut O,
+    ) -> Result<(), FlowFault>
+        requires at_hand { IsAtHand C.accepts receiver.old }
+        ensures takes { IfOk result (λ _. TakesBy C.accepts O.saw
+            (λ made handed more. AreHandedOn made (wait_of self.old.held) flow self.old.window
+            (option_to_list last) (beginning_seen self.old.beginning) (held_by self.old.held) handed
+            more (beginning_seen self.new.beginning) (held_by self.new.held))
+            receiver.old out.old receiver.new out.new) }
+        ensures at_hand { IfOk result (λ _. IsAtHand C.accepts receiver.new) }
+        ensures breaks { OnErr result (BreaksOff C.accepts O.saw receiver.old out.old
+            receiver.new out.new) }
+        ensures receiving { IsReceiving C.accepts receiver.new }
+        ensures waits { KeepsWaits self.old self.new }
+        ensures order { self.new.order ≡ self.old.order }
+    {
+        match last {
+            Some(one) => {
+                self.hand_on(alloc, receiver, flow, one, out)?;
+                Ok(())
+            }
+            None => Ok(()),
+        }
+    }
+
+    /// A burst comes: what is due is handed on, and then it waits.
     pub(crate) fn come<C: HeaderCheck + Drop, O: CaptureConsumer>(
         &mut self,
         alloc: Global,
@@ -377,7 +407,7 @@ impl CapturedFlow {
     ) -> Result<(), FlowFault>
         requires at_hand { IsAtHand C.accepts receiver.old }
         ensures takes { IfOk result (λ _. TakesBy C.accepts O.saw
-            (λ made handed more. Comes made (wait_of self.old.held) flow (reorder_of self.old.order)
+            (λ made handed more. Comes made (wait_of self.old.held) flow
             one (flow_seen self.old) handed more (flow_seen self.new))
             receiver.old out.old receiver.new out.new) }
         ensures at_hand { IfOk result (λ _. IsAtHand C.accepts receiver.new) }
@@ -386,9 +416,9 @@ impl CapturedFlow {
         ensures receiving { IsReceiving C.accepts receiver.new }
         ensures waits { KeepsWaits self.old self.new }
     {
-        let now = one.time;
-        self.order.push(one)?;
-        self.pass_on(alloc, receiver, flow, now, out)?;
+        self.pass_on(alloc, receiver, flow, one.time, out)?;
+        let last = self.order.push(one)?;
+        self.hand_on_if(alloc, receiver, flow, last, out)?;
         Ok(())
     }
 
@@ -403,7 +433,7 @@ impl CapturedFlow {
         requires at_hand { IsAtHand C.accepts receiver.old }
         ensures takes { IfOk result (λ _. TakesBy C.accepts O.saw
             (λ made handed more. EndsWaiting made (wait_of self.old.held) flow
-            (reorder_of self.old.order) (flow_seen self.old) handed more (flow_seen self.new))
+            (flow_seen self.old) handed more (flow_seen self.new))
             receiver.old out.old receiver.new out.new) }
         ensures at_hand { IfOk result (λ _. IsAtHand C.accepts receiver.new) }
         ensures breaks { OnErr result (BreaksOff C.accepts O.saw receiver.old out.old

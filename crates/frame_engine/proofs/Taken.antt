@@ -56,10 +56,10 @@ module _ (settings : CaptureSettings) (capture_map : CaptureMap) where
           spelled =
               one_more_comes has.comes.spelled
               (subst
-              (λ (waits : Waits). SpellsBurst capture_map (made settings capture_map) waits.reorder waits.wait (views_in old.flows) burst has.handed told more.0 (views_in new.flows))
+              (λ (waits : Waits). SpellsBurst capture_map (made settings capture_map) waits.wait (views_in old.flows) burst has.handed told more.0 (views_in new.flows))
               has.waits_are
               (subst
-              (λ (one : CaptureMap). SpellsBurst one (made settings capture_map) old.flows.waits.reorder old.flows.waits.wait (views_in old.flows) burst has.handed told more.0 (views_in new.flows))
+              (λ (one : CaptureMap). SpellsBurst one (made settings capture_map) old.flows.waits.wait (views_in old.flows) burst has.handed told more.0 (views_in new.flows))
               has.map_is more.1));
           plays = plays-then inner_accepts (check settings capture_map) (made settings capture_map) [] has.handed [] has.steps has.comes.plays more.3;
         };
@@ -88,9 +88,9 @@ module _ (settings : CaptureSettings) (capture_map : CaptureMap) where
           later = more.0;
           flows' = views_in new.flows;
           ends =
-              subst (λ (n : ℕ). EndsAll (made settings capture_map) settings.waits.reorder settings.waits.wait (views_in old.flows) has.handed n more.0 (views_in new.flows)) (sym (length-map old.flows.flows.items flow_seen))
+              subst (λ (n : ℕ). EndsAll (made settings capture_map) settings.waits.wait (views_in old.flows) has.handed n more.0 (views_in new.flows)) (sym (length-map old.flows.flows.items flow_seen))
               (subst
-              (λ (waits : Waits). EndsAll (made settings capture_map) waits.reorder waits.wait (views_in old.flows) has.handed (length old.flows.flows.items) more.0 (views_in new.flows))
+              (λ (waits : Waits). EndsAll (made settings capture_map) waits.wait (views_in old.flows) has.handed (length old.flows.flows.items) more.0 (views_in new.flows))
               has.waits_are more.1);
           handed_is = refl;
           plays = plays-then inner_accepts (check settings capture_map) (made settings capture_map) [] has.handed [] has.steps has.comes.plays more.3;

@@ -44,7 +44,7 @@ module _ (settings : CaptureSettings) (capture_map : CaptureMap) where
 
   -- **What comes of these bursts**, one after another: what is handed in to the receiver, how the flows of the map then stand, and what the receiver gives.
   pub record ComesOf (bursts : List CapturedBurst) (handed : List Act) (flows : List FlowView) (steps : List CaptureStep) : Type 0 where
-    pub spelled : SpellsBursts capture_map made settings.waits.reorder settings.waits.wait (map (view_begun settings.waits) capture_map.flows.items) [] bursts handed flows
+    pub spelled : SpellsBursts capture_map made settings.waits.wait (map (view_begun settings.waits) capture_map.flows.items) [] bursts handed flows
     pub plays : Plays inner_accepts check made [] [] handed steps
 
   -- and what comes of it when nothing more comes: what waits is handed in, of one flow after another
@@ -55,7 +55,7 @@ module _ (settings : CaptureSettings) (capture_map : CaptureMap) where
     pub came : ComesOf bursts before flows earlier
     pub later : List Act
     pub flows' : List FlowView
-    pub ends : EndsAll made settings.waits.reorder settings.waits.wait flows before (length flows) later flows'
+    pub ends : EndsAll made settings.waits.wait flows before (length flows) later flows'
     pub handed_is : handed ≡ before ++ later
     pub plays : Plays inner_accepts check made [] [] handed steps
 

@@ -46,13 +46,19 @@ pub fn join_capture<R: Read, W: Write, Q: Write>(
     for _ in 0..u64::MAX {
         let count = read_some(reader, &mut piece)?;
         if count == 0 {
+            reading.note_clocks(tally);
             let ended = reading.finish(alloc, tally, writer);
             tally.write_requests(alloc, requests);
             return ended;
         }
-        let joined = reading.join_piece(alloc, &piece[..count], tally, writer);
-        tally.write_requests(alloc, requests);
-        joined?;
+        match reading.join_piece(alloc, &piece[..count], tally, writer) {
+            Ok(()) => tally.write_requests(alloc, requests),
+            Err(fault) => {
+                reading.note_clocks(tally);
+                tally.write_requests(alloc, requests);
+                return Err(fault);
+            }
+        }
     }
     Err(EngineFault::Read)
 }

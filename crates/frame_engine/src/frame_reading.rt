@@ -43,6 +43,11 @@ impl FrameReading {
         })
     }
 
+    /// Notes how often the clocks of flows failed so far.
+    pub(crate) fn note_clocks(&self, tally: &mut CaptureTally) {
+        tally.note_clocks(self.joining.flows.clock_counts());
+    }
+
     /// Takes bytes from the front of the piece, at most up to the end of a record, and answers what
     /// is left of it.
     fn take_some<'a>(

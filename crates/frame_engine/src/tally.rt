@@ -1,5 +1,6 @@
 //! What is counted of a capture, and what its requests are, beside its frames.
 use capture_map::{CaptureMap, MapChannel};
+use capture_rules::ClockCounts;
 use capture_summary::{
     CaptureSummary, ChannelSummary, FlowSummary, PassedCounts, PassedReason, both_counts,
     put_request, put_request_names, sequence_of,
@@ -93,6 +94,8 @@ impl CaptureTally {
                 passed: PassedCounts::none(),
                 records: 0,
                 earlier: 0,
+                set_back: 0,
+                crowded: 0,
             },
             last_time: 0,
             requests,
@@ -107,11 +110,14 @@ impl CaptureTally {
 
     /// Counts a record with this time.
     pub(crate) fn count_record(&mut self, nanoseconds: u64) {
-        self.summary.records = self.summary.records.saturating_add(1);
-        if nanoseconds < self.last_time {
-            self.summary.earlier = self.summary.earlier.saturating_add(1);
-        }
+        self.summary.count_record(nanoseconds < self.last_time);
         self.last_time = nanoseconds;
+    }
+
+    /// Notes how often the clocks of flows failed so far.
+    pub(crate) fn note_clocks(&mut self, counts: ClockCounts) {
+        self.summary.set_back = counts.set_back;
+        self.summary.crowded = counts.crowded;
     }
 
     /// Counts a record that is passed over.

@@ -1,5 +1,5 @@
 //! Where flows begin and begin anew.
-use capture_rules::{Arrival, BEGINNING, Beginning, HandedOn};
+use capture_rules::{Arrival, BEGINNING, Beginning, HandedOn, MOST_WAITING};
 use std::test::Fail;
 
 /// A silence lasts for more than so many nanoseconds.
@@ -69,5 +69,17 @@ fn times_that_go_back_are_no_silence(rt: HostRuntime) -> Result<(), Fail> {
     assert!(rt; !flow.is_silent(0));
     assert!(rt; flow.hand_on(one(0, 9), 1, 1)?.is_some());
     assert!(rt; flow.is_silent(u64::MAX));
+    Ok(())
+}
+
+#[test]
+fn a_beginning_is_over_with_so_many(rt: HostRuntime) -> Result<(), Fail> {
+    let mut flow = Beginning::new(rt.alloc(), WAIT, false);
+    for number in 0..2048_u16 {
+        assert!(rt; flow.end_at(rt.alloc(), 7).is_none());
+        assert!(rt; flow.hand_on(one(7, number ^ 1), 0, 16)?.is_none());
+    }
+    let begun = flow.end_at(rt.alloc(), 7);
+    assert!(rt; begun.is_some_and(|begun| begun.first == 0 && begun.kept.len() == MOST_WAITING));
     Ok(())
 }

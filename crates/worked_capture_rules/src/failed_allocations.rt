@@ -19,7 +19,7 @@ fn a_burst_waits_the_next_time(rt: HostRuntime) -> Result<(), Fail> {
     for number in 0..20 {
         if let Err(back) = order.push(arrival(number)) {
             assert!(rt; order.len() == usize::from(number) && back.value.item == number);
-            order.push(back.value)?;
+            assert!(rt; order.push(back.value)?.is_none());
         }
         assert!(rt; order.len() == usize::from(number) + 1);
     }
@@ -34,7 +34,7 @@ fn many_bursts_are_handed_on_after_a_refusal(rt: HostRuntime) -> Result<(), Fail
     for number in 0..200_u16 {
         if let Err(back) = order.push(arrival(200_u16.wrapping_sub(number))) {
             assert!(rt; order.len() == usize::from(number));
-            order.push(back.value)?;
+            assert!(rt; order.push(back.value)?.is_none());
         }
     }
     for number in 1..=200_u16 {
@@ -45,7 +45,7 @@ fn many_bursts_are_handed_on_after_a_refusal(rt: HostRuntime) -> Result<(), Fail
         );
         // There is room for as many as waited, so nothing is asked for.
         let pushed = order.push(arrival(number.wrapping_add(200)));
-        assert!(rt; pushed.is_ok());
+        assert!(rt; pushed.is_ok_and(|last| last.is_none()));
         assert!(rt; order.len() == 200);
     }
     for number in 201..=400_u16 {

@@ -10,36 +10,54 @@ use std::test::Fail;
 #[derive(Drop)]
 struct ScannedOrder {
     reorder: u64,
-    waiting: VecDeque<Arrival<u64>>,
+    clock: u64,
+    /// Bursts, and when they came by the clock.
+    waiting: VecDeque<(u64, Arrival<u64>)>,
 }
 
 impl ScannedOrder {
     fn next_left(&mut self) -> Option<HandedOn<u64>> {
-        let oldest = self.waiting.front()?;
-        let time = oldest.time;
+        let (time, oldest) = self.waiting.front()?;
+        let time = *time;
         let mut least = 0;
         let mut least_place = place_from(oldest.number, oldest.number);
         for at in 1..self.waiting.len() {
-            if let Some(one) = self.waiting.get(at) {
+            if let Some((_, one)) = self.waiting.get(at) {
                 let place = place_from(oldest.number, one.number);
-                if place < least_place
-                    && one.channel == oldest.channel
-                    && one.time.saturating_sub(oldest.time) <= self.reorder
-                {
+                if place < least_place && one.channel == oldest.channel {
                     least = at;
                     least_place = place;
                 }
             }
         }
-        let arrival = self.waiting.remove(least)?;
+        let (_, arrival) = self.waiting.remove(least)?;
         Some(HandedOn { time, arrival })
     }
 
-    fn next(&mut self, now: u64) -> Option<HandedOn<u64>> {
-        if now.saturating_sub(self.waiting.front()?.time) <= self.reorder {
+    fn is_set_back(&self, time: u64) -> bool {
+        self.clock.saturating_sub(time) > self.reorder
+    }
+
+    fn next(&mut self, time: u64) -> Option<HandedOn<u64>> {
+        let (came, _) = self.waiting.front()?;
+        let waited = self.clock.max(time).saturating_sub(*came);
+        if !self.is_set_back(time) && waited <= self.reorder {
             return None;
         }
         self.next_left()
+    }
+
+    fn push(&mut self, arrival: Arrival<u64>) -> Result<Option<HandedOn<u64>>, AllocError> {
+        self.clock = if self.is_set_back(arrival.time) {
+            arrival.time
+        } else {
+            self.clock.max(arrival.time)
+        };
+        self.waiting.push_back((self.clock, arrival))?;
+        if self.waiting.len() <= 2048 {
+            return Ok(None);
+        }
+        Ok(self.next_left())
     }
 }
 
@@ -130,6 +148,7 @@ fn handed_alike(alloc: Global, kind: Kind, dice: &mut Dice) -> Result<u64, Alloc
     let mut order = ChannelOrder::new(alloc, kind.reorder);
     let mut scanned = ScannedOrder {
         reorder: kind.reorder,
+        clock: 0,
         waiting: VecDeque::new(alloc),
     };
     let mut time = 1_000_000_u64;
@@ -140,15 +159,6 @@ fn handed_alike(alloc: Global, kind: Kind, dice: &mut Dice) -> Result<u64, Alloc
         time = time.wrapping_add(by).wrapping_sub(back);
         let number = kind.first.wrapping_add(dice.below(kind.numbers));
         let (one, other) = arrival(time, dice.below(kind.channels), number, item);
-        order.push(one)?;
-        scanned.waiting.push_back(other)?;
-        if kind.left > 0 && dice.below(kind.left) == 0 {
-            let (next, wanted) = (order.next_left(), scanned.next_left());
-            if !is_same(&next, &wanted) {
-                return Ok(alike);
-            }
-            alike = alike.wrapping_add(1);
-        }
         for _ in 0..=kind.count {
             let (next, wanted) = (order.next(time), scanned.next(time));
             if !is_same(&next, &wanted) {
@@ -156,6 +166,20 @@ fn handed_alike(alloc: Global, kind: Kind, dice: &mut Dice) -> Result<u64, Alloc
             }
             if next.is_none() {
                 break;
+            }
+            alike = alike.wrapping_add(1);
+        }
+        let (last, wanted) = (order.push(one)?, scanned.push(other)?);
+        if !is_same(&last, &wanted) {
+            return Ok(alike);
+        }
+        if last.is_some() {
+            alike = alike.wrapping_add(1);
+        }
+        if kind.left > 0 && dice.below(kind.left) == 0 {
+            let (next, wanted) = (order.next_left(), scanned.next_left());
+            if !is_same(&next, &wanted) {
+                return Ok(alike);
             }
             alike = alike.wrapping_add(1);
         }

@@ -40,14 +40,17 @@ fn order(alloc: Global, reorder: u64, came: &[u64]) -> Result<Vec<u64>, AllocErr
     let mut item = 0;
     for one in came.chunks_exact(3) {
         if let [time, channel, number] = one {
-            order.push(arrival(*time, *channel, *number, item))?;
-            item = item.wrapping_add(1);
             for _ in 0..order.len() {
                 if let Some(next) = order.next(*time) {
                     answers.push(next.time)?;
                     answers.push(next.arrival.item)?;
                 }
             }
+            if let Some(next) = order.push(arrival(*time, *channel, *number, item))? {
+                answers.push(next.time)?;
+                answers.push(next.arrival.item)?;
+            }
+            item = item.wrapping_add(1);
         }
     }
     for _ in 0..order.len() {

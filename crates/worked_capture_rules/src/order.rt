@@ -1,5 +1,5 @@
 //! The order on each channel.
-use capture_rules::{Arrival, ChannelOrder};
+use capture_rules::{Arrival, ChannelOrder, ClockCounts, MOST_WAITING};
 use std::alloc::{AllocError, Global};
 use std::test::Fail;
 
@@ -15,17 +15,20 @@ fn handed_on(alloc: Global, came: &[(u64, usize, u16)]) -> Result<Vec<Handed>, A
     let mut order = ChannelOrder::new(alloc, REORDER);
     let mut handed = Vec::new(alloc);
     for (item, (time, channel, number)) in came.iter().enumerate() {
-        order.push(Arrival {
-            time: *time,
-            channel: *channel,
-            number: *number % 8192,
-            item,
-        })?;
         for _ in 0..=item {
             match order.next(*time) {
                 Some(next) => handed.push((next.time, next.arrival.item))?,
                 None => break,
             }
+        }
+        let last = order.push(Arrival {
+            time: *time,
+            channel: *channel,
+            number: *number % 8192,
+            item,
+        })?;
+        if let Some(next) = last {
+            handed.push((next.time, next.arrival.item))?;
         }
     }
     for _ in came {
@@ -76,17 +79,95 @@ fn of_one_number_the_first(rt: HostRuntime) -> Result<(), Fail> {
 #[test]
 fn it_waits_for_longer_than_that(rt: HostRuntime) -> Result<(), Fail> {
     let mut order = ChannelOrder::new(rt.alloc(), REORDER);
-    order.push(Arrival {
+    let last = order.push(Arrival {
         time: 5,
         channel: 0,
         number: 4,
         item: 'a',
     })?;
-    assert!(rt; order.next(4).is_none());
+    assert!(rt; last.is_none());
+    assert!(rt; order.next(0).is_none());
     assert!(rt; order.next(105).is_none());
     assert!(rt; order.len() == 1);
     let next = order.next(106);
     assert!(rt; next.is_some_and(|next| next.time == 5 && next.arrival.item == 'a'));
     assert!(rt; order.next(u64::MAX).is_none() && order.next_left().is_none());
+    Ok(())
+}
+
+#[test]
+fn an_earlier_burst_counts_as_of_the_time_before(rt: HostRuntime) -> Result<(), Fail> {
+    // The third is earlier than the second, and by no more than 100 ns.
+    let handed = handed_on(
+        rt.alloc(),
+        &[(0, 1, 3), (200, 1, 5), (100, 1, 4), (301, 1, 6)],
+    )?;
+    assert!(rt; handed.as_slice() == [(0, 0), (200, 2), (200, 1), (301, 3)].as_slice());
+    Ok(())
+}
+
+#[test]
+fn all_that_waits_goes_where_the_clock_is_set_back(rt: HostRuntime) -> Result<(), Fail> {
+    // The third is earlier by 101 ns, and the fourth comes within 100 ns of it.
+    let handed = handed_on(
+        rt.alloc(),
+        &[(500, 1, 4), (501, 1, 3), (400, 1, 9), (450, 1, 8)],
+    )?;
+    assert!(rt; handed.as_slice() == [(500, 1), (500, 0), (400, 3), (400, 2)].as_slice());
+    Ok(())
+}
+
+#[test]
+fn so_many_wait_where_the_clock_stands_still(rt: HostRuntime) -> Result<(), Fail> {
+    let mut order = ChannelOrder::new(rt.alloc(), REORDER);
+    for item in 0..5000_u16 {
+        assert!(rt; order.next(7).is_none());
+        // Neighbours come the other way round.
+        let last = order.push(Arrival {
+            time: 7,
+            channel: 0,
+            number: (item ^ 1) % 8192,
+            item,
+        })?;
+        match item.checked_sub(2048) {
+            None => assert!(rt; last.is_none()),
+            Some(passed) => assert!(rt; last.is_some_and(|next| next.arrival.number == passed)),
+        }
+    }
+    assert!(rt; order.len() == MOST_WAITING);
+    let counts = ClockCounts {
+        set_back: 0,
+        crowded: 5000 - 2048,
+    };
+    assert!(rt; order.clock_counts() == counts);
+    Ok(())
+}
+
+#[test]
+fn how_often_a_clock_is_set_back_is_counted(rt: HostRuntime) -> Result<(), Fail> {
+    let mut order = ChannelOrder::new(rt.alloc(), REORDER);
+    // The second is no earlier than it may be; the third and the last are.
+    for (number, time) in [500, 400, 399, 399, 900, 799].iter().enumerate() {
+        for _ in 0..=number {
+            let _ = order.next(*time);
+        }
+        let last = order.push(Arrival {
+            time: *time,
+            channel: 0,
+            number: number as u16,
+            item: (),
+        })?;
+        assert!(rt; last.is_none());
+    }
+    let counts = ClockCounts {
+        set_back: 2,
+        crowded: 0,
+    };
+    assert!(rt; order.clock_counts() == counts && order.len() == 1);
+    let both = ClockCounts {
+        set_back: u64::MAX,
+        crowded: 7,
+    };
+    assert!(rt; counts.and(both) == both && ClockCounts::none().and(counts) == counts);
     Ok(())
 }

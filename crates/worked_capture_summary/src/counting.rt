@@ -131,6 +131,8 @@ fn records_with_earlier_times_are_records(rt: HostRuntime) -> Result<(), Fail> {
         passed: PassedCounts::none(),
         records: u64::MAX - 1,
         earlier: 0,
+        set_back: 0,
+        crowded: 0,
     };
     for is_earlier in [false, true, true] {
         summary.count_record(is_earlier);

@@ -116,6 +116,8 @@ fn summary_of(
         passed,
         records: 1234,
         earlier: 3,
+        set_back: 5,
+        crowded: 6,
     })
 }
 
@@ -162,6 +164,7 @@ passed 3 other type
 passed 8 unknown SID
 passed 7 unknown channel
 records 1234 earlier 3
+clock set_back 5 crowded 6
 ";
 
 #[test]
@@ -196,6 +199,8 @@ channel 3, upstream channel id 4294967295: bursts 13, above their grant 0, admit
   refused: out of memory for a burst 2
 channel 15, upstream channel id 0: bursts 0, above their grant 0, admitted 0
 records 1234, earlier than the record before 3
+  the clock was set back by more than --reorder, so that what waited of a flow went first: 5
+  the clock stood still or nearly, so that with 2048 of a flow waiting bursts went by number: 6
   passed over: cut short 2
   passed over: malformed 4
   passed over: no channel or SID 6
@@ -223,10 +228,13 @@ fn summary_is_for_people(rt: HostRuntime) -> Result<(), Fail> {
 
 #[test]
 fn of_nothing_only_the_records_are_told(rt: HostRuntime) -> Result<(), Fail> {
-    let summary = summary_of(rt.alloc(), &[], &[], PassedCounts::none())?;
+    let mut summary = summary_of(rt.alloc(), &[], &[], PassedCounts::none())?;
+    summary.set_back = 0;
+    summary.crowded = 0;
     let mut report = TextBuffer::new(rt.alloc());
     put_report(&mut report, &summary);
-    assert!(rt; report.finish()?.as_slice() == b"records 1234 earlier 3\n".as_slice());
+    let lines = b"records 1234 earlier 3\nclock set_back 0 crowded 0\n";
+    assert!(rt; report.finish()?.as_slice() == lines.as_slice());
     let mut text = TextBuffer::new(rt.alloc());
     put_summary(&mut text, &summary);
     assert!(rt;

@@ -63,20 +63,17 @@ impl Job {
     }
 }
 
-/// How much is given to a job.
+/// How much is given to a job, in 256th parts.
 #[derive(Clone, Copy, Debug)]
-pub enum Scale {
-    Whole,
-    /// A 256th part.
-    Trial,
-}
+pub struct Scale(pub u64);
 
 impl Scale {
+    pub const WHOLE: Scale = Scale(256);
+
+    pub const TRIAL: Scale = Scale(1);
+
     fn of(self, size: u64) -> u64 {
-        match self {
-            Scale::Whole => size,
-            Scale::Trial => size / 256,
-        }
+        size.saturating_mul(self.0) / 256
     }
 }
 

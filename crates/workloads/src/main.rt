@@ -2,8 +2,8 @@
 //!
 //! Its words are a job, a number, and the path of a map: the job makes its own input, another one
 //! for each number, gives it to the public calls of the crates on top, and prints a digest of all
-//! that these give. `trial` does all jobs on small inputs. It prints no times, and the same at each
-//! run.
+//! that these give. A fourth word says how much is given, in 256th parts; all if there is none.
+//! `trial` does all jobs on one such part. It prints no times, and the same at each run.
 #![tactic(auto)]
 
 mod behind;
@@ -54,12 +54,17 @@ fn main(rt: HostRuntime) -> Result<()> {
     };
     if name.as_str() == "trial" {
         for job in JOBS {
-            show(rt, job, Scale::Trial, seed, map.as_str())?;
+            show(rt, job, Scale::TRIAL, seed, map.as_str())?;
         }
         return Ok(());
     }
+    let scale = match words.get(4).map(|parts| parts.as_str().parse::<u64>()) {
+        Some(Ok(parts)) => Scale(parts),
+        Some(Err(_)) => return Err(Error::from(ErrorKind::InvalidInput)),
+        None => Scale::WHOLE,
+    };
     match JOBS.iter().find(|job| job.name() == name.as_str()) {
-        Some(job) => show(rt, *job, Scale::Whole, seed, map.as_str()),
+        Some(job) => show(rt, *job, scale, seed, map.as_str()),
         None => Err(Error::from(ErrorKind::InvalidInput)),
     }
 }

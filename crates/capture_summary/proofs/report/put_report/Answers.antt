@@ -5,4 +5,5 @@ pub returns : goal.returns
 returns g c =
     let flows = rw c.deref.ensures.value at c.put_flows.ensures in
     let channels = rw c.deref-2.ensures.value at c.put_channels.ensures in
-    puts-then g.O.PutText.after (puts-then g.O.PutText.after (puts-then g.O.PutText.after flows channels) c.put_passed.ensures) c.put_records_line.ensures
+    puts-then g.O.PutText.after (puts-then g.O.PutText.after (puts-then g.O.PutText.after (puts-then g.O.PutText.after flows channels) c.put_passed.ensures) c.put_records_line.ensures)
+    c.put_clock_line.ensures

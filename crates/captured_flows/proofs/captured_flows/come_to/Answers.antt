@@ -1,6 +1,5 @@
 use Rattle.std.proofs.Common.{◌≡◌, ℕ, Some, slice_get, get_or, subst}
 use Rattle.std.proofs.lemmas.Option.{slice_get-get_or}
-use Rattle.capture_rules.specs.Waiting.{reorder_of}
 use Rattle.captured_flows.specs.Seen.{flow_seen}
 use Rattle.captured_flows.specs.Flow.{Comes}
 use Rattle.captured_flows.specs.Taking.{TakesBy}
@@ -31,10 +30,8 @@ returns-clause-takes g c =
     let k = c.args.k in
     let stands : slice_get flows k ≡ Some flow = slice_get-get_or flows k c.index-flows-k.result c.if-k-flows.false in
     let has = c.requires.waits k flow stands in
-    let at_wait = subst (λ (n : ℕ). TakesBy g.C.HeaderCheck.accepts g.O.CaptureConsumer.saw (λ made handed more. Comes made n k (reorder_of flow.order) c.args.one (flow_seen flow) handed more (flow_seen new))
+    let takes = subst (λ (n : ℕ). TakesBy g.C.HeaderCheck.accepts g.O.CaptureConsumer.saw (λ made handed more. Comes made n k c.args.one (flow_seen flow) handed more (flow_seen new))
     c.args.receiver.now c.args.out.now c.come.new.receiver c.come.new.out) has.wait c.in_ok-come.ensures.takes in
-    let takes = subst (λ (n : ℕ). TakesBy g.C.HeaderCheck.accepts g.O.CaptureConsumer.saw (λ made handed more. Comes made c.args.waits.wait k n c.args.one (flow_seen flow) handed more (flow_seen new))
-    c.args.receiver.now c.args.out.now c.come.new.receiver c.come.new.out) has.reorder at_wait in
     takes-as g.C.HeaderCheck.accepts g.O.Consumer.after g.O.CaptureConsumer.saw _ _ c.args.receiver.now c.come.new.receiver c.args.out.now c.come.new.out takes
     (λ made handed more spelled. record {
       flow = flow_seen flow;

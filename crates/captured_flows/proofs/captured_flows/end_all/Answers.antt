@@ -13,7 +13,7 @@ loop-k-init g c =
     let views = views_of c.args.flows.now in
     record {
       takes = takes-as g.C.HeaderCheck.accepts g.O.Consumer.after g.O.CaptureConsumer.saw Nothing _ c.args.receiver.now c.args.receiver.now c.args.out.now c.args.out.now (takes-none g.C.HeaderCheck.accepts g.O.Consumer.after g.O.CaptureConsumer.saw c.args.receiver.now c.args.out.now)
-          (λ made handed more none. subst (λ (m : List Act). EndsAll made c.args.waits.reorder c.args.waits.wait views handed 0 m views) (sym none) none_ends);
+          (λ made handed more none. subst (λ (m : List Act). EndsAll made c.args.waits.wait views handed 0 m views) (sym none) none_ends);
       at_hand = c.requires.at_hand;
       waits = c.requires.waits;
     }
@@ -32,7 +32,7 @@ loop-k-preserved g c =
 pub returns-clause-takes : goal.returns-clause-takes
 returns-clause-takes g c =
     let all : c.loop-k.k ≡ length c.args.flows.now = (let ends = c.loop-k-test.false in let auto = c.loop-k.auto.k-end in omega arith) in
-    subst (λ (n : ℕ). TakesBy g.C.HeaderCheck.accepts g.O.CaptureConsumer.saw (λ made handed more. EndsAll made c.args.waits.reorder c.args.waits.wait (views_of c.args.flows.now) handed n more (views_of c.loop-k.flows))
+    subst (λ (n : ℕ). TakesBy g.C.HeaderCheck.accepts g.O.CaptureConsumer.saw (λ made handed more. EndsAll made c.args.waits.wait (views_of c.args.flows.now) handed n more (views_of c.loop-k.flows))
     c.args.receiver.now c.args.out.now c.loop-k.receiver c.loop-k.out) all c.loop-k.invariant.takes
 
 pub returns-in_err-end_at-clause-breaks : goal.returns-in_err-end_at-clause-breaks

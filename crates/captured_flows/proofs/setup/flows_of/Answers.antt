@@ -13,6 +13,6 @@ loop-flow-preserved c =
     record {
       views = ap views_of c.in_ok-push.ensures.items
           ∙ views-more c.args.waits begun c.args.flows.now c.loop-flow.flow-index none new c.loop-flow-test.true c.loop-flow.invariant.views
-          (c.new.ensures.seen ∙ ap (λ (b : Bool). flow_begun (get_or c.args.flows.now c.loop-flow.flow-index none).window b c.args.waits.wait) c.is_some.ensures);
+          (c.new.ensures.seen ∙ ap (λ (b : Bool). flow_begun (get_or c.args.flows.now c.loop-flow.flow-index none).window b c.args.waits.reorder c.args.waits.wait) c.is_some.ensures);
       waits = subst (HaveWaits c.args.waits) (sym c.in_ok-push.ensures.items) (waits-more c.args.waits begun new c.loop-flow.invariant.waits c.new.ensures.waits);
     }

@@ -17,8 +17,8 @@ returns-clause-takes g c =
     with_items_is captured.flows new (let whole = captured.flows.ok.0 in let sizes = ap length c.deref_mut.ensures.value in let same = c.end_all.auto.flows in omega arith) in
     takes-as g.C.HeaderCheck.accepts g.O.Consumer.after g.O.CaptureConsumer.saw _ _ captured.receiver c.end_all.new.receiver c.args.out.now c.end_all.new.out c.in_ok-end_all.ensures.takes
     (λ made handed more spelled.
-    subst (λ (fs : List CapturedFlow). EndsAll made captured.waits.reorder captured.waits.wait (views_of items) handed (length items) more (views_of fs)) (sym are)
-    (subst (λ (fs : List CapturedFlow). EndsAll made captured.waits.reorder captured.waits.wait (views_of fs) handed (length fs) more (views_of new)) c.deref_mut.ensures.value spelled))
+    subst (λ (fs : List CapturedFlow). EndsAll made captured.waits.wait (views_of items) handed (length items) more (views_of fs)) (sym are)
+    (subst (λ (fs : List CapturedFlow). EndsAll made captured.waits.wait (views_of fs) handed (length fs) more (views_of new)) c.deref_mut.ensures.value spelled))
 
 pub returns-clause-capturing : goal.returns-clause-capturing
 returns-clause-capturing g c =

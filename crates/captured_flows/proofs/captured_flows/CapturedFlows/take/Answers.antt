@@ -20,7 +20,7 @@ returns-in_default-clause-takes g c =
     let captured = c.args.self.now in
     let views = views_in captured in
     takes-as g.C.HeaderCheck.accepts g.O.Consumer.after g.O.CaptureConsumer.saw Nothing _ captured.receiver captured.receiver c.args.out.now c.args.out.now (takes-none g.C.HeaderCheck.accepts g.O.Consumer.after g.O.CaptureConsumer.saw captured.receiver c.args.out.now)
-    (λ made handed more none. subst (λ (m : List Act). SpellsBurst captured.map made captured.waits.reorder captured.waits.wait views c.args.burst handed taken.UnknownChannel m views) (sym none)
+    (λ made handed more none. subst (λ (m : List Act). SpellsBurst captured.map made captured.waits.wait views c.args.burst handed taken.UnknownChannel m views) (sym none)
     (of_no_channel (ap (λ (cs : List MapChannel). channel_of cs c.args.burst.channel) (sym c.deref.ensures.value) ∙ sym c.in_default.ensures)))
 
 pub returns-in_default-flow_of-clause-takes : goal.returns-in_default-flow_of-clause-takes
@@ -28,7 +28,7 @@ returns-in_default-flow_of-clause-takes g c =
     let captured = c.args.self.now in
     let views = views_in captured in
     takes-as g.C.HeaderCheck.accepts g.O.Consumer.after g.O.CaptureConsumer.saw Nothing _ captured.receiver captured.receiver c.args.out.now c.args.out.now (takes-none g.C.HeaderCheck.accepts g.O.Consumer.after g.O.CaptureConsumer.saw captured.receiver c.args.out.now)
-    (λ made handed more none. subst (λ (m : List Act). SpellsBurst captured.map made captured.waits.reorder captured.waits.wait views c.args.burst handed taken.UnknownSid m views) (sym none)
+    (λ made handed more none. subst (λ (m : List Act). SpellsBurst captured.map made captured.waits.wait views c.args.burst handed taken.UnknownSid m views) (sym none)
     (of_no_flow c.in-Some.channel (ap (λ (cs : List MapChannel). channel_of cs c.args.burst.channel) (sym c.deref.ensures.value) ∙ sym c.in-Some.ensures) (sym (c.in_default-flow_of.ensures captured.map.sids.items c.requires.capturing.sids))))
 
 pub returns-in_ok-come_to-in-Ok-clause-takes : goal.returns-in_ok-come_to-in-Ok-clause-takes
@@ -50,8 +50,8 @@ returns-in_ok-come_to-in-Ok-clause-takes g c =
     takes-as g.C.HeaderCheck.accepts g.O.Consumer.after g.O.CaptureConsumer.saw _ _ captured.receiver c.come_to.new.receiver c.args.out.now c.come_to.new.out c.in_ok-come_to-in-Ok.ensures.takes
     (λ made handed more spelled.
     let at = subst (λ (fs : List CapturedFlow). ComesAt captured.waits k one (views_of fs) made handed more (views_of new)) c.deref_mut.ensures.value spelled in
-    subst (λ (fs : List CapturedFlow). SpellsBurst captured.map made captured.waits.reorder captured.waits.wait (views_of items) burst handed (taken.Waits k) more (views_of fs)) (sym are)
-    (subst (λ (vs : List FlowView). SpellsBurst captured.map made captured.waits.reorder captured.waits.wait (views_of items) burst handed (taken.Waits k) more vs) (sym at.others)
+    subst (λ (fs : List CapturedFlow). SpellsBurst captured.map made captured.waits.wait (views_of items) burst handed (taken.Waits k) more (views_of fs)) (sym are)
+    (subst (λ (vs : List FlowView). SpellsBurst captured.map made captured.waits.wait (views_of items) burst handed (taken.Waits k) more vs) (sym at.others)
     (comes channel k one at.flow at.flow' of_channel of_flow c.in-Ok.ensures.sound at.stands at.comes)))
 
 pub returns-in_ok-come_to-in-Ok-clause-capturing : goal.returns-in_ok-come_to-in-Ok-clause-capturing

@@ -19,7 +19,7 @@ loop-burst-init g c =
     let views = views_in old in
     record {
       takes = takes-as g.C.HeaderCheck.accepts g.O.Consumer.after g.O.CaptureConsumer.saw Nothing _ old.receiver old.receiver c.args.out.now c.args.out.now (takes-none g.C.HeaderCheck.accepts g.O.Consumer.after g.O.CaptureConsumer.saw old.receiver c.args.out.now)
-          (λ made handed more none. subst (λ (m : List Act). SpellsBursts old.map made old.waits.reorder old.waits.wait views handed [] m views) (sym none) none_comes);
+          (λ made handed more none. subst (λ (m : List Act). SpellsBursts old.map made old.waits.wait views handed [] m views) (sym none) none_comes);
       capturing = c.requires.capturing;
       map = refl;
       waits = refl;
@@ -33,14 +33,14 @@ loop-burst-preserved g c =
     let burst = c.in-Some.burst in
     let told = c.in_ok-take.field-0 in
     let so_far = c.loop-burst.invariant in
-    let of_map = subst (λ (m : CaptureMap). TakesBy g.C.HeaderCheck.accepts g.O.CaptureConsumer.saw (λ made handed more. SpellsBurst m made before.waits.reorder before.waits.wait (views_in before) burst handed told more (views_in after))
+    let of_map = subst (λ (m : CaptureMap). TakesBy g.C.HeaderCheck.accepts g.O.CaptureConsumer.saw (λ made handed more. SpellsBurst m made before.waits.wait (views_in before) burst handed told more (views_in after))
     before.receiver c.loop-burst.out after.receiver c.take.new.out) so_far.map c.in_ok-take.ensures.takes in
-    let next = subst (λ (w : Waits). TakesBy g.C.HeaderCheck.accepts g.O.CaptureConsumer.saw (λ made handed more. SpellsBurst old.map made w.reorder w.wait (views_in before) burst handed told more (views_in after))
+    let next = subst (λ (w : Waits). TakesBy g.C.HeaderCheck.accepts g.O.CaptureConsumer.saw (λ made handed more. SpellsBurst old.map made w.wait (views_in before) burst handed told more (views_in after))
     before.receiver c.loop-burst.out after.receiver c.take.new.out) so_far.waits of_map in
     record {
       takes = takes-as g.C.HeaderCheck.accepts g.O.Consumer.after g.O.CaptureConsumer.saw _ _ old.receiver after.receiver c.args.out.now c.take.new.out
           (takes-then g.C.HeaderCheck.accepts g.O.Consumer.after g.O.CaptureConsumer.saw _ _ old.receiver before.receiver after.receiver c.args.out.now c.loop-burst.out c.take.new.out so_far.takes next)
-          (λ made handed more spelled. subst (λ (m : List Act). SpellsBursts old.map made old.waits.reorder old.waits.wait (views_in old) handed (c.loop-burst.yielded ++ burst ∷ []) m (views_in after))
+          (λ made handed more spelled. subst (λ (m : List Act). SpellsBursts old.map made old.waits.wait (views_in old) handed (c.loop-burst.yielded ++ burst ∷ []) m (views_in after))
           (sym spelled.4) (one_more_comes spelled.2 spelled.3));
       capturing = c.in_ok-take.ensures.capturing;
       map = c.take.ensures.map ∙ so_far.map;
@@ -52,7 +52,7 @@ returns-clause-takes g c =
     let old = c.args.self.now in
     let gives = c.into_iter-burst-iterator.ensures.into_iter_gives in
     let all = YieldsList-end (YieldsList-from_vec c.args.bursts.items gives.0 (gives.1 ∙ c.args.bursts.ok.0)) c.loop-burst.yielded c.loop-burst.burst-iterator c.loop-burst.yielded_by c.next.result c.next.new.self c.in-None.is c.next.ensures.steps in
-    subst (λ (bursts : List CapturedBurst). TakesBy g.C.HeaderCheck.accepts g.O.CaptureConsumer.saw (λ made handed more. SpellsBursts old.map made old.waits.reorder old.waits.wait (views_in old) handed bursts more (views_in c.loop-burst.self))
+    subst (λ (bursts : List CapturedBurst). TakesBy g.C.HeaderCheck.accepts g.O.CaptureConsumer.saw (λ made handed more. SpellsBursts old.map made old.waits.wait (views_in old) handed bursts more (views_in c.loop-burst.self))
     old.receiver c.args.out.now c.loop-burst.self.receiver c.loop-burst.out) (sym (map-id c.loop-burst.yielded) ∙ all.0) c.loop-burst.invariant.takes
 
 pub returns-in_err-take-clause-breaks : goal.returns-in_err-take-clause-breaks

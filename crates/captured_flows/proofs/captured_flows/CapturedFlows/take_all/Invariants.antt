@@ -8,7 +8,7 @@ use Rattle.captured_flows.proofs.captured_flows.CapturedFlows.take_all.Given as 
 abbrev pub invariant-loop-burst : goal.invariant-loop-burst
 invariant-loop-burst g l = record {
   takes : TakesBy g.C.HeaderCheck.accepts g.O.CaptureConsumer.saw
-      (λ made handed more. SpellsBursts l.fn.self.map made l.fn.self.waits.reorder l.fn.self.waits.wait (views_in l.fn.self) handed l.yielded more (views_in l.self))
+      (λ made handed more. SpellsBursts l.fn.self.map made l.fn.self.waits.wait (views_in l.fn.self) handed l.yielded more (views_in l.self))
       l.fn.self.receiver l.fn.out l.self.receiver l.out;
   capturing : IsCapturing g.C.HeaderCheck.accepts l.self;
   map : l.self.map ≡ l.fn.self.map;

@@ -27,7 +27,7 @@ returns-clause-begun c =
         comes = record {
           spelled =
               subst
-              (λ (views : List FlowView). SpellsBursts capture_map (made settings capture_map) settings.waits.reorder settings.waits.wait
+              (λ (views : List FlowView). SpellsBursts capture_map (made settings capture_map) settings.waits.wait
               (map (view_begun settings.waits) capture_map.flows.items) [] [] [] views)
               (sym c.in_ok-flows.ensures.views) none_comes;
           plays = nothing;

@@ -1,6 +1,6 @@
 use Rattle.std.proofs.lemmas.Bool.{ne_eqb}
 use Rattle.capture_summary.proofs.PutLines.{puts-then}
-use Rattle.capture_summary.proofs.summary_text.put_quiet_line.Goals as goal
+use Rattle.capture_summary.proofs.summary_text.put_counted_line.Goals as goal
 
 pub returns : goal.returns
 returns g c =
