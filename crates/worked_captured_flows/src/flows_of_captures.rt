@@ -2,7 +2,7 @@
 ghost use Rattle.std.specs.Prelude.{◌<◌};
 
 use capture_map::{CaptureMap, MapChannel, MapFlow, MapSid};
-use capture_rules::Arrival;
+use capture_rules::{Arrival, ClockCounts};
 use captured_flows::{
     BurstTaken, CaptureConsumer, CapturedBurst, CapturedFlows, SoundBurst, Waits,
 };
@@ -167,6 +167,34 @@ fn bursts_are_passed_over_refused_and_handed_in(rt: HostRuntime) -> Result<(), F
     assert!(rt; noted.is_whole && noted.times.as_slice() == [2, 1, 9].as_slice());
     let closed = captured.into_receiver().close(alloc, &mut noted).ok();
     assert!(rt; closed.is_some_and(|closed| closed.flows.len() == 1 && closed.flows[0].kept == 3));
+    Ok(())
+}
+
+#[test]
+fn clocks_of_all_flows_are_counted(rt: HostRuntime) -> Result<(), Fail> {
+    let alloc = rt.alloc();
+    let waits = Waits {
+        reorder: 2,
+        wait: 20,
+    };
+    let map = map_of(alloc, Some(5), 16, 1)?;
+    let mut captured = CapturedFlows::new(alloc, map, LossRule::PassedOrSlid, waits, NoCheck)?;
+    let mut noted = Noted::new(alloc);
+    assert!(rt; captured.clock_counts() == ClockCounts::none());
+    // What waits is handed on where the clock is set back, and not where it goes back by 2.
+    for (number, time) in [30, 28, 27, 27].iter().enumerate() {
+        let next = burst(alloc, *time, 100, 5 + number as u16, true)?;
+        captured.take(alloc, next, &mut noted)?;
+    }
+    let counts = ClockCounts {
+        set_back: 1,
+        crowded: 0,
+    };
+    assert!(rt; captured.clock_counts() == counts && noted.times.as_slice() == [30, 28].as_slice());
+    captured.end_waiting(alloc, &mut noted)?;
+    assert!(rt; captured.clock_counts() == counts && noted.times.len() == 4);
+    let closed = captured.into_receiver().close(alloc, &mut noted).ok();
+    assert!(rt; closed.is_some_and(|closed| closed.flows.len() == 1 && closed.flows[0].kept == 4));
     Ok(())
 }
 

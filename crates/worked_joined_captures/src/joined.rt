@@ -1,5 +1,5 @@
 //! What comes of a capture that is joined.
-use crate::samples::{joined_file, map_of_two_channels, two_segments};
+use crate::samples::{joined_file, map_of_two_channels, segments_at, two_segments};
 use captured_flows::Waits;
 use engines::{Device, EngineFault};
 use frame_engine::{CaptureSettings, CaptureTally, FrameReading, InnerCheck, join_capture};
@@ -129,6 +129,26 @@ fn a_capture_is_counted(rt: HostRuntime) -> Result<(), Fail> {
         assert!(rt; channel.bursts == 1 && channel.admitted == 1 && channel.refused.is_empty());
     }
     assert!(rt; !joined.tally.lost_requests());
+    Ok(())
+}
+
+#[test]
+fn a_clock_that_is_set_back_is_told(rt: HostRuntime) -> Result<(), Fail> {
+    let mut bytes = segments_at(rt.alloc(), [2, 1])?;
+    let joined = join(rt.alloc(), &bytes, 50, FrameLink::Docsis)?;
+    let summary = &joined.tally.summary;
+    assert!(rt; joined.done.is_ok());
+    assert!(rt; summary.earlier == 1 && summary.set_back == 1 && summary.crowded == 0);
+    assert!(rt;
+        summary
+            .flows
+            .first()
+            .is_some_and(|flow| flow.counts.frames == 1)
+    );
+    // Also where a fault ends the capture.
+    bytes.push(0)?;
+    let joined = join(rt.alloc(), &bytes, 50, FrameLink::Docsis)?;
+    assert!(rt; joined.done.is_err() && joined.tally.summary.set_back == 1);
     Ok(())
 }
 

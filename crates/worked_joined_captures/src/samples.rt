@@ -72,14 +72,20 @@ fn put_burst(
 /// A capture of the frame in two segments, the second a second after the first, and between them of a
 /// burst on an upstream channel that the map doesn't have.
 pub(crate) fn two_segments(alloc: Global) -> Result<Vec<u8>, AllocError> {
+    segments_at(alloc, [1, 2])
+}
+
+/// The same, where the segments come at these seconds.
+pub(crate) fn segments_at(alloc: Global, seconds: [u8; 2]) -> Result<Vec<u8>, AllocError> {
     let frame = frame();
     let mut file = Vec::new(alloc);
     file.extend_from_slice(&[
         0xa1, 0xb2, 0x3c, 0x4d, 0, 2, 0, 4, 0, 0, 0, 0, 0, 0, 0, 0, 0, 4, 0, 0, 0, 0, 1, 0x11,
     ])?;
-    put_burst(&mut file, 1, 100, header(0, true, 9), &frame[..5])?;
-    put_burst(&mut file, 1, 102, header(0, true, 0), &frame)?;
-    put_burst(&mut file, 2, 101, header(1, false, 0), &frame[5..])?;
+    let [first, second] = seconds;
+    put_burst(&mut file, first, 100, header(0, true, 9), &frame[..5])?;
+    put_burst(&mut file, first, 102, header(0, true, 0), &frame)?;
+    put_burst(&mut file, second, 101, header(1, false, 0), &frame[5..])?;
     Ok(file)
 }
 
