@@ -41,9 +41,9 @@ def strides(came):
 
 
 def stays_within_half(came, most):
-    """Whether so many neighbours never spread over half of all numbers."""
-    indexes = [one.index for one in came]
-    parts = [indexes[place : place + 2 * most] for place in range(0, len(indexes), most)]
+    """Whether so many neighbours, or a few more, never spread over half of all numbers."""
+    indexes, step = [one.index for one in came], 64
+    parts = [indexes[place : place + most + step] for place in range(0, len(indexes), step)]
     return all(max(part) - min(part) < AHEAD for part in parts)
 
 
@@ -67,7 +67,7 @@ def broken_premises_by(clock, flow, came, times, wait=20, reorder=2):
 
 def broken_without_silences(flow, came, times):
     """The same where no silence is seen, nor what is held for long: then numbers alone have to say what is missing."""
-    if any(stride + flow.window >= AHEAD for stride in strides(came)) or not stays_within_half(came, MOST_WAITING):
+    if any(stride + flow.window > AHEAD for stride in strides(came)) or not stays_within_half(came, MOST_WAITING + 1):
         return {"an outage that can be told by numbers"}
     back = [place for place, (before, after) in enumerate(itertools.pairwise(times), 1) if after < before]
     return {"order on a channel where the clock is set back"} if any(crosses(came, place) for place in back) else set()

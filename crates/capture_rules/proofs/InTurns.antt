@@ -227,7 +227,7 @@ module _ {T : Type 0} (reorder : ℕ) (place : Arrival T → ℕ) where
         times = λ k d below. (behind k d below).times;
       }
 
-  pub leaves-orders : {order left : OrderView T} {came : List (Arrival T)} {handed last : List (HandedOn T)} → Orders order came handed left → order.reorder ≡ reorder → FewWait reorder place order came
+  pub leaves-orders : {order left : OrderView T} {came : List (Arrival T)} {handed last : List (HandedOn T)} → Orders order came handed left → order.reorder ≡ reorder → FewWait order came
       → IsComing order.clock order.waiting came → HandsOnAll left.waiting last → Leaves (bursts_of order.waiting ++ came) (arrivals_of handed ++ arrivals_of last)
   leaves-orders (none_came {order = order}) waits_so few coming ends = leaves-all order.clock ends coming.tidy
   leaves-orders {last = last} (one_came {order = order} {between = between} {left = left} {one = one} {more = more} {due = due} {later = later} p after) waits_so few coming ends =
@@ -250,7 +250,7 @@ module _ {T : Type 0} (reorder : ℕ) (place : Arrival T → ℕ) where
       let clock_then : between.clock ≡ time = p.takes_in.clock ∙ same in
       let waits_then : between.reorder ≡ reorder = p.takes_in.reorder ∙ timely.1.0 ∙ waits_so in
       let coming_then : IsComing between.clock between.waiting more = subst (λ t. IsComing t between.waiting more) (sym clock_then) (subst (λ (w : List (Waiting T)). IsComing time w more) (sym kept.0) taken) in
-      let few_then : FewWait reorder place between more = λ front others handed left' is orders. few (one ∷ front) others (due ++ handed) left' (ap (λ (xs : List (Arrival T)). one ∷ xs) is) (one_came p orders) in
+      let few_then : FewWait between more = λ front others handed left' is orders. few (one ∷ front) others (due ++ handed) left' (ap (λ (xs : List (Arrival T)). one ∷ xs) is) (one_came p orders) in
       let out = leaves-orders after waits_then few_then coming_then ends in
       let there : bursts_of between.waiting ++ more ≡ bursts_of p.between.waiting ++ (one ∷ more) =
       ap (λ (w : List (Waiting T)). bursts_of w ++ more) kept.0 ∙ ap (λ (xs : List (Arrival T)). xs ++ more) (map-append (λ (x : Waiting T). x.arrival) p.between.waiting (record { came = time; arrival = one } ∷ []))

@@ -9,7 +9,7 @@ use Rattle.capture_rules.specs.declared.arrival.Waiting.{Waiting}
 use Rattle.capture_rules.specs.declared.waiting_numbers.WaitingNumbers.{WaitingNumbers}
 use Rattle.capture_rules.specs.Order.{place_from, place_of, IsNext}
 use Rattle.capture_rules.specs.Inside.Round.{ComesFirst}
-use Rattle.capture_rules.specs.Inside.Numbers.{numbers_on, times_among, has, times_waiting, AreNumbersOf}
+use Rattle.capture_rules.specs.Inside.Numbers.{numbers_on, count_among, has, count_waiting, AreNumbersOf}
 use Rattle.capture_rules.proofs.Counts.{count-removed, count-some, holds-among}
 
 -- the first number going up from a low one and round has the least place
@@ -51,23 +51,23 @@ module _ {T : Type 0} where
 
   -- none is other than it was
   pub numbers-kept : (old new : WaitingNumbers) (waiting : List (Waiting T)) → AreNumbersOf old waiting → ((c : ℕ) → numbers_on new c ≡ numbers_on old c) → AreNumbersOf new waiting
-  numbers-kept old new waiting were same c n = ap (times_among n) (same c) ∙ were c n
+  numbers-kept old new waiting were same c n = ap (count_among n) (same c) ∙ were c n
 
   module _ (old new : WaitingNumbers) (waiting : List (Waiting T)) (one : Waiting T) (were : AreNumbersOf old waiting) (others : KeepsOthers old new one.arrival.channel) where
     -- one more waits
     pub numbers-inserted : IsPermutation (one.arrival.number ∷ numbers_on old one.arrival.channel) (numbers_on new one.arrival.channel) → AreNumbersOf new (waiting ++ one ∷ [])
     numbers-inserted inserted c n =
         ⊎_elim
-        (λ (own : c ≡ one.arrival.channel). subst (λ k. times_among n (numbers_on new k) ≡ times_waiting k n (waiting ++ one ∷ [])) (sym own) of_channel)
+        (λ (own : c ≡ one.arrival.channel). subst (λ k. count_among n (numbers_on new k) ≡ count_waiting k n (waiting ++ one ∷ [])) (sym own) of_channel)
         (λ (apart : c ≡ one.arrival.channel → ⊥).
-        let kept : times_among n (numbers_on new c) ≡ times_among n (numbers_on old c) = ap (times_among n) (others c apart) in
-        let before : times_among n (numbers_on old c) ≡ times_waiting c n waiting = were c n in
+        let kept : count_among n (numbers_on new c) ≡ count_among n (numbers_on old c) = ap (count_among n) (others c apart) in
+        let before : count_among n (numbers_on old c) ≡ count_waiting c n waiting = were c n in
         let counted = sum_by-append (λ (x : Waiting T). once (has c n x)) waiting (one ∷ []) in
         let zero_times : once (has c n one) ≡ 0 = ap once (has-of_other one c n (λ same. apart (sym same))) in
         omega (arith, kept, before, counted, zero_times))
         (cases_eq c one.arrival.channel)
       where
-        of_channel : times_among n (numbers_on new one.arrival.channel) ≡ times_waiting one.arrival.channel n (waiting ++ one ∷ [])
+        of_channel : count_among n (numbers_on new one.arrival.channel) ≡ count_waiting one.arrival.channel n (waiting ++ one ∷ [])
         of_channel =
             let pushed = sum_by_pushed (λ m. once (m == n)) one.arrival.number (numbers_on old one.arrival.channel) (numbers_on new one.arrival.channel) inserted in
             let before = were one.arrival.channel n in
@@ -79,16 +79,16 @@ module _ {T : Type 0} where
     pub numbers-taken : (at : ℕ) → slice_get waiting at ≡ Some one → IsPermutation (numbers_on old one.arrival.channel) (one.arrival.number ∷ numbers_on new one.arrival.channel) → AreNumbersOf new (remove waiting at)
     numbers-taken at stands taken c n =
         ⊎_elim
-        (λ (own : c ≡ one.arrival.channel). subst (λ k. times_among n (numbers_on new k) ≡ times_waiting k n (remove waiting at)) (sym own) of_channel)
+        (λ (own : c ≡ one.arrival.channel). subst (λ k. count_among n (numbers_on new k) ≡ count_waiting k n (remove waiting at)) (sym own) of_channel)
         (λ (apart : c ≡ one.arrival.channel → ⊥).
-        let kept : times_among n (numbers_on new c) ≡ times_among n (numbers_on old c) = ap (times_among n) (others c apart) in
-        let before : times_among n (numbers_on old c) ≡ times_waiting c n waiting = were c n in
+        let kept : count_among n (numbers_on new c) ≡ count_among n (numbers_on old c) = ap (count_among n) (others c apart) in
+        let before : count_among n (numbers_on old c) ≡ count_waiting c n waiting = were c n in
         let counted = count-removed (has c n) waiting at one stands in
         let zero_times : once (has c n one) ≡ 0 = ap once (has-of_other one c n (λ same. apart (sym same))) in
         omega (arith, kept, before, counted, zero_times))
         (cases_eq c one.arrival.channel)
       where
-        of_channel : times_among n (numbers_on new one.arrival.channel) ≡ times_waiting one.arrival.channel n (remove waiting at)
+        of_channel : count_among n (numbers_on new one.arrival.channel) ≡ count_waiting one.arrival.channel n (remove waiting at)
         of_channel =
             let popped = sum_by_popped (λ m. once (m == n)) one.arrival.number (numbers_on old one.arrival.channel) (numbers_on new one.arrival.channel) taken in
             let before = were one.arrival.channel n in
@@ -119,7 +119,7 @@ module _ {T : Type 0} where
 
   -- and a burst has the number that is taken out
   pub number-waits : (numbers : WaitingNumbers) (waiting : List (Waiting T)) (channel number : ℕ) (left : List ℕ) → AreNumbersOf numbers waiting → IsPermutation (numbers_on numbers channel) (number ∷ left)
-      → times_waiting channel number waiting ≡ 0 → ⊥
+      → count_waiting channel number waiting ≡ 0 → ⊥
   number-waits numbers waiting channel number left were taken none =
       let popped = sum_by_popped (λ m. once (m == number)) number (numbers_on numbers channel) left taken in
       let before = were channel number in

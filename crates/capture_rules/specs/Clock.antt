@@ -1,4 +1,4 @@
--- A flow's clock, and how often it failed.
+-- A flow's clock, and how often times couldn't be gone by.
 use Rattle.std.specs.Prelude.{ℕ, ◌+◌, ◌-◌, ◌^◌, nat_lt, min, max, Bool, if◌then◌else◌}
 use Rattle.capture_rules.specs.declared.clock_counts.ClockCounts.{ClockCounts}
 
@@ -6,7 +6,7 @@ use Rattle.capture_rules.specs.declared.clock_counts.ClockCounts.{ClockCounts}
 abbrev pub is_set_back : ℕ → ℕ → ℕ → Bool
 is_set_back reorder clock time = nat_lt reorder (clock - time)
 
--- What the clock says then: the burst's time, but it doesn't go back by less.
+-- What the clock says then: the burst's time. A burst that is earlier by less, or by as much, leaves it as it is.
 abbrev pub clock_at : ℕ → ℕ → ℕ → ℕ
 clock_at reorder clock time = if is_set_back reorder clock time then time else max clock time
 
@@ -24,5 +24,5 @@ counts_after counts is_set_back is_crowded =
     record { set_back = together counts.set_back (if is_set_back then 1 else 0); crowded = together counts.crowded (if is_crowded then 1 else 0) }
 
 -- what is counted of two flows
-abbrev pub both_counted : ClockCounts → ClockCounts → ClockCounts
-both_counted one other = record { set_back = together one.set_back other.set_back; crowded = together one.crowded other.crowded }
+abbrev pub clocks_of_both : ClockCounts → ClockCounts → ClockCounts
+clocks_of_both one other = record { set_back = together one.set_back other.set_back; crowded = together one.crowded other.crowded }

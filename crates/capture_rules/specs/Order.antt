@@ -16,7 +16,7 @@ most_waiting = 2048
 abbrev pub place_from : ℕ → ℕ → ℕ
 place_from other number = offset other (number_ahead number numbers_ahead)
 
--- What is known of a flow's order: how long bursts wait, what its clock says and how often it failed, and those that wait, in the order in which they came.
+-- What is known of a flow's order: how long bursts wait, what its clock says and how often times couldn't be gone by, and those that wait, in the order in which they came.
 pub record OrderView (T : Type 0) : Type 0 where
   pub reorder : ℕ
   pub clock : ℕ

@@ -26,7 +26,8 @@ module _ {T : Type 0} (reorder : ℕ) (place : Arrival T → ℕ) where
     pub places : All HasPlace came
     pub pairs : AllPairs CameBefore came
 
-  -- and never as many of them wait as may at most
+module _ {T : Type 0} where
+  -- Fewer than `most_waiting` wait behind each of the bursts that come.
   abbrev pub FewWait : OrderView T → List (Arrival T) → Type 0
   FewWait order came = (front more : List (Arrival T)) (handed : List (HandedOn T)) (left : OrderView T) → came ≡ front ++ more → Orders order front handed left
       → length left.waiting < most_waiting

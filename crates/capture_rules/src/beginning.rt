@@ -21,8 +21,8 @@ pub const BEGINNING: u64 = 10_000_000;
 ///
 /// A flow begins with the first burst where its first number isn't known, and begins anew where after
 /// a silence a number comes that doesn't lie ahead within the window. A silence is more than `wait`
-/// nanoseconds in which nothing was handed on. It holds what is handed on within 10 ms, and no more
-/// than [`MOST_WAITING`] bursts.
+/// nanoseconds in which nothing was handed on. It holds what is handed on within 10 ms and, where
+/// [`Beginning::end_at`] is asked before each burst, no more than [`MOST_WAITING`] bursts.
 #[derive(Drop)]
 pub struct Beginning<T> {
     wait: u64,

@@ -2,7 +2,7 @@
 ghost use Rattle.std.specs.Prelude.{◌≡◌, ◌<◌, ◌≤◌, ◌++◌, ◌∷◌, [], IfOk, IfErr, IfSome, IfNone, OnOk, OnErr, length, is_some, nat_lt};
 ghost use Rattle.capture_rules.specs.Clock.{is_set_back, clock_at};
 ghost use Rattle.capture_rules.specs.Order.{most_waiting, nothing_waits, is_due, IsNext, TakesIn};
-ghost use Rattle.capture_rules.specs.Inside.Numbers.{AreNumbersOf, IsFirstWith, times_waiting};
+ghost use Rattle.capture_rules.specs.Inside.Numbers.{AreNumbersOf, IsFirstWith, count_waiting};
 
 use crate::arrival::{Arrival, HandedOn, Waiting};
 use crate::clock_counts::ClockCounts;
@@ -11,15 +11,15 @@ use reorder::{MODULUS, NUMBERS_AHEAD};
 use std::alloc::{AllocError, AllocFailed, Global};
 use std::collections::VecDeque;
 
-/// So many bursts of a flow wait at most, and make a beginning.
+/// So many bursts of a flow wait at most, and as many make a beginning at most.
 pub const MOST_WAITING: usize = 2048;
 
 /// Lets the bursts of one flow wait for `reorder` nanoseconds, and hands them on, on each channel in
 /// the order of their numbers as far as they came within `reorder`.
 ///
 /// It goes by a clock of the flow's own, that doesn't go back: a burst that is earlier than the one
-/// before it counts as of that one's time. Only where it is earlier by more than `reorder` the clock
-/// is set back to it, and all that waits is handed on first. However still the clock stands, no more
+/// before it counts as of that one's time. Only where it is earlier by more than `reorder` is the
+/// clock set back to it, and all that waits is handed on first. However still the clock stands, no more
 /// than [`MOST_WAITING`] bursts wait.
 ///
 /// So a burst comes by two calls: [`ChannelOrder::next`] with its time until it gives none, and
@@ -112,7 +112,7 @@ impl<T> ChannelOrder<T> {
         Ok(take_next(&mut self.waiting, &mut self.numbers))
     }
 
-    /// How often the clock failed.
+    /// How often times couldn't be gone by.
     pub fn clock_counts(&self) -> ClockCounts
         ensures { result ≡ (order_seen self.now).counts }
     {
@@ -198,7 +198,7 @@ fn take_next<T>(
 /// Where the first burst stands that came on this channel with this number.
 fn first_with<T>(waiting: &VecDeque<Waiting<T>>, channel: usize, number: u16) -> Option<usize>
     ensures first { IfSome result (IsFirstWith channel number waiting.now.items) }
-    ensures none { IfNone result (times_waiting channel number waiting.now.items ≡ 0) }
+    ensures none { IfNone result (count_waiting channel number waiting.now.items ≡ 0) }
 {
     for at in 0..waiting.len() {
         let arrival = &waiting[at].arrival;

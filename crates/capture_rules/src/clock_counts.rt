@@ -1,15 +1,16 @@
-//! How far the times of a flow's bursts could be gone by.
+//! How far the times of a flow's bursts could be trusted.
 ghost use Rattle.std.specs.Prelude.{◌≡◌};
-ghost use Rattle.capture_rules.specs.Clock.{none_counted, counts_after, both_counted};
+ghost use Rattle.capture_rules.specs.Clock.{none_counted, counts_after, clocks_of_both};
 
-/// How often the clock of a flow, or of several flows together, failed. Each count stays at its
-/// greatest value, 2^64 − 1.
+/// How often the times of a flow's bursts, or of those of several flows, couldn't be gone by. A count
+/// that has come to its greatest value, 2^64 − 1, stays there.
 #[derive(Clone, Copy, Debug, PartialEq, Eq)]
 pub struct ClockCounts {
-    /// Bursts that came earlier by more than `reorder`, so that the clock was set back.
+    /// Bursts that came earlier than their flow's clock by more than `reorder`, so that it was set
+    /// back.
     pub set_back: u64,
     /// Bursts with which more than 2,048 of a flow would have waited, so that the next was handed
-    /// on before its time.
+    /// on early.
     pub crowded: u64,
 }
 
@@ -26,7 +27,7 @@ impl ClockCounts {
 
     /// The counts of two flows, or of two groups of flows, together.
     pub fn and(self, other: ClockCounts) -> ClockCounts
-        ensures { result ≡ both_counted self other }
+        ensures { result ≡ clocks_of_both self other }
     {
         ClockCounts {
             set_back: self.set_back.saturating_add(other.set_back),

@@ -41,12 +41,13 @@ pub fn what_waits_came_lately<T>()
         → Orders (nothing_waits reorder) came handed left → length left.waiting ≤ most_waiting }
 {}
 
-/// Where the bursts of each channel came in the order of their numbers, but for such as came within
-/// `reorder` of one another, and fewer than 2,048 waited, they leave in the order of their numbers.
+/// Where times don't go back, the bursts of each channel came in the order of their numbers but for
+/// such as came within `reorder` of one another, those stand within half of all numbers, and fewer
+/// than 2,048 waited: there the bursts of each channel leave in the order of their numbers.
 pub fn each_channel_leaves_in_order<T>()
     ensures { (reorder : ℕ) (place : Arrival T → ℕ) (came : List (Arrival T)) (left : OrderView T)
         → (handed last : List (HandedOn T)) → CameNearlyInOrder reorder place came
-        → FewWait reorder place (nothing_waits reorder) came
+        → FewWait (nothing_waits reorder) came
         → Orders (nothing_waits reorder) came handed left → HandsOnAll left.waiting last
         → AllPairs (InTurn reorder place) (arrivals_of handed ++ arrivals_of last) }
 {}

@@ -15,9 +15,10 @@
 //! A flow's number that is expected, and the width of its window, are handed in. Nothing is said
 //! here of what a burst brings: it is a type parameter.
 //!
-//! What matters most: what is handed on is what the definition `Orders` says of all bursts that came
-//! and their times, nothing is lost and nothing doubled by it, only what came within `reorder` goes
-//! on waiting, and what came nearly in order leaves in order ([`laws`]).
+//! What matters most: what is handed on as a burst comes is what the definition `BurstComes` says.
+//! Of bursts that come one after another so, which is `Orders`, laws say that one list is handed on,
+//! that nothing is lost and nothing doubled, that only what came within `reorder` goes on waiting,
+//! and that what came nearly in order leaves in order ([`laws`]).
 #![tactic(auto)]
 
 mod arrival;

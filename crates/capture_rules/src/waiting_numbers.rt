@@ -15,7 +15,7 @@ pub(crate) struct WaitingNumbers {
 }
 
 impl WaitingNumbers {
-    ghost use Rattle.capture_rules.specs.Inside.Numbers.{numbers_on, times_among};
+    ghost use Rattle.capture_rules.specs.Inside.Numbers.{numbers_on, count_among};
 
     /// None waits.
     pub(crate) fn new(alloc: Global) -> WaitingNumbers

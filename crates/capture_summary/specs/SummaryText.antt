@@ -55,11 +55,11 @@ abbrev pub all_records_line : CaptureSummary → List ℕ
 all_records_line summary =
     named (codes "records") summary.records ++ named (codes ", earlier than the record before") summary.earlier ++ line_feed ∷ []
 
--- how often the clocks of flows failed
-abbrev pub clock_lines : CaptureSummary → List ℕ
-clock_lines summary =
-    counted_line (codes "  the clock was set back by more than --reorder, so that what waited of a flow went first:") summary.set_back
-    ++ counted_line (codes "  the clock stood still or nearly, so that with 2048 of a flow waiting bursts went by number:") summary.crowded
+-- how often times couldn't be gone by
+abbrev pub times_told : CaptureSummary → List ℕ
+times_told summary =
+    counted_line (codes "  bursts earlier than their flow's clock by more than --reorder, which set it back:") summary.set_back
+    ++ counted_line (codes "  bursts handed on early, as 2048 of their flow waited (times stand still, or --reorder is long):") summary.crowded
 
 -- how many of them were passed over for a reason, if some were
 abbrev pub reason_line : PassedReason → ℕ → List ℕ
@@ -69,4 +69,4 @@ reason_line why count = if count == 0 then [] else (codes "  passed over: " ++ n
 abbrev pub summary_text : CaptureSummary → List ℕ
 summary_text summary =
     flat_map flow_text summary.flows.items ++ counted_line (codes "flows of which nothing came:") (count_by is_quiet summary.flows.items) ++ flat_map channel_text summary.channels.items
-    ++ all_records_line summary ++ clock_lines summary ++ flat_map (λ why. reason_line why (count_of_reason summary.passed why)) all_reasons
+    ++ all_records_line summary ++ times_told summary ++ flat_map (λ why. reason_line why (count_of_reason summary.passed why)) all_reasons

@@ -160,7 +160,7 @@ fn put_records_line<O: PutText>(out: &mut O, summary: &CaptureSummary)
     put_word(out, "\n");
 }
 
-/// Puts how often the clocks of flows failed.
+/// Puts how often times couldn't be gone by.
 fn put_clock_line<O: PutText>(out: &mut O, summary: &CaptureSummary)
     ensures { Puts O.after out.old (clock_line summary.now) out.new }
 {

@@ -19,10 +19,11 @@ pub struct CaptureSummary {
     pub records: u64,
     /// Records with a time before that of the record before them.
     pub earlier: u64,
-    /// Bursts by which the clock of their flow was set back.
+    /// Bursts that came earlier than their flow's clock by more than they wait for their turn, so
+    /// that it was set back.
     pub set_back: u64,
-    /// Bursts with which too many of their flow would have waited, since its clock stood still or
-    /// nearly.
+    /// Bursts with which too many of their flow would have waited, so that the next was handed on
+    /// early.
     pub crowded: u64,
 }
 

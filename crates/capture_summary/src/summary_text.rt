@@ -2,7 +2,7 @@
 ghost use Rattle.std.specs.Prelude.{◌≡◌, flat_map, count_by};
 ghost use Rattle.text_lines.specs.Putting.{Puts};
 ghost use Rattle.capture_summary.specs.Counting.{is_quiet, count_of_refusal, count_of_reason};
-ghost use Rattle.capture_summary.specs.SummaryText.{segments_line, frames_line, requests_line, flow_text, counted_line, refusal_line, channel_line, channel_text, all_records_line, clock_lines, reason_line, summary_text};
+ghost use Rattle.capture_summary.specs.SummaryText.{segments_line, frames_line, requests_line, flow_text, counted_line, refusal_line, channel_line, channel_text, all_records_line, times_told, reason_line, summary_text};
 
 use crate::channel_summary::ChannelSummary;
 use crate::flow_summary::FlowSummary;
@@ -148,18 +148,18 @@ fn put_records_line<O: PutText>(out: &mut O, summary: &CaptureSummary)
     put_word(out, "\n");
 }
 
-/// Puts how often the clocks of flows failed, where they did.
-fn put_clock_lines<O: PutText>(out: &mut O, summary: &CaptureSummary)
-    ensures { Puts O.after out.old (clock_lines summary.now) out.new }
+/// Puts how often times couldn't be gone by, where they couldn't.
+fn put_times_told<O: PutText>(out: &mut O, summary: &CaptureSummary)
+    ensures { Puts O.after out.old (times_told summary.now) out.new }
 {
     put_counted_line(
         out,
-        "  the clock was set back by more than --reorder, so that what waited of a flow went first:",
+        "  bursts earlier than their flow's clock by more than --reorder, which set it back:",
         summary.set_back,
     );
     put_counted_line(
         out,
-        "  the clock stood still or nearly, so that with 2048 of a flow waiting bursts went by number:",
+        "  bursts handed on early, as 2048 of their flow waited (times stand still, or --reorder is long):",
         summary.crowded,
     );
 }
@@ -188,8 +188,8 @@ fn put_reasons<O: PutText>(out: &mut O, passed: &PassedCounts, reasons: &[Passed
 
 /// Puts what people read of a capture in the end: three lines for each flow of which something
 /// came, and how many others there are; a line for each channel, and below it one for each refusal
-/// that came; one for all records, and below it one for each way in which clocks failed and for each
-/// reason to pass some over.
+/// that came; one for all records, and below it one for each way in which times couldn't be gone by
+/// and for each reason to pass some over.
 pub fn put_summary<O: PutText>(out: &mut O, summary: &CaptureSummary)
     ensures { Puts O.after out.old (summary_text summary.now) out.new }
 {
@@ -198,6 +198,6 @@ pub fn put_summary<O: PutText>(out: &mut O, summary: &CaptureSummary)
     put_counted_line(out, "flows of which nothing came:", quiet);
     put_channels(out, &summary.channels);
     put_records_line(out, summary);
-    put_clock_lines(out, summary);
+    put_times_told(out, summary);
     put_reasons(out, &summary.passed, &ALL_REASONS);
 }

@@ -2,7 +2,7 @@
 use Rattle.std.specs.Prelude.{ℕ, Bool, List, length, fold}
 use Rattle.bonded_flows.specs.Table.{TableSetup}
 use Rattle.capture_rules.specs.declared.clock_counts.ClockCounts.{ClockCounts}
-use Rattle.capture_rules.specs.Clock.{none_counted, both_counted}
+use Rattle.capture_rules.specs.Clock.{none_counted, clocks_of_both}
 use Rattle.captured_flows.specs.Acts.{Act}
 use Rattle.captured_flows.specs.declared.captured_burst.CapturedBurst.{CapturedBurst}
 use Rattle.captured_flows.specs.declared.burst_taken.BurstTaken.{BurstTaken}
@@ -19,9 +19,9 @@ module _ {C : Type 0} where
   abbrev pub views_in : CapturedFlows C → List FlowView
   views_in captured = views_of captured.flows.items
 
-  -- how often the clocks of all flows failed
+  -- how often the times of all flows' bursts couldn't be gone by
   abbrev pub clock_counts_in : CapturedFlows C → ClockCounts
-  clock_counts_in captured = fold (λ counts flow. both_counted counts (flow_seen flow).order.counts) none_counted captured.flows.items
+  clock_counts_in captured = fold (λ counts flow. clocks_of_both counts (flow_seen flow).order.counts) none_counted captured.flows.items
 
   -- the receiver is at hand, and the flows are those of the map
   pub record IsCapturing (accepts : C → List ℕ → Bool) (captured : CapturedFlows C) : Type 0 where

@@ -279,7 +279,7 @@ impl<C: HeaderCheck + Drop> CapturedFlows<C> {
         Ok(())
     }
 
-    /// How often the clocks of all flows failed.
+    /// How often the times of all flows' bursts couldn't be gone by.
     pub fn clock_counts(&self) -> ClockCounts
         ensures { result ≡ clock_counts_in self.now }
     {

@@ -44,7 +44,13 @@ pub fn join_capture<R: Read, W: Write, Q: Write>(
     let mut piece = zeros(alloc, PIECE_BYTES)?;
     reading.joining.file.write(writer)?;
     for _ in 0..u64::MAX {
-        let count = read_some(reader, &mut piece)?;
+        let count = match read_some(reader, &mut piece) {
+            Ok(count) => count,
+            Err(fault) => {
+                reading.note_clocks(tally);
+                return Err(fault);
+            }
+        };
         if count == 0 {
             reading.note_clocks(tally);
             let ended = reading.finish(alloc, tally, writer);

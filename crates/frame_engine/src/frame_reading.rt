@@ -43,7 +43,7 @@ impl FrameReading {
         })
     }
 
-    /// Notes how often the clocks of flows failed so far.
+    /// Notes how often times couldn't be gone by so far.
     pub(crate) fn note_clocks(&self, tally: &mut CaptureTally) {
         tally.note_clocks(self.joining.flows.clock_counts());
     }

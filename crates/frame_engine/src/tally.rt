@@ -114,7 +114,7 @@ impl CaptureTally {
         self.last_time = nanoseconds;
     }
 
-    /// Notes how often the clocks of flows failed so far.
+    /// Notes how often times couldn't be gone by so far.
     pub(crate) fn note_clocks(&mut self, counts: ClockCounts) {
         self.summary.set_back = counts.set_back;
         self.summary.crowded = counts.crowded;

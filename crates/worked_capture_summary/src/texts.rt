@@ -199,8 +199,8 @@ channel 3, upstream channel id 4294967295: bursts 13, above their grant 0, admit
   refused: out of memory for a burst 2
 channel 15, upstream channel id 0: bursts 0, above their grant 0, admitted 0
 records 1234, earlier than the record before 3
-  the clock was set back by more than --reorder, so that what waited of a flow went first: 5
-  the clock stood still or nearly, so that with 2048 of a flow waiting bursts went by number: 6
+  bursts earlier than their flow's clock by more than --reorder, which set it back: 5
+  bursts handed on early, as 2048 of their flow waited (times stand still, or --reorder is long): 6
   passed over: cut short 2
   passed over: malformed 4
   passed over: no channel or SID 6

@@ -182,10 +182,13 @@ fn clocks_of_all_flows_are_counted(rt: HostRuntime) -> Result<(), Fail> {
     let mut noted = Noted::new(alloc);
     assert!(rt; captured.clock_counts() == ClockCounts::none());
     // What waits is handed on where the clock is set back, and not where it goes back by 2.
-    for (number, time) in [30, 28, 27, 27].iter().enumerate() {
-        let next = burst(alloc, *time, 100, 5 + number as u16, true)?;
-        captured.take(alloc, next, &mut noted)?;
-    }
+    let bursts = vec![in alloc;
+        burst(alloc, 30, 100, 5, true)?,
+        burst(alloc, 28, 100, 6, true)?,
+        burst(alloc, 27, 100, 7, true)?,
+        burst(alloc, 27, 100, 8, true)?,
+    ]?;
+    captured.take_all(alloc, bursts, &mut noted)?;
     let counts = ClockCounts {
         set_back: 1,
         crowded: 0,

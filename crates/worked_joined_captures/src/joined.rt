@@ -1,5 +1,5 @@
 //! What comes of a capture that is joined.
-use crate::samples::{joined_file, map_of_two_channels, segments_at, two_segments};
+use crate::samples::{joined_file, map_of_two_channels, segments_at, still_segments, two_segments};
 use captured_flows::Waits;
 use engines::{Device, EngineFault};
 use frame_engine::{CaptureSettings, CaptureTally, FrameReading, InnerCheck, join_capture};
@@ -149,6 +149,66 @@ fn a_clock_that_is_set_back_is_told(rt: HostRuntime) -> Result<(), Fail> {
     bytes.push(0)?;
     let joined = join(rt.alloc(), &bytes, 50, FrameLink::Docsis)?;
     assert!(rt; joined.done.is_err() && joined.tally.summary.set_back == 1);
+    Ok(())
+}
+
+#[test]
+fn bursts_that_are_handed_on_early_are_told(rt: HostRuntime) -> Result<(), Fail> {
+    let bytes = still_segments(rt.alloc(), 2060)?;
+    let joined = join(rt.alloc(), &bytes, 5000, FrameLink::Docsis)?;
+    let summary = &joined.tally.summary;
+    assert!(rt; joined.done.is_ok() && summary.records == 2060);
+    assert!(rt; summary.earlier == 0 && summary.set_back == 0 && summary.crowded == 12);
+    Ok(())
+}
+
+/// Gives some bytes, and then fails.
+#[derive(Drop)]
+struct Breaking<'a> {
+    given: InPieces<'a>,
+}
+
+impl Read for Breaking<'_> {
+    fn read(&mut self, buf: &mut [u8]) -> io::Result<usize> {
+        match self.given.read(buf) {
+            Ok(0) => Err(Error::new(ErrorKind::ConnectionReset, "broken")),
+            given => given,
+        }
+    }
+}
+
+#[test]
+fn times_are_told_where_a_read_fails(rt: HostRuntime) -> Result<(), Fail> {
+    let alloc = rt.alloc();
+    let bytes = segments_at(alloc, [2, 1])?;
+    let capture_map = map_of_two_channels(alloc)?;
+    let mut tally = CaptureTally::new(alloc, &capture_map, false)?;
+    let Ok(reading) = FrameReading::new(alloc, settings(FrameLink::Xra), capture_map) else {
+        return Err("the map can't be set up".into());
+    };
+    let given = InPieces {
+        rest: &bytes,
+        size: 50,
+    };
+    let mut frames = Vec::new(alloc);
+    let mut reader = Device::new(Breaking { given });
+    let mut writer = Device::new(&mut frames);
+    let mut lines: Option<Device<Full>> = None;
+    let done = join_capture(
+        alloc,
+        reading,
+        &mut tally,
+        &mut lines,
+        &mut reader,
+        &mut writer,
+    );
+    reader.into_inner();
+    writer.into_inner();
+    if let Some(lines) = lines {
+        lines.into_inner();
+    }
+    assert!(rt; matches!(done, Err(EngineFault::Read)));
+    assert!(rt; tally.summary.records == 3 && tally.summary.set_back == 1);
     Ok(())
 }
 

@@ -69,6 +69,13 @@ fn put_burst(
     out.extend_from_slice(payload)
 }
 
+/// Appends the header of a pcap file in nanoseconds, of link type 273.
+fn put_file(out: &mut Vec<u8>) -> Result<(), AllocError> {
+    out.extend_from_slice(&[
+        0xa1, 0xb2, 0x3c, 0x4d, 0, 2, 0, 4, 0, 0, 0, 0, 0, 0, 0, 0, 0, 4, 0, 0, 0, 0, 1, 0x11,
+    ])
+}
+
 /// A capture of the frame in two segments, the second a second after the first, and between them of a
 /// burst on an upstream channel that the map doesn't have.
 pub(crate) fn two_segments(alloc: Global) -> Result<Vec<u8>, AllocError> {
@@ -79,13 +86,27 @@ pub(crate) fn two_segments(alloc: Global) -> Result<Vec<u8>, AllocError> {
 pub(crate) fn segments_at(alloc: Global, seconds: [u8; 2]) -> Result<Vec<u8>, AllocError> {
     let frame = frame();
     let mut file = Vec::new(alloc);
-    file.extend_from_slice(&[
-        0xa1, 0xb2, 0x3c, 0x4d, 0, 2, 0, 4, 0, 0, 0, 0, 0, 0, 0, 0, 0, 4, 0, 0, 0, 0, 1, 0x11,
-    ])?;
+    put_file(&mut file)?;
     let [first, second] = seconds;
     put_burst(&mut file, first, 100, header(0, true, 9), &frame[..5])?;
     put_burst(&mut file, first, 102, header(0, true, 0), &frame)?;
     put_burst(&mut file, second, 101, header(1, false, 0), &frame[5..])?;
+    Ok(file)
+}
+
+/// A capture of so many segments of one channel, all of one time.
+pub(crate) fn still_segments(alloc: Global, count: usize) -> Result<Vec<u8>, AllocError> {
+    let mut file = Vec::new(alloc);
+    put_file(&mut file)?;
+    for place in 0..count {
+        put_burst(
+            &mut file,
+            1,
+            100,
+            header((place % 32) as u8, true, 0),
+            &frame(),
+        )?;
+    }
     Ok(file)
 }
 

@@ -8,6 +8,9 @@ use std::io::Read;
 pub trait Make {
     /// Appends the next part, or nothing where all was made.
     fn make(&mut self, out: &mut Vec<u8>) -> io::Result<()>;
+
+    /// How many segments were made.
+    fn segments(&self) -> u64;
 }
 
 /// Gives what is made to whoever reads.
@@ -27,6 +30,14 @@ impl<M> Feed<M> {
             made: room,
             given: 0,
         }
+    }
+
+    /// How many segments were made.
+    pub fn segments(&self) -> u64
+    where
+        M: Make,
+    {
+        self.maker.segments()
     }
 
     /// Copies what isn't given yet, as far as there is room.

@@ -75,6 +75,11 @@ impl Scale {
     fn of(self, size: u64) -> u64 {
         size.saturating_mul(self.0) / 256
     }
+
+    /// The same of what comes before all else, of which there is never more than at whole scale.
+    fn before(self, count: u32) -> u32 {
+        u32::try_from(self.of(u64::from(count))).map_or(count, |part| part.min(count))
+    }
 }
 
 /// An ordinary recording.
@@ -234,7 +239,7 @@ fn done(status: u8) -> Result<()> {
     }
 }
 
-/// Gives a recording to `segrx capture` with these words.
+/// Gives a recording to `segrx capture` with these words, and answers how many segments it has.
 fn capture<T: Files>(
     alloc: Global,
     rt: &T,
@@ -243,21 +248,22 @@ fn capture<T: Files>(
     scale: Scale,
     dice: &mut Dice,
     digest: &mut Digest,
-) -> Result<()> {
+) -> Result<u64> {
     let kind = RecordingKind {
         size: scale.of(kind.size),
         ..kind
     };
     let recording = Recording::new(alloc, kind, Dice::new(dice.next()))?;
-    let reader = Feed::new(Vec::new(alloc), recording);
+    let mut reader = Feed::new(Vec::new(alloc), recording);
     let mut told = Digest::new();
     let (out, err) = (Digested { digest }, Digested { digest: &mut told });
-    let status = capture_program(alloc, rt, words, reader, out, err);
+    let status = capture_program(alloc, rt, words, &mut reader, out, err);
     digest.take_number(told.value());
-    done(status)
+    done(status)?;
+    Ok(reader.segments())
 }
 
-/// Gives a trace to `segrx` with these words.
+/// Gives a trace to `segrx` with these words, and answers how many segments it has.
 fn trace<T: Threads + Wait + Copy + Send + 'static>(
     alloc: Global,
     rt: T,
@@ -266,44 +272,46 @@ fn trace<T: Threads + Wait + Copy + Send + 'static>(
     scale: Scale,
     dice: &mut Dice,
     digest: &mut Digest,
-) -> Result<()> {
+) -> Result<u64> {
     let kind = TraceKind {
         size: scale.of(kind.size),
         ..kind
     };
     let trace = Trace::new(alloc, kind, Dice::new(dice.next()))?;
-    let reader = Feed::new(Vec::new(alloc), trace);
+    let mut reader = Feed::new(Vec::new(alloc), trace);
     let mut told = Digest::new();
     let (out, err) = (Digested { digest }, Digested { digest: &mut told });
-    let status = program(alloc, rt, words, reader, out, err);
+    let status = program(alloc, rt, words, &mut reader, out, err);
     digest.take_number(told.value());
-    done(status)
+    done(status)?;
+    Ok(reader.segments())
 }
 
-/// Hands segments in to a receiver.
+/// Hands segments in to a receiver, and answers how many.
 fn hand_in(
     alloc: Global,
     kind: ReceivingKind,
     scale: Scale,
     dice: &mut Dice,
     digest: &mut Digest,
-) -> Result<()> {
+) -> Result<u64> {
     let kind = ReceivingKind {
         segments: scale.of(kind.segments),
         ..kind
     };
-    receive(alloc, kind, Dice::new(dice.next()), digest)?;
-    Ok(())
+    Ok(receive(alloc, kind, Dice::new(dice.next()), digest)?)
 }
 
-/// Gives what comes out of its order to `segrx replay` and to a receiver, by each loss rule.
+/// Gives what comes out of its order to `segrx replay` and to a receiver, by each loss rule, and
+/// answers how many segments that are.
 fn put_in_order<T: Threads + Wait + Copy + Send + 'static>(
     alloc: Global,
     rt: T,
     scale: Scale,
     dice: &mut Dice,
     digest: &mut Digest,
-) -> Result<()> {
+) -> Result<u64> {
+    let mut segments = 0_u64;
     let decided = TraceKind {
         decided: 4,
         ..SKEWED
@@ -314,7 +322,8 @@ fn put_in_order<T: Threads + Wait + Copy + Send + 'static>(
         ("slid", FAR_SKEWED),
     ] {
         let words = ["segrx", "replay", "--losses", rule];
-        trace(alloc, rt, &words, kind, scale, dice, digest)?;
+        let count = trace(alloc, rt, &words, kind, scale, dice, digest)?;
+        segments = segments.wrapping_add(count);
     }
     let decided = ReceivingKind {
         rule: LossRule::Decided,
@@ -326,12 +335,13 @@ fn put_in_order<T: Threads + Wait + Copy + Send + 'static>(
         ..FAR_DISORDERED
     };
     for kind in [decided, DISORDERED, slid] {
-        hand_in(alloc, kind, scale, dice, digest)?;
+        let count = hand_in(alloc, kind, scale, dice, digest)?;
+        segments = segments.wrapping_add(count);
     }
-    Ok(())
+    Ok(segments)
 }
 
-/// Does a job.
+/// Does a job, and answers how many segments were made for it.
 pub fn do_job<T: Files + Threads + Wait + Copy + Send + 'static>(
     alloc: Global,
     rt: T,
@@ -340,7 +350,7 @@ pub fn do_job<T: Files + Threads + Wait + Copy + Send + 'static>(
     dice: Dice,
     map: &str,
     digest: &mut Digest,
-) -> Result<()> {
+) -> Result<u64> {
     let mut dice = dice;
     let dice = &mut dice;
     match job {
@@ -350,32 +360,42 @@ pub fn do_job<T: Files + Threads + Wait + Copy + Send + 'static>(
         }
         Job::Waiting => {
             let words = ["segrx", "capture", map, "--reorder", "500"];
-            capture(alloc, &rt, &words, SMALL, scale, dice, digest)?;
+            let small = capture(alloc, &rt, &words, SMALL, scale, dice, digest)?;
             let words = ["segrx", "capture", map];
-            capture(alloc, &rt, &words, STILL, scale, dice, digest)
+            let still = capture(alloc, &rt, &words, STILL, scale, dice, digest)?;
+            Ok(small.wrapping_add(still))
         }
         Job::Replay => {
             let words = ["segrx", "replay", "--losses", "passed"];
-            trace(alloc, rt, &words, LONG, scale, dice, digest)?;
+            let passed = trace(alloc, rt, &words, LONG, scale, dice, digest)?;
             let words = ["segrx", "replay", "--losses", "slid"];
-            trace(alloc, rt, &words, LONG, scale, dice, digest)
+            let slid = trace(alloc, rt, &words, LONG, scale, dice, digest)?;
+            Ok(passed.wrapping_add(slid))
         }
         Job::Run => {
             let words = ["segrx", "run"];
-            trace(alloc, rt, &words, LOSSLESS, scale, dice, digest)?;
+            let narrow = trace(alloc, rt, &words, LOSSLESS, scale, dice, digest)?;
             let words = ["segrx", "run", "--mailbox", "1024", "--ring", "1024"];
-            trace(alloc, rt, &words, LOSSLESS, scale, dice, digest)
+            let wide = trace(alloc, rt, &words, LOSSLESS, scale, dice, digest)?;
+            Ok(narrow.wrapping_add(wide))
         }
         Job::Follow => {
+            let short = TraceKind {
+                flows: scale.before(SHORT.flows),
+                first_ahead: scale.before(SHORT.first_ahead),
+                ..SHORT
+            };
             let words = ["segrx", "follow", "--channels", "8", "--losses", "passed"];
-            trace(alloc, rt, &words, SHORT, scale, dice, digest)?;
+            let quiet = trace(alloc, rt, &words, short, scale, dice, digest)?;
             let words = ["segrx", "follow", "--channels", "8", "--events"];
-            trace(alloc, rt, &words, SHORT, scale, dice, digest)
+            let told = trace(alloc, rt, &words, short, scale, dice, digest)?;
+            Ok(quiet.wrapping_add(told))
         }
         Job::Receiver => {
-            hand_in(alloc, MANY, scale, dice, digest)?;
-            hand_in(alloc, JUMPING, scale, dice, digest)?;
-            hand_in(alloc, BACKWARDS, scale, dice, digest)
+            let many = hand_in(alloc, MANY, scale, dice, digest)?;
+            let jumping = hand_in(alloc, JUMPING, scale, dice, digest)?;
+            let backwards = hand_in(alloc, BACKWARDS, scale, dice, digest)?;
+            Ok(many.wrapping_add(jumping).wrapping_add(backwards))
         }
         Job::Disorder => put_in_order(alloc, rt, scale, dice, digest),
     }

@@ -2,8 +2,9 @@
 //!
 //! Its words are a job, a number, and the path of a map: the job makes its own input, another one
 //! for each number, gives it to the public calls of the crates on top, and prints a digest of all
-//! that these give. A fourth word says how much is given, in 256th parts; all if there is none.
-//! `trial` does all jobs on one such part. It prints no times, and the same at each run.
+//! that these give, of how many bytes that is, and how many segments were made. A fourth word says
+//! how much is given, in 256th parts; all if there is none. `trial` does all jobs on one such part.
+//! It prints no times, and the same at each run.
 #![tactic(auto)]
 
 mod behind;
@@ -25,13 +26,13 @@ use std::rt::Files;
 use std::sync::Wait;
 use std::thread::Threads;
 
-/// Does a job, and prints its digest and how many bytes that is of.
+/// Does a job, and prints its digest, how many bytes that is of, and of how many segments.
 fn show<T>(rt: T, job: Job, scale: Scale, seed: u64, map: &str) -> Result<()>
 where
     T: AllocGlobal + Print + Files + Threads + Wait + Copy + Send + 'static,
 {
     let mut digest = Digest::new();
-    do_job(
+    let segments = do_job(
         rt.alloc(),
         rt,
         job,
@@ -41,7 +42,7 @@ where
         &mut digest,
     )?;
     let (name, value, length) = (job.name(), digest.value(), digest.length());
-    println!(rt; "{name} {value:016x} {length}")
+    println!(rt; "{name} {value:016x} {length} {segments}")
 }
 
 fn main(rt: HostRuntime) -> Result<()> {

@@ -420,13 +420,14 @@ fn hand_in_all<C: HeaderCheck + Drop>(
     Ok(())
 }
 
-/// Has a receiver take what is sent, and digests what it gives and what it counted.
+/// Has a receiver take what is sent, and digests what it gives and what it counted. It answers how
+/// many segments were sent.
 pub fn receive(
     alloc: Global,
     kind: ReceivingKind,
     dice: Dice,
     digest: &mut Digest,
-) -> Result<(), AllocError> {
+) -> Result<u64, AllocError> {
     let mut modems = Modems::new(alloc, kind, dice)?;
     let setup = modems.setup(alloc)?;
     let Ok(width) = Width::new(kind.channels, kind.flows) else {
@@ -457,7 +458,7 @@ pub fn receive(
         taken.digest.take_number(lane.admitted);
         taken.digest.take_number(lane.refused);
     }
-    Ok(())
+    Ok(u64::from(modems.turn).wrapping_mul(u64::from(kind.channels)))
 }
 
 #[cfg(test)]

@@ -136,6 +136,10 @@ impl Make for Recording {
         self.left = self.left.saturating_sub(out.len() as u64);
         Ok(())
     }
+
+    fn segments(&self) -> u64 {
+        self.bursts
+    }
 }
 
 /// Appends the header of a pcap file of nanoseconds.

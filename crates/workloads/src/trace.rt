@@ -188,6 +188,10 @@ impl Make for Trace {
         self.left = self.left.saturating_sub(out.len() as u64);
         Ok(())
     }
+
+    fn segments(&self) -> u64 {
+        u64::from(self.turn).wrapping_mul(u64::from(self.kind.channels))
+    }
 }
 
 /// Appends a word, and numbers.

@@ -9,8 +9,8 @@ abbrev pub numbers_on : WaitingNumbers → ℕ → List ℕ
 numbers_on numbers channel = unwrap_or (option_map (λ queue. queue.items) (slice_get numbers.channels.items channel)) []
 
 -- how often a number stands among some
-abbrev pub times_among : ℕ → List ℕ → ℕ
-times_among number numbers = count_by (λ n. n == number) numbers
+abbrev pub count_among : ℕ → List ℕ → ℕ
+count_among number numbers = count_by (λ n. n == number) numbers
 
 module _ {T : Type 0} where
   -- a burst has this channel and number
@@ -18,12 +18,12 @@ module _ {T : Type 0} where
   has channel number one = one.arrival.channel == channel && one.arrival.number == number
 
   -- how many of some do
-  abbrev pub times_waiting : ℕ → ℕ → List (Waiting T) → ℕ
-  times_waiting channel number waiting = count_by (has channel number) waiting
+  abbrev pub count_waiting : ℕ → ℕ → List (Waiting T) → ℕ
+  count_waiting channel number waiting = count_by (has channel number) waiting
 
   -- they are the numbers of what waits: each stands there as often as bursts of its channel have it
   abbrev pub AreNumbersOf : WaitingNumbers → List (Waiting T) → Type 0
-  AreNumbersOf numbers waiting = (channel number : ℕ) → times_among number (numbers_on numbers channel) ≡ times_waiting channel number waiting
+  AreNumbersOf numbers waiting = (channel number : ℕ) → count_among number (numbers_on numbers channel) ≡ count_waiting channel number waiting
 
   -- the first one of a channel and number stands here
   pub record IsFirstWith (channel number : ℕ) (waiting : List (Waiting T)) (at : ℕ) : Type 0 where

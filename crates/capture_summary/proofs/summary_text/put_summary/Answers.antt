@@ -7,5 +7,5 @@ returns g c =
     let quiet = rw (c.quiet_count-quiet.ensures, c.deref-2.ensures.value) at c.put_counted_line.ensures in
     let channels = rw c.deref-3.ensures.value at c.put_channels.ensures in
     puts-then g.O.PutText.after
-    (puts-then g.O.PutText.after (puts-then g.O.PutText.after (puts-then g.O.PutText.after (puts-then g.O.PutText.after flows quiet) channels) c.put_records_line.ensures) c.put_clock_lines.ensures)
+    (puts-then g.O.PutText.after (puts-then g.O.PutText.after (puts-then g.O.PutText.after (puts-then g.O.PutText.after flows quiet) channels) c.put_records_line.ensures) c.put_times_told.ensures)
     c.put_reasons.ensures

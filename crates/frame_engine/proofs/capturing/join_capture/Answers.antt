@@ -36,54 +36,53 @@ loop-init g c =
       room = search rules;
     }
 
-pub returns-in_err-count : goal.returns-in_err-count
-returns-in_err-count g c = λ settings capture_map begun.
-    let p = err_from_is_err_and c.from_residual-in_err-count.result c.from_residual-in_err-count.ensures.1 in
-    rw (p.1, p.2 ∙ c.in_err-count.ensures.only)
+pub returns-in-Err : goal.returns-in-Err
+returns-in-Err g c = λ settings capture_map begun.
+    rw c.in-Err.ensures.only
     (capture-unread g.R.Read.remaining g.W.Write.contents settings capture_map c.args.reader.now c.args.writer.now c.loop.reader c.loop.writer c.loop.reading
-    (c.loop.invariant.far settings capture_map begun) c.read_some.new.reader c.in_err-count.ensures.kept (inl c.in_err-count.ensures.failed))
+    (c.loop.invariant.far settings capture_map begun) c.read_some.new.reader c.in-Err.ensures.kept (inl c.in-Err.ensures.failed))
 
 pub returns-then-count-eq0 : goal.returns-then-count-eq0
 returns-then-count-eq0 g c = λ settings capture_map begun.
     let far = c.loop.invariant.far settings capture_map begun in
-    let none : c.in_ok-count.count ≡ 0 = search rules in
+    let none : c.in-Ok.count ≡ 0 = search rules in
     let read =
     subst (λ n. Consumes (g.R.Read.remaining (inner_of c.loop.reader)) (g.R.Read.remaining (inner_of c.read_some.new.reader)) (take n c.read_some.new.room)) none
-    c.in_ok-count.ensures.taken in
+    c.in-Ok.ensures.taken in
     capture-finished g.R.Read.remaining g.W.Write.contents settings capture_map c.args.reader.now c.args.writer.now c.loop.reader c.loop.writer c.loop.reading far
-    c.read_some.new.reader read (c.in_ok-count.ensures.end none) c.finish-ended.new.writer c.finish-ended.result c.requires.reader.0 c.requires.writer.0 c.in_ok-count.ensures.sound
+    c.read_some.new.reader read (c.in-Ok.ensures.end none) c.finish-ended.new.writer c.finish-ended.result c.requires.reader.0 c.requires.writer.0 c.in-Ok.ensures.sound
     (c.finish-ended.ensures settings capture_map far.bytes far.text far.has)
 
-pub returns-in-Err : goal.returns-in-Err
-returns-in-Err g c = λ settings capture_map begun.
+pub returns-in-Err-join_piece : goal.returns-in-Err-join_piece
+returns-in-Err-join_piece g c = λ settings capture_map begun.
     let far = c.loop.invariant.far settings capture_map begun in
     let front = c.read_some.new.room in
     let long : length front ≡ c.loop.piece.len = search rules in
     let piece = c.deref.ensures.value in
-    let front_is = of_room c.in_ok-count.count c.loop.piece.len front _ c.in_ok-count.ensures.within long in
-    let joined = c.in-Err.ensures.joins settings capture_map far.bytes far.text far.has in
+    let front_is = of_room c.in-Ok.count c.loop.piece.len front _ c.in-Ok.ensures.within long in
+    let joined = c.in-Err-join_piece.ensures.joins settings capture_map far.bytes far.text far.has in
     (capture-stopped g.R.Read.remaining g.W.Write.contents settings capture_map c.args.reader.now c.args.writer.now c.loop.reader c.loop.writer c.loop.reading far
-    c.read_some.new.reader (take c.in_ok-count.count c.deref.result.now)
-    (subst (Consumes (g.R.Read.remaining (inner_of c.loop.reader)) (g.R.Read.remaining (inner_of c.read_some.new.reader))) (sym (ap (take c.in_ok-count.count) piece ∙ front_is))
-    c.in_ok-count.ensures.taken) c.join_piece.new.writer joined.0 _ joined.1.0 joined.1.1 joined.1.2)
+    c.read_some.new.reader (take c.in-Ok.count c.deref.result.now)
+    (subst (Consumes (g.R.Read.remaining (inner_of c.loop.reader)) (g.R.Read.remaining (inner_of c.read_some.new.reader))) (sym (ap (take c.in-Ok.count) piece ∙ front_is))
+    c.in-Ok.ensures.taken) c.join_piece.new.writer joined.0 _ joined.1.0 joined.1.1 joined.1.2)
 
 pub loop-preserved : goal.loop-preserved
 loop-preserved g c =
     let front = c.read_some.new.room in
     let long : length front ≡ c.loop.piece.len = search rules in
     let piece = c.deref.ensures.value in
-    let front_is = of_room c.in_ok-count.count c.loop.piece.len front _ c.in_ok-count.ensures.within long in
+    let front_is = of_room c.in-Ok.count c.loop.piece.len front _ c.in-Ok.ensures.within long in
     record {
       far = λ settings capture_map begun.
           let far = c.loop.invariant.far settings capture_map begun in
-          let joined = c.in-Ok.ensures.joins settings capture_map far.bytes far.text far.has in
+          let joined = c.in-Ok-join_piece.ensures.joins settings capture_map far.bytes far.text far.has in
           far-more g.R.Read.remaining g.W.Write.contents settings capture_map c.args.reader.now c.args.writer.now c.loop.reader c.loop.writer c.loop.reading far
-          c.read_some.new.reader (take c.in_ok-count.count c.deref.result.now)
+          c.read_some.new.reader (take c.in-Ok.count c.deref.result.now)
           (subst (Consumes (g.R.Read.remaining (inner_of c.loop.reader)) (g.R.Read.remaining (inner_of c.read_some.new.reader)))
-          (sym (ap (take c.in_ok-count.count) piece ∙ front_is)) c.in_ok-count.ensures.taken)
-          c.join_piece.new.writer c.join_piece.new.self joined.0 c.in_ok-count.ensures.sound joined.1.0 c.in-Ok.ensures.empty joined.1.1 joined.1.2 joined.1.3;
-      ready = c.in-Ok.ensures.ready;
-      empty = c.in-Ok.ensures.empty;
+          (sym (ap (take c.in-Ok.count) piece ∙ front_is)) c.in-Ok.ensures.taken)
+          c.join_piece.new.writer c.join_piece.new.self joined.0 c.in-Ok.ensures.sound joined.1.0 c.in-Ok-join_piece.ensures.empty joined.1.1 joined.1.2 joined.1.3;
+      ready = c.in-Ok-join_piece.ensures.ready;
+      empty = c.in-Ok-join_piece.ensures.empty;
       counted = search rules;
       room = c.loop.invariant.room;
     }

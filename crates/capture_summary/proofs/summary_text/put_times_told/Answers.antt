@@ -1,5 +1,5 @@
 use Rattle.capture_summary.proofs.PutLines.{puts-then}
-use Rattle.capture_summary.proofs.summary_text.put_clock_lines.Goals as goal
+use Rattle.capture_summary.proofs.summary_text.put_times_told.Goals as goal
 
 pub returns : goal.returns
 returns g c = puts-then g.O.PutText.after c.put_counted_line.ensures c.put_counted_line-2.ensures
