@@ -1,15 +1,17 @@
 /* Loaded before the C library, refuses one request for memory or for the start of a thread: the one whose number
  * REFUSE_ALLOCATION gives, counted from 1. Where REFUSE_LATER is set, to anything but nothing, it refuses all later ones
  * too. When it refuses one it writes into the file that REFUSE_MET names whether it was in the first thread or in
- * another. */
+ * another. Number 0 refuses none; in the end the file that REFUSE_COUNTED names has how many requests there were. */
 #define _GNU_SOURCE
 #include <dlfcn.h>
 #include <errno.h>
 #include <fcntl.h>
 #include <pthread.h>
 #include <stddef.h>
+#include <stdio.h>
 #include <stdlib.h>
 #include <string.h>
+#include <sys/syscall.h>
 #include <unistd.h>
 
 extern void *__libc_malloc(size_t);
@@ -30,6 +32,16 @@ static void note(const char *file, const char *where)
     if (to < 0 || write(to, where, strlen(where)) < 0)
         abort();
     close(to);
+}
+
+static void tell_count(void)
+{
+    const char *file = getenv("REFUSE_COUNTED");
+    char count[32];
+    if (file == NULL)
+        return;
+    snprintf(count, sizeof count, "%ld", asked);
+    note(file, count);
 }
 
 static int refused(void)
@@ -63,6 +75,14 @@ int posix_memalign(void **to, size_t align, size_t size)
         return ENOMEM;
     *to = made;
     return 0;
+}
+
+/* The programs end by this. */
+void _exit(int status)
+{
+    tell_count();
+    syscall(SYS_exit_group, status);
+    __builtin_unreachable();
 }
 
 int pthread_create(pthread_t *thread, const pthread_attr_t *how, void *(*run)(void *), void *with)
