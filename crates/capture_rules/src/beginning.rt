@@ -12,8 +12,8 @@ use reorder::offset;
 use std::alloc::{AllocFailed, Global};
 use std::mem;
 
-/// A beginning lasts so many nanoseconds, from the first burst in it on: 10 ms. It is over, too, with
-/// its 2,048th burst, [`MOST_WAITING`].
+/// A beginning lasts so many nanoseconds, from the first burst in it on: 10 ms. It is over, too,
+/// with its 2,048th burst, [`MOST_WAITING`].
 pub const BEGINNING: u64 = 10_000_000;
 
 /// Says of each burst of a flow that is handed on whether it is kept, since the flow is beginning,

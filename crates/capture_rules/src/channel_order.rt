@@ -19,8 +19,8 @@ pub const MOST_WAITING: usize = 2048;
 ///
 /// It goes by a clock of the flow's own, that doesn't go back: a burst that is earlier than the one
 /// before it counts as of that one's time. Only where it is earlier by more than `reorder` is the
-/// clock set back to it, and all that waits is handed on first. However still the clock stands, no more
-/// than [`MOST_WAITING`] bursts wait.
+/// clock set back to it, and all that waits is handed on first. However still the clock stands, no
+/// more than [`MOST_WAITING`] bursts wait.
 ///
 /// So a burst comes by two calls: [`ChannelOrder::next`] with its time until it gives none, and
 /// [`ChannelOrder::push`].
@@ -54,9 +54,9 @@ impl<T> ChannelOrder<T> {
     }
 
     /// Hands on the next burst, if it goes before a burst of this time is taken in: the oldest one
-    /// has waited for longer than `reorder` then, or the clock is set back. In the oldest one's place
-    /// and at its time goes the one of the least number (from the oldest one's, modulo 8192) of those
-    /// that came on its channel. It asks for no memory.
+    /// has waited for longer than `reorder` then, or the clock is set back. In the oldest one's
+    /// place and at its time goes the one of the least number (from the oldest one's, modulo 8192)
+    /// of those that came on its channel. It asks for no memory.
     pub fn next(&mut self, time: u64) -> Option<HandedOn<T>>
         ensures due { is_some result ≡ is_due (order_seen self.old) time }
         ensures next { IfSome result (λ next.

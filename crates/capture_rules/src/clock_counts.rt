@@ -2,8 +2,8 @@
 ghost use Rattle.std.specs.Prelude.{◌≡◌};
 ghost use Rattle.capture_rules.specs.Clock.{none_counted, counts_after, clocks_of_both};
 
-/// How often the times of a flow's bursts, or of those of several flows, couldn't be gone by. A count
-/// that has come to its greatest value, 2^64 − 1, stays there.
+/// How often the times of a flow's bursts, or of those of several flows, couldn't be gone by. A
+/// count that has come to its greatest value, 2^64 − 1, stays there.
 #[derive(Clone, Copy, Debug, PartialEq, Eq)]
 pub struct ClockCounts {
     /// Bursts that came earlier than their flow's clock by more than `reorder`, so that it was set

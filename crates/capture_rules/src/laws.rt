@@ -24,9 +24,10 @@ pub fn bursts_are_handed_on_in_one_way<T>()
 /// What is handed on and what goes on waiting are together the bursts that waited and that came, in
 /// another order; and in the end all are handed on that wait.
 pub fn no_burst_is_lost_or_doubled<T>()
-    ensures order { (order left : OrderView T) (came : List (Arrival T)) (handed : List (HandedOn T))
-        → Orders order came handed left
-        → IsPermutation (bursts_of order.waiting ++ came) (arrivals_of handed ++ bursts_of left.waiting) }
+    ensures order { (order left : OrderView T) (came : List (Arrival T))
+        → (handed : List (HandedOn T)) → Orders order came handed left
+        → IsPermutation (bursts_of order.waiting ++ came)
+        (arrivals_of handed ++ bursts_of left.waiting) }
     ensures end { (waiting : List (Waiting T)) (handed : List (HandedOn T))
         → HandsOnAll waiting handed → IsPermutation (bursts_of waiting) (arrivals_of handed) }
 {}
@@ -34,16 +35,18 @@ pub fn no_burst_is_lost_or_doubled<T>()
 /// However times stand still, go back or are set back: what goes on waiting came within `reorder`,
 /// by the flow's clock, and is no more than 2,048 bursts.
 pub fn what_waits_came_lately<T>()
-    ensures lately { (reorder : ℕ) (left : OrderView T) (came : List (Arrival T)) (handed : List (HandedOn T))
-        → Orders (nothing_waits reorder) came handed left
+    ensures lately { (reorder : ℕ) (left : OrderView T) (came : List (Arrival T))
+        → (handed : List (HandedOn T)) → Orders (nothing_waits reorder) came handed left
         → All (λ one. left.clock - one.came ≤ reorder) left.waiting }
-    ensures most { (reorder : ℕ) (left : OrderView T) (came : List (Arrival T)) (handed : List (HandedOn T))
-        → Orders (nothing_waits reorder) came handed left → length left.waiting ≤ most_waiting }
+    ensures most { (reorder : ℕ) (left : OrderView T) (came : List (Arrival T))
+        → (handed : List (HandedOn T)) → Orders (nothing_waits reorder) came handed left
+        → length left.waiting ≤ most_waiting }
 {}
 
-/// Where times don't go back, the bursts of each channel came in the order of their numbers but for
-/// such as came within `reorder` of one another, those stand within half of all numbers, and fewer
-/// than 2,048 waited: there the bursts of each channel leave in the order of their numbers.
+/// Where the flow's clock isn't set back, the bursts of each channel came in the order of their
+/// numbers but for such as came within `reorder` of one another by that clock, those stand within
+/// half of all numbers, and fewer than 2,048 waited: there the bursts of each channel leave in the
+/// order of their numbers.
 pub fn each_channel_leaves_in_order<T>()
     ensures { (reorder : ℕ) (place : Arrival T → ℕ) (came : List (Arrival T)) (left : OrderView T)
         → (handed last : List (HandedOn T)) → CameNearlyInOrder reorder place came

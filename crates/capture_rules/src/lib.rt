@@ -5,8 +5,8 @@
 //! still, or go back.
 //!
 //! 1. [`ChannelOrder`]: an analyser may write two bursts of one channel the other way round. So each
-//!    [`Arrival`] waits for `reorder`, by a clock of the flow, and of those on one channel the one of
-//!    the least number is [`HandedOn`] first. No more than [`MOST_WAITING`] wait.
+//!    [`Arrival`] waits for `reorder`, by a clock of the flow, and of those on one channel the one
+//!    of the least number is [`HandedOn`] first. No more than [`MOST_WAITING`] wait.
 //! 2. [`Beginning`]: where the first number isn't known, and where after a silence a number comes
 //!    that doesn't lie ahead within the window, what is handed on is kept for 10 ms, and the flow
 //!    begins, or begins anew, at the least number of these ([`Begun`]).
@@ -16,9 +16,9 @@
 //! here of what a burst brings: it is a type parameter.
 //!
 //! What matters most: what is handed on as a burst comes is what the definition `BurstComes` says.
-//! Of bursts that come one after another so, which is `Orders`, laws say that one list is handed on,
-//! that nothing is lost and nothing doubled, that only what came within `reorder` goes on waiting,
-//! and that what came nearly in order leaves in order ([`laws`]).
+//! Of bursts that come one after another so, which is `Orders`, laws say that one list is handed
+//! on, that nothing is lost and nothing doubled, that only what came within `reorder` goes on
+//! waiting, and that what came nearly in order leaves in order ([`laws`]).
 #![tactic(auto)]
 
 mod arrival;
