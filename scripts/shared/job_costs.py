@@ -60,6 +60,15 @@ def jobs():
     return [Job(line) for line in lines if line.strip() and not line.startswith("#")]
 
 
+def build_missing(todo):
+    """Proves and builds those programs of jobs that aren't there. The merge gate leaves them there."""
+    for job in {job.crate: job for job in todo}.values():
+        if not os.path.exists(job.program()):
+            built = run(["rt", "run", "--", "trial", "1", path("bench", "workloads.map")], cwd=path("crates", job.crate))
+            if built.returncode:
+                sys.exit(built.stdout[-3000:])
+
+
 def short_name(function):
     """A function's name without what tells its types and versions."""
     return re.sub(r"::<#\w+>|@+GLIBC_[\d.]+|'\d+$", "", function)
