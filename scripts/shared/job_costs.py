@@ -23,6 +23,9 @@ SAME_EVERYWHERE = ":".join(
 )
 # The functions of the crate that makes inputs and digests, which are no part of what a job costs.
 MAKER = "workloads::"
+# The job whose threads wait by trying again, and the functions of its two ends, which read and write text: these alone take as
+# many instructions in each run.
+WITH_THREADS, ENDS = "run", ("text_lines::", "texts::")
 SECONDS = 300
 
 
@@ -94,11 +97,15 @@ def instructions_by_function(file):
 
 
 def instructions(job, room):
-    """How many instructions each function of a job took itself, but for those of the maker of inputs."""
+    """How many instructions each function of a job took itself, but for those of the maker of inputs, and where threads wait only
+    those of its two ends.
+    """
     file = os.path.join(room, f"{job.name}.callgrind")
     job.do(["valgrind", "--tool=callgrind", f"--callgrind-out-file={file}"], GLIBC_TUNABLES=SAME_EVERYWHERE)
     counted = instructions_by_function(file)
-    return collections.Counter({name: count for name, count in counted.items() if not name.startswith(MAKER)})
+    is_end = job.name == WITH_THREADS
+    chosen = (name for name in counted if name.startswith(ENDS if is_end else "") and not name.startswith(MAKER))
+    return collections.Counter({name: counted[name] for name in chosen})
 
 
 def build_counter(room):
