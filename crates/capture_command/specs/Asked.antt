@@ -1,16 +1,63 @@
--- What the words of `capture` may ask for.
-use Rattle.std.specs.Prelude.{◌≤◌, ◌*◌, ℕ}
+-- What the words of `capture` ask for.
+use Rattle.std.specs.Prelude.{◌≡◌, ◌⊎◌, ◌↔◌, ◌*◌, ℕ, IsTrue, List, codes}
+use Rattle.text_lines.specs.Number.{IsNumber}
+use Rattle.loss_rule.specs.declared.rule.LossRule.{LossRule}
+use Rattle.loss_rule.specs.declared.rule.LossRule.TheVariants.{PassedOrSlid}
+use Rattle.frame_records.specs.declared.link.FrameLink.{FrameLink}
+use Rattle.frame_records.specs.declared.link.FrameLink.TheVariants.{Docsis, Xra}
+use Rattle.command_line.specs.Command.{HasWord}
+use Rattle.command_line.specs.Losses.{losses_option, rule_name}
+use Rattle.command_line.specs.OptionWords.{HasNoOption, HasOneValue}
+use Rattle.frame_engine.specs.declared.inner_check.InnerCheck.{InnerCheck}
+use Rattle.frame_engine.specs.declared.inner_check.InnerCheck.TheVariants.{Sequence, Nothing}
 use Rattle.frame_engine.specs.declared.settings.CaptureSettings.{CaptureSettings}
 use Rattle.capture_command.specs.declared.asked.CaptureWords.{CaptureWords}
 use Rattle.capture_command.specs.declared.asked.CaptureWords.TheVariants.{Capture, Help}
 
--- at most an hour, in nanoseconds
-abbrev pub IsInRange : ℕ → Type 0
-IsInRange wait = wait ≤ 3600000 * 1000000
+-- the most milliseconds of a time, an hour, and the nanoseconds of some
+abbrev pub wait_max : ℕ
+wait_max = 3600000
 
-abbrev pub AreInRange : CaptureSettings → Type 0
-AreInRange settings = IsInRange settings.waits.reorder × IsInRange settings.waits.wait
+abbrev pub milliseconds : ℕ → ℕ
+milliseconds count = count * 1000000
 
-abbrev pub AskInRange : CaptureWords → Type 0
-AskInRange (Capture asked) = AreInRange asked.settings
-AskInRange (Help text) = Unit {0}
+-- words ask for this time by the one such option among them, whose value is in milliseconds, and for the default one where there is none
+abbrev pub AskForWait : List ℕ → ℕ → List (List ℕ) → ℕ → Type 0
+AskForWait option default words wait =
+    (HasNoOption option words × (wait ≡ milliseconds default))
+    ⊎ ((value : List ℕ) × (count : ℕ) × HasOneValue option words value × IsNumber value wait_max count × (wait ≡ milliseconds count))
+
+-- so for a rule by its name, and for `slid` where there is none
+abbrev pub AskForLosses : List (List ℕ) → LossRule → Type 0
+AskForLosses words rule = (HasNoOption losses_option words × (rule ≡ PassedOrSlid)) ⊎ HasOneValue losses_option words (rule_name rule)
+
+-- so for what a record of a frame holds, and for the frame alone where there is none
+abbrev pub link_option : List ℕ
+link_option = codes "--link"
+
+abbrev pub link_name : FrameLink → List ℕ
+link_name Docsis = codes "docsis"
+link_name Xra = codes "xra"
+
+abbrev pub AskForLink : List (List ℕ) → FrameLink → Type 0
+AskForLink words link = (HasNoOption link_option words × (link ≡ Docsis)) ⊎ HasOneValue link_option words (link_name link)
+
+-- all headers of frames pass just if one of the words asks for that
+abbrev pub AskForCheck : List (List ℕ) → InnerCheck → Type 0
+AskForCheck words check = (HasWord (codes "--no-check") words × (check ≡ Nothing)) ⊎ (¬ HasWord (codes "--no-check") words × (check ≡ Sequence))
+
+-- **Words ask for these settings**: each by its option, with its default where that isn't there, and none by two
+pub record AskForSettings (words : List (List ℕ)) (settings : CaptureSettings) : Type 0 where
+  pub losses : AskForLosses words settings.rule
+  pub reorder : AskForWait (codes "--reorder") 2 words settings.waits.reorder
+  pub wait : AskForWait (codes "--wait") 20 words settings.waits.wait
+  pub check : AskForCheck words settings.check
+  pub link : AskForLink words settings.link
+
+-- a word asks for help
+abbrev pub AskForHelp : List (List ℕ) → Type 0
+AskForHelp words = HasWord (codes "-h") words ⊎ HasWord (codes "--help") words
+
+abbrev pub AskToCapture : List (List ℕ) → CaptureWords → Type 0
+AskToCapture words (Capture asked) = AskForSettings words asked.settings
+AskToCapture words (Help text) = AskForHelp words

@@ -1,5 +1,5 @@
 -- What the command `capture` does.
-use Rattle.std.specs.Prelude.{◌≡◌, ◌⊎◌, ℕ, List, Option, Result, Ok, Err, IfErr, OnOk}
+use Rattle.std.specs.Prelude.{◌≡◌, ◌⊎◌, ℕ, List, Option, Result, Ok, Err, IfSome, IfErr, OnOk}
 use Rattle.capture_map.specs.declared.map.CaptureMap.{CaptureMap}
 use Rattle.capture_map.specs.Reading.{IsMap}
 use Rattle.engines.specs.declared.device.Device.{Device}
@@ -10,7 +10,7 @@ use Rattle.frame_engine.specs.Joining.{JoinsCapture}
 use Rattle.capture_command.specs.declared.fault.CaptureCommandFault.{CaptureCommandFault}
 use Rattle.capture_command.specs.declared.fault.CaptureCommandFault.TheVariants.{Engine}
 use Rattle.capture_command.specs.Fault.{status_of}
-use Rattle.capture_command.specs.Asked.{AreInRange}
+use Rattle.capture_command.specs.Asked.{AskForSettings, AskForHelp}
 
 -- 0 where the work was done
 abbrev pub status_of_outcome : Result (Unit {0}) CaptureCommandFault → ℕ
@@ -22,7 +22,18 @@ pub record IsTold (joined : Result (Unit {0}) EngineFault) (result : Result (Uni
   pub fault : IfErr joined (λ fault. result ≡ Err (Engine fault))
   pub done : OnOk result (joined ≡ Ok tt)
 
-module _ {R W : Type 0} (remaining : R → Option (List ℕ)) (contents : W → Option (List ℕ)) where
+-- these are all bytes that a reader has left, where those are known
+abbrev pub AreAllOf : Option (List ℕ) → List ℕ → Type 0
+AreAllOf known text = IfSome known (λ bytes. bytes ≡ text)
+
+-- **the map is what all bytes of a file spell**
+pub record IsMapOfFile {File : Type 0} (bytes_of : File → Option (List ℕ)) (capture_map : CaptureMap) : Type 0 where
+  pub file : File
+  pub text : List ℕ
+  pub all : AreAllOf (bytes_of file) text
+  pub is : IsMap text capture_map
+
+module _ {R W File : Type 0} (remaining : R → Option (List ℕ)) (contents : W → Option (List ℕ)) (bytes_of : File → Option (List ℕ)) where
   -- neither device was used, and a fault says why
   pub record IsRefused (reader reader' : Device R) (writer writer' : Device W) (result : Result (Unit {0}) CaptureCommandFault) : Type 0 where
     pub fault : CaptureCommandFault
@@ -30,11 +41,10 @@ module _ {R W : Type 0} (remaining : R → Option (List ℕ)) (contents : W → 
     pub unread : reader' ≡ reader
     pub unwritten : writer' ≡ writer
 
-  -- **The capture was joined with a map** that some text is, and with these settings
+  -- **The capture was joined with the map that a file holds**, and with these settings
   pub record JoinsByMap (settings : CaptureSettings) (reader reader' : Device R) (writer writer' : Device W) (result : Result (Unit {0}) CaptureCommandFault) : Type 0 where
     pub capture_map : CaptureMap
-    pub text : List ℕ
-    pub map_is : IsMap text capture_map
+    pub map_is : IsMapOfFile bytes_of capture_map
     pub joined : Result (Unit {0}) EngineFault
     pub joins : JoinsCapture settings capture_map remaining contents reader reader' writer writer' joined
     pub told : IsTold joined result
@@ -42,13 +52,15 @@ module _ {R W : Type 0} (remaining : R → Option (List ℕ)) (contents : W → 
   abbrev pub Captures : CaptureSettings → Device R → Device R → Device W → Device W → Result (Unit {0}) CaptureCommandFault → Type 0
   Captures settings reader reader' writer writer' result = JoinsByMap settings reader reader' writer writer' result ⊎ IsRefused reader reader' writer writer' result
 
-  -- what words came to: a capture was joined, or nothing was; or help was written, for which the reader wasn't used
-  pub data Obeys (reader reader' : Device R) (writer writer' : Device W) (result : Result (Unit {0}) CaptureCommandFault) : Type 0 where
-    captures : (settings : CaptureSettings) → AreInRange settings → Captures settings reader reader' writer writer' result → Obeys reader reader' writer writer' result
-    helps : reader' ≡ reader → Obeys reader reader' writer writer' result
+  -- what words came to: a capture was joined by the settings that they ask for, or nothing was; or help was written that they ask for, and the reader wasn't used; or they were refused
+  pub data Obeys (words : List (List ℕ)) (reader reader' : Device R) (writer writer' : Device W) (result : Result (Unit {0}) CaptureCommandFault) : Type 0 where
+    captures : (settings : CaptureSettings) → AskForSettings words settings → Captures settings reader reader' writer writer' result
+        → Obeys words reader reader' writer writer' result
+    helps : AskForHelp words → reader' ≡ reader → Obeys words reader reader' writer writer' result
+    refuses : IsRefused reader reader' writer writer' result → Obeys words reader reader' writer writer' result
 
   -- so over fresh devices on these
-  pub record ComesOf (reader : R) (writer : W) (result : Result (Unit {0}) CaptureCommandFault) : Type 0 where
+  pub record ComesOf (words : List (List ℕ)) (reader : R) (writer : W) (result : Result (Unit {0}) CaptureCommandFault) : Type 0 where
     pub input : Device R
     pub input' : Device R
     pub output : Device W
@@ -56,4 +68,4 @@ module _ {R W : Type 0} (remaining : R → Option (List ℕ)) (contents : W → 
     pub reads : inner_of input ≡ reader
     pub writes : inner_of output ≡ writer
     pub fresh : IsFresh input × IsFresh output
-    pub obeyed : Obeys input input' output output' result
+    pub obeyed : Obeys words input input' output output' result

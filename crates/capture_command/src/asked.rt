@@ -1,13 +1,17 @@
 //! What the words of `capture` ask for.
+//!
+//! The settings are read from the words themselves, so that contracts can say by which of them frames
+//! are joined; that the words are lawful, and the paths of files, is for `clap` to say.
 ghost use Rattle.std.specs.Prelude.{◌≡◌, ◌≤◌, ◌↔◌, map, codes, IsTrue, IfOk};
 ghost use Rattle.command_line.specs.Command.{IsCommand};
-ghost use Rattle.capture_command.specs.Asked.{AreInRange, AskInRange, IsInRange};
+ghost use Rattle.capture_command.specs.Asked.{AskForWait, AskForLosses, AskForLink, AskForCheck};
+ghost use Rattle.capture_command.specs.Asked.{AskForSettings, AskForHelp, AskToCapture};
 
 use crate::arguments::capture_line;
 use captured_flows::Waits;
 use clap::ArgMatches;
 use clap::error::ErrorKind;
-use command_line::UsageFault;
+use command_line::{UsageFault, has_word, only_value, rule_named};
 use frame_engine::{CaptureSettings, InnerCheck};
 use frame_records::FrameLink;
 use loss_rule::LossRule;
@@ -54,22 +58,12 @@ pub fn asks_to_capture<S: AsStr>(words: &[S]) -> bool
     word.as_str() == "capture"
 }
 
-/// The rule of this name.
-fn rule_named(name: &str) -> Option<LossRule> {
-    match name {
-        "decided" => Some(LossRule::Decided),
-        "passed" => Some(LossRule::Passed),
-        "slid" => Some(LossRule::PassedOrSlid),
-        _ => None,
-    }
-}
-
-/// The nanoseconds that an option asks for in milliseconds.
-fn read_wait(options: &ArgMatches<'_>, name: &str, default: u32) -> Result<u64, UsageFault>
+/// The nanoseconds that options ask for by this one in milliseconds.
+fn asked_wait<S: AsStr>(words: &[S], option: &str, default: u32) -> Result<u64, UsageFault>
     requires { default ≤ 3600000 }
-    ensures { IfOk result IsInRange }
+    ensures { IfOk result (AskForWait option.now default (map S.text words.now)) }
 {
-    let wait = match options.get_str(name) {
+    let wait = match only_value(words, option)? {
         Some(text) => match read_number(text.as_bytes(), WAIT_MAX) {
             Some(wait) => wait,
             None => return Err(UsageFault::Usage),
@@ -79,33 +73,62 @@ fn read_wait(options: &ArgMatches<'_>, name: &str, default: u32) -> Result<u64, 
     Ok(u64::from(wait) * MILLISECOND)
 }
 
-/// The settings that the options ask for.
-fn read_settings(options: &ArgMatches<'_>) -> Result<CaptureSettings, UsageFault>
-    ensures { IfOk result AreInRange }
+/// The rule that options ask for.
+fn asked_losses<S: AsStr>(words: &[S]) -> Result<LossRule, UsageFault>
+    ensures { IfOk result (AskForLosses (map S.text words.now)) }
 {
-    let Some(rule) = rule_named(options.get_str("losses").unwrap_or("slid")) else {
-        return Err(UsageFault::Usage);
+    let Some(name) = only_value(words, "--losses")? else {
+        return Ok(LossRule::PassedOrSlid);
     };
-    let link = match options.get_str("link").unwrap_or("docsis") {
-        "docsis" => FrameLink::Docsis,
-        "xra" => FrameLink::Xra,
-        _ => return Err(UsageFault::Usage),
-    };
-    let check = if options.get_flag("no-check") {
+    match rule_named(name) {
+        Some(rule) => Ok(rule),
+        None => Err(UsageFault::Usage),
+    }
+}
+
+/// What options ask a record with a frame to hold.
+fn asked_link<S: AsStr>(words: &[S]) -> Result<FrameLink, UsageFault>
+    ensures { IfOk result (AskForLink (map S.text words.now)) }
+{
+    match only_value(words, "--link")? {
+        None => Ok(FrameLink::Docsis),
+        Some("docsis") => Ok(FrameLink::Docsis),
+        Some("xra") => Ok(FrameLink::Xra),
+        Some(_) => Err(UsageFault::Usage),
+    }
+}
+
+/// Which headers of frames options ask to let pass.
+fn asked_check<S: AsStr>(words: &[S]) -> InnerCheck
+    ensures { AskForCheck (map S.text words.now) result }
+{
+    if has_word(words, "--no-check") {
         InnerCheck::Nothing
     } else {
         InnerCheck::Sequence
-    };
-    let waits = Waits {
-        reorder: read_wait(options, "reorder", REORDER)?,
-        wait: read_wait(options, "wait", WAIT)?,
-    };
+    }
+}
+
+/// The settings that options ask for.
+fn asked_settings<S: AsStr>(words: &[S]) -> Result<CaptureSettings, UsageFault>
+    ensures { IfOk result (AskForSettings (map S.text words.now)) }
+{
     Ok(CaptureSettings {
-        rule,
-        waits,
-        check,
-        link,
+        rule: asked_losses(words)?,
+        waits: Waits {
+            reorder: asked_wait(words, "--reorder", REORDER)?,
+            wait: asked_wait(words, "--wait", WAIT)?,
+        },
+        check: asked_check(words),
+        link: asked_link(words)?,
     })
+}
+
+/// Whether a word asks for help.
+fn ask_for_help<S: AsStr>(words: &[S]) -> bool
+    ensures { IsTrue result ↔ AskForHelp (map S.text words.now) }
+{
+    has_word(words, "-h") || has_word(words, "--help")
 }
 
 /// The path that an option asks for.
@@ -125,7 +148,7 @@ pub fn read_capture_words<'a, S: AsStr>(
     alloc: Global,
     words: &'a [S],
 ) -> Result<CaptureWords, UsageFault>
-    ensures { IfOk result AskInRange }
+    ensures { IfOk result (AskToCapture (map S.text words.now)) }
 {
     let [_, options @ ..] = words else {
         return Err(UsageFault::Usage);
@@ -133,7 +156,7 @@ pub fn read_capture_words<'a, S: AsStr>(
     let matches = match capture_line(alloc)?.try_get_matches_from(options) {
         Ok(matches) => matches,
         Err(error) => {
-            if error.kind() != ErrorKind::DisplayHelp {
+            if error.kind() != ErrorKind::DisplayHelp || !ask_for_help(words) {
                 return Err(error.into());
             }
             return Ok(CaptureWords::Help(error.to_string(alloc)?));
@@ -142,9 +165,12 @@ pub fn read_capture_words<'a, S: AsStr>(
     let Some(path) = matches.get_str("map") else {
         return Err(UsageFault::Usage);
     };
+    if has_word(words, "--") {
+        return Err(UsageFault::Usage);
+    }
     Ok(CaptureWords::Capture(CaptureAsked {
         map: String::from_str(alloc, path)?,
-        settings: read_settings(&matches)?,
+        settings: asked_settings(words)?,
         report: read_path(alloc, &matches, "report")?,
         requests: read_path(alloc, &matches, "requests")?,
     }))

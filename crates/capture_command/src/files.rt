@@ -1,6 +1,7 @@
 //! The files of `capture`.
-ghost use Rattle.std.specs.Prelude.{◌≡◌, List, ℕ, IfOk};
-ghost use Rattle.capture_map.specs.Reading.{IsMap};
+ghost use Rattle.std.specs.Prelude.{List, ℕ, IfOk};
+ghost use Rattle.engines.specs.Device.{inner_of};
+ghost use Rattle.capture_command.specs.Program.{AreAllOf, IsMapOfFile};
 
 use crate::fault::CaptureCommandFault;
 use capture_map::{CaptureMap, read_map};
@@ -19,7 +20,9 @@ const PIECE_BYTES: usize = 65_536;
 fn read_all<R: Read>(
     alloc: Global,
     reader: &mut Device<R>,
-) -> Result<Vec<u8>, CaptureCommandFault> {
+) -> Result<Vec<u8>, CaptureCommandFault>
+    ensures { IfOk result (λ text. AreAllOf (R.remaining (inner_of reader.old)) text.items) }
+{
     let mut piece = zeros(alloc, PIECE_BYTES)?;
     let mut text = Vec::new(alloc);
     for _ in 0..=MAP_MAX {
@@ -38,7 +41,9 @@ fn read_all<R: Read>(
 }
 
 /// The bytes of a file.
-fn read_file<F: Files>(alloc: Global, rt: &F, path: &str) -> Result<Vec<u8>, CaptureCommandFault> {
+fn read_file<F: Files>(alloc: Global, rt: &F, path: &str) -> Result<Vec<u8>, CaptureCommandFault>
+    ensures { IfOk result (λ text. (file : F.File) × AreAllOf (F.File.remaining file) text.items) }
+{
     let Ok(file) = fs::open(rt, path) else {
         return Err(CaptureCommandFault::MapFile);
     };
@@ -54,7 +59,7 @@ pub fn map_of_file<F: Files>(
     rt: &F,
     path: &str,
 ) -> Result<CaptureMap, CaptureCommandFault>
-    ensures { IfOk result (λ capture_map. (text : List ℕ) × IsMap text capture_map) }
+    ensures { IfOk result (IsMapOfFile F.File.remaining) }
 {
     let text = read_file(alloc, rt, path)?;
     Ok(read_map(alloc, &text)?)

@@ -1,5 +1,5 @@
 //! The command `capture` over any runtime with files, any reader and any two writers.
-ghost use Rattle.std.specs.Prelude.{◌≡◌, Result};
+ghost use Rattle.std.specs.Prelude.{◌≡◌, map, Result};
 ghost use Rattle.engines.specs.Device.{IsFresh};
 ghost use Rattle.capture_command.specs.declared.fault.CaptureCommandFault.{CaptureCommandFault};
 ghost use Rattle.capture_command.specs.Program.{Captures, Obeys, ComesOf, status_of_outcome};
@@ -76,7 +76,7 @@ fn capture<F: Files, R: Read, W: Write, E: Write>(
 ) -> Result<(), CaptureCommandFault>
     requires reader { IsFresh reader.old }
     requires out { IsFresh out.old }
-    ensures { Captures R.remaining W.contents asked.now.settings
+    ensures { Captures R.remaining W.contents F.File.remaining asked.now.settings
         reader.old reader.new out.old out.new result }
 {
     let capture_map = map_of_file(alloc, rt, asked.map.as_str())?;
@@ -106,7 +106,8 @@ fn obey<S: AsStr, F: Files, R: Read, W: Write, E: Write>(
 ) -> Result<(), CaptureCommandFault>
     requires reader { IsFresh reader.old }
     requires out { IsFresh out.old }
-    ensures { Obeys R.remaining W.contents reader.old reader.new out.old out.new result }
+    ensures { Obeys R.remaining W.contents F.File.remaining (map S.text words.now)
+        reader.old reader.new out.old out.new result }
 {
     match read_capture_words(alloc, words)? {
         CaptureWords::Capture(asked) => capture(alloc, rt, &asked, reader, out, err),
@@ -147,7 +148,7 @@ where
     O: Write + Drop,
     E: Write + Drop,
     ensures { (outcome : Result (Unit {0}) CaptureCommandFault) × (result ≡ status_of_outcome outcome)
-        × ComesOf R.remaining O.contents reader out outcome }
+        × ComesOf R.remaining O.contents F.File.remaining (map S.text words.now) reader out outcome }
 {
     let mut reader = Device::new(reader);
     let mut out = Device::new(out);

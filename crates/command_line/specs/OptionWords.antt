@@ -28,3 +28,9 @@ HasFirstValue option (word ∷ more) value behind =
 -- just one of these words is this option, and it has this value
 abbrev pub HasOneValue : List ℕ → List (List ℕ) → List ℕ → Type 0
 HasOneValue option words value = (behind : List (List ℕ)) × HasFirstValue option words value behind × HasNoOption option behind
+
+-- two of these words are this option
+abbrev pub HasItTwice : List ℕ → List (List ℕ) → Type 0
+HasItTwice option words =
+    (value : List ℕ) × (behind : List (List ℕ)) × HasFirstValue option words value behind
+    × ((other : List ℕ) × (rest : List (List ℕ)) × HasFirstValue option behind other rest)

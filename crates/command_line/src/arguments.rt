@@ -46,7 +46,9 @@ besides what became of each grant, burst and gap, and how its flow then stands.
 map reads a capture, pcap or pcapng, of packets of link type 273, to its end,
 and prints the map that the registrations in it give: lines flow, channel and
 sid, each below a comment that says which modem was told so, when and by what.
-Where there are none it prints as comments which SIDs carry segments.
+Where there are none it prints as comments which SIDs carry segments. capture
+joins the bursts of a capture by such a map, and writes their frames as pcap:
+segrx capture --help says how.
 
 Exit status:
   0  done
@@ -135,13 +137,22 @@ fn map_command<'a>(alloc: Global) -> Command<'a> {
     command(alloc, "map", about, "segrx map < CAPTURE > MAP")
 }
 
+/// The command `capture`, of which only the name is known here: who reads the other commands' words
+/// hands on those of `capture` before.
+fn capture_command<'a>(alloc: Global) -> Command<'a> {
+    let about = "Joins the bursts of a capture, and writes their frames as pcap";
+    let usage = "segrx capture MAP [OPTION]... < CAPTURE > FRAMES";
+    command(alloc, "capture", about, usage)
+}
+
 /// The program's own usage: that of each command.
 const USAGE: &str = "segrx [join] < SEGMENTS > FRAMES
        segrx cut [--first N] [--fill zero|ones] < FRAMES_AND_PIECES > SEGMENTS
        segrx replay [--losses RULE] < TRACE > REPORT
        segrx run [--losses RULE] [--mailbox N] [--ring N] < TRACE > REPORT
        segrx follow [--losses RULE] [--channels N] [--events] < TRACE > FRAMES
-       segrx map < CAPTURE > MAP";
+       segrx map < CAPTURE > MAP
+       segrx capture MAP [OPTION]... < CAPTURE > FRAMES";
 
 /// The commands of the program.
 pub fn command_line<'a>(alloc: Global) -> Result<Command<'a>, AllocError> {
@@ -155,5 +166,6 @@ pub fn command_line<'a>(alloc: Global) -> Result<Command<'a>, AllocError> {
         .subcommand(replay_command(alloc)?)?
         .subcommand(run_command(alloc)?)?
         .subcommand(follow_command(alloc)?)?
-        .subcommand(map_command(alloc))
+        .subcommand(map_command(alloc))?
+        .subcommand(capture_command(alloc))
 }

@@ -3,7 +3,7 @@ ghost use Rattle.std.specs.Prelude.{◌≡◌, ◌↔◌, ℕ, map};
 ghost use Rattle.text_lines.specs.Number.{IsNumberIn};
 ghost use Rattle.command_line.specs.Channels.{channels_max, AskForChannels};
 
-use crate::option_words::first_value;
+use crate::option_words::only_value;
 use std::convert::AsStr;
 use text_lines::read_number_in;
 
@@ -26,11 +26,9 @@ pub fn asked_channels<S: AsStr>(options: &[S]) -> Option<u8>
     ensures { (channels : ℕ)
         → (result ≡ Some channels) ↔ AskForChannels channels (map S.text options.now) }
 {
-    let Some((value, behind)) = first_value(options, "--channels") else {
-        return Some(CHANNELS_MAX);
-    };
-    match first_value(behind, "--channels") {
-        None => read_channels(value),
-        Some(_) => None,
+    match only_value(options, "--channels") {
+        Ok(None) => Some(CHANNELS_MAX),
+        Ok(Some(value)) => read_channels(value),
+        Err(_) => None,
     }
 }

@@ -237,7 +237,7 @@ fn before_help<S: AsStr>(words: &[S]) -> Option<&[S]>
 }
 
 /// Whether one of the words is this one.
-fn has_word<S: AsStr>(words: &[S], wanted: &str) -> bool
+pub fn has_word<S: AsStr>(words: &[S], wanted: &str) -> bool
     ensures { IsTrue result ↔ HasWord wanted.now (map S.text words.now) }
 {
     let mut rest = words;

@@ -18,4 +18,6 @@ mod command;
 mod losses;
 mod option_words;
 
-pub use command::{Command, UsageFault, read_words};
+pub use command::{Command, UsageFault, has_word, read_words};
+pub use losses::rule_named;
+pub use option_words::only_value;

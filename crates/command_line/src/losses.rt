@@ -3,12 +3,12 @@ ghost use Rattle.std.specs.Prelude.{◌≡◌, ◌↔◌, map};
 ghost use Rattle.loss_rule.specs.declared.rule.LossRule.{LossRule};
 ghost use Rattle.command_line.specs.Losses.{rule_name, AskForRule, AskForRuleAlone};
 
-use crate::option_words::{first_value, value_within};
+use crate::option_words::{only_value, value_within};
 use loss_rule::LossRule;
 use std::convert::AsStr;
 
-/// The rule of this name.
-fn rule_named(name: &str) -> Option<LossRule>
+/// The rule of this name, if there is one: `decided`, `passed` or `slid`.
+pub fn rule_named(name: &str) -> Option<LossRule>
     ensures { (rule : LossRule) → (result ≡ Some rule) ↔ (name.now ≡ rule_name rule) }
 {
     match name {
@@ -24,12 +24,10 @@ pub fn asked_rule<S: AsStr>(options: &[S]) -> Option<LossRule>
     ensures { (rule : LossRule)
         → (result ≡ Some rule) ↔ AskForRule rule (map S.text options.now) }
 {
-    let Some((name, behind)) = first_value(options, "--losses") else {
-        return Some(LossRule::Decided);
-    };
-    match first_value(behind, "--losses") {
-        None => rule_named(name),
-        Some(_) => None,
+    match only_value(options, "--losses") {
+        Ok(None) => Some(LossRule::Decided),
+        Ok(Some(name)) => rule_named(name),
+        Err(_) => None,
     }
 }
 

@@ -2,10 +2,12 @@
 //!
 //! Options are looked for in the words themselves, so that contracts can say what a command is
 //! asked for; that the words are lawful otherwise is for `clap` to say.
-ghost use Rattle.std.specs.Prelude.{◌≡◌, map, List, ℕ, MatchOption};
-ghost use Rattle.command_line.specs.OptionWords.{with_value, HasNoOption};
-ghost use Rattle.command_line.specs.OptionWords.{value_behind, HasFirstValue};
+ghost use Rattle.std.specs.Prelude.{◌≡◌, map, List, ℕ, MatchOption, IfOk, IfErr};
+ghost use Rattle.command_line.specs.declared.command.UsageFault.TheVariants.{Usage};
+ghost use Rattle.command_line.specs.OptionWords.{with_value, HasNoOption, HasOneValue};
+ghost use Rattle.command_line.specs.OptionWords.{value_behind, HasFirstValue, HasItTwice};
 
+use crate::command::UsageFault;
 use std::convert::AsStr;
 
 /// The value of an option that has none in its own word: the next word, if there is one.
@@ -44,4 +46,26 @@ pub fn first_value<'a, S: AsStr>(words: &'a [S], option: &str) -> Option<(&'a st
         rest = more;
     }
     None
+}
+
+/// The value of the only word of this option, if there is one.
+///
+/// `Usage`: there are two.
+pub fn only_value<'a, S: AsStr>(
+    words: &'a [S],
+    option: &str,
+) -> Result<Option<&'a str>, UsageFault>
+    ensures only { IfOk result (λ found.
+        MatchOption found (HasNoOption option.now (map S.text words.now))
+        (λ value. HasOneValue option.now (map S.text words.now) value.now)) }
+    ensures twice { IfErr result (λ fault. (fault ≡ Usage)
+        × HasItTwice option.now (map S.text words.now)) }
+{
+    let Some((value, behind)) = first_value(words, option) else {
+        return Ok(None);
+    };
+    match first_value(behind, option) {
+        None => Ok(Some(value)),
+        Some(_) => Err(UsageFault::Usage),
+    }
 }

@@ -2,17 +2,14 @@ use Rattle.std.specs.Prelude.{map}
 use Rattle.command_line.proofs.AskedRules.{AskForRule-none, AskForRule-named, AskForRule-twice}
 use Rattle.command_line.proofs.losses.asked_rule.Goals as goal
 
-pub returns-in_default : goal.returns-in_default
-returns-in_default g c = AskForRule-none (map g.S.AsStr.text c.args.options.now) c.in_default.ensures
+pub returns-in-Ok-None : goal.returns-in-Ok-None
+returns-in-Ok-None g c = AskForRule-none (map g.S.AsStr.text c.args.options.now) (rw c.in-Ok-None.field-0-is at c.in-Ok-None.ensures.only)
 
-pub returns-in-None : goal.returns-in-None
-returns-in-None g c =
-    let behind = map g.S.AsStr.text c.in-Some.behind.now in
-    AskForRule-named (map g.S.AsStr.text c.args.options.now) c.in-Some.name.now c.rule_named.result (behind, c.in-Some.ensures, c.in-None.ensures)
-    c.rule_named.ensures
+pub returns-in-Ok-Some : goal.returns-in-Ok-Some
+returns-in-Ok-Some g c =
+    AskForRule-named (map g.S.AsStr.text c.args.options.now) c.in-Ok-Some.name.now c.rule_named.result (rw c.in-Ok-Some.field-0-is at c.in-Ok-Some.ensures.only) c.rule_named.ensures
 
-pub returns-in-Some-first_value : goal.returns-in-Some-first_value
-returns-in-Some-first_value g c =
-    let second = c.in-Some-first_value.field-0 in
-    AskForRule-twice (map g.S.AsStr.text c.args.options.now) c.in-Some.name.now second.0.now (map g.S.AsStr.text c.in-Some.behind.now)
-    (map g.S.AsStr.text second.1.now) c.in-Some.ensures c.in-Some-first_value.ensures
+pub returns-in-Err : goal.returns-in-Err
+returns-in-Err g c =
+    let twice = c.in-Err.ensures.twice.1 in
+    AskForRule-twice (map g.S.AsStr.text c.args.options.now) twice.0 twice.3.0 twice.1 twice.3.1 twice.2 twice.3.2
