@@ -1,9 +1,7 @@
 -- The charts of a flow.
 use Rattle.std.specs.Prelude.{ℕ, ◌+◌, ◌-◌, List, [], ◌++◌, codes, slice_index_or, Option, Some, None}
-use Rattle.std.specs.Fmt.{decimal}
 use Rattle.capture_picture.specs.Marking.{kept_within}
-use Rattle.capture_picture.specs.Svg.{valued, numbered_texts, colours}
-use Rattle.std.specs.Prelude.{◌%◌}
+use Rattle.capture_picture.specs.Svg.{valued, numbered_texts, colour_text}
 use Rattle.capture_picture.specs.Grid.{scaled, stroke_width, plot_width, stroke_left}
 use Rattle.capture_picture.specs.declared.span.Span.{Span}
 use Rattle.capture_picture.specs.declared.column.Column.{Column}
@@ -50,7 +48,7 @@ channel_strokes chart whole grid place channel columns =
 -- its path, in its colour
 abbrev pub channel_path : Chart → Span → Grid → List Column → ℕ → ℕ → List ℕ
 channel_path chart whole grid columns place channel =
-    codes "<path stroke='" ++ slice_index_or colours (channel % 16) [] ++ codes "' d='" ++ channel_strokes chart whole grid place channel columns
+    codes "<path stroke='" ++ colour_text channel ++ codes "' d='" ++ channel_strokes chart whole grid place channel columns
     ++ codes "'/>\n"
 
 abbrev pub channel_paths : Chart → Span → Grid → List Column → List PictureChannel → List ℕ

@@ -1,5 +1,5 @@
 -- The columns of a flow's picture.
-use Rattle.std.specs.Prelude.{ℕ, ◌+◌, ◌*◌, nat_lt, List, length, map, replicate, slice_index_or, slice_set, Option, Some, None, if◌then◌else◌}
+use Rattle.std.specs.Prelude.{ℕ, ◌+◌, ◌*◌, List, length, map, replicate, slice_index_or, slice_set, Option, Some, None}
 use Rattle.std.specs.List.{range_with_len}
 use Rattle.capture_picture.specs.Spans.{both_spans}
 use Rattle.capture_picture.specs.Marking.{no_marks, both_marks}

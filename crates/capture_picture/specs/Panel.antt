@@ -1,5 +1,5 @@
 -- What is drawn of one flow.
-use Rattle.std.specs.Prelude.{ℕ, ◌+◌, ◌/◌, ◌==◌, List, [], ◌∷◌, ◌++◌, flat_map, codes, Option, None, unwrap_or, if◌then◌else◌}
+use Rattle.std.specs.Prelude.{ℕ, ◌+◌, ◌/◌, ◌==◌, List, [], ◌∷◌, ◌++◌, flat_map, codes, None, unwrap_or, if◌then◌else◌}
 use Rattle.std.specs.List.{fold}
 use Rattle.capture_picture.specs.Spans.{both_spans}
 use Rattle.capture_picture.specs.Marking.{kept_within, no_marks, count_of_mark, both_marks}

@@ -1,5 +1,5 @@
 -- What is drawn of a capture.
-use Rattle.std.specs.Prelude.{ℕ, zero, suc, ◌+◌, ◌-◌, ◌*◌, ◌/◌, ◌==◌, max, nat_lt, List, [], ◌∷◌, ◌++◌, length, take, map, Option, Some, None, unwrap_or, if◌then◌else◌}
+use Rattle.std.specs.Prelude.{ℕ, zero, suc, ◌-◌, ◌*◌, ◌/◌, ◌==◌, max, nat_lt, List, [], ◌∷◌, ◌++◌, length, take, map, Option, Some, None, unwrap_or, if◌then◌else◌}
 use Rattle.std.specs.List.{list_any, position_or_len}
 use Rattle.capture_picture.specs.Columns.{channels_most, columns_most}
 use Rattle.capture_picture.specs.ShownFlow.{ShownFlow, flows_most, changed_at, new_flow, halved_flow, with_segment, with_mark_in}

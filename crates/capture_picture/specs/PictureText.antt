@@ -1,8 +1,8 @@
 -- The picture of a capture, as SVG.
-use Rattle.std.specs.Prelude.{ℕ, ◌+◌, ◌-◌, ◌*◌, ◌/◌, ◌%◌, ◌==◌, List, [], ◌++◌, length, codes, slice_index_or, if◌then◌else◌}
+use Rattle.std.specs.Prelude.{ℕ, ◌+◌, ◌-◌, ◌*◌, ◌/◌, ◌%◌, ◌==◌, List, [], ◌++◌, length, codes, if◌then◌else◌}
 use Rattle.capture_picture.specs.ShownFlow.{ShownFlow}
 use Rattle.capture_picture.specs.Picture.{Picture}
-use Rattle.capture_picture.specs.Svg.{valued, numbered_texts, colours}
+use Rattle.capture_picture.specs.Svg.{valued, numbered_texts, colour_text}
 use Rattle.capture_picture.specs.Grid.{grid_of, end_of}
 use Rattle.capture_picture.specs.Panel.{panel_text}
 use Rattle.capture_picture.specs.declared.grid.Grid.{Grid}
@@ -20,7 +20,7 @@ picture_height channels flows = panels_top channels + 430 * flows + 30
 abbrev pub entry_text : ℕ → PictureChannel → List ℕ
 entry_text place channel =
     valued (codes "<g transform='translate(") (190 * (place % 6)) ++ valued (codes ",") (20 * (place / 6))
-    ++ codes ")'><rect width='14' height='14' fill='" ++ slice_index_or colours (channel.channel % 16) []
+    ++ codes ")'><rect width='14' height='14' fill='" ++ colour_text channel.channel
     ++ valued (codes "'/><text x='20' y='12'>channel ") channel.channel ++ valued (codes " (id ") channel.id ++ codes ")</text></g>\n"
 
 abbrev pub entries_text : List PictureChannel → List ℕ

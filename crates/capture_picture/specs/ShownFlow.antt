@@ -1,5 +1,5 @@
 -- What is drawn of one flow.
-use Rattle.std.specs.Prelude.{ℕ, zero, suc, ◌+◌, ◌-◌, max, List, [], ◌∷◌, Option}
+use Rattle.std.specs.Prelude.{ℕ, zero, suc, ◌+◌, ◌-◌, max, List, [], ◌∷◌}
 use Rattle.capture_picture.specs.Marking.{kept_within, with_marks}
 use Rattle.capture_picture.specs.Index.{first_index, nearest_index}
 use Rattle.capture_picture.specs.Columns.{no_columns, with_span, halved}

@@ -1,5 +1,5 @@
 -- The pieces of an SVG.
-use Rattle.std.specs.Prelude.{ℕ, ◌/◌, ◌%◌, List, [], ◌∷◌, ◌++◌, flat_map, codes}
+use Rattle.std.specs.Prelude.{ℕ, ◌/◌, ◌%◌, List, [], ◌∷◌, ◌++◌, flat_map, codes, slice_index_or}
 use Rattle.std.specs.List.{enumerate_from}
 use Rattle.std.specs.Fmt.{decimal}
 
@@ -27,3 +27,6 @@ colours =
     codes "#1f77b4" ∷ codes "#ff7f0e" ∷ codes "#2ca02c" ∷ codes "#d62728" ∷ codes "#9467bd" ∷ codes "#8c564b" ∷ codes "#e377c2"
     ∷ codes "#7f7f7f" ∷ codes "#bcbd22" ∷ codes "#17becf" ∷ codes "#000075" ∷ codes "#808000" ∷ codes "#f032e6" ∷ codes "#3cb44b"
     ∷ codes "#9a6324" ∷ codes "#46f0f0" ∷ []
+
+unfoldable pub colour_text : ℕ → List ℕ
+colour_text channel = slice_index_or colours (channel % 16) []

@@ -1,6 +1,6 @@
 //! The colours of channels.
-ghost use Rattle.std.specs.Prelude.{◌≡◌, ◌%◌, [], slice_index_or};
-ghost use Rattle.capture_picture.specs.Svg.{colours};
+ghost use Rattle.std.specs.Prelude.{◌≡◌};
+ghost use Rattle.capture_picture.specs.Svg.{colour_text};
 
 /// Sixteen colours that are told apart on white.
 const COLOURS: [[u8; 7]; 16] = [
@@ -24,7 +24,7 @@ const COLOURS: [[u8; 7]; 16] = [
 
 /// The colour of a channel.
 pub(crate) fn colour_of(channel: u8) -> [u8; 7]
-    ensures { result ≡ slice_index_or colours (channel % 16) [] }
+    ensures { result ≡ colour_text channel }
 {
     COLOURS[usize::from(channel % 16)]
 }

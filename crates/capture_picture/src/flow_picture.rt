@@ -1,5 +1,5 @@
 //! What is drawn of one flow.
-ghost use Rattle.std.specs.Prelude.{◌≡◌, ◌<◌, IfOk};
+ghost use Rattle.std.specs.Prelude.{◌≡◌, ◌<◌, IfOk, map};
 ghost use Rattle.capture_picture.specs.Columns.{columns_most};
 ghost use Rattle.capture_picture.specs.ShownFlow.{new_flow, halved_flow, with_segment, with_mark_in};
 
@@ -113,5 +113,14 @@ impl FlowPicture {
         ensures { self.new ≡ halved_flow self.old }
     {
         halve(&mut self.columns);
+    }
+}
+
+/// Each two neighbouring columns of each flow become one.
+pub(crate) fn halve_all(flows: &mut [FlowPicture])
+    ensures { flows.new ≡ map halved_flow flows.old }
+{
+    for flow in flows {
+        flow.halve();
     }
 }

@@ -4,7 +4,7 @@ ghost use Rattle.capture_picture.specs.Columns.{columns_most, channels_most};
 ghost use Rattle.capture_picture.specs.ShownFlow.{flows_most};
 
 use crate::column::{CHANNELS, COLUMNS};
-use crate::flow_picture::FlowPicture;
+use crate::flow_picture::{FlowPicture, halve_all};
 use crate::grid::{Grid, PLOT_UNITS};
 use crate::marks::Mark;
 use std::alloc::{AllocError, Global};
@@ -88,12 +88,14 @@ impl CapturePicture {
         ensures refused { OnErr result (picture_in self.new ≡ picture_in self.old) }
     {
         let place = self.place_of(burst.flow);
-        if place >= self.flows.len() {
-            if place >= MOST_FLOWS {
-                return self.note_other(burst.flow);
-            }
-            self.show(alloc, &burst)?;
+        if place < self.flows.len() {
+            self.draw_segment(place, &burst);
+            return Ok(());
         }
+        if place >= MOST_FLOWS {
+            return self.note_other(burst.flow);
+        }
+        self.show(alloc, &burst)?;
         self.draw_segment(place, &burst);
         Ok(())
     }
@@ -214,9 +216,7 @@ impl CapturePicture {
         requires { self.old.column_width ≤ 2 ^ 56 }
         ensures { picture_in self.new ≡ doubled (picture_in self.old) }
     {
-        for flow in &mut self.flows {
-            flow.halve();
-        }
+        halve_all(&mut self.flows);
         self.column_width *= 2;
     }
 }
