@@ -12,8 +12,8 @@ use Rattle.capture_picture.specs.declared.picture.PictureChannel.{PictureChannel
 
 -- how a chart's group begins, up to the width of strokes
 abbrev pub chart_head : Chart → List ℕ
-chart_head Indexes = codes "<g transform='translate(0,28)' fill='none' shape-rendering='crispEdges' stroke-width='"
-chart_head Behind = codes "<g transform='translate(0,320)' fill='none' shape-rendering='crispEdges' stroke-width='"
+chart_head Indexes = codes "<g transform='translate(0,28)' fill='none' stroke-width='"
+chart_head Behind = codes "<g transform='translate(0,320)' fill='none' stroke-width='"
 
 -- how its frame ends, from behind the width
 abbrev pub frame_end : Chart → List ℕ

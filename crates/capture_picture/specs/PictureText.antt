@@ -44,7 +44,7 @@ others_text height others =
 abbrev pub opening_text : ℕ → List ℕ
 opening_text height =
     valued (codes "<svg xmlns='http://www.w3.org/2000/svg' viewBox='0 0 1200 ") height ++ valued (codes "' width='1200' height='") height
-    ++ valued (codes "' font-family='sans-serif' font-size='12'>\n<rect width='1200' height='") height
+    ++ valued (codes "' font-family='sans-serif' font-size='12' shape-rendering='crispEdges'>\n<rect width='1200' height='") height
     ++ codes "' fill='white'/>\n<text x='20' y='28' font-size='18'>Segments of a capture</text>\n"
 
 -- **The picture of a capture**: a title, a legend of the channels, what is drawn of each flow that is shown, and how many aren't

@@ -27,10 +27,8 @@ impl Chart {
         ensures { result.now ≡ chart_head self }
     {
         match self {
-            Chart::Indexes =>
-                "<g transform='translate(0,28)' fill='none' shape-rendering='crispEdges' stroke-width='",
-            Chart::Behind =>
-                "<g transform='translate(0,320)' fill='none' shape-rendering='crispEdges' stroke-width='",
+            Chart::Indexes => "<g transform='translate(0,28)' fill='none' stroke-width='",
+            Chart::Behind => "<g transform='translate(0,320)' fill='none' stroke-width='",
         }
     }
 

@@ -43,13 +43,16 @@ fn mark_head(mark: Mark) -> &'static str
     match mark {
         Mark::Lost => { "<text x='-8' y='10' text-anchor='end'>lost</text><path stroke='red' d='" }
         Mark::Late => {
-            "<text x='-8' y='24' text-anchor='end'>late</text><path transform='translate(0,14)' stroke='orange' d='"
+            "<text x='-8' y='24' text-anchor='end'>late</text>\
+             <path transform='translate(0,14)' stroke='orange' d='"
         }
         Mark::BadCheck => {
-            "<text x='-8' y='38' text-anchor='end'>bad checks</text><path transform='translate(0,28)' stroke='purple' d='"
+            "<text x='-8' y='38' text-anchor='end'>bad checks</text>\
+             <path transform='translate(0,28)' stroke='purple' d='"
         }
         Mark::Restart => {
-            "<text x='-8' y='52' text-anchor='end'>restarts</text><path transform='translate(0,42)' stroke='black' d='"
+            "<text x='-8' y='52' text-anchor='end'>restarts</text>\
+             <path transform='translate(0,42)' stroke='black' d='"
         }
     }
 }
@@ -144,7 +147,8 @@ fn put_behind_labels<O: PutText>(out: &mut O, whole: Span)
 {
     put_valued(
         out,
-        "<text x='0' y='314'>segments behind the newest</text><text x='-8' y='330' text-anchor='end'>",
+        "<text x='0' y='314'>segments behind the newest</text>\
+         <text x='-8' y='330' text-anchor='end'>",
         whole.behind,
     );
     put_word(

@@ -129,7 +129,7 @@ fn put_opening<O: PutText>(out: &mut O, height: u64)
     put_valued(out, "' width='1200' height='", height);
     put_valued(
         out,
-        "' font-family='sans-serif' font-size='12'>\n<rect width='1200' height='",
+        "' font-family='sans-serif' font-size='12' shape-rendering='crispEdges'>\n<rect width='1200' height='",
         height,
     );
     put_word(
