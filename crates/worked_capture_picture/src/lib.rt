@@ -5,4 +5,12 @@
 #![tactic(auto)]
 
 #[cfg(test)]
-mod look;
+mod charts;
+#[cfg(test)]
+mod drawing;
+#[cfg(test)]
+mod failed_allocations;
+#[cfg(test)]
+mod sizes;
+#[cfg(test)]
+mod whole;
