@@ -1,0 +1,4 @@
+pub mod PutTexts
+pub mod Changed
+pub mod Widths
+pub mod Drawn

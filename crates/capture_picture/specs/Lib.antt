@@ -1,0 +1,11 @@
+pub mod Spans
+pub mod Marking
+pub mod Index
+pub mod Columns
+pub mod ShownFlow
+pub mod Picture
+pub mod Svg
+pub mod Grid
+pub mod Charts
+pub mod Panel
+pub mod PictureText
