@@ -39,6 +39,7 @@ pub fn capture_line<'a>(alloc: Global) -> Result<Command<'a>, AllocError> {
     let link = "Frames alone, or packets with channel and SID [default: docsis]";
     let report = "Also write the counts to this file";
     let requests = "Also write the requests to this file, as CSV";
+    let picture = "Also draw the segments of the flows into this file, as SVG";
     let usage = "segrx capture MAP [OPTION]... < CAPTURE > FRAMES";
     Command::new(alloc, "capture")
         .about("Joins the bursts of a capture, and writes their frames as pcap")
@@ -61,5 +62,6 @@ pub fn capture_line<'a>(alloc: Global) -> Result<Command<'a>, AllocError> {
             "Let headers of frames pass that end with a wrong check",
         ))?
         .arg(option(alloc, "report", "FILE", report))?
-        .arg(option(alloc, "requests", "FILE", requests))
+        .arg(option(alloc, "requests", "FILE", requests))?
+        .arg(option(alloc, "picture", "FILE", picture))
 }

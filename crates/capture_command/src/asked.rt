@@ -38,6 +38,8 @@ pub struct CaptureAsked {
     pub report: Option<String>,
     /// The path of the file for the requests.
     pub requests: Option<String>,
+    /// The path of the file for the picture.
+    pub picture: Option<String>,
 }
 
 /// What the words ask for.
@@ -173,5 +175,6 @@ pub fn read_capture_words<'a, S: AsStr>(
         settings: asked_settings(words)?,
         report: read_path(alloc, &matches, "report")?,
         requests: read_path(alloc, &matches, "requests")?,
+        picture: read_path(alloc, &matches, "picture")?,
     }))
 }

@@ -7,8 +7,9 @@ ghost use Rattle.capture_command.specs.Program.{Captures, Obeys, ComesOf, status
 use crate::asked::{CaptureAsked, CaptureWords, read_capture_words};
 use crate::fault::CaptureCommandFault;
 use crate::files::{created, map_of_file};
+use capture_picture::put_picture;
 use capture_summary::{put_report, put_summary};
-use engines::{Device, TextWriter, held_room, write_text};
+use engines::{Device, EngineFault, TextWriter, held_room, write_text};
 use frame_engine::{CaptureTally, FrameReading, join_capture};
 use std::alloc::Global;
 use std::convert::AsStr;
@@ -30,6 +31,24 @@ fn write_report<W: Write>(
     }
 }
 
+/// Writes the picture, if no burst is missing in it.
+fn write_picture<W: Write>(
+    alloc: Global,
+    tally: &CaptureTally,
+    file: &mut Device<W>,
+) -> Result<(), CaptureCommandFault> {
+    let Some(picture) = tally.picture() else {
+        return Err(CaptureCommandFault::Engine(EngineFault::OutOfMemory));
+    };
+    let mut room = held_room(alloc)?;
+    let mut text = TextWriter::new(file, &mut room);
+    put_picture(&mut text, picture);
+    match text.finish() {
+        Ok(()) => Ok(()),
+        Err(_) => Err(CaptureCommandFault::OutputFile),
+    }
+}
+
 /// Writes the summary of what was counted.
 fn write_summary<E: Write>(
     alloc: Global,
@@ -43,8 +62,8 @@ fn write_summary<E: Write>(
     Ok(())
 }
 
-/// Writes what was counted: the summary, and the report where it is asked for. Lines of requests that
-/// were lost are reported then.
+/// Writes what was counted: the summary, and the report and the picture where they are asked for.
+/// Lines of requests that were lost are reported then.
 fn write_counts<F: Files, E: Write>(
     alloc: Global,
     rt: &F,
@@ -56,6 +75,12 @@ fn write_counts<F: Files, E: Write>(
     if let Some(path) = &asked.report {
         let mut file = Device::new(created(rt, path.as_str())?);
         let written = write_report(alloc, tally, &mut file);
+        file.into_inner();
+        written?;
+    }
+    if let Some(path) = &asked.picture {
+        let mut file = Device::new(created(rt, path.as_str())?);
+        let written = write_picture(alloc, tally, &mut file);
         file.into_inner();
         written?;
     }
@@ -81,6 +106,9 @@ fn capture<F: Files, R: Read, W: Write, E: Write>(
 {
     let capture_map = map_of_file(alloc, rt, asked.map.as_str())?;
     let mut tally = CaptureTally::new(alloc, &capture_map, asked.requests.is_some())?;
+    if asked.picture.is_some() {
+        tally.draw(alloc, &capture_map)?;
+    }
     let reading = FrameReading::new(alloc, asked.settings, capture_map)?;
     let mut requests = match &asked.requests {
         Some(path) => Some(Device::new(created(rt, path.as_str())?)),

@@ -1,6 +1,7 @@
 -- The channel of an upstream channel id, and the flow of a service identifier of a channel.
-use Rattle.std.specs.Prelude.{◌≡◌, ℕ, ◌+◌, ◌*◌, ◌<◌, ◌==◌, ◌&&◌, nat_lt, Bool, Option, None, List, find, length, slice_index_or, option_map, if◌then◌else◌}
+use Rattle.std.specs.Prelude.{◌≡◌, ℕ, ◌+◌, ◌*◌, ◌<◌, ◌==◌, ◌&&◌, nat_lt, Bool, Option, Some, None, List, find, length, slice_index_or, option_map, if◌then◌else◌}
 use Rattle.capture_map.specs.declared.map.MapChannel.{MapChannel}
+use Rattle.capture_map.specs.declared.map.CaptureMap.{CaptureMap}
 use Rattle.capture_map.specs.declared.map.MapSid.{MapSid}
 
 -- the channel of the first row with this id
@@ -24,6 +25,14 @@ row_flow rows channel sid = option_map (λ row. row.flow) (find (is_row channel 
 
 abbrev pub flow_of : List MapSid → ℕ → ℕ → Option ℕ
 flow_of rows channel sid = if nat_lt channel most_channels && nat_lt sid most_sids then row_flow rows channel sid else None
+
+-- the flow of an upstream channel id and a service identifier in a map
+abbrev pub flow_on : List MapSid → ℕ → Option ℕ → Option ℕ
+flow_on rows sid None = None
+flow_on rows sid (Some channel) = flow_of rows channel sid
+
+abbrev pub flow_in_map : CaptureMap → ℕ → ℕ → Option ℕ
+flow_in_map capture_map id sid = flow_on capture_map.sids.items sid (channel_of capture_map.channels.items id)
 
 -- ---- inside
 

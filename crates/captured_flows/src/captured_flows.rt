@@ -1,5 +1,5 @@
 //! The bursts of a capture with a map, handed in to a receiver.
-ghost use Rattle.std.specs.Prelude.{◌≡◌, [], IfOk, IfErr, OnErr, map, length};
+ghost use Rattle.std.specs.Prelude.{◌≡◌, ◌↔◌, ◌≤◌, [], ℕ, Bool, List, Some, None, IfSome, IfOk, IfErr, OnErr, map, length, slice_get};
 ghost use Rattle.receiver.specs.Receiving.{IsReceiving};
 ghost use Rattle.captured_flows.specs.AtHand.{IsAtHand};
 ghost use Rattle.captured_flows.specs.Taking.{TakesBy, BreaksOff};
@@ -20,6 +20,7 @@ use crate::waits::Waits;
 use capture_map::CaptureMap;
 use capture_rules::{Arrival, ClockCounts};
 use docsis_wire::HeaderCheck;
+use flow_core::FlowCounts;
 use lane::Input;
 use loss_rule::LossRule;
 use receiver::{Receiver, Reply, SetupError};
@@ -151,7 +152,12 @@ pub struct CapturedFlows<C> {
 impl<C: HeaderCheck + Drop> CapturedFlows<C> {
     ghost use Rattle.captured_flows.specs.Capturing.{IsCapturing, SpellsNext, SpellsAll, EndsWaitingOfAll, views_in, clock_counts_in};
     ghost use Rattle.captured_flows.specs.Captures.{made_from, IsFaultOf};
-    ghost use Rattle.receiver.specs.Receiving.{StandsFor};
+    ghost use Rattle.captured_flows.specs.Sids.{flow_in_map};
+    ghost use Rattle.flow_records.specs.declared.record.FlowRecord.{FlowRecord};
+    ghost use Rattle.consumer.specs.declared.given.Given.{Given};
+    ghost use Rattle.bonded_flows.specs.Table.{TableSetup};
+    ghost use Rattle.receiver.specs.HandedIn.{HandedIn};
+    ghost use Rattle.receiver.specs.Receiving.{StandsFor, IsSettledAt, HasGivenSince};
 
     /// The flows of this map, of which nothing came yet, before a receiver of 16 channels that goes by
     /// this rule of losses. A fault is one of the setup that the map makes.
@@ -277,6 +283,30 @@ impl<C: HeaderCheck + Drop> CapturedFlows<C> {
     {
         end_all(alloc, &mut self.receiver, &mut self.flows, self.waits, out)?;
         Ok(())
+    }
+
+    /// The flow to which a burst of this upstream channel with this service identifier comes, if the
+    /// map has one.
+    pub fn flow_of(&self, channel: u32, sid: u16) -> Option<usize>
+        ensures { IsCapturing C.accepts self.now
+            → result ≡ flow_in_map self.now.map channel sid }
+    {
+        let channel = channel_of(&self.map.channels, channel)?;
+        let flow = self.sids.flow_of(channel, sid)?;
+        Some(usize::from(flow))
+    }
+
+    /// What was counted of a flow since it was begun or began anew, or none if there is no such flow.
+    pub fn counts(&self, flow: usize) -> Option<FlowCounts>
+        ensures none { result ≡ None ↔ (length self.now.receiver.flows.slots.items ≤ flow) }
+        ensures counts { IfSome result (λ counts. (check : List ℕ → Bool) (made : TableSetup)
+            (handed : List HandedIn) (given : List Given) (flow_record : FlowRecord)
+            → StandsFor C.accepts self.now.receiver check made handed given
+            → slice_get made.records flow ≡ Some flow_record
+            → IsSettledAt self.now.receiver flow
+            → HasGivenSince check made flow flow_record handed given counts) }
+    {
+        self.receiver.counts(flow)
     }
 
     /// How often the times of all flows' bursts couldn't be gone by.

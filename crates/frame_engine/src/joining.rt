@@ -17,9 +17,10 @@ use crate::settings::CaptureSettings;
 use crate::tally::CaptureTally;
 use capture::CaptureRecord;
 use capture_map::CaptureMap;
-use captured_flows::{CapturedBurst, CapturedFlows};
+use captured_flows::{BurstTaken, CapturedBurst, CapturedFlows};
 use engines::{Device, EngineFault};
-use receiver::SetupError;
+use lane::Refusal;
+use receiver::{Reply, SetupError};
 use std::alloc::Global;
 use std::io::Write;
 use timed_frames::TimedFrames;
@@ -51,7 +52,7 @@ fn put_came(
     }
     let steps = timed.take(alloc);
     file.put_all(alloc, &steps)?;
-    tally.count_steps(&steps);
+    tally.count_steps(alloc, &steps);
     Ok(())
 }
 
@@ -98,13 +99,34 @@ impl Joining {
         ensures records { self.new.records ≡ self.old.records }
         ensures only { IfErr result (λ fault. fault ≡ OutOfMemory) }
     {
-        let id = burst.channel;
+        let (id, sid, time) = (burst.channel, burst.sid, burst.time);
         match self.flows.take(alloc, burst, &mut self.timed) {
             Ok(told) => {
                 tally.count_burst(id, is_above, told);
-                put_came(alloc, &mut self.timed, &mut self.file, tally)
+                put_came(alloc, &mut self.timed, &mut self.file, tally)?;
+                if tally.draws() {
+                    self.mark(id, sid, time, told, tally);
+                }
+                Ok(())
             }
             Err(_) => Err(EngineFault::OutOfMemory),
+        }
+    }
+
+    /// Marks in the picture what became of a burst.
+    fn mark(&self, id: u32, sid: u16, time: u64, told: BurstTaken, tally: &mut CaptureTally) {
+        match told {
+            BurstTaken::Waits(flow) => {
+                if let Some(counts) = self.flows.counts(flow) {
+                    tally.mark_counts(flow, counts);
+                }
+            }
+            BurstTaken::Refused(Reply::Refused(Refusal::BadCheck)) => {
+                if let Some(flow) = self.flows.flow_of(id, sid) {
+                    tally.mark_bad_check(flow, time);
+                }
+            }
+            _ => {}
         }
     }
 

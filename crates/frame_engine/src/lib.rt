@@ -14,6 +14,7 @@
 #![tactic(auto)]
 
 mod capturing;
+mod drawing;
 mod frame_file;
 mod frame_reading;
 mod inner_check;

@@ -1,5 +1,7 @@
 //! What is counted of a capture, and what its requests are, beside its frames.
+use crate::drawing::Drawing;
 use capture_map::{CaptureMap, MapChannel};
+use capture_picture::CapturePicture;
 use capture_rules::ClockCounts;
 use capture_summary::{
     CaptureSummary, ChannelSummary, FlowSummary, PassedCounts, PassedReason, both_counts,
@@ -31,6 +33,8 @@ pub struct CaptureTally {
     requests: Option<TextBuffer>,
     /// Whether lines of requests were lost, since memory ran out or their writer failed.
     lost_requests: bool,
+    /// What is drawn, where a picture is asked for.
+    drawing: Option<Drawing>,
 }
 
 /// A summary of each flow of a map.
@@ -100,7 +104,22 @@ impl CaptureTally {
             last_time: 0,
             requests,
             lost_requests: false,
+            drawing: None,
         })
+    }
+
+    /// A picture is drawn from now on, of a capture with this map.
+    pub fn draw(&mut self, alloc: Global, capture_map: &CaptureMap) -> Result<(), AllocError> {
+        self.drawing = Some(Drawing::new(alloc, capture_map)?);
+        Ok(())
+    }
+
+    /// The picture, if one is drawn and no burst is missing in it, since memory ran out.
+    pub fn picture(&self) -> Option<&CapturePicture> {
+        match &self.drawing {
+            Some(drawing) if drawing.is_whole() => Some(&drawing.picture),
+            _ => None,
+        }
     }
 
     /// Whether lines of requests were lost, since memory ran out or their writer failed.
@@ -162,19 +181,50 @@ impl CaptureTally {
     }
 
     /// Counts what came, one after another.
-    pub(crate) fn count_steps(&mut self, steps: &[TimedStep]) {
+    pub(crate) fn count_steps(&mut self, alloc: Global, steps: &[TimedStep]) {
         for step in steps {
-            self.count_step(step);
+            self.count_step(alloc, step);
         }
     }
 
     /// Counts something that came.
-    fn count_step(&mut self, step: &TimedStep) {
+    fn count_step(&mut self, alloc: Global, step: &TimedStep) {
         match step {
-            TimedStep::HandedIn { burst, .. } => self.count_admitted(burst.channel),
+            TimedStep::HandedIn { flow, burst } => {
+                self.count_admitted(burst.channel);
+                self.draw_burst(alloc, *flow, *burst);
+            }
             TimedStep::Frame { flow, frame, .. } => self.count_frame(*flow, frame),
             TimedStep::Asked { burst, request } => self.count_request(*burst, request),
             TimedStep::Ended { flow, counts } => self.count_ended(*flow, *counts),
+        }
+    }
+
+    /// Draws a burst that was handed in.
+    fn draw_burst(&mut self, alloc: Global, flow: usize, burst: LastBurst) {
+        let (Some(drawing), Some(summary)) = (&mut self.drawing, self.summary.flows.get(flow))
+        else {
+            return;
+        };
+        drawing.hand_in(alloc, flow, summary.sfid, burst);
+    }
+
+    /// Whether a picture is drawn.
+    pub(crate) fn draws(&self) -> bool {
+        self.drawing.is_some()
+    }
+
+    /// Marks what these counts of a flow say, where a picture is drawn.
+    pub(crate) fn mark_counts(&mut self, flow: usize, counts: FlowCounts) {
+        if let Some(drawing) = &mut self.drawing {
+            drawing.mark_counts(flow, counts);
+        }
+    }
+
+    /// Marks a burst of a flow with a wrong check, where a picture is drawn.
+    pub(crate) fn mark_bad_check(&mut self, flow: usize, time: u64) {
+        if let Some(drawing) = &mut self.drawing {
+            drawing.mark_bad_check(flow, time);
         }
     }
 
@@ -186,10 +236,14 @@ impl CaptureTally {
             || counts.late > 0
             || counts.repeat > 0
             || counts.beyond > 0;
+        if !has_begun {
+            return;
+        }
         if let Some(summary) = self.summary.flows.get_mut(flow) {
-            if has_begun {
-                summary.count_restart();
-            }
+            summary.count_restart();
+        }
+        if let Some(drawing) = &mut self.drawing {
+            drawing.begin_anew(flow, counts);
         }
     }
 
@@ -230,6 +284,7 @@ impl CaptureTally {
     pub(crate) fn count_all_closed(&mut self, flows: &[FlowCounts]) {
         for flow in 0..flows.len() {
             self.count_closed(flow, flows[flow]);
+            self.mark_counts(flow, flows[flow]);
         }
     }
 

@@ -12,7 +12,7 @@ use Rattle.timed_frames.specs.declared.timed_step.TimedStep.TheVariants as timed
 
 -- what is kept of a burst that is handed in
 abbrev pub last_burst : Arrival SoundBurst → LastBurst
-last_burst one = record { time = one.time; channel = one.channel; sid = one.item.sid; burst_id = one.item.burst_id }
+last_burst one = record { time = one.time; channel = one.channel; number = one.number; sid = one.item.sid; burst_id = one.item.burst_id }
 
 -- **What comes of some steps**, where of each flow this burst was handed in last before them: a frame comes of the burst of its flow that was handed in
 -- last, and so does a request.

@@ -102,6 +102,7 @@ impl CaptureConsumer for TimedFrames {
         let burst = LastBurst {
             time: burst.time,
             channel: burst.channel,
+            number: burst.number,
             sid: burst.item.sid,
             burst_id: burst.item.burst_id,
         };

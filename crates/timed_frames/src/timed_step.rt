@@ -10,6 +10,8 @@ pub struct LastBurst {
     pub time: u64,
     /// The channel of the receiver on which it came, 0 to 15.
     pub channel: usize,
+    /// The number of its segment, modulo 8192.
+    pub number: u16,
     /// Its service identifier.
     pub sid: u16,
     /// The analyser's number of the burst, where it has one.
