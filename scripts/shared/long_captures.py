@@ -37,13 +37,26 @@ def frames_of(rng, length):
 
 
 def packet_of(place, segment):
+    """The packet of a burst of the one flow, on one channel after another."""
+    channel = place % CHANNELS + 1
+    return packet_on(channel, channel, segment)
+
+
+def packet_on(channel, sid, segment):
     """The packet of a burst, with its right header check sequence."""
     words = bytes(segment[:6])
     burst = words + header_sequence(words) + bytes(segment[8:])
-    channel = place % CHANNELS + 1
-    values = {SEGMENT_HEADER_TLV: b"\x01", CHANNEL_TLV: number(channel, 1), SID_TLV: number(channel, 2)}
+    values = {SEGMENT_HEADER_TLV: b"\x01", CHANNEL_TLV: number(channel, 1), SID_TLV: number(sid, 2)}
     values[GRANT_TLV] = number(8 * len(burst), 4)
     return xra_packet(TDMA_BURST, b"".join(tlv(*pair) for pair in values.items()), burst)
+
+
+def packed(sent):
+    """The pcap file of segments, a piece for its header and for each of them."""
+    yield pcap_header(NANOSECONDS, XRA)
+    for place, segment in enumerate(sent):
+        packet = packet_of(place, segment)
+        yield pcap_record(NANOSECONDS, Record(XRA, place * APART, len(packet), packet))
 
 
 def packets_of_a_round():

@@ -1,0 +1,117 @@
+"""How much memory is resident at most while the program takes inputs of several shapes, each of one size and of four times that
+size. One flow sends on four channels in turn, in segments of one size.
+"""
+
+import itertools
+import os
+import random
+import subprocess
+import sys
+import tempfile
+
+from shared.long_captures import HEADER, SIZE, frame_of, map_lines, packed
+from shared.long_texts import CHANNELS, MIB, burst, flow_lines, grant, header, segments
+
+SMALL, TIMES = 4 * MIB, 4
+# The commands whose memory may not grow with their input, and those that hold it and may take so much for each frame.
+FLAT, HOLDING = ("capture", "follow"), ("replay", "join")
+SHORT = 200  # bytes of the frames that have fill behind them
+
+
+def of_pool(sizes, rng):
+    """Frames of such sizes, without end."""
+    pool = [frame_of(rng, size - HEADER) for size in sizes]
+    while True:
+        yield rng.choice(pool)
+
+
+def ordinary(rng):
+    """Segments of frames of 70 to 1,524 bytes, which are cut anywhere."""
+    return segments(of_pool([rng.randint(70, 1524) for _ in range(256)], rng), SIZE)
+
+
+def whole(rng):
+    """Segments of which each is a whole frame."""
+    return segments(of_pool([SIZE] * 64, rng), SIZE)
+
+
+def filled(rng):
+    """Segments with a short frame, and fill behind it."""
+    for number, frame in enumerate(of_pool([SHORT] * 64, rng)):
+        yield header(0, number) + frame + bytes(SIZE - len(frame))
+
+
+SHAPES = {shape.__name__: shape for shape in (ordinary, whole, filled)}
+
+
+def join_text(sent):
+    return (segment.hex().encode() + b"\n" for segment in sent)
+
+
+def trace_text(sent):
+    yield from flow_lines(1, 16)
+    for number, segment in enumerate(sent):
+        yield grant(number % CHANNELS, number, 0, segment) + burst(number % CHANNELS, number, segment)
+
+
+INPUTS = {"capture": packed, "follow": trace_text, "replay": trace_text, "join": join_text}
+
+
+def words_of(command, room):
+    """The words of a command, and for `capture` a map beside its input."""
+    if command != "capture":
+        return [command]
+    named = os.path.join(room, "one_flow.map")
+    with open(named, "w") as file:
+        file.write(map_lines())
+    return [command, named]
+
+
+def write_input(command, shape, size, file):
+    """Writes an input of a shape and at least so many bytes."""
+    written = 0
+    for piece in INPUTS[command](SHAPES[shape](random.Random(20))):
+        written += file.write(piece)
+        if written >= size:
+            return
+
+
+def resident(segrx, command, room, given, taken):
+    """The most bytes that were resident while the program took an input. GNU time starts it, since Linux counts for a child what its
+    parent held when it began."""
+    told = os.path.join(room, f"resident-{os.path.basename(given.name)}")
+    timed = ["time", "-f", "%M", "-o", told, segrx, *words_of(command, room)]
+    done = subprocess.run(timed, stdin=given, stdout=taken, stderr=subprocess.PIPE, text=True)
+    if done.returncode != 0:
+        sys.exit(f"segrx {command} ended with {done.returncode}: {done.stderr[-500:]}")
+    with open(told) as file:
+        return 1024 * int(file.read())
+
+
+def frames_in(taken):
+    """How many frames a report or the answer of `join` has."""
+    taken.seek(0)
+    return sum(line.startswith(b"frame ") for line in taken)
+
+
+def held(segrx, command, shape, size, room):
+    """The most bytes that were resident while the program took an input, and how many frames it gave, where it gives text."""
+    with open(os.path.join(room, f"{command}-{shape}-{size}"), "w+b") as given, tempfile.TemporaryFile() as taken:
+        write_input(command, shape, size, given)
+        given.seek(0)
+        return resident(segrx, command, room, given, taken), frames_in(taken)
+
+
+def growth(segrx, command, shape, room):
+    """Of a command whose memory may not grow, how much more is resident with the large input, as a ratio, and of one that holds its
+    input how many bytes more for each frame more."""
+    small, few = held(segrx, command, shape, SMALL, room)
+    large, many = held(segrx, command, shape, SMALL * TIMES, room)
+    return large / small if command in FLAT else (large - small) / (many - few)
+
+
+def growths(segrx, pool):
+    """Of each command and shape how its memory grows."""
+    pairs = list(itertools.product(FLAT + HOLDING, SHAPES))
+    with tempfile.TemporaryDirectory() as room:
+        return dict(zip(pairs, pool.map(lambda pair: growth(segrx, *pair, room), pairs)))
