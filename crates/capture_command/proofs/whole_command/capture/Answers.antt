@@ -15,8 +15,7 @@ returns-in_err-joined g c =
     rw (p.1, p.2)
     (inl (record {
       capture_map = c.in_ok-capture_map.capture_map;
-      text = c.in_ok-capture_map.ensures.0;
-      map_is = c.in_ok-capture_map.ensures.1;
+      map_is = c.in_ok-capture_map.ensures;
       joined = c.join_capture-joined.result;
       joins = c.join_capture-joined.ensures c.args.asked.now.settings c.in_ok-capture_map.capture_map c.in_ok-reading.ensures.begun;
       told = rw c.in_err-joined.was (record { fault = refl; done = tt });
@@ -26,8 +25,7 @@ pub returns : goal.returns
 returns g c =
     inl (record {
       capture_map = c.in_ok-capture_map.capture_map;
-      text = c.in_ok-capture_map.ensures.0;
-      map_is = c.in_ok-capture_map.ensures.1;
+      map_is = c.in_ok-capture_map.ensures;
       joined = c.join_capture-joined.result;
       joins = c.join_capture-joined.ensures c.args.asked.now.settings c.in_ok-capture_map.capture_map c.in_ok-reading.ensures.begun;
       told = rw c.in_ok-joined.was (record { fault = tt; done = always c.write_counts-counted.result (Ok c.in_ok-joined.field-0 ≡ Ok tt) refl });
