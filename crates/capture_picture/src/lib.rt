@@ -11,7 +11,8 @@
 //! far each channel lay behind.
 //!
 //! What matters most: what is kept and the text are those of the definitions `with_burst`,
-//! `with_mark` and `picture_text`.
+//! `with_mark` and `picture_text`. [`laws`] says of them that an index is the nearest to the newest
+//! one, and that nothing that was drawn gets lost where columns become one.
 #![tactic(auto)]
 
 mod chart;
@@ -20,6 +21,7 @@ mod column;
 mod flow_picture;
 mod grid;
 mod index;
+pub mod laws;
 mod marks;
 mod panel;
 mod picture;
