@@ -4,7 +4,8 @@
 //! of them what a picture of 256 columns shows, so that its memory doesn't grow with the capture:
 //! for each of the first eight flows and each column which indexes each channel brought, how far
 //! they lay behind the newest one, and how many marks there were. A column begins with a
-//! microsecond. Where the capture goes on past the last column, each two neighbours become one.
+//! microsecond. Where the capture goes on past the last column, each two neighbours become one. A
+//! flow that is shown takes some 140 kB.
 //!
 //! In the end [`put_picture`] puts the picture, as SVG of at most a million bytes: time runs to the
 //! right and the index upwards, each channel has a colour, and below them stand the marks and how

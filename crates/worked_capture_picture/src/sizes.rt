@@ -12,7 +12,7 @@ const CHANNELS: usize = 16;
 
 const COLUMNS: u64 = 256;
 
-/// A time that is a microsecond wide, 20 digits long in nanoseconds.
+/// When the capture begins: a time of 20 digits.
 const START: u64 = 18_000_000_000_000_000_000;
 
 /// Fills a column of a flow, before its newest segment comes. Each stroke of the indexes begins 100
