@@ -14,3 +14,10 @@ pub length-changed_at : {T : Type 0} (place : ℕ) (change : T → T) (items : L
 length-changed_at place change [] = refl
 length-changed_at zero change (first ∷ others) = refl
 length-changed_at (suc place) change (first ∷ others) = ap suc (length-changed_at place change others)
+
+-- what stands there now
+pub get_or-changed_at : {T : Type 0} (place : ℕ) (change : T → T) (items : List T) (default : T) → place < length items
+    → get_or (changed_at place change items) place default ≡ change (get_or items place default)
+get_or-changed_at place change [] default within = absurd (omega (arith, within))
+get_or-changed_at zero change (first ∷ others) default within = refl
+get_or-changed_at (suc place) change (first ∷ others) default within = get_or-changed_at place change others default (omega (arith, within))

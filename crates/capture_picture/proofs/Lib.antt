@@ -2,3 +2,5 @@ pub mod PutTexts
 pub mod Changed
 pub mod Widths
 pub mod Drawn
+pub mod Covering
+pub mod Nearest

@@ -30,9 +30,9 @@ index_stroke whole left span =
     valued (codes "M") left ++ valued (codes " ") (197 - index_height whole span.high)
     ++ valued (codes "v") (kept_within (index_height whole span.high - index_height whole span.low + 3))
 
--- a stroke from the base up to how far a segment lay behind the newest one
+-- a short stroke as high as a segment lay behind the newest one, so that strokes of channels don't hide one another
 abbrev pub behind_stroke : Span → ℕ → Span → List ℕ
-behind_stroke whole left span = valued (codes "M") left ++ valued (codes " ") (57 - scaled span.behind whole.behind 57) ++ codes "V60"
+behind_stroke whole left span = valued (codes "M") left ++ valued (codes " ") (57 - scaled span.behind whole.behind 57) ++ codes "v3"
 
 -- what is drawn of what a channel brought in a column, if it brought something
 abbrev pub stroke_text : Chart → Span → ℕ → Option Span → List ℕ

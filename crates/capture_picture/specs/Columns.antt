@@ -18,8 +18,8 @@ abbrev pub no_column : Column
 no_column = record { spans = replicate 16 None; marks = no_marks }
 
 -- the columns of a flow of which nothing came
-unfoldable pub no_columns : List Column
-no_columns = replicate 256 no_column
+unfoldable pub empty_columns : List Column
+empty_columns = replicate 256 no_column
 
 -- a channel brought this too
 abbrev pub with_span : ℕ → Span → Column → Column

@@ -2,6 +2,7 @@ pub mod Spans
 pub mod Marking
 pub mod Index
 pub mod Columns
+pub mod Covering
 pub mod ShownFlow
 pub mod Picture
 pub mod Svg

@@ -2,7 +2,7 @@
 use Rattle.std.specs.Prelude.{ℕ, zero, suc, ◌+◌, ◌-◌, max, List, [], ◌∷◌}
 use Rattle.capture_picture.specs.Marking.{kept_within, with_marks}
 use Rattle.capture_picture.specs.Index.{first_index, nearest_index}
-use Rattle.capture_picture.specs.Columns.{no_columns, with_span, halved}
+use Rattle.capture_picture.specs.Columns.{empty_columns, with_span, halved}
 use Rattle.capture_picture.specs.declared.marks.Mark.{Mark}
 use Rattle.capture_picture.specs.declared.column.Column.{Column}
 
@@ -26,7 +26,7 @@ changed_at (suc place) change (first ∷ others) = first ∷ changed_at place ch
 
 -- nothing came of a flow yet, whose first segment has this number
 abbrev pub new_flow : ℕ → ℕ → ℕ → ShownFlow
-new_flow flow sfid number = record { flow = flow; sfid = sfid; newest = first_index number; bursts = 0; columns = no_columns }
+new_flow flow sfid number = record { flow = flow; sfid = sfid; newest = first_index number; bursts = 0; columns = empty_columns }
 
 -- the segment with this index came on a channel in the time of this column
 abbrev pub with_index : ℕ → ℕ → ℕ → ShownFlow → ShownFlow

@@ -65,7 +65,7 @@ fn put_index_stroke<O: PutText>(out: &mut O, whole: Span, left: u64, span: Span)
     put_valued(out, "v", high.saturating_sub(low).saturating_add(3));
 }
 
-/// Puts a stroke from the base up to how far a segment lay behind.
+/// Puts a short stroke as high as a segment lay behind.
 fn put_behind_stroke<O: PutText>(out: &mut O, whole: Span, left: u64, span: Span)
     ensures { Puts O.after out.old (behind_stroke whole left span) out.new }
 {
@@ -75,7 +75,7 @@ fn put_behind_stroke<O: PutText>(out: &mut O, whole: Span, left: u64, span: Span
         " ",
         57u64.saturating_sub(scaled(span.behind, whole.behind, 57)),
     );
-    put_word(out, "V60");
+    put_word(out, "v3");
 }
 
 /// Puts what is drawn of what a channel brought in a column, if it brought something.

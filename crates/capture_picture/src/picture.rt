@@ -59,7 +59,7 @@ pub struct CapturePicture {
 }
 
 impl CapturePicture {
-    ghost use Rattle.std.specs.Prelude.{◌≡◌, ◌^◌, OnOk, OnErr};
+    ghost use Rattle.std.specs.Prelude.{◌≡◌, ◌^◌, IsOk, OnOk, OnErr};
     ghost use Rattle.capture_picture.specs.Picture.{picture_in, new_picture, place_of_flow, doubled, reached, with_segment_at, with_mark_at, with_flow, with_other, with_burst, with_mark};
     ghost use Rattle.capture_picture.specs.Grid.{used_columns, grid_of, end_of};
 
@@ -81,11 +81,13 @@ impl CapturePicture {
     /// Takes a burst. A flow of which none came before is shown from now on if fewer than eight
     /// are, and its first segment has the index 8192 + number; each later one has the index that is
     /// nearest to the flow's newest one. A burst from before the first one counts as of its time,
-    /// and a channel above 15 isn't drawn.
+    /// and a channel above 15 isn't drawn. Memory is asked for only where a flow is new.
     pub fn take_burst(&mut self, alloc: Global, burst: PictureBurst) -> Result<(), AllocError>
         ensures taken { OnOk result
             (picture_in self.new ≡ with_burst burst (picture_in self.old)) }
         ensures refused { OnErr result (picture_in self.new ≡ picture_in self.old) }
+        ensures known { let flows = (picture_in self.old).flows in
+            place_of_flow burst.flow flows < length flows → IsOk result }
     {
         let place = self.place_of(burst.flow);
         if place < self.flows.len() {

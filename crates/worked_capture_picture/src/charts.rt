@@ -116,8 +116,8 @@ const COLUMNS: [Drawing; 8] = [
         ],
         has: &[
             "y='330' text-anchor='end'>5<",
-            "<path stroke='#1f77b4' d='M0 0V60'/>",
-            "<path stroke='#ff7f0e' d='M1 57V60M901 57V60'/>",
+            "<path stroke='#1f77b4' d='M0 0v3'/>",
+            "<path stroke='#ff7f0e' d='M1 57v3M901 57v3'/>",
         ],
     },
     Drawing {

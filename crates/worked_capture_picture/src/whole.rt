@@ -41,8 +41,8 @@ font-family='sans-serif' font-size='12' shape-rendering='crispEdges'>
 <text x='-8' y='330' text-anchor='end'>1</text><text x='-8' y='380' text-anchor='end'>0</text>
 <g transform='translate(0,320)' fill='none' stroke-width='102'>
 <rect width='1020' height='60' stroke='#999' stroke-width='1'/>
-<path stroke='#1f77b4' d='M51 57V60M663 57V60'/>
-<path stroke='#ff7f0e' d='M357 57V60M765 0V60'/>
+<path stroke='#1f77b4' d='M51 57v3M663 57v3'/>
+<path stroke='#ff7f0e' d='M357 57v3M765 0v3'/>
 </g>
 <text x='0' y='396'>0 s</text><text text-anchor='end' y='396' x='1020'>0.000 s</text>
 </g>
