@@ -1,6 +1,6 @@
 -- What is drawn of a capture.
-use Rattle.std.specs.Prelude.{ℕ, zero, suc, ◌-◌, ◌*◌, ◌/◌, ◌==◌, max, nat_lt, List, [], ◌∷◌, ◌++◌, length, take, map, Option, Some, None, unwrap_or, if◌then◌else◌}
-use Rattle.std.specs.List.{list_any, position_or_len}
+use Rattle.std.specs.Prelude.{ℕ, zero, suc, ◌+◌, ◌-◌, ◌*◌, ◌/◌, ◌==◌, max, nat_lt, Bool, true, false, List, [], ◌∷◌, ◌++◌, length, take, map, replicate, slice_set, count_by, Option, Some, None, unwrap_or, if◌then◌else◌}
+use Rattle.std.specs.List.{position_or_len}
 use Rattle.capture_picture.specs.Columns.{channels_most, columns_most}
 use Rattle.capture_picture.specs.ShownFlow.{ShownFlow, flows_most, changed_at, new_flow, halved_flow, with_segment, with_mark_in}
 use Rattle.capture_picture.specs.declared.marks.Mark.{Mark}
@@ -8,14 +8,14 @@ use Rattle.capture_picture.specs.declared.picture.PictureChannel.{PictureChannel
 use Rattle.capture_picture.specs.declared.picture.PictureBurst.{PictureBurst}
 use Rattle.capture_picture.specs.declared.picture.CapturePicture.{CapturePicture}
 
--- when the first burst came, how long a column is, how long after the first burst the last thing came, the flows that are shown, the indexes of
--- those that aren't, and the channels of the map. Times are in nanoseconds
+-- when the first burst came, how long a column is, how long after the first burst the last thing came, the flows that are shown, whether a burst
+-- came of each that isn't, by its index, and the channels of the map. Times are in nanoseconds
 pub record Picture : Type 0 where
   pub first : Option ℕ
   pub column_width : ℕ
   pub latest : ℕ
   pub flows : List ShownFlow
-  pub others : List ℕ
+  pub others : List Bool
   pub channels : List PictureChannel
 
 abbrev pub picture_in : CapturePicture → Picture
@@ -77,10 +77,14 @@ with_mark_at place time mark count picture = drawn_at place (age_of picture time
 abbrev pub with_flow : PictureBurst → Picture → Picture
 with_flow burst picture = record picture { flows = picture.flows ++ new_flow burst.flow burst.sfid burst.number ∷ [] }
 
--- a flow isn't shown
+-- a burst came of a flow that isn't shown
 abbrev pub with_other : ℕ → Picture → Picture
 with_other flow picture =
-    if list_any (λ other. other == flow) picture.others then picture else record picture { others = picture.others ++ flow ∷ [] }
+    record picture { others = slice_set (picture.others ++ replicate (flow + 1 - length picture.others) false) flow true }
+
+-- of how many flows that aren't shown one came
+abbrev pub other_count : Picture → ℕ
+other_count picture = count_by (λ came. came) picture.others
 
 -- **A burst is taken**: of a flow that is shown, of one that is shown from now on, or of one past the eighth
 abbrev pub with_burst_at : ℕ → PictureBurst → Picture → Picture

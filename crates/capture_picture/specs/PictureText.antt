@@ -1,7 +1,7 @@
 -- The picture of a capture, as SVG.
 use Rattle.std.specs.Prelude.{ℕ, ◌+◌, ◌-◌, ◌*◌, ◌/◌, ◌%◌, ◌==◌, List, [], ◌++◌, length, codes, if◌then◌else◌}
 use Rattle.capture_picture.specs.ShownFlow.{ShownFlow}
-use Rattle.capture_picture.specs.Picture.{Picture}
+use Rattle.capture_picture.specs.Picture.{Picture, other_count}
 use Rattle.capture_picture.specs.Svg.{valued, numbered_texts, colour_text}
 use Rattle.capture_picture.specs.Grid.{grid_of, end_of}
 use Rattle.capture_picture.specs.Panel.{panel_text}
@@ -52,4 +52,4 @@ abbrev pub picture_text : Picture → List ℕ
 picture_text picture =
     opening_text (picture_height (length picture.channels) (length picture.flows)) ++ legend_text picture.channels
     ++ panels_text (grid_of picture) (end_of picture) picture.channels picture.flows
-    ++ others_text (picture_height (length picture.channels) (length picture.flows)) (length picture.others) ++ codes "</svg>\n"
+    ++ others_text (picture_height (length picture.channels) (length picture.flows)) (other_count picture) ++ codes "</svg>\n"

@@ -50,8 +50,8 @@ pub struct CapturePicture {
     /// How long after the first burst the last thing came, in nanoseconds.
     latest: u64,
     pub(crate) flows: Vec<FlowPicture>,
-    /// The flows that aren't shown, by their indexes.
-    pub(crate) others: Vec<usize>,
+    /// Whether a burst came of each flow that isn't shown, by its index.
+    others: Vec<bool>,
     pub(crate) channels: Vec<PictureChannel>,
     ghost wide: { latest / columns_most < column_width },
     ghost few_flows: { length flows.items ≤ flows_most },
@@ -60,7 +60,7 @@ pub struct CapturePicture {
 
 impl CapturePicture {
     ghost use Rattle.std.specs.Prelude.{◌≡◌, ◌^◌, IsOk, OnOk, OnErr};
-    ghost use Rattle.capture_picture.specs.Picture.{picture_in, new_picture, place_of_flow, doubled, reached, with_segment_at, with_mark_at, with_flow, with_other, with_burst, with_mark};
+    ghost use Rattle.capture_picture.specs.Picture.{picture_in, new_picture, place_of_flow, doubled, reached, with_segment_at, with_mark_at, with_flow, with_other, other_count, with_burst, with_mark};
     ghost use Rattle.capture_picture.specs.Grid.{used_columns, grid_of, end_of};
 
     /// Nothing came yet. The channels are those of the map, of which the first 16 are kept.
@@ -165,14 +165,24 @@ impl CapturePicture {
         Ok(())
     }
 
-    /// Notes a flow that isn't shown, if it wasn't noted yet.
+    /// Of how many flows that aren't shown a burst came.
+    pub(crate) fn other_count(&self) -> usize
+        ensures { result ≡ other_count (picture_in self.now) }
+    {
+        self.others.iter().filter(|came| **came).count()
+    }
+
+    /// Notes a flow that isn't shown.
     fn note_other(&mut self, flow: usize) -> Result<(), AllocError>
         ensures noted { OnOk result
             (picture_in self.new ≡ with_other flow (picture_in self.old)) }
         ensures refused { OnErr result (picture_in self.new ≡ picture_in self.old) }
     {
-        if !self.others.contains(&flow) {
-            self.others.push(flow)?;
+        if flow >= self.others.len() {
+            self.others.resize(flow.saturating_add(1), false)?;
+        }
+        if let Some(came) = self.others.get_mut(flow) {
+            *came = true;
         }
         Ok(())
     }

@@ -150,6 +150,6 @@ pub fn put_picture<O: PutText>(out: &mut O, picture: &CapturePicture)
     put_opening(out, height);
     put_legend(out, &picture.channels);
     put_panels(out, &picture.flows, &grid, picture.end(), &picture.channels);
-    put_others(out, height, picture.others.len());
+    put_others(out, height, picture.other_count());
     put_word(out, "</svg>\n");
 }

@@ -12,7 +12,6 @@ returns g c =
     let picture = c.args.picture.now in
     let channels : c.len.result ≡ length picture.channels.items = omega (arith, c.len.ensures, picture.channels.ok.0) in
     let flows : c.len-2.result ≡ length picture.flows.items = omega (arith, c.len-2.ensures, picture.flows.ok.0) in
-    let others : c.len-3.result ≡ length picture.others.items = omega (arith, c.len-3.ensures, picture.others.ok.0) in
     let height : c.picture_height-height.result ≡ picture_height (length picture.channels.items) (length picture.flows.items) =
     c.picture_height-height.ensures ∙ ap (λ (n : ℕ). picture_height n c.len-2.result) channels ∙ ap (λ (n : ℕ). picture_height (length picture.channels.items) n) flows
     in
@@ -22,5 +21,5 @@ returns g c =
     subst (λ (grid : Grid). Puts g.O.PutText.after c.put_legend.new.out (panels_text grid (end_of (picture_in picture)) picture.channels.items picture.flows.items) c.put_panels.new.out)
     c.grid-grid.ensures (rw (c.deref-2.ensures.value, c.deref-3.ensures.value, c.end.ensures) at c.put_panels.ensures)
     in
-    let foot = rw (height, others) at c.put_others.ensures in
+    let foot = rw (height, c.other_count.ensures) at c.put_others.ensures in
     puts-then g.O.PutText.after (puts-then g.O.PutText.after (puts-then g.O.PutText.after (puts-then g.O.PutText.after opening legend) panels) foot) c.put_word.ensures
