@@ -50,9 +50,9 @@ fn put_came(
     if !timed.is_whole() {
         return Err(EngineFault::OutOfMemory);
     }
-    let steps = timed.take(alloc);
-    file.put_all(alloc, &steps)?;
-    tally.count_steps(alloc, &steps);
+    file.put_all(alloc, timed.waiting())?;
+    tally.count_steps(alloc, timed.waiting());
+    timed.let_go();
     Ok(())
 }
 

@@ -11,9 +11,8 @@ use docsis_wire::Bytes;
 use flow_core::FlowCounts;
 use lane::Request;
 use std::alloc::{AllocError, Global};
-use std::mem;
 
-/// Keeps what it is given of a capture, with times, until that is taken.
+/// Keeps what it is given of a capture, with times, until that is let go.
 ///
 /// It is whole as long as everything was kept. What a failed allocation left out it doesn't have, nor
 /// what is of a flow that it doesn't know or of which no burst was handed in; from then on it isn't
@@ -22,7 +21,7 @@ use std::mem;
 pub struct TimedFrames {
     /// Of each flow the burst that was handed in last.
     lasts: Vec<Option<LastBurst>>,
-    /// What came and wasn't taken, in order.
+    /// What came and wasn't let go, in order.
     waiting: Vec<TimedStep>,
     /// Whether everything was kept.
     whole: bool,
@@ -47,14 +46,20 @@ impl TimedFrames {
         self.whole
     }
 
-    /// What came since it was taken last, in order. Nothing waits from then on.
-    pub fn take(&mut self, alloc: Global) -> Vec<TimedStep>
-        ensures given { result.items ≡ self.old.waiting.items }
+    /// What came since it was let go last, in order.
+    pub fn waiting(&self) -> &[TimedStep]
+        ensures { result.now ≡ self.now.waiting.items }
+    {
+        &self.waiting
+    }
+
+    /// Lets go of what waits. The room for it stays, so that what comes next asks for none.
+    pub fn let_go(&mut self)
         ensures none_waits { self.new.waiting.items ≡ [] }
         ensures lasts { self.new.lasts ≡ self.old.lasts }
         ensures whole { self.new.whole ≡ self.old.whole }
     {
-        mem::replace(&mut self.waiting, Vec::new(alloc))
+        self.waiting.clear();
     }
 
     /// The burst of a flow that was handed in last.
