@@ -17,10 +17,7 @@ const MAP_MAX: usize = 16_777_216;
 const PIECE_BYTES: usize = 65_536;
 
 /// All bytes that a reader gives.
-fn read_all<R: Read>(
-    alloc: Global,
-    reader: &mut Device<R>,
-) -> Result<Vec<u8>, CaptureCommandFault>
+fn read_all<R: Read>(alloc: Global, reader: &mut Device<R>) -> Result<Vec<u8>, CaptureCommandFault>
     ensures { IfOk result (λ text. AreAllOf (R.remaining (inner_of reader.old)) text.items) }
 {
     let mut piece = zeros(alloc, PIECE_BYTES)?;

@@ -51,10 +51,7 @@ pub fn first_value<'a, S: AsStr>(words: &'a [S], option: &str) -> Option<(&'a st
 /// The value of the only word of this option, if there is one.
 ///
 /// `Usage`: there are two.
-pub fn only_value<'a, S: AsStr>(
-    words: &'a [S],
-    option: &str,
-) -> Result<Option<&'a str>, UsageFault>
+pub fn only_value<'a, S: AsStr>(words: &'a [S], option: &str) -> Result<Option<&'a str>, UsageFault>
     ensures only { IfOk result (λ found.
         MatchOption found (HasNoOption option.now (map S.text words.now))
         (λ value. HasOneValue option.now (map S.text words.now) value.now)) }
