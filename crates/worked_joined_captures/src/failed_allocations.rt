@@ -26,35 +26,22 @@ struct Joined {
     lost_requests: bool,
 }
 
-/// What is there before anything is taken.
-const NOTHING: Joined = Joined {
-    done: Err(EngineFault::OutOfMemory),
-    frames: 0,
-    lines: 0,
-    lost_requests: false,
-};
-
-/// Begins the reading of a capture, and its counts.
-fn begin(alloc: Global) -> Result<(CaptureTally, FrameReading), EngineFault> {
-    let capture_map = map_of_two_channels(alloc)?;
-    let tally = CaptureTally::new(alloc, &capture_map, true)?;
-    match FrameReading::new(alloc, settings(FrameLink::Docsis), capture_map) {
-        Ok(reading) => Ok((tally, reading)),
-        Err(SetupError::OutOfMemory) => Err(EngineFault::OutOfMemory),
-        Err(_) => Err(EngineFault::Usage),
-    }
-}
-
-/// Joins the capture into arrays that are just large enough, a piece of 50 bytes after another.
-fn join_into(alloc: Global, frames: &mut [u8], lines: &mut [u8]) -> Result<Joined, EngineFault> {
+/// What comes of the capture where it is joined into arrays, a piece of 50 bytes after another, or why
+/// it isn't begun.
+fn try_to_join(alloc: Global, frames: &mut [u8], lines: &mut [u8]) -> Result<Joined, EngineFault> {
     let (room, room_of_lines) = (frames.len(), lines.len());
     let bytes = frames_apart(alloc)?;
-    let (mut tally, reading) = begin(alloc)?;
-    let given = InPieces {
+    let capture_map = map_of_two_channels(alloc)?;
+    let mut tally = CaptureTally::new(alloc, &capture_map, true)?;
+    let reading = match FrameReading::new(alloc, settings(FrameLink::Docsis), capture_map) {
+        Ok(reading) => reading,
+        Err(SetupError::OutOfMemory) => return Err(EngineFault::OutOfMemory),
+        Err(_) => return Err(EngineFault::Usage),
+    };
+    let mut reader = Device::new(InPieces {
         rest: &bytes,
         size: 50,
-    };
-    let mut reader = Device::new(given);
+    });
     let mut writer = Device::new(frames);
     let mut requests = Some(Device::new(lines));
     let done = join_capture(
@@ -79,10 +66,23 @@ fn join_into(alloc: Global, frames: &mut [u8], lines: &mut [u8]) -> Result<Joine
     })
 }
 
+/// Joins the capture into arrays that are just large enough.
+fn join_into(alloc: Global, frames: &mut [u8], lines: &mut [u8]) -> Joined {
+    match try_to_join(alloc, frames, lines) {
+        Ok(joined) => joined,
+        Err(fault) => Joined {
+            done: Err(fault),
+            frames: 0,
+            lines: 0,
+            lost_requests: false,
+        },
+    }
+}
+
 /// Whether bytes begin with so many of these, which end where a record ends.
 fn are_whole_records(bytes: &[u8], count: usize) -> bool {
     let taken = FRAMES_APART.get(..count);
-    taken.is_some_and(|taken| bytes.starts_with(taken) && (count == 0 || count % 24 == 0))
+    taken.is_some_and(|taken| bytes.starts_with(taken) && count % 24 == 0)
 }
 
 /// Whether bytes begin with so many of these, which end where a line ends.
@@ -98,12 +98,11 @@ fn are_whole_lines(bytes: &[u8], count: usize) -> bool {
 fn a_capture_is_joined(rt: HostRuntime) -> Result<(), Fail> {
     let (mut frames, mut lines) = ([0u8; 96], [0u8; 80]);
     let mut joined = join_into(rt.alloc(), &mut frames, &mut lines);
-    let first = joined.unwrap_or(NOTHING);
-    if first.done == Err(EngineFault::OutOfMemory) || first.lost_requests {
+    if joined.done == Err(EngineFault::OutOfMemory) || joined.lost_requests {
         println!(rt; "refused")?;
-        assert!(rt; are_whole_records(&frames, first.frames));
-        assert!(rt; are_whole_lines(&lines, first.lines));
-        assert!(rt; first.done.is_err() || first.frames == 96);
+        assert!(rt; are_whole_records(&frames, joined.frames));
+        assert!(rt; are_whole_lines(&lines, joined.lines));
+        assert!(rt; joined.done.is_err() || joined.frames == 96);
         (frames, lines) = ([0u8; 96], [0u8; 80]);
         joined = join_into(rt.alloc(), &mut frames, &mut lines);
     }
@@ -113,7 +112,7 @@ fn a_capture_is_joined(rt: HostRuntime) -> Result<(), Fail> {
         lines: 80,
         lost_requests: false,
     };
-    assert!(rt; joined == Ok(wanted));
+    assert!(rt; joined == wanted);
     assert!(rt; frames == FRAMES_APART && lines == REQUESTS_APART);
     Ok(())
 }
@@ -134,6 +133,12 @@ const ERROR_ROOM: usize = 512;
 fn took(array: &[u8], text: &str) -> bool {
     let (front, rest) = array.split_at(array.len().min(text.len()));
     front == text.as_bytes() && rest.iter().all(|byte| *byte == 0)
+}
+
+/// Whether an array took so many bytes of the frames, which are whole records, and nothing behind them.
+fn took_records(array: &[u8], count: usize) -> bool {
+    let rest = array.get(count..);
+    are_whole_records(array, count) && rest.is_some_and(|rest| rest.iter().all(|byte| *byte == 0))
 }
 
 /// Whether a text is the last of what an array took.
@@ -177,12 +182,8 @@ fn program_is_refused(rt: HostRuntime) -> Result<(), Fail> {
             assert!(rt; status == 4 && out == FRAMES_APART);
             assert!(rt; took_last(&err, "segrx: a file cannot be written\n"));
         }
-        let records = [0, 24, 48, 72, 96];
-        assert!(rt;
-            records.iter().any(|count| {
-                out.starts_with(&FRAMES_APART[..*count]) && out[*count..].iter().all(|b| *b == 0)
-            })
-        );
+        let ends = [0, 24, 48, 72, 96];
+        assert!(rt; ends.iter().any(|count| took_records(&out, *count)));
         (out, err) = ([0u8; 96], [0u8; ERROR_ROOM]);
         status = program_into(rt.alloc(), &bytes, &mut out, &mut err);
     }
@@ -256,7 +257,9 @@ fn are_in_order(steps: &[TimedStep]) -> bool {
     let mut least = 0;
     for step in steps {
         match step {
-            TimedStep::HandedIn { burst, .. } if burst.sid >= least => least = burst.sid + 1,
+            TimedStep::HandedIn { burst, .. } if burst.sid >= least => {
+                least = burst.sid.saturating_add(1);
+            }
             _ => return false,
         }
     }
