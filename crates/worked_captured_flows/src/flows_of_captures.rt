@@ -229,8 +229,8 @@ fn frame_of(last: u8) -> [u8; 8] {
     [0, 0, 0, 2, 0, 0, 0, last]
 }
 
-/// Bursts of a flow that begins at 5: the frame of 7 waits for 6, which is spoiled, until 8 comes too
-/// late for that; 500 begins the flow anew.
+/// Bursts of a flow that begins at 5: the frame of 7 waits for 6, which is spoiled, until 8 comes
+/// too late for that; 500 begins the flow anew.
 pub(crate) fn bursts_of_each_kind(alloc: Global) -> Result<Vec<CapturedBurst>, AllocError> {
     let bursts = vec![in alloc;
         burst_with(alloc, 1, 5, 9, &frame_of(51))?,

@@ -1,5 +1,5 @@
-//! Each allocation of a capture that is joined is refused once: it is reported, what was written until
-//! then is a front of the frames, record for record, and the capture is joined by a second call.
+//! Each allocation of a capture that is joined is refused once: it is reported, what was written
+//! until then is a front of the frames, record for record, and a second call joins the capture.
 use crate::joined::{InPieces, settings};
 use crate::one_map::{MAP_PATH, OneMap};
 use crate::samples::{FRAMES_APART, REQUESTS_APART, frames_apart, map_of_two_channels};
@@ -26,8 +26,8 @@ struct Joined {
     lost_requests: bool,
 }
 
-/// What comes of the capture where it is joined into arrays, a piece of 50 bytes after another, or why
-/// it isn't begun.
+/// What comes of the capture where it is joined into arrays, a piece of 50 bytes after another, or
+/// why it isn't begun.
 fn try_to_join(alloc: Global, frames: &mut [u8], lines: &mut [u8]) -> Result<Joined, EngineFault> {
     let (room, room_of_lines) = (frames.len(), lines.len());
     let bytes = frames_apart(alloc)?;
@@ -135,7 +135,7 @@ fn took(array: &[u8], text: &str) -> bool {
     front == text.as_bytes() && rest.iter().all(|byte| *byte == 0)
 }
 
-/// Whether an array took so many bytes of the frames, which are whole records, and nothing behind them.
+/// Whether an array took so many bytes of the frames, whole records, and nothing behind them.
 fn took_records(array: &[u8], count: usize) -> bool {
     let rest = array.get(count..);
     are_whole_records(array, count) && rest.is_some_and(|rest| rest.iter().all(|byte| *byte == 0))

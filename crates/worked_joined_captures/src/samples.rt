@@ -110,8 +110,8 @@ pub(crate) fn still_segments(alloc: Global, count: usize) -> Result<Vec<u8>, All
     Ok(file)
 }
 
-/// A capture of three segments of one channel, a second apart, each with a whole frame. The first and
-/// the last ask for so many units.
+/// A capture of three segments of one channel, a second apart, each with a whole frame. The first
+/// asks for 9 units, the last for 5.
 pub(crate) fn frames_apart(alloc: Global) -> Result<Vec<u8>, AllocError> {
     let mut file = Vec::new(alloc);
     put_file(&mut file)?;

@@ -1,5 +1,5 @@
-//! Each allocation is refused once: a text that lacks something is not given, and a second call gives
-//! all of it.
+//! Each allocation is refused once: a text that lacks something is not given, and a second call
+//! gives all of it.
 use super::{LINES, REPORT, lines_of_requests, much};
 use capture_summary::put_report;
 use std::alloc::{AllocError, Global};

@@ -1,5 +1,5 @@
-//! Each allocation is refused once: it is reported, nothing was written until then, and a second call
-//! writes the whole text.
+//! Each allocation is refused once: it is reported, nothing was written until then, and a second
+//! call writes the whole text.
 use super::packets::{burst, change, whole};
 use super::{InPieces, TABLE, TEXT, file};
 use capture_engines::map_capture;

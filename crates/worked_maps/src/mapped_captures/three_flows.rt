@@ -1,5 +1,5 @@
-//! A registration of three upstream flows, each with its TLV 24 and its TLV 47, in one part and in two,
-//! and a change of two of them behind it.
+//! A registration of three upstream flows, each with its TLV 24 and its TLV 47, in one part and in
+//! two, and a change of two of them behind it.
 //!
 //! The packets stand byte by byte. What they tell is what tshark 4.0.17 shows of them.
 use super::packets::burst;
@@ -57,7 +57,7 @@ fn second_part() -> &'static [u8] {
     ]
 }
 
-/// A DBC-REQ that takes one SID of the second flow and gives it another, and the third flow one more.
+/// A DBC-REQ that gives the second flow another SID for one of its own, and the third one more.
 fn change_of_two() -> &'static [u8] {
     &[
         0x01, 0x08, 0x00, 0x03, 0x01, 0x01, 0x01, 0xc2, 0x00, 0x00, 0x5a, 0xae, 0x03, 0x02, 0x00,

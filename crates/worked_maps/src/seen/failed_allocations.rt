@@ -1,4 +1,4 @@
-//! Each allocation is refused once: what was seen is counted anew, and its text is put by a second call.
+//! Each allocation is refused once: what was seen is counted anew, and a second call puts its text.
 use super::{TEXT, text_of, two_flows};
 use std::test::Fail;
 
