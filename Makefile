@@ -22,8 +22,8 @@ bench: # all benches, one after the other, for times that mean something on a ma
 mutants: # tries all planted mistakes of mutants/ on copies of the work tree
 	@scripts/mutants
 
-soak: # runs of the program and of a mailbox again and again, while other work keeps all cores busy
-	@scripts/soak && bench/mailbox_soak/run
+soak: # runs of the program and of a mailbox again and again, while other work keeps all cores busy; whole comparisons of captures
+	@scripts/soak && bench/mailbox_soak/run && scripts/plain-capture --count 1000 && scripts/hostile-captures --count 100000
 
 help: # lists these targets
 	@sed -n 's/^\([a-z]*\): # \(.*\)/make \1	\2/p' Makefile | sed 's/^make run/make/' | expand -t 16

@@ -24,6 +24,7 @@ from shared.written_captures import Form, block, pcap_file, pcapng_file, rounded
 ETHERNET = 1  # another link type
 PCAP_UNITS, PCAPNG_UNITS = [10**6, 10**9], [10**6, 10**6, 10**9, 10**7, 2**30, 2**20]
 OUTAGES = [20, 300, 2000, 7000, 8200, 10000]
+CHANGED = 0.03  # of the SIDs
 GOOD = "good"
 # What becomes of a burst that isn't recorded well, and how often each is chosen.
 SPOILED = {
@@ -76,7 +77,7 @@ class MadeCapture:
             told = ToldSid(self.sfids[flow.index], cluster, self.channel_ids[channel], self.new_sid(channel), ADD)
             self.told.append(told)
             self.sids[flow.index, channel, cluster] = told.sid
-            if flow.arrivals and self.rng.random() < 0.02:
+            if flow.arrivals and self.rng.random() < CHANGED:
                 time = self.rng.choice(flow.arrivals).time
                 self.changes[flow.index, channel, cluster] = time, told, self.new_sid(channel)
 
@@ -154,7 +155,7 @@ class MadeCapture:
             return []
         rng, modems, sfids = self.rng, [], list(self.sfids)
         while sfids:
-            own = {sfids.pop() for _ in range(min(len(sfids), rng.choice([1, 1, 2, 4])))}
+            own = {sfids.pop() for _ in range(min(len(sfids), rng.choice([1, 1, 2, 3, 4])))}
             modems.append(Modem(rng, len(modems), [told for told in self.told if told.sfid in own]))
         spoils = 0 if self.is_calm else rng.choice([0, 0.1, 0.5])
         packets = list(dealt_packets(rng, [modem.refusal() for modem in modems if rng.random() < 0.2], spoils))
@@ -162,11 +163,19 @@ class MadeCapture:
         packets += dealt_packets(rng, [modem.registration() for modem in modems if rng.random() < 0.1], spoils)
         first = self.way.start - len(packets) * MILLISECOND
         made = [made_of_packet(first + place * MILLISECOND, packet) for place, packet in enumerate(packets)]
-        for transaction, (time, old, new) in enumerate(self.changes.values()):
-            modem = next(modem for modem in modems if old in modem.told)
-            change = modem.change(transaction % 65536, changed_sid(old, new))
+        for transaction, (time, modem, told) in enumerate(self.told_changes(modems)):
+            change = modem.change(transaction % 65536, told)
             made += [made_of_packet(time - 1, packet) for packet in dealt_packets(rng, [change], spoils)]
         return made
+
+    def told_changes(self, modems):
+        """When which modem is told to change which SIDs: each by itself, or all of its flows' with the first of them."""
+        for modem in modems:
+            own = sorted((time, changed_sid(old, new)) for time, old, new in self.changes.values() if old in modem.told)
+            if own and self.rng.random() < 0.5:
+                own = [(own[0][0], [told for _, change in own for told in change])]
+            for time, told in own:
+                yield time, modem, told
 
     def write(self, made):
         """Writes the records into a file of some form, and notes with what times."""

@@ -16,8 +16,8 @@ MOST_VALUE = 255  # bytes of a TLV's value
 Sent = collections.namedtuple("Sent", "modem kind named tlvs")
 
 
-def flow_tlv(reference, sfid, sid):
-    told = tlv(1, number(reference, 2)) + tlv(2, number(sfid, 4)) + tlv(3, number(sid, 2)) + tlv(16, bytes(4))
+def flow_tlv(reference, sfid, sid, policy):
+    told = tlv(1, number(reference, 2)) + tlv(2, number(sfid, 4)) + tlv(3, number(sid, 2)) + tlv(16, policy)
     return tlv(UPSTREAM_FLOW, told)
 
 
@@ -60,10 +60,13 @@ class Modem:
         self.sid = rng.randrange(1, 16384)
 
     def registration(self):
+        """A registration: the TLV 24 of each flow, and its TLV 47 right behind it or behind those of all flows."""
         sfids = sorted({one.sfid for one in self.told})
-        tlvs = b"".join(flow_tlv(place, sfid, self.sid) for place, sfid in enumerate(sfids, 1))
+        flows = [flow_tlv(place, sfid, self.sid, self.rng.randbytes(4)) for place, sfid in enumerate(sfids, 1)]
+        sids = [sids_tlvs([one for one in self.told if one.sfid == sfid]) for sfid in sfids]
+        tlvs = [*flows, *sids] if self.rng.random() < 0.5 else itertools.chain(*zip(flows, sids))
         others = self.rng.choice([b"", tlv(18, b"\x10"), tlv(29, b"\x01") + tlv(3, b"\x01")])
-        return Sent(self.address, REG_RSP_MP, number(self.sid, 2) + b"\x00", others + tlvs + sids_tlvs(self.told))
+        return Sent(self.address, REG_RSP_MP, number(self.sid, 2) + b"\x00", others + b"".join(tlvs))
 
     def refusal(self):
         """A registration that doesn't let the modem in, with SIDs that it never gets."""

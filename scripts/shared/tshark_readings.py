@@ -4,6 +4,7 @@ were written for it; and what editcap makes of files. Nothing of both is ours, s
 Each comparison answers with how much agrees, or says in words what doesn't.
 """
 
+import collections
 import contextlib
 import os
 import subprocess
@@ -12,17 +13,19 @@ import xml.etree.ElementTree as ElementTree
 
 from shared.check_sequences import ends_with_frame_sequence, ends_with_header_sequence
 from shared.plain_capture import RIGHT, WRONG, ethernet_in, sequence_of
-from shared.plain_map import messages_in, sids_told
+from shared.plain_map import messages_in
 from shared.plain_packets import CapturedBurst, Record, burst_in, records_of
 from shared.plain_reading import header, header_end
-from shared.plain_registrations import ToldSid
+from shared.plain_registrations import ToldFlow, ToldSid, told_by
 from shared.written_captures import NANOSECONDS, pcap_file
 
 ETHERNET = 1  # the link type
 SEGMENT = "docsis_segment"
 SEGMENT_FIELDS = ["pfi", "reserved", "pointerfield", "sequencenumber", "sidclusterid", "request", "hcs", "hcs.status"]
-SID = "docsis_tlv.sid"
-SID_FIELDS = [f"{SID}.{name}" for name in ("sfid", "enc.id", "enc.map.uschid", "enc.map.sid", "enc.map.action")]
+SID_FIELDS = [f"docsis_tlv.sid.{name}" for name in ("sfid", "enc.id", "enc.map.uschid", "enc.map.sid", "enc.map.action")]
+FLOW_FIELDS = [f"docsis_tlv.sflow.{name}" for name in ("ref", "id", "sid", "reqxmitpol")]
+# What a message tells, by the field that stands last in it.
+TOLD = {SID_FIELDS[-1]: (ToldSid, SID_FIELDS), FLOW_FIELDS[-1]: (ToldFlow, FLOW_FIELDS)}
 # As Ethernet, each frame has a check sequence, which is looked at.
 WITH_SEQUENCE = ["-o", "eth.fcs:Always", "-o", "eth.check_fcs:TRUE"]
 
@@ -93,30 +96,32 @@ def compare_headers(data):
     return count
 
 
-def sids_read(data):
-    """The SIDs that tshark reads in each packet that completes a message, by the packet's place."""
-    found = {}
-    for packet in ElementTree.fromstring(tshark(data, "-Y", f"{SID}.sfid", "-T", "pdml")).iter("packet"):
-        said, sids = {}, []
+def told_as_read(data):
+    """The flows and SIDs that tshark reads in each packet that completes a message, by the packet's place, as they stand."""
+    found, are_there = {}, f"{SID_FIELDS[0]} or {FLOW_FIELDS[0]}"
+    for packet in ElementTree.fromstring(tshark(data, "-Y", are_there, "-T", "pdml")).iter("packet"):
+        said, told = {}, []
         for field in packet.iter("field"):
             name = field.get("name")
             if name == "frame.number":
-                found[int(field.get("show")) - 1] = sids
-            elif name.startswith(SID):
+                found[int(field.get("show")) - 1] = told
+            elif name in SID_FIELDS or name in FLOW_FIELDS:
                 said[name] = int(field.get("show"), 0)
-                if name == SID_FIELDS[-1]:
-                    sids.append(ToldSid(*map(said.get, SID_FIELDS)))
+            if name in TOLD:
+                kind, names = TOLD[name]
+                told.append(kind(*map(said.get, names)))
     return found
 
 
 def compare_registrations(data):
-    """How many SIDs tshark reads as the plain reading does, each message's in the same packet, or where it doesn't."""
-    told = {place: sids_told(message) for place, _, message in messages_in(records_of(data))}
-    told, read = {place: sids for place, sids in told.items() if sids}, sids_read(data)
+    """How many SIDs and how many flows tshark reads as the plain reading does, each message's in the same packet, or where it
+    doesn't."""
+    told = {place: told_by(message.tlvs) for place, _, message in messages_in(records_of(data))}
+    told, read = {place: those for place, those in told.items() if those}, told_as_read(data)
     for place in sorted(told.keys() | read.keys()):
         if told.get(place) != read.get(place):
             return f"tshark reads {read.get(place)} in packet {place + 1} and not {told.get(place)}"
-    return sum(map(len, told.values()))
+    return collections.Counter(type(one) for those in told.values() for one in those)
 
 
 def compare_headers_of_frames(data):

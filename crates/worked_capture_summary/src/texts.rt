@@ -1,4 +1,6 @@
 //! The texts of a capture, as a plain reading in another language has its report and its requests.
+mod failed_allocations;
+
 use capture_summary::{
     CaptureSummary, ChannelSummary, FlowSummary, PassedCounts, RefusalCounts, put_report,
     put_request, put_request_names, put_summary,
@@ -261,9 +263,9 @@ time,channel,sid,flow,cluster,units
 0.000000000,0,2,3,0,3
 ";
 
-#[test]
-fn requests_are_lines_of_csv(rt: HostRuntime) -> Result<(), Fail> {
-    let mut text = TextBuffer::new(rt.alloc());
+/// The lines of requests that were made at these times, in nanoseconds, on these SIDs.
+fn lines_of_requests(alloc: Global) -> Result<Vec<u8>, AllocError> {
+    let mut text = TextBuffer::new(alloc);
     put_request_names(&mut text);
     for (time, sid, request) in [
         (1_600_000_000_123_456_789, 256, request(0, 0, 1, 9)),
@@ -273,23 +275,39 @@ fn requests_are_lines_of_csv(rt: HostRuntime) -> Result<(), Fail> {
     ] {
         put_request(&mut text, time, sid, &request);
     }
-    assert!(rt; text.finish()?.as_slice() == LINES.as_bytes());
-    Ok(())
+    text.finish()
 }
 
 #[test]
+fn requests_are_lines_of_csv(rt: HostRuntime) -> Result<(), Fail> {
+    assert!(rt; lines_of_requests(rt.alloc())?.as_slice() == LINES.as_bytes());
+    Ok(())
+}
+
+/// The fields of these lines.
+const ROWS: [[&str; 6]; 5] = [
+    ["time", "channel", "sid", "flow", "cluster", "units"],
+    ["1600000000.123456789", "0", "256", "0", "1", "9"],
+    ["1600000000.000000005", "3", "16383", "0", "0", "65535"],
+    ["18446744073.709551615", "15", "1", "3", "7", "1"],
+    ["0.000000000", "0", "2", "3", "0", "3"],
+];
+
+#[test]
 fn lines_of_requests_are_read_by_a_reader_of_csv(rt: HostRuntime) -> Result<(), Fail> {
-    let mut reader = ReaderBuilder::new().from_reader(rt.alloc(), LINES.as_bytes());
+    let mut builder = ReaderBuilder::new();
+    builder.has_headers(false);
+    let mut reader = builder.from_reader(rt.alloc(), LINES.as_bytes());
     let mut row = ByteRecord::new(rt.alloc());
-    let Ok(true) = reader.read_byte_record(&mut row) else {
-        return Err(Fail::from("no row"));
-    };
-    for (place, field) in ["1600000000.123456789", "0", "256", "0", "1", "9"]
-        .iter()
-        .enumerate()
-    {
-        assert!(rt; row.get(place) == Some(field.as_bytes()));
+    for fields in ROWS {
+        let Ok(true) = reader.read_byte_record(&mut row) else {
+            return Err(Fail::from("no row"));
+        };
+        assert!(rt; row.len() == fields.len());
+        for (place, field) in fields.iter().enumerate() {
+            assert!(rt; row.get(place) == Some(field.as_bytes()));
+        }
     }
-    assert!(rt; row.get(6).is_none());
+    assert!(rt; matches!(reader.read_byte_record(&mut row), Ok(false)));
     Ok(())
 }

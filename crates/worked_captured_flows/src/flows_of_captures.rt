@@ -229,17 +229,9 @@ fn frame_of(last: u8) -> [u8; 8] {
     [0, 0, 0, 2, 0, 0, 0, last]
 }
 
-#[test]
-fn what_is_given_stands_behind_its_burst(rt: HostRuntime) -> Result<(), Fail> {
-    let alloc = rt.alloc();
-    let waits = Waits {
-        reorder: 0,
-        wait: 20,
-    };
-    let map = map_of(alloc, Some(5), 16, 1)?;
-    let mut captured = CapturedFlows::new(alloc, map, LossRule::Decided, waits, NoCheck)?;
-    let mut noted = Noted::new(alloc);
-    // The frame of 7 waits for 6, until 8 comes too late for that; 500 begins the flow anew.
+/// Bursts of a flow that begins at 5: the frame of 7 waits for 6, which is spoiled, until 8 comes
+/// too late for that; 500 begins the flow anew.
+pub(crate) fn bursts_of_each_kind(alloc: Global) -> Result<Vec<CapturedBurst>, AllocError> {
     let bursts = vec![in alloc;
         burst_with(alloc, 1, 5, 9, &frame_of(51))?,
         burst_with(alloc, 5, 7, 0, &frame_of(71))?,
@@ -247,9 +239,12 @@ fn what_is_given_stands_behind_its_burst(rt: HostRuntime) -> Result<(), Fail> {
         burst_with(alloc, 30, 8, 0, &frame_of(81))?,
         burst_with(alloc, 90, 500, 0, &frame_of(50))?,
     ]?;
-    captured.take_all(alloc, bursts, &mut noted)?;
-    captured.end_waiting(alloc, &mut noted)?;
-    let wanted = [
+    Ok(bursts)
+}
+
+/// What is handed in and given of these, where none waits for its neighbours.
+pub(crate) fn given_of_each_kind() -> [Seen; 10] {
+    [
         Seen::HandedIn(0, 1, Some(1)),
         Seen::Request(0),
         Seen::Frame(0, 51),
@@ -260,8 +255,22 @@ fn what_is_given_stands_behind_its_burst(rt: HostRuntime) -> Result<(), Fail> {
         Seen::BeganAnew(0, 3, 1),
         Seen::HandedIn(0, 90, Some(90)),
         Seen::Frame(0, 50),
-    ];
-    assert!(rt; noted.is_whole && noted.seen.as_slice() == wanted.as_slice());
+    ]
+}
+
+#[test]
+fn what_is_given_stands_behind_its_burst(rt: HostRuntime) -> Result<(), Fail> {
+    let alloc = rt.alloc();
+    let waits = Waits {
+        reorder: 0,
+        wait: 20,
+    };
+    let map = map_of(alloc, Some(5), 16, 1)?;
+    let mut captured = CapturedFlows::new(alloc, map, LossRule::Decided, waits, NoCheck)?;
+    let mut noted = Noted::new(alloc);
+    captured.take_all(alloc, bursts_of_each_kind(alloc)?, &mut noted)?;
+    captured.end_waiting(alloc, &mut noted)?;
+    assert!(rt; noted.is_whole && noted.seen.as_slice() == given_of_each_kind().as_slice());
     let closed = captured.into_receiver().close(alloc, &mut noted).ok();
     assert!(rt; closed.is_some_and(|closed| closed.flows.len() == 1 && closed.flows[0].kept == 1));
     Ok(())

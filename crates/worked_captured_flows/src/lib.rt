@@ -5,6 +5,8 @@
 #![tactic(auto)]
 
 #[cfg(test)]
+mod failed_allocations;
+#[cfg(test)]
 mod flows_of_captures;
 #[cfg(test)]
 mod model;

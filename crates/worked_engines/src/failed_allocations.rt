@@ -272,32 +272,18 @@ fn words_of_run_are_refused(rt: HostRuntime) -> Result<(), Fail> {
 fn run_program<T: Abort + AllocGlobal + Print + Threads + Wait + Copy + Send + 'static>(
     rt: T,
     words: &[&str],
-    input: &str,
+    input: &[u8],
     text: &str,
     out: &mut [u8],
 ) -> Result<(), Fail> {
     let mut err = [0u8; 21];
-    let mut status = program(
-        rt.alloc(),
-        rt,
-        words,
-        input.as_bytes(),
-        &mut *out,
-        &mut err[..],
-    );
+    let mut status = program(rt.alloc(), rt, words, input, &mut *out, &mut err[..]);
     if status == 3 {
         println!(rt; "refused")?;
         assert_eq!(rt; err.as_slice(), b"segrx: out of memory\n".as_slice());
         assert!(rt; out.iter().all(|byte| *byte == 0));
         err = [0; 21];
-        status = program(
-            rt.alloc(),
-            rt,
-            words,
-            input.as_bytes(),
-            &mut *out,
-            &mut err[..],
-        );
+        status = program(rt.alloc(), rt, words, input, &mut *out, &mut err[..]);
     }
     assert_eq!(rt; status, 0);
     assert_eq!(rt; &*out, text.as_bytes());
@@ -308,19 +294,37 @@ fn run_program<T: Abort + AllocGlobal + Print + Threads + Wait + Copy + Send + '
 #[test]
 fn program_is_refused(rt: HostRuntime) -> Result<(), Fail> {
     let words = ["segrx", "join"];
-    run_program(rt, &words, SEGMENTS, FRAMES, &mut [0u8; 36])
+    run_program(rt, &words, SEGMENTS.as_bytes(), FRAMES, &mut [0u8; 36])
 }
 
 #[test]
 fn replaying_program_is_refused(rt: HostRuntime) -> Result<(), Fail> {
     let words = ["segrx", "replay"];
-    run_program(rt, &words, TRACE, REPORT, &mut [0u8; 233])
+    run_program(rt, &words, TRACE.as_bytes(), REPORT, &mut [0u8; 233])
 }
 
 #[test]
 fn running_program_is_refused(rt: HostRuntime) -> Result<(), Fail> {
     let words = ["segrx", "run"];
-    run_program(rt, &words, TRACE, REPORT, &mut [0u8; 233])
+    run_program(rt, &words, TRACE.as_bytes(), REPORT, &mut [0u8; 233])
+}
+
+/// A pcap file of one burst on channel 3 for SID 291: segment 1234.
+const CAPTURE: [u8; 62] = [
+    0xa1, 0xb2, 0x3c, 0x4d, 0, 2, 0, 4, 0, 0, 0, 0, 0, 0, 0, 0, 0, 4, 0, 0, 0, 0, 1, 0x11, 0, 0, 0,
+    0, 0, 0, 0, 1, 0, 0, 0, 22, 0, 0, 0, 22, 1, 0x41, 0, 10, 10, 1, 3, 11, 2, 1, 0x23, 18, 1, 1,
+    0x80, 0, 0x26, 0x92, 0, 9, 0xe4, 0x97,
+];
+/// What is seen of it.
+const SEEN: &str = "\
+# No registration tells the SID of a flow. What was seen of segments, by upstream channel and SID:
+# channel 3, SID 291: segments 1, bad checks 0, numbers 1234 to 1234
+";
+
+#[test]
+fn mapping_program_is_refused(rt: HostRuntime) -> Result<(), Fail> {
+    let words = ["segrx", "map"];
+    run_program(rt, &words, &CAPTURE, SEEN, &mut [0u8; 168])
 }
 
 #[test]
@@ -359,13 +363,25 @@ fn words_of_follow_are_refused(rt: HostRuntime) -> Result<(), Fail> {
 #[test]
 fn replaying_program_by_what_all_have_passed_is_refused(rt: HostRuntime) -> Result<(), Fail> {
     let words = ["segrx", "replay", "--losses", "passed"];
-    run_program(rt, &words, LOST_TRACE, LOST_REPORT, &mut [0u8; 208])
+    run_program(
+        rt,
+        &words,
+        LOST_TRACE.as_bytes(),
+        LOST_REPORT,
+        &mut [0u8; 208],
+    )
 }
 
 #[test]
 fn replaying_program_with_a_window_that_slides_is_refused(rt: HostRuntime) -> Result<(), Fail> {
     let words = ["segrx", "replay", "--losses=slid"];
-    run_program(rt, &words, RULED_TRACE, SLID_REPORT, &mut [0u8; 317])
+    run_program(
+        rt,
+        &words,
+        RULED_TRACE.as_bytes(),
+        SLID_REPORT,
+        &mut [0u8; 317],
+    )
 }
 
 /// The second and the third segment on one of two channels, with a window of two: the third slides
@@ -392,7 +408,13 @@ lane 3 admitted 0 refused -
 #[test]
 fn running_program_with_a_window_that_slides_is_refused(rt: HostRuntime) -> Result<(), Fail> {
     let words = ["segrx", "run", "--losses", "slid", "--ring=1"];
-    run_program(rt, &words, SILENT_TRACE, SILENT_REPORT, &mut [0u8; 208])
+    run_program(
+        rt,
+        &words,
+        SILENT_TRACE.as_bytes(),
+        SILENT_REPORT,
+        &mut [0u8; 208],
+    )
 }
 
 /// Reads two of three bytes from a device.

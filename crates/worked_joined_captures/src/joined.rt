@@ -12,9 +12,9 @@ use std::test::Fail;
 
 /// Gives some bytes, so many at once.
 #[derive(Drop)]
-struct InPieces<'a> {
-    rest: &'a [u8],
-    size: usize,
+pub(crate) struct InPieces<'a> {
+    pub(crate) rest: &'a [u8],
+    pub(crate) size: usize,
 }
 
 impl Read for InPieces<'_> {
@@ -42,7 +42,7 @@ impl Write for Full {
 }
 
 /// The settings that are usual, with this link type.
-fn settings(link: FrameLink) -> CaptureSettings {
+pub(crate) fn settings(link: FrameLink) -> CaptureSettings {
     CaptureSettings {
         rule: LossRule::PassedOrSlid,
         waits: Waits {

@@ -6,7 +6,11 @@
 #![tactic(auto)]
 
 #[cfg(test)]
+mod failed_allocations;
+#[cfg(test)]
 mod joined;
+#[cfg(test)]
+mod one_map;
 #[cfg(test)]
 mod samples;
 #[cfg(test)]

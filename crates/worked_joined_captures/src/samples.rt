@@ -110,6 +110,36 @@ pub(crate) fn still_segments(alloc: Global, count: usize) -> Result<Vec<u8>, All
     Ok(file)
 }
 
+/// A capture of three segments of one channel, a second apart, each with a whole frame. The first
+/// asks for 9 units, the last for 5.
+pub(crate) fn frames_apart(alloc: Global) -> Result<Vec<u8>, AllocError> {
+    let mut file = Vec::new(alloc);
+    put_file(&mut file)?;
+    for (number, units) in [(0, 9), (1, 0), (2, 5)] {
+        put_burst(
+            &mut file,
+            1 + number,
+            100,
+            header(number, true, units),
+            &frame(),
+        )?;
+    }
+    Ok(file)
+}
+
+/// The file of these frames: its header, and three records with a header of 16 bytes.
+pub(crate) const FRAMES_APART: [u8; 96] = [
+    0x4d, 0x3c, 0xb2, 0xa1, 2, 0, 4, 0, 0, 0, 0, 0, 0, 0, 0, 0, 0, 0, 4, 0, 143, 0, 0, 0, 1, 0, 0,
+    0, 1, 0, 0, 0, 8, 0, 0, 0, 8, 0, 0, 0, 0, 0, 0, 2, 0xcc, 0xdf, 0xaa, 0xbb, 2, 0, 0, 0, 1, 0, 0,
+    0, 8, 0, 0, 0, 8, 0, 0, 0, 0, 0, 0, 2, 0xcc, 0xdf, 0xaa, 0xbb, 3, 0, 0, 0, 1, 0, 0, 0, 8, 0, 0,
+    0, 8, 0, 0, 0, 0, 0, 0, 2, 0xcc, 0xdf, 0xaa, 0xbb,
+];
+
+/// The lines of the requests in that capture.
+pub(crate) const REQUESTS_APART: [u8; 80] = *b"time,channel,sid,flow,cluster,units\n\
+    1.000000001,0,7,0,0,9\n\
+    3.000000001,0,7,0,0,5\n";
+
 /// The file of that frame, at the time of the second segment.
 pub(crate) fn joined_file(alloc: Global, link: FrameLink) -> Result<Vec<u8>, AllocError> {
     let origin = FrameOrigin {

@@ -1,10 +1,12 @@
 //! Maps of whole captures.
+mod failed_allocations;
 mod packets;
+mod three_flows;
 
 use capture_engines::map_capture;
 use engines::{Device, EngineFault};
 use packets::{burst, change, whole};
-use std::alloc::Global;
+use std::alloc::{AllocError, Global};
 use std::io;
 use std::io::{Read, Write};
 use std::test::Fail;
@@ -26,15 +28,15 @@ impl Read for InPieces<'_> {
     }
 }
 
-/// A pcap file of these packets of link type 273, a second apart.
-fn file(alloc: Global, packets: &[&[u8]]) -> Result<Vec<u8>, Fail> {
+/// A pcap file of these packets of link type 273, a second apart: at most 255 of at most 255 bytes.
+fn file(alloc: Global, packets: &[&[u8]]) -> Result<Vec<u8>, AllocError> {
     let mut file = Vec::new(alloc);
     file.extend_from_slice(&[
         0xa1, 0xb2, 0x3c, 0x4d, 0, 2, 0, 4, 0, 0, 0, 0, 0, 0, 0, 0, 0, 4, 0, 0, 0, 0, 1, 0x11,
     ])?;
     for (place, packet) in packets.iter().enumerate() {
-        let second = u32::try_from(place).map_err(|_| "too many packets")?;
-        let length = u32::try_from(packet.len()).map_err(|_| "a long packet")?;
+        let second = u32::from((place % 256) as u8);
+        let length = u32::from((packet.len() % 256) as u8);
         file.extend_from_slice(&second.to_be_bytes())?;
         file.extend_from_slice(&1u32.to_be_bytes())?;
         file.extend_from_slice(&length.to_be_bytes())?;

@@ -1,4 +1,6 @@
 //! What is seen of SIDs.
+mod failed_allocations;
+
 use capture::{Burst, BurstKind};
 use docsis_wire::check_sequence;
 use seen_sids::{MOST_PAIRS, SeenSids, put_seen};
@@ -83,19 +85,5 @@ fn pairs_beyond_the_most_are_counted_together(rt: HostRuntime) -> Result<(), Fai
     }
     let text = text_of(rt.alloc(), &seen)?;
     assert!(rt; text.ends_with(b"\n# segments of other SIDs: 4\n"));
-    Ok(())
-}
-
-#[test]
-fn what_was_seen_is_counted_where_an_allocation_fails(rt: HostRuntime) -> Result<(), Fail> {
-    let seen = match two_flows(rt.alloc()) {
-        Ok(seen) => seen,
-        Err(_) => two_flows(rt.alloc())?,
-    };
-    let text = match text_of(rt.alloc(), &seen) {
-        Ok(text) => text,
-        Err(_) => text_of(rt.alloc(), &seen)?,
-    };
-    assert!(rt; text.as_slice() == TEXT);
     Ok(())
 }
