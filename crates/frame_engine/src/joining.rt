@@ -103,18 +103,19 @@ impl Joining {
         match self.flows.take(alloc, burst, &mut self.timed) {
             Ok(told) => {
                 tally.count_burst(id, is_above, told);
-                put_came(alloc, &mut self.timed, &mut self.file, tally)?;
-                if tally.draws() {
-                    self.mark(id, sid, time, told, tally);
-                }
-                Ok(())
+                let put = put_came(alloc, &mut self.timed, &mut self.file, tally);
+                self.mark(id, sid, time, told, tally);
+                put
             }
             Err(_) => Err(EngineFault::OutOfMemory),
         }
     }
 
-    /// Marks in the picture what became of a burst.
+    /// Marks in the picture what became of a burst, where one is drawn.
     fn mark(&self, id: u32, sid: u16, time: u64, told: BurstTaken, tally: &mut CaptureTally) {
+        if !tally.draws() {
+            return;
+        }
         match told {
             BurstTaken::Waits(flow) => {
                 if let Some(counts) = self.flows.counts(flow) {
