@@ -5,9 +5,9 @@ use Rattle.frame_engine.proofs.joining.Joining.take_burst.Goals as goal
 
 pub returns-in-Ok-clause-taken : goal.returns-in-Ok-clause-taken
 returns-in-Ok-clause-taken c =
-    on_ok_weaker c.put_came.result
+    on_ok_weaker c.put_came-put.result
     (λ puts. λ settings capture_map bursts written has.
     taken-more settings capture_map bursts c.args.burst c.in-Ok.told written c.args.self.now
-    (record { flows = c.take.new.self; timed = c.put_came.new.timed; file = c.put_came.new.file; records = c.args.self.now.records })
+    (record { flows = c.take.new.self; timed = c.put_came-put.new.timed; file = c.put_came-put.new.file; records = c.args.self.now.records })
     c.take.new.out has c.in-Ok.ensures.takes puts c.take.ensures.map c.take.ensures.waits)
-    c.put_came.ensures.put
+    c.put_came-put.ensures.put
