@@ -1,8 +1,9 @@
 -- All bytes of the reader were read.
-use Rattle.std.proofs.Common.{◌≡◌, ◌++◌, [], refl, sym, subst, rules, take, append-nil}
+use Rattle.std.proofs.Common.{◌≡◌, ◌++◌, [], is_ok, if◌then◌else◌, refl, sym, ap, subst, ◌∙◌, rules, take, length, append-nil}
 use Rattle.std.specs.Io.KnownBytes.{Consumes}
 use Rattle.std.proofs.KnownBytes.{Consumes-trans, Consumes-whole}
 use Rattle.engines.specs.Device.{inner_of}
+use Rattle.engines.proofs.ReadLines.{of_room}
 use Rattle.capture_command.proofs.files.read_all.Goals as goal
 
 pub returns-then-count-eq0 : goal.returns-then-count-eq0
@@ -20,6 +21,14 @@ loop-preserved g c =
     let old = g.R.Read.remaining (inner_of c.args.reader.now) in
     let before = g.R.Read.remaining (inner_of c.loop.reader) in
     let new = g.R.Read.remaining (inner_of c.read_some.new.reader) in
-    let piece = take c.in-Ok.count c.read_some.new.room in
-    let grown : c.extend_from_slice.new.self.items ≡ c.loop.text.items ++ piece = search rules in
+    let front = c.read_some.new.room in
+    let piece = take c.in-Ok.count front in
+    let long : length front ≡ c.loop.piece.len = search rules in
+    let front_is = of_room c.in-Ok.count c.loop.piece.len front _ c.in-Ok.ensures.within long in
+    let slice_is : take c.in-Ok.count c.deref.result.now ≡ piece = ap (take c.in-Ok.count) c.deref.ensures.value ∙ front_is in
+    let grown =
+    c.extend_from_slice.ensures.items
+    ∙ ap (λ r. if is_ok r then c.loop.text.items ++ take c.in-Ok.count c.deref.result.now else c.loop.text.items) c.in_ok-extend_from_slice.was
+    ∙ ap (λ bytes. c.loop.text.items ++ bytes) slice_is
+    in
     subst (λ bytes. Consumes old new bytes) (sym grown) (Consumes-trans old before new c.loop.text.items piece c.loop.invariant c.in-Ok.ensures.taken)
