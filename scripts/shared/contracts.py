@@ -60,7 +60,7 @@ OWNER = re.compile(r"^(?:pub )?(?:impl(?:<[^{]*?>)? (?:[\w<>, ]+ for )?|trait )(
 def contracts_named(crate, name):
     """The contracts of a crate with this name: a function's, a method's as `Type::name`, or those of all public methods of a
     type."""
-    all_of_crate = [it for file in sorted(sources([crate])) if "/tests" not in file for it in contracts(file)]
+    all_of_crate = [it for file in sorted(sources([crate])) if "/tests" not in shown(file) for it in contracts(file)]
     exact = [it for it in all_of_crate if it.name == name]
     return exact or [it for it in all_of_crate if it.name.split("::")[0] == name and "::" in it.name and it.is_public]
 
@@ -112,7 +112,7 @@ def type_named(file, name):
     crate = next((first for first, names in imported if re.search(rf"\b{name}\b", names)), own)
     crate = own if crate in ("crate", "self", "super") else crate
     for source in sorted(sources([crate])) if crate in crate_lines() else []:
-        place = rust_item(source, "struct|enum", name) if "tests" not in source else None
+        place = rust_item(source, "struct|enum", name) if "tests" not in shown(source) else None
         if place is not None:
             return place
     return None
