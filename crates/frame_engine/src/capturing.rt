@@ -47,7 +47,7 @@ pub fn join_capture<R: Read, W: Write, Q: Write>(
         let count = match read_some(reader, &mut piece) {
             Ok(count) => count,
             Err(fault) => {
-                reading.note_clocks(tally);
+                reading.note_all(tally);
                 return Err(fault);
             }
         };
@@ -60,7 +60,7 @@ pub fn join_capture<R: Read, W: Write, Q: Write>(
         match reading.join_piece(alloc, &piece[..count], tally, writer) {
             Ok(()) => tally.write_requests(alloc, requests),
             Err(fault) => {
-                reading.note_clocks(tally);
+                reading.note_all(tally);
                 tally.write_requests(alloc, requests);
                 return Err(fault);
             }

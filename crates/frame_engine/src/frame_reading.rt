@@ -48,6 +48,12 @@ impl FrameReading {
         tally.note_clocks(self.joining.flows.clock_counts());
     }
 
+    /// Notes that, and what came of the flows, where a fault ends the capture.
+    pub(crate) fn note_all(&self, tally: &mut CaptureTally) {
+        self.note_clocks(tally);
+        self.joining.count_open(tally);
+    }
+
     /// Takes bytes from the front of the piece, at most up to the end of a record, and answers what
     /// is left of it.
     fn take_some<'a>(
@@ -126,7 +132,10 @@ impl FrameReading {
         let FrameReading { reader, joining } = self;
         match reader.finish() {
             Ok(()) => joining.finish(alloc, tally, writer),
-            Err(fault) => Err(EngineFault::of_capture(fault, joining.records)),
+            Err(fault) => {
+                joining.count_open(tally);
+                Err(EngineFault::of_capture(fault, joining.records))
+            }
         }
     }
 }

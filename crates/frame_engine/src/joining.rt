@@ -173,6 +173,17 @@ impl Joining {
         }
     }
 
+    /// Counts what came of each flow since it was begun or began anew, where a fault ends the capture
+    /// before the receiver is closed.
+    pub fn count_open(&self, tally: &mut CaptureTally) {
+        for flow in 0..tally.summary.flows.len() {
+            if let Some(counts) = self.flows.counts(flow) {
+                tally.count_closed(flow, counts);
+                tally.mark_counts(flow, counts);
+            }
+        }
+    }
+
     /// Closes the receiver, and answers the file with what that gave.
     pub fn close(
         self,

@@ -274,7 +274,7 @@ impl CaptureTally {
     }
 
     /// Counts what was counted of a flow that was closed.
-    fn count_closed(&mut self, flow: usize, counts: FlowCounts) {
+    pub(crate) fn count_closed(&mut self, flow: usize, counts: FlowCounts) {
         if let Some(summary) = self.summary.flows.get_mut(flow) {
             summary.counts = both_counts(summary.counts, counts);
         }

@@ -1,5 +1,7 @@
 //! What comes of a capture that is joined.
-use crate::samples::{joined_file, map_of_two_channels, segments_at, still_segments, two_segments};
+use crate::samples::{
+    frames_apart, joined_file, map_of_two_channels, segments_at, still_segments, two_segments,
+};
 use captured_flows::Waits;
 use engines::{Device, EngineFault};
 use frame_engine::{CaptureSettings, CaptureTally, FrameReading, InnerCheck, join_capture};
@@ -209,6 +211,20 @@ fn times_are_told_where_a_read_fails(rt: HostRuntime) -> Result<(), Fail> {
     }
     assert!(rt; matches!(done, Err(EngineFault::Read)));
     assert!(rt; tally.summary.records == 3 && tally.summary.set_back == 1);
+    Ok(())
+}
+
+#[test]
+fn what_came_before_a_fault_is_counted(rt: HostRuntime) -> Result<(), Fail> {
+    let mut bytes = frames_apart(rt.alloc())?;
+    bytes.pop();
+    let joined = join(rt.alloc(), &bytes, 50, FrameLink::Docsis)?;
+    assert!(rt; joined.done.is_err());
+    let Some(flow) = joined.tally.summary.flows.first() else {
+        return Err("no flow".into());
+    };
+    // The second of the two that came whole waits for its neighbours.
+    assert!(rt; flow.counts.kept == 1 && flow.counts.frames == 1 && flow.wrong == 1);
     Ok(())
 }
 
