@@ -12,9 +12,14 @@ import tempfile
 from shared.long_captures import HEADER, SIZE, frame_of, map_lines, packed
 from shared.long_texts import CHANNELS, MIB, burst, flow_lines, grant, header, segments
 
-SMALL, TIMES = 4 * MIB, 4
+SMALL, TIMES = 8 * MIB, 4
+# Of so many turns the least counts: where the system puts things makes some of them larger.
+TURNS = 3
+MAP = "one_flow.map"
 # The commands whose memory may not grow with their input, and those that hold it and may take so much for each frame.
 FLAT, HOLDING = ("capture", "follow"), ("replay", "join")
+# How the line of a frame begins.
+FRAME_LINES = {"replay": b"frame ", "join": b""}
 SHORT = 200  # bytes of the frames that have fill behind them
 
 
@@ -58,13 +63,8 @@ INPUTS = {"capture": packed, "follow": trace_text, "replay": trace_text, "join":
 
 
 def words_of(command, room):
-    """The words of a command, and for `capture` a map beside its input."""
-    if command != "capture":
-        return [command]
-    named = os.path.join(room, "one_flow.map")
-    with open(named, "w") as file:
-        file.write(map_lines())
-    return [command, named]
+    """The words of a command; `capture` has the map beside its input."""
+    return [command, os.path.join(room, MAP)] if command == "capture" else [command]
 
 
 def write_input(command, shape, size, file):
@@ -81,6 +81,8 @@ def resident(segrx, command, room, given, taken):
     parent held when it began."""
     told = os.path.join(room, f"resident-{os.path.basename(given.name)}")
     timed = ["time", "-f", "%M", "-o", told, segrx, *words_of(command, room)]
+    for file in given, taken:
+        file.seek(0)
     done = subprocess.run(timed, stdin=given, stdout=taken, stderr=subprocess.PIPE, text=True)
     if done.returncode != 0:
         sys.exit(f"segrx {command} ended with {done.returncode}: {done.stderr[-500:]}")
@@ -88,30 +90,32 @@ def resident(segrx, command, room, given, taken):
         return 1024 * int(file.read())
 
 
-def frames_in(taken):
-    """How many frames a report or the answer of `join` has."""
+def frames_in(command, taken):
+    """How many frames stand in the text that a command gave."""
     taken.seek(0)
-    return sum(line.startswith(b"frame ") for line in taken)
+    return sum(line.startswith(FRAME_LINES[command]) for line in taken)
 
 
 def held(segrx, command, shape, size, room):
-    """The most bytes that were resident while the program took an input, and how many frames it gave, where it gives text."""
+    """The most bytes that were resident while the program took an input, and how many frames it gave, where it holds them."""
     with open(os.path.join(room, f"{command}-{shape}-{size}"), "w+b") as given, tempfile.TemporaryFile() as taken:
         write_input(command, shape, size, given)
-        given.seek(0)
-        return resident(segrx, command, room, given, taken), frames_in(taken)
+        most = min(resident(segrx, command, room, given, taken) for _ in range(TURNS))
+        return most, 0 if command in FLAT else frames_in(command, taken)
 
 
 def growth(segrx, command, shape, room):
-    """Of a command whose memory may not grow, how much more is resident with the large input, as a ratio, and of one that holds its
-    input how many bytes more for each frame more."""
+    """How many bytes more are resident with the large input: of a command whose memory may not grow for each byte more of it, and of
+    one that holds its input for each frame more."""
     small, few = held(segrx, command, shape, SMALL, room)
     large, many = held(segrx, command, shape, SMALL * TIMES, room)
-    return large / small if command in FLAT else (large - small) / (many - few)
+    return (large - small) / (SMALL * (TIMES - 1) if command in FLAT else many - few)
 
 
-def growths(segrx, pool):
+def measured_memory(segrx, pool):
     """Of each command and shape how its memory grows."""
     pairs = list(itertools.product(FLAT + HOLDING, SHAPES))
     with tempfile.TemporaryDirectory() as room:
+        with open(os.path.join(room, MAP), "w") as file:
+            file.write(map_lines())
         return dict(zip(pairs, pool.map(lambda pair: growth(segrx, *pair, room), pairs)))

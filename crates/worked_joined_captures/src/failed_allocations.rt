@@ -157,6 +157,7 @@ fn program_into(alloc: Global, bytes: &[u8], out: &mut [u8], err: &mut [u8]) -> 
         "--report=report",
         "--requests",
         "lines",
+        "--picture=drawn",
     ];
     let reader = InPieces {
         rest: bytes,
@@ -230,8 +231,8 @@ fn help_for_capture_is_refused(rt: HostRuntime) -> Result<(), Fail> {
 /// How many bursts of one flow are handed in.
 const BURSTS: u16 = 20;
 
-/// What waits where so many bursts of a flow were handed in, and whether all of it was kept.
-fn handed_in(alloc: Global) -> Result<(Vec<TimedStep>, bool), AllocError> {
+/// What takes so many bursts of a flow that are handed in.
+fn handed_in(alloc: Global) -> Result<TimedFrames, AllocError> {
     let mut timed = TimedFrames::new(alloc, 1)?;
     for number in 0..BURSTS {
         let item = SoundBurst {
@@ -248,8 +249,7 @@ fn handed_in(alloc: Global) -> Result<(Vec<TimedStep>, bool), AllocError> {
         };
         timed.hand_in(0, &burst);
     }
-    let is_whole = timed.is_whole();
-    Ok((timed.take(alloc), is_whole))
+    Ok(timed)
 }
 
 /// The service identifiers of the bursts that wait are in order, and none stands twice.
@@ -269,16 +269,19 @@ fn are_in_order(steps: &[TimedStep]) -> bool {
 /// What can't be kept is left out, and told from then on.
 #[test]
 fn what_waits_is_whole_or_says_so(rt: HostRuntime) -> Result<(), Fail> {
-    let (mut steps, mut is_whole) = match handed_in(rt.alloc()) {
-        Ok(kept) => kept,
+    let mut timed = match handed_in(rt.alloc()) {
+        Ok(timed) => timed,
         Err(_) => handed_in(rt.alloc())?,
     };
-    if !is_whole {
+    if !timed.is_whole() {
         println!(rt; "refused")?;
-        assert!(rt; steps.len() < usize::from(BURSTS) && are_in_order(&steps));
-        (steps, is_whole) = handed_in(rt.alloc())?;
+        assert!(rt; timed.waiting().len() < usize::from(BURSTS));
+        assert!(rt; are_in_order(timed.waiting()));
+        timed = handed_in(rt.alloc())?;
     }
-    assert!(rt; is_whole);
-    assert!(rt; steps.len() == usize::from(BURSTS) && are_in_order(&steps));
+    assert!(rt; timed.is_whole());
+    assert!(rt; timed.waiting().len() == usize::from(BURSTS) && are_in_order(timed.waiting()));
+    timed.let_go();
+    assert!(rt; timed.waiting().is_empty());
     Ok(())
 }
