@@ -48,7 +48,8 @@ impl FrameReading {
         tally.note_clocks(self.joining.flows.clock_counts());
     }
 
-    /// Notes that, and what came of the flows, where a fault ends the capture.
+    /// Notes how often times couldn't be gone by, and what came of the flows, where a fault ends the
+    /// capture.
     pub(crate) fn note_all(&self, tally: &mut CaptureTally) {
         self.note_clocks(tally);
         self.joining.count_open(tally);

@@ -25,7 +25,7 @@ const CHANNELS: u8 = 16;
 #[derive(Drop)]
 pub struct CaptureTally {
     /// What was counted so far. What was counted of a flow since it was begun or began anew is in it
-    /// once the flow was closed.
+    /// once the flow was closed, or a fault ended the capture.
     pub summary: CaptureSummary,
     /// The time of the last record.
     last_time: u64,
