@@ -1,5 +1,4 @@
-use Rattle.std.specs.Prelude.{map}
-use Rattle.capture_command.specs.Program.{captures, helps, refuses}
+use Rattle.capture_command.specs.Program.{captures}
 use Rattle.capture_command.proofs.whole_command.obey.Goals as goal
 
 pub returns-in-Capture : goal.returns-in-Capture
