@@ -238,8 +238,20 @@ impl Joining {
         requires empty { self.file.bytes.items ≡ [] }
         ensures { FinishesBursts W.contents self writer.old writer.new result }
     {
-        self.end_waiting(alloc, tally)?;
-        self.file.write(writer)?;
+        match self.end_waiting(alloc, tally) {
+            Ok(()) => {}
+            Err(fault) => {
+                self.count_open(tally);
+                return Err(fault);
+            }
+        }
+        match self.file.write(writer) {
+            Ok(()) => {}
+            Err(_) => {
+                self.count_open(tally);
+                return Err(EngineFault::Write);
+            }
+        }
         self.write_closed(alloc, tally, writer)
     }
 }
