@@ -244,9 +244,8 @@ fn a_fault_is_told_behind_the_frames_before_it(rt: HostRuntime) -> Result<(), Fa
     Ok(())
 }
 
-#[test]
-fn a_full_writer_is_a_fault(rt: HostRuntime) -> Result<(), Fail> {
-    let alloc = rt.alloc();
+/// Joins two segments into so much room, which is too little, and answers how many were kept.
+fn kept_without_room(alloc: Global, room: &mut [u8]) -> Result<u64, Fail> {
     let bytes = two_segments(alloc)?;
     let capture_map = map_of_two_channels(alloc)?;
     let mut tally = CaptureTally::new(alloc, &capture_map, false)?;
@@ -257,7 +256,7 @@ fn a_full_writer_is_a_fault(rt: HostRuntime) -> Result<(), Fail> {
         rest: &bytes,
         size: 50,
     });
-    let mut writer = Device::new(Full);
+    let mut writer = Device::new(room);
     let mut lines: Option<Device<Full>> = None;
     let done = join_capture(
         alloc,
@@ -272,6 +271,24 @@ fn a_full_writer_is_a_fault(rt: HostRuntime) -> Result<(), Fail> {
     if let Some(lines) = lines {
         lines.into_inner();
     }
-    assert!(rt; matches!(done, Err(EngineFault::Write)));
+    let Some(flow) = tally.summary.flows.first() else {
+        return Err("no flow".into());
+    };
+    match done {
+        Err(EngineFault::Write) => Ok(flow.counts.kept),
+        _ => Err("another outcome".into()),
+    }
+}
+
+#[test]
+fn a_full_writer_is_a_fault(rt: HostRuntime) -> Result<(), Fail> {
+    // Room for nothing, for the header, and for a part of the frame, which comes at the end.
+    let mut room = [0u8; 40];
+    for (size, kept) in [(0usize, 0u64), (24, 2), (40, 2)] {
+        let Some(front) = room.get_mut(0..size) else {
+            return Err("no such room".into());
+        };
+        assert!(rt; kept_without_room(rt.alloc(), front)? == kept);
+    }
     Ok(())
 }
