@@ -123,7 +123,7 @@ fn events_option<'a>(alloc: Global) -> Arg<'a> {
 /// The command `follow` with its options.
 fn follow_command<'a>(alloc: Global) -> Result<Command<'a>, AllocError> {
     let channels = "Channels that the trace may have, 1 to 16 [default: 16]";
-    let about = "Follows a trace, and prints what each flow gives as its lines are read";
+    let about = "Follows a trace, and prints what each flow gives as lines are read";
     let usage = "segrx follow [--losses RULE] [--channels N] [--events] < TRACE > FRAMES";
     command(alloc, "follow", about, usage)
         .arg(losses_option(alloc))?
