@@ -1,12 +1,11 @@
 -- What the words of `capture` ask for.
 use Rattle.std.specs.Prelude.{◌≡◌, ◌⊎◌, ◌*◌, ℕ, List, codes}
 use Rattle.text_lines.specs.Number.{IsNumber}
-use Rattle.loss_rule.specs.declared.rule.LossRule.{LossRule}
 use Rattle.loss_rule.specs.declared.rule.LossRule.TheVariants.{PassedOrSlid}
 use Rattle.frame_records.specs.declared.link.FrameLink.{FrameLink}
 use Rattle.frame_records.specs.declared.link.FrameLink.TheVariants.{Docsis, Xra}
 use Rattle.command_line.specs.Command.{HasWord}
-use Rattle.command_line.specs.Losses.{losses_option, rule_name}
+use Rattle.command_line.specs.Losses.{AskForLosses}
 use Rattle.command_line.specs.OptionWords.{HasNoOption, HasOneValue}
 use Rattle.frame_engine.specs.declared.inner_check.InnerCheck.{InnerCheck}
 use Rattle.frame_engine.specs.declared.inner_check.InnerCheck.TheVariants.{Sequence, Nothing}
@@ -18,18 +17,14 @@ use Rattle.capture_command.specs.declared.asked.CaptureWords.TheVariants.{Captur
 abbrev pub wait_max : ℕ
 wait_max = 3600000
 
-abbrev pub milliseconds : ℕ → ℕ
-milliseconds count = count * 1000000
+abbrev pub nanoseconds : ℕ → ℕ
+nanoseconds count = count * 1000000
 
 -- words ask for this time by the one such option among them, whose value is in milliseconds, and for the default one where there is none
 abbrev pub AskForWait : List ℕ → ℕ → List (List ℕ) → ℕ → Type 0
 AskForWait option default words wait =
-    (HasNoOption option words × (wait ≡ milliseconds default))
-    ⊎ ((value : List ℕ) × (count : ℕ) × HasOneValue option words value × IsNumber value wait_max count × (wait ≡ milliseconds count))
-
--- so for a rule by its name, and for `slid` where there is none
-abbrev pub AskForLosses : List (List ℕ) → LossRule → Type 0
-AskForLosses words rule = (HasNoOption losses_option words × (rule ≡ PassedOrSlid)) ⊎ HasOneValue losses_option words (rule_name rule)
+    (HasNoOption option words × (wait ≡ nanoseconds default))
+    ⊎ ((value : List ℕ) × (count : ℕ) × HasOneValue option words value × IsNumber value wait_max count × (wait ≡ nanoseconds count))
 
 -- so for what a record of a frame holds, and for the frame alone where there is none
 abbrev pub link_option : List ℕ
@@ -46,9 +41,10 @@ AskForLink words link = (HasNoOption link_option words × (link ≡ Docsis)) ⊎
 abbrev pub AskForCheck : List (List ℕ) → InnerCheck → Type 0
 AskForCheck words check = (HasWord (codes "--no-check") words × (check ≡ Nothing)) ⊎ (¬ HasWord (codes "--no-check") words × (check ≡ Sequence))
 
--- **Words ask for these settings**: each by its option, with its default where that isn't there, and none by two
+-- **Words ask for these settings**: each by its option, with its default where that isn't there, and none by two; no word ends the options
 pub record AskForSettings (words : List (List ℕ)) (settings : CaptureSettings) : Type 0 where
-  pub losses : AskForLosses words settings.rule
+  pub unended : ¬ HasWord (codes "--") words
+  pub losses : AskForLosses PassedOrSlid settings.rule words
   pub reorder : AskForWait (codes "--reorder") 2 words settings.waits.reorder
   pub wait : AskForWait (codes "--wait") 20 words settings.waits.wait
   pub check : AskForCheck words settings.check

@@ -1,5 +1,5 @@
 -- What the command `capture` does.
-use Rattle.std.specs.Prelude.{◌≡◌, ◌⊎◌, ℕ, List, Option, Result, Ok, Err, IfSome, IfErr, OnOk}
+use Rattle.std.specs.Prelude.{◌≡◌, ◌⊎◌, ℕ, List, Option, Result, Ok, Err, IfSome, IfErr, OnOk, OnErr}
 use Rattle.capture_map.specs.declared.map.CaptureMap.{CaptureMap}
 use Rattle.capture_map.specs.Reading.{IsMap}
 use Rattle.engines.specs.declared.device.Device.{Device}
@@ -9,6 +9,9 @@ use Rattle.frame_engine.specs.declared.settings.CaptureSettings.{CaptureSettings
 use Rattle.frame_engine.specs.Joining.{JoinsCapture}
 use Rattle.capture_command.specs.declared.fault.CaptureCommandFault.{CaptureCommandFault}
 use Rattle.capture_command.specs.declared.fault.CaptureCommandFault.TheVariants.{Engine}
+use Rattle.engines.specs.declared.fault.EngineFault.TheVariants.{Write}
+use Rattle.engines.specs.Transfer.{AppendsFront}
+use Rattle.std.specs.Io.KnownBytes.{Appends}
 use Rattle.capture_command.specs.Fault.{status_of}
 use Rattle.capture_command.specs.Asked.{AskForSettings, AskForHelp}
 
@@ -52,11 +55,20 @@ module _ {R W File : Type 0} (remaining : R → Option (List ℕ)) (contents : W
   abbrev pub Captures : CaptureSettings → Device R → Device R → Device W → Device W → Result (Unit {0}) CaptureCommandFault → Type 0
   Captures settings reader reader' writer writer' result = JoinsByMap settings reader reader' writer writer' result ⊎ IsRefused reader reader' writer writer' result
 
+  -- **Help was written** that words ask for: a text, whole or, where the writer failed, a front of it; the reader wasn't used
+  pub record PrintsHelp (words : List (List ℕ)) (reader reader' : Device R) (writer writer' : Device W) (result : Result (Unit {0}) CaptureCommandFault) : Type 0 where
+    pub asked : AskForHelp words
+    pub unread : reader' ≡ reader
+    pub text : List ℕ
+    pub written : OnOk result (Appends (contents (inner_of writer)) (contents (inner_of writer')) text)
+    pub front : OnErr result (AppendsFront (contents (inner_of writer)) (contents (inner_of writer')) text)
+    pub fault : IfErr result (λ fault. fault ≡ Engine Write)
+
   -- what words came to: a capture was joined by the settings that they ask for, or nothing was; or help was written that they ask for, and the reader wasn't used; or they were refused
   pub data Obeys (words : List (List ℕ)) (reader reader' : Device R) (writer writer' : Device W) (result : Result (Unit {0}) CaptureCommandFault) : Type 0 where
     captures : (settings : CaptureSettings) → AskForSettings words settings → Captures settings reader reader' writer writer' result
         → Obeys words reader reader' writer writer' result
-    helps : AskForHelp words → reader' ≡ reader → Obeys words reader reader' writer writer' result
+    helps : PrintsHelp words reader reader' writer writer' result → Obeys words reader reader' writer writer' result
     refuses : IsRefused reader reader' writer writer' result → Obeys words reader reader' writer writer' result
 
   -- so over fresh devices on these

@@ -1,10 +1,12 @@
 //! What the words of `capture` ask for.
 //!
-//! The settings are read from the words themselves, so that contracts can say by which of them frames
-//! are joined; that the words are lawful, and the paths of files, is for `clap` to say.
+//! The settings are read from the words themselves, so that contracts can say by which of them
+//! frames are joined; that the words are lawful, and the paths of files, is for `clap` to say.
 ghost use Rattle.std.specs.Prelude.{◌≡◌, ◌≤◌, ◌↔◌, map, codes, IsTrue, IfOk};
 ghost use Rattle.command_line.specs.Command.{IsCommand};
-ghost use Rattle.capture_command.specs.Asked.{AskForWait, AskForLosses, AskForLink, AskForCheck};
+ghost use Rattle.loss_rule.specs.declared.rule.LossRule.TheVariants.{PassedOrSlid};
+ghost use Rattle.command_line.specs.Losses.{AskForLosses};
+ghost use Rattle.capture_command.specs.Asked.{AskForWait, AskForLink, AskForCheck};
 ghost use Rattle.capture_command.specs.Asked.{AskForSettings, AskForHelp, AskToCapture};
 
 use crate::arguments::capture_line;
@@ -77,7 +79,7 @@ fn asked_wait<S: AsStr>(words: &[S], option: &str, default: u32) -> Result<u64, 
 
 /// The rule that options ask for.
 fn asked_losses<S: AsStr>(words: &[S]) -> Result<LossRule, UsageFault>
-    ensures { IfOk result (AskForLosses (map S.text words.now)) }
+    ensures { IfOk result (λ rule. AskForLosses PassedOrSlid rule (map S.text words.now)) }
 {
     let Some(name) = only_value(words, "--losses")? else {
         return Ok(LossRule::PassedOrSlid);
@@ -111,10 +113,13 @@ fn asked_check<S: AsStr>(words: &[S]) -> InnerCheck
     }
 }
 
-/// The settings that options ask for.
+/// The settings that options ask for, among which no `--` ends the options.
 fn asked_settings<S: AsStr>(words: &[S]) -> Result<CaptureSettings, UsageFault>
     ensures { IfOk result (AskForSettings (map S.text words.now)) }
 {
+    if has_word(words, "--") {
+        return Err(UsageFault::Usage);
+    }
     Ok(CaptureSettings {
         rule: asked_losses(words)?,
         waits: Waits {
@@ -167,9 +172,6 @@ pub fn read_capture_words<'a, S: AsStr>(
     let Some(path) = matches.get_str("map") else {
         return Err(UsageFault::Usage);
     };
-    if has_word(words, "--") {
-        return Err(UsageFault::Usage);
-    }
     Ok(CaptureWords::Capture(CaptureAsked {
         map: String::from_str(alloc, path)?,
         settings: asked_settings(words)?,

@@ -1,6 +1,10 @@
 //! The command `capture` over any runtime with files, any reader and any two writers.
-ghost use Rattle.std.specs.Prelude.{◌≡◌, map, Result};
-ghost use Rattle.engines.specs.Device.{IsFresh};
+ghost use Rattle.std.specs.Prelude.{◌≡◌, map, Result, OnOk, OnErr, IfErr};
+ghost use Rattle.std.specs.Io.KnownBytes.{Appends};
+ghost use Rattle.engines.specs.Device.{inner_of, IsFresh};
+ghost use Rattle.engines.specs.Transfer.{AppendsFront};
+ghost use Rattle.engines.specs.declared.fault.EngineFault.TheVariants.{Write};
+ghost use Rattle.capture_command.specs.declared.fault.CaptureCommandFault.TheVariants.{Engine};
 ghost use Rattle.capture_command.specs.declared.fault.CaptureCommandFault.{CaptureCommandFault};
 ghost use Rattle.capture_command.specs.Program.{Captures, Obeys, ComesOf, status_of_outcome};
 
@@ -16,37 +20,51 @@ use std::convert::AsStr;
 use std::io::{Read, Write};
 use std::rt::Files;
 
-/// Writes the report of what was counted.
-fn write_report<W: Write>(
+/// What a file shows of a capture.
+#[derive(Clone, Copy)]
+enum Shown {
+    Report,
+    /// If no burst is missing in it.
+    Picture,
+}
+
+/// Writes a file.
+fn write_shown<W: Write>(
     alloc: Global,
     tally: &CaptureTally,
+    shown: Shown,
     file: &mut Device<W>,
 ) -> Result<(), CaptureCommandFault> {
     let mut room = held_room(alloc)?;
     let mut text = TextWriter::new(file, &mut room);
-    put_report(&mut text, &tally.summary);
+    match shown {
+        Shown::Report => put_report(&mut text, &tally.summary),
+        Shown::Picture => match tally.picture() {
+            Some(picture) => put_picture(&mut text, picture),
+            None => return Err(CaptureCommandFault::Engine(EngineFault::OutOfMemory)),
+        },
+    }
     match text.finish() {
         Ok(()) => Ok(()),
         Err(_) => Err(CaptureCommandFault::OutputFile),
     }
 }
 
-/// Writes the picture, if no burst is missing in it.
-fn write_picture<W: Write>(
+/// Writes the file of this path, if one is asked for.
+fn write_file<F: Files>(
     alloc: Global,
+    rt: &F,
+    path: &Option<String>,
     tally: &CaptureTally,
-    file: &mut Device<W>,
+    shown: Shown,
 ) -> Result<(), CaptureCommandFault> {
-    let Some(picture) = tally.picture() else {
-        return Err(CaptureCommandFault::Engine(EngineFault::OutOfMemory));
+    let Some(path) = path else {
+        return Ok(());
     };
-    let mut room = held_room(alloc)?;
-    let mut text = TextWriter::new(file, &mut room);
-    put_picture(&mut text, picture);
-    match text.finish() {
-        Ok(()) => Ok(()),
-        Err(_) => Err(CaptureCommandFault::OutputFile),
-    }
+    let mut file = Device::new(created(rt, path.as_str())?);
+    let written = write_shown(alloc, tally, shown, &mut file);
+    file.into_inner();
+    written
 }
 
 /// Writes the summary of what was counted.
@@ -62,8 +80,20 @@ fn write_summary<E: Write>(
     Ok(())
 }
 
+/// Tells of lines of requests that were lost.
+fn tell_lost_requests(tally: &CaptureTally) -> Result<(), CaptureCommandFault> {
+    match tally.lost_requests() {
+        None => Ok(()),
+        Some(EngineFault::OutOfMemory) => {
+            Err(CaptureCommandFault::Engine(EngineFault::OutOfMemory))
+        }
+        Some(_) => Err(CaptureCommandFault::OutputFile),
+    }
+}
+
 /// Writes what was counted: the summary, and the report and the picture where they are asked for.
-/// Lines of requests that were lost are reported then.
+/// Each is written though another fails; the first fault is told, and behind these that lines of
+/// requests were lost.
 fn write_counts<F: Files, E: Write>(
     alloc: Global,
     rt: &F,
@@ -71,23 +101,13 @@ fn write_counts<F: Files, E: Write>(
     tally: &CaptureTally,
     err: &mut Device<E>,
 ) -> Result<(), CaptureCommandFault> {
-    write_summary(alloc, tally, err)?;
-    if let Some(path) = &asked.report {
-        let mut file = Device::new(created(rt, path.as_str())?);
-        let written = write_report(alloc, tally, &mut file);
-        file.into_inner();
-        written?;
-    }
-    if let Some(path) = &asked.picture {
-        let mut file = Device::new(created(rt, path.as_str())?);
-        let written = write_picture(alloc, tally, &mut file);
-        file.into_inner();
-        written?;
-    }
-    if tally.lost_requests() {
-        return Err(CaptureCommandFault::OutputFile);
-    }
-    Ok(())
+    let summary = write_summary(alloc, tally, err);
+    let report = write_file(alloc, rt, &asked.report, tally, Shown::Report);
+    let picture = write_file(alloc, rt, &asked.picture, tally, Shown::Picture);
+    summary?;
+    report?;
+    picture?;
+    tell_lost_requests(tally)
 }
 
 /// Joins the capture that the reader gives, and writes what was counted, also where a fault ends it.
@@ -123,6 +143,20 @@ fn capture<F: Files, R: Read, W: Write, E: Write>(
     counted
 }
 
+/// Prints help.
+fn print_help<W: Write>(out: &mut Device<W>, text: &str) -> Result<(), CaptureCommandFault>
+    ensures written { OnOk result (Appends (W.contents (inner_of out.old))
+        (W.contents (inner_of out.new)) text.now) }
+    ensures front { OnErr result (AppendsFront (W.contents (inner_of out.old))
+        (W.contents (inner_of out.new)) text.now) }
+    ensures fault { IfErr result (λ fault. fault ≡ Engine Write) }
+{
+    match write_text(out, text.as_bytes()) {
+        Ok(()) => Ok(()),
+        Err(_) => Err(CaptureCommandFault::Engine(EngineFault::Write)),
+    }
+}
+
 /// Does what the words ask for.
 fn obey<S: AsStr, F: Files, R: Read, W: Write, E: Write>(
     alloc: Global,
@@ -139,7 +173,7 @@ fn obey<S: AsStr, F: Files, R: Read, W: Write, E: Write>(
 {
     match read_capture_words(alloc, words)? {
         CaptureWords::Capture(asked) => capture(alloc, rt, &asked, reader, out, err),
-        CaptureWords::Help(text) => Ok(write_text(out, text.as_bytes())?),
+        CaptureWords::Help(text) => print_help(out, text.as_str()),
     }
 }
 
@@ -175,8 +209,10 @@ where
     R: Read + Drop,
     O: Write + Drop,
     E: Write + Drop,
-    ensures { (outcome : Result (Unit {0}) CaptureCommandFault) × (result ≡ status_of_outcome outcome)
-        × ComesOf R.remaining O.contents F.File.remaining (map S.text words.now) reader out outcome }
+    ensures { (outcome : Result (Unit {0}) CaptureCommandFault)
+        × (result ≡ status_of_outcome outcome)
+        × ComesOf R.remaining O.contents F.File.remaining
+            (map S.text words.now) reader out outcome }
 {
     let mut reader = Device::new(reader);
     let mut out = Device::new(out);

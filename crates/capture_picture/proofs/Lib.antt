@@ -1,4 +1,3 @@
-pub mod PutTexts
 pub mod Changed
 pub mod Widths
 pub mod Drawn

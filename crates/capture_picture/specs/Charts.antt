@@ -1,7 +1,7 @@
 -- The charts of a flow.
 use Rattle.std.specs.Prelude.{ℕ, ◌+◌, ◌-◌, List, [], ◌++◌, codes, slice_index_or, Option, Some, None}
 use Rattle.capture_picture.specs.Marking.{kept_within}
-use Rattle.capture_picture.specs.Svg.{valued, numbered_texts, colour_text}
+use Rattle.capture_picture.specs.Svg.{valued, colour_text}
 use Rattle.capture_picture.specs.Grid.{scaled, stroke_width, plot_width, stroke_left}
 use Rattle.capture_picture.specs.declared.span.Span.{Span}
 use Rattle.capture_picture.specs.declared.column.Column.{Column}
@@ -9,6 +9,7 @@ use Rattle.capture_picture.specs.declared.grid.Grid.{Grid}
 use Rattle.capture_picture.specs.declared.chart.Chart.{Chart}
 use Rattle.capture_picture.specs.declared.chart.Chart.TheVariants.{Indexes, Behind}
 use Rattle.capture_picture.specs.declared.picture.PictureChannel.{PictureChannel}
+use Rattle.text_lines.specs.Putting.{numbered_texts}
 
 -- how a chart's group begins, up to the width of strokes
 abbrev pub chart_head : Chart → List ℕ

@@ -4,7 +4,7 @@ use Rattle.std.specs.List.{fold}
 use Rattle.capture_picture.specs.Spans.{both_spans}
 use Rattle.capture_picture.specs.Marking.{kept_within, no_marks, count_of_mark, both_marks}
 use Rattle.capture_picture.specs.ShownFlow.{ShownFlow}
-use Rattle.capture_picture.specs.Svg.{valued, numbered_texts, time_text}
+use Rattle.capture_picture.specs.Svg.{valued, time_text}
 use Rattle.capture_picture.specs.Grid.{column_left, plot_width}
 use Rattle.capture_picture.specs.Charts.{chart_text}
 use Rattle.capture_picture.specs.declared.span.Span.{Span}
@@ -15,6 +15,7 @@ use Rattle.capture_picture.specs.declared.column.Column.{Column}
 use Rattle.capture_picture.specs.declared.grid.Grid.{Grid}
 use Rattle.capture_picture.specs.declared.chart.Chart.TheVariants.{Indexes, Behind}
 use Rattle.capture_picture.specs.declared.picture.PictureChannel.{PictureChannel}
+use Rattle.text_lines.specs.Putting.{numbered_texts}
 
 -- the marks of all columns
 abbrev pub all_marks : List Column → Marks

@@ -2,11 +2,12 @@
 use Rattle.std.specs.Prelude.{ℕ, ◌+◌, ◌-◌, ◌*◌, ◌/◌, ◌%◌, ◌==◌, List, [], ◌++◌, length, codes, if◌then◌else◌}
 use Rattle.capture_picture.specs.ShownFlow.{ShownFlow}
 use Rattle.capture_picture.specs.Picture.{Picture, other_count}
-use Rattle.capture_picture.specs.Svg.{valued, numbered_texts, colour_text}
+use Rattle.capture_picture.specs.Svg.{valued, colour_text}
 use Rattle.capture_picture.specs.Grid.{grid_of, end_of}
 use Rattle.capture_picture.specs.Panel.{panel_text}
 use Rattle.capture_picture.specs.declared.grid.Grid.{Grid}
 use Rattle.capture_picture.specs.declared.picture.PictureChannel.{PictureChannel}
+use Rattle.text_lines.specs.Putting.{numbered_texts}
 
 -- how far down the first flow is drawn: below the legend, with six channels in a row
 abbrev pub panels_top : ℕ → ℕ

@@ -1,15 +1,10 @@
 -- The pieces of an SVG.
-use Rattle.std.specs.Prelude.{ℕ, ◌/◌, ◌%◌, List, [], ◌∷◌, ◌++◌, flat_map, codes, slice_index_or}
-use Rattle.std.specs.List.{enumerate_from}
+use Rattle.std.specs.Prelude.{ℕ, ◌/◌, ◌%◌, List, [], ◌∷◌, ◌++◌, codes, slice_index_or}
 use Rattle.std.specs.Fmt.{decimal}
 
 -- a word and a number
 abbrev pub valued : List ℕ → ℕ → List ℕ
 valued word number = word ++ decimal number
-
--- the texts of items, each made with its place
-abbrev pub numbered_texts : {T : Type 0} → (ℕ → T → List ℕ) → List T → List ℕ
-numbered_texts text items = flat_map (λ one. text one.0 one.1) (enumerate_from 0 items)
 
 -- the thousandths of a second that are whole
 abbrev pub milliseconds : ℕ → ℕ

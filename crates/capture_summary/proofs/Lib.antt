@@ -1,4 +1,3 @@
 pub mod Elements
 pub mod ElementLists
 pub mod FrameParts
-pub mod PutLines

@@ -1,6 +1,5 @@
 -- The line of a flow, as in a report of replay.
-use Rattle.std.specs.Prelude.{ℕ, List, [], ◌∷◌, ◌++◌, flat_map, codes}
-use Rattle.std.specs.List.{enumerate_from}
+use Rattle.std.specs.Prelude.{ℕ, List, [], ◌∷◌, ◌++◌, codes}
 use Rattle.text_lines.specs.Lines.{line_feed}
 use Rattle.flow_core.specs.declared.counts.FlowCounts.{FlowCounts}
 use Rattle.capture_summary.specs.Words.{spaced, named}
@@ -9,7 +8,3 @@ abbrev pub flow_line : ℕ → ℕ → FlowCounts → List ℕ
 flow_line k sfid counts = named (codes "flow") k ++ spaced sfid ++ named (codes " kept") counts.kept ++ named (codes " late") counts.late ++ named (codes " repeat") counts.repeat
     ++ named (codes " beyond") counts.beyond ++ named (codes " lost") counts.lost ++ named (codes " frames") counts.frames
     ++ named (codes " skipped") counts.skipped ++ line_feed ∷ []
-
--- the lines of items, each made with its place
-abbrev pub numbered_lines : {T : Type 0} → (ℕ → T → List ℕ) → List T → List ℕ
-numbered_lines lines items = flat_map (λ one. lines one.0 one.1) (enumerate_from 0 items)

@@ -3,7 +3,7 @@ use Rattle.std.specs.Prelude.{ℕ, ◌==◌, List, [], ◌∷◌, ◌++◌, flat
 use Rattle.std.specs.List.{list_all}
 use Rattle.std.specs.Fmt.{decimal}
 use Rattle.text_lines.specs.Lines.{line_feed}
-use Rattle.capture_summary.specs.ReplayLines.{flow_line, numbered_lines}
+use Rattle.capture_summary.specs.ReplayLines.{flow_line}
 use Rattle.lane.specs.Report.{refusal_number}
 use Rattle.lane.specs.declared.refusal.Refusal.{Refusal}
 use Rattle.lane.specs.declared.refusal.Refusal.TheVariants.{GrantRange, GrantKnown, UnknownSid, TooManyGrants, GrantOutOfMemory, NoGrant, TooLong, BadCheck, TooShort, PointerPast, BurstOutOfMemory}
@@ -17,6 +17,7 @@ use Rattle.capture_summary.specs.declared.passed.PassedReason.{PassedReason}
 use Rattle.capture_summary.specs.declared.passed.PassedReason.TheVariants as reason
 use Rattle.capture_summary.specs.declared.passed.PassedCounts.{PassedCounts}
 use Rattle.capture_summary.specs.declared.summary.CaptureSummary.{CaptureSummary}
+use Rattle.text_lines.specs.Putting.{numbered_texts}
 
 -- `joined <index> right <n> wrong <n> encrypted <n> restarts <n> requests <n> units <n>`
 abbrev pub joined_line : ℕ → FlowSummary → List ℕ
@@ -80,5 +81,5 @@ clock_line summary = named (codes "clock set_back") summary.set_back ++ named (c
 -- **The report of a capture**: the lines of each flow and of each channel, in order, what was passed over, how many records there were, and how clocks were.
 abbrev pub report_text : CaptureSummary → List ℕ
 report_text summary =
-    numbered_lines flow_lines summary.flows.items ++ flat_map channel_lines summary.channels.items ++ passed_lines summary.passed ++ records_line summary
+    numbered_texts flow_lines summary.flows.items ++ flat_map channel_lines summary.channels.items ++ passed_lines summary.passed ++ records_line summary
     ++ clock_line summary

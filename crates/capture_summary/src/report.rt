@@ -1,7 +1,7 @@
 //! The report of a capture.
 ghost use Rattle.std.specs.Prelude.{◌≡◌, flat_map};
-ghost use Rattle.text_lines.specs.Putting.{Puts};
-ghost use Rattle.capture_summary.specs.ReplayLines.{flow_line, numbered_lines};
+ghost use Rattle.text_lines.specs.Putting.{Puts, numbered_texts};
+ghost use Rattle.capture_summary.specs.ReplayLines.{flow_line};
 ghost use Rattle.lane.specs.Report.{refusal_number};
 ghost use Rattle.capture_summary.specs.Counting.{count_of_refusal, count_of_reason};
 ghost use Rattle.capture_summary.specs.Report.{joined_line, flow_lines, counted_refusal, refused_text, lane_line, bursts_line, channel_lines, passed_line, records_line, clock_line, report_text};
@@ -48,7 +48,7 @@ fn put_joined_line<O: PutText>(out: &mut O, k: usize, flow: &FlowSummary)
 
 /// Puts the lines of flows.
 fn put_flows<O: PutText>(out: &mut O, flows: &[FlowSummary])
-    ensures { Puts O.after out.old (numbered_lines flow_lines flows.now) out.new }
+    ensures { Puts O.after out.old (numbered_texts flow_lines flows.now) out.new }
 {
     for (k, flow) in flows.iter().enumerate() {
         put_flow_line(out, k, flow.sfid, &flow.counts);

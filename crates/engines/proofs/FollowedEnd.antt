@@ -24,7 +24,6 @@ use Rattle.texts.specs.Trace.Place.{nothing_said_in, trace_format}
 use Rattle.texts.specs.Inside.Followed.{HasFollowedLines, IsAllPut, PutsHappened, with_told}
 use Rattle.texts.specs.Inside.TraceInput.{taking_format, nothing_taken}
 use Rattle.texts.proofs.HandedLines.{read_alone}
-use Rattle.texts.proofs.PutLines.{puts-nothing}
 use Rattle.engines.specs.declared.device.Device.{Device}
 use Rattle.engines.specs.declared.fault.EngineFault.{EngineFault}
 use Rattle.engines.specs.declared.fault.EngineFault.TheVariants.{Trace, Cut, Capture, OutOfMemory, Read, Write, Usage}
@@ -39,6 +38,7 @@ use Rattle.engines.proofs.NumberedHappenings.{all_of, both_at, lines_at, lines_g
 use Rattle.engines.proofs.FollowedDevices.{flushed_then}
 use Rattle.engines.proofs.WrittenText.{AppendsFront-behind}
 use Rattle.engines.proofs.FollowedLines.{happened_by, read_told, lines_with_last}
+use Rattle.text_lines.proofs.PutTexts.{puts-nothing}
 
 -- ---- all lines were taken
 

@@ -1,4 +1,6 @@
 //! What is drawn of a capture, where a picture is asked for.
+ghost use Rattle.std.specs.Prelude.{◌≡◌, true, IfOk};
+
 use capture_map::CaptureMap;
 use capture_picture::{CapturePicture, Mark, PictureBurst, PictureChannel};
 use flow_core::FlowCounts;
@@ -19,7 +21,9 @@ pub(crate) struct Drawing {
 
 impl Drawing {
     /// Nothing is drawn yet, of a capture with this map.
-    pub(crate) fn new(alloc: Global, capture_map: &CaptureMap) -> Result<Drawing, AllocError> {
+    pub(crate) fn new(alloc: Global, capture_map: &CaptureMap) -> Result<Drawing, AllocError>
+        ensures { IfOk result (λ drawing. drawing.is_whole ≡ true) }
+    {
         let mut channels = Vec::with_capacity(alloc, capture_map.channels.len())?;
         for one in &capture_map.channels {
             channels.push(PictureChannel {
@@ -36,7 +40,9 @@ impl Drawing {
     }
 
     /// Whether all bursts are drawn.
-    pub(crate) fn is_whole(&self) -> bool {
+    pub(crate) fn is_whole(&self) -> bool
+        ensures { result ≡ self.now.is_whole }
+    {
         self.is_whole
     }
 

@@ -52,7 +52,7 @@ fn put_came(
     }
     file.put_all(alloc, timed.waiting())?;
     tally.count_steps(alloc, timed.waiting());
-    timed.let_go();
+    timed.let_go(alloc);
     Ok(())
 }
 
@@ -178,8 +178,7 @@ impl Joining {
     pub fn count_open(&self, tally: &mut CaptureTally) {
         for flow in 0..tally.summary.flows.len() {
             if let Some(counts) = self.flows.counts(flow) {
-                tally.count_closed(flow, counts);
-                tally.mark_counts(flow, counts);
+                tally.count_last(flow, counts);
             }
         }
     }

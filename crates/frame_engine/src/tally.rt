@@ -1,4 +1,6 @@
 //! What is counted of a capture, and what its requests are, beside its frames.
+ghost use Rattle.std.specs.Prelude.{◌≡◌, ◌≢◌, None, true, OnOk, OnErr, IfOk, IfSome};
+
 use crate::drawing::Drawing;
 use capture_map::{CaptureMap, MapChannel};
 use capture_picture::CapturePicture;
@@ -9,7 +11,7 @@ use capture_summary::{
 };
 use captured_flows::BurstTaken;
 use docsis_wire::Bytes;
-use engines::{Device, write_text};
+use engines::{Device, EngineFault, write_text};
 use flow_core::FlowCounts;
 use lane::{Refusal, Request};
 use receiver::Reply;
@@ -31,8 +33,8 @@ pub struct CaptureTally {
     last_time: u64,
     /// The lines of requests that aren't written yet, where they are asked for.
     requests: Option<TextBuffer>,
-    /// Whether lines of requests were lost, since memory ran out or their writer failed.
-    lost_requests: bool,
+    /// Why lines of requests were lost, if they were.
+    lost_requests: Option<EngineFault>,
     /// What is drawn, where a picture is asked for.
     drawing: Option<Drawing>,
 }
@@ -84,7 +86,11 @@ impl CaptureTally {
         alloc: Global,
         capture_map: &CaptureMap,
         with_requests: bool,
-    ) -> Result<CaptureTally, AllocError> {
+    ) -> Result<CaptureTally, AllocError>
+        ensures none_lost { IfOk result (λ tally. tally.lost_requests ≡ None) }
+        ensures undrawn { IfOk result (λ tally. tally.drawing ≡ None) }
+        ensures records { IfOk result (λ tally. tally.summary.records ≡ 0) }
+    {
         let mut requests = None;
         if with_requests {
             let mut text = TextBuffer::new(alloc);
@@ -103,27 +109,39 @@ impl CaptureTally {
             },
             last_time: 0,
             requests,
-            lost_requests: false,
+            lost_requests: None,
             drawing: None,
         })
     }
 
     /// A picture is drawn from now on, of a capture with this map.
-    pub fn draw(&mut self, alloc: Global, capture_map: &CaptureMap) -> Result<(), AllocError> {
+    pub fn draw(&mut self, alloc: Global, capture_map: &CaptureMap) -> Result<(), AllocError>
+        ensures summary { self.new.summary ≡ self.old.summary }
+        ensures drawn { OnOk result (self.new.drawing ≢ None) }
+        ensures whole { IfSome self.new.drawing (λ drawing. OnOk result (drawing.is_whole ≡ true)) }
+        ensures refused { OnErr result (self.new ≡ self.old) }
+    {
         self.drawing = Some(Drawing::new(alloc, capture_map)?);
         Ok(())
     }
 
     /// The picture, if one is drawn and no burst is missing in it, since memory ran out.
-    pub fn picture(&self) -> Option<&CapturePicture> {
+    pub fn picture(&self) -> Option<&CapturePicture>
+        ensures whole { IfSome result (λ picture. IfSome self.now.drawing (λ drawing.
+            (drawing.is_whole ≡ true) × (drawing.picture ≡ picture.now))) }
+        ensures none { self.now.drawing ≡ None → result ≡ None }
+    {
         match &self.drawing {
             Some(drawing) if drawing.is_whole() => Some(&drawing.picture),
             _ => None,
         }
     }
 
-    /// Whether lines of requests were lost, since memory ran out or their writer failed.
-    pub fn lost_requests(&self) -> bool {
+    /// Why lines of requests were lost, if they were: `OutOfMemory`, or `Write`, where their writer
+    /// failed.
+    pub fn lost_requests(&self) -> Option<EngineFault>
+        ensures { result ≡ self.now.lost_requests }
+    {
         self.lost_requests
     }
 
@@ -273,18 +291,23 @@ impl CaptureTally {
         }
     }
 
-    /// Counts what was counted of a flow that was closed.
-    pub(crate) fn count_closed(&mut self, flow: usize, counts: FlowCounts) {
+    /// Counts what was counted of a flow that begins anew, or of which nothing more comes.
+    fn count_closed(&mut self, flow: usize, counts: FlowCounts) {
         if let Some(summary) = self.summary.flows.get_mut(flow) {
             summary.counts = both_counts(summary.counts, counts);
         }
     }
 
+    /// Counts what was counted of a flow of which nothing more comes, and marks it.
+    pub(crate) fn count_last(&mut self, flow: usize, counts: FlowCounts) {
+        self.count_closed(flow, counts);
+        self.mark_counts(flow, counts);
+    }
+
     /// Counts what was counted of all flows, which were closed.
     pub(crate) fn count_all_closed(&mut self, flows: &[FlowCounts]) {
         for flow in 0..flows.len() {
-            self.count_closed(flow, flows[flow]);
-            self.mark_counts(flow, flows[flow]);
+            self.count_last(flow, flows[flow]);
         }
     }
 
@@ -298,11 +321,13 @@ impl CaptureTally {
         let (Some(text), Some(writer)) = (self.requests.take(), writer) else {
             return;
         };
-        match text.finish() {
-            Ok(lines) if write_text(writer, &lines).is_ok() => {
-                self.requests = Some(TextBuffer::new(alloc));
-            }
-            _ => self.lost_requests = true,
+        let Ok(lines) = text.finish() else {
+            self.lost_requests = Some(EngineFault::OutOfMemory);
+            return;
+        };
+        match write_text(writer, &lines) {
+            Ok(()) => self.requests = Some(TextBuffer::new(alloc)),
+            Err(_) => self.lost_requests = Some(EngineFault::Write),
         }
     }
 }

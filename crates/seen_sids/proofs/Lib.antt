@@ -1,3 +1,3 @@
 pub mod Places
 pub mod Twins
-pub mod PutLines
+pub mod PutRows

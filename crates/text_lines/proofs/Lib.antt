@@ -12,4 +12,5 @@ pub mod DigitLanes
 pub mod DigitBlocks
 pub mod DigitsWritten
 pub mod DigitValues
+pub mod PutTexts
 pub mod SpelledBytes

@@ -1,9 +1,10 @@
 -- The digits of some bytes and of others after them.
-use Rattle.std.proofs.Common.{◌≡◌, ℕ, ◌/◌, ◌%◌, List, [], ◌∷◌, ◌++◌, take, drop, length, refl, sym, ap, subst, ◌∙◌, append_assoc, append-nil, arith}
+use Rattle.std.proofs.Common.{◌≡◌, ℕ, ◌/◌, ◌%◌, List, [], ◌∷◌, ◌++◌, take, drop, length, refl, sym, ap, subst, ◌∙◌, append-nil, arith}
 use Rattle.std.specs.Prelude.{slice_index}
 use Rattle.std.proofs.lemmas.List.{take-append-drop}
 use Rattle.hex.specs.Hex.{encode_with, encode_lower, lower_digits}
 use Rattle.text_lines.specs.Putting.{Puts}
+use Rattle.text_lines.proofs.PutTexts.{puts-then}
 
 -- bytes are spelled one after the other
 encode_with-append : (t xs ys : List ℕ) → encode_with t (xs ++ ys) ≡ encode_with t xs ++ encode_with t ys
@@ -20,17 +21,12 @@ no_digits [] none = refl
 no_digits (x ∷ xs) none = absurd (omega (arith, none))
 
 module _ {T : Type 0} (after : T → List ℕ → T → Type 0) where
-  -- one text was put, and another behind it
-  pub puts-both : (first middle last : T) (more others : List ℕ) → Puts after first more middle → Puts after middle others last → Puts after first (more ++ others) last
-  puts-both first middle last more others puts others_put start text was =
-      subst (λ (all : List ℕ). after start all last) (append_assoc text more others) (others_put start (text ++ more) (puts start text was))
-
   -- the digits of the first of some bytes were put, and those of the others behind them
   pub puts-spelled : (first middle last : T) (count : ℕ) (bytes front back : List ℕ) → front ≡ take count bytes → back ≡ drop count bytes
       → Puts after first (encode_lower front) middle → Puts after middle (encode_lower back) last → Puts after first (encode_lower bytes) last
   puts-spelled first middle last count bytes front back front_is back_is puts others_put =
       subst (λ (all : List ℕ). Puts after first all last) (sym (encode_lower_append front back) ∙ ap encode_lower whole)
-      (puts-both first middle last (encode_lower front) (encode_lower back) puts others_put)
+      (puts-then after puts others_put)
     where
       whole : front ++ back ≡ bytes
       whole = ap (λ (t : List ℕ). t ++ back) front_is ∙ ap (λ (t : List ℕ). take count bytes ++ t) back_is ∙ take-append-drop count bytes

@@ -1,5 +1,6 @@
 -- What is put to a text.
-use Rattle.std.specs.Prelude.{◌≡◌, ℕ, IsTrue, List, ◌++◌, codes}
+use Rattle.std.specs.Prelude.{◌≡◌, ℕ, IsTrue, List, ◌++◌, codes, flat_map}
+use Rattle.std.specs.List.{enumerate_from}
 use Rattle.std.specs.Fmt.{decimal}
 use Rattle.text_lines.specs.declared.text_buffer.TextBuffer.{TextBuffer}
 
@@ -14,6 +15,10 @@ IsClosed {T} after now = (more : List ℕ) → Puts after now more now
 -- a text in memory that is whole was whole before, and grew by just what was put
 abbrev pub HasGrown : TextBuffer → List ℕ → TextBuffer → Type 0
 HasGrown start text end = IsTrue end.whole → IsTrue start.whole × (end.text.items ≡ start.text.items ++ text)
+
+-- the texts of items one behind another, each made with the item's place
+abbrev pub numbered_texts : {T : Type 0} → (ℕ → T → List ℕ) → List T → List ℕ
+numbered_texts text items = flat_map (λ one. text one.0 one.1) (enumerate_from 0 items)
 
 -- a space and a number
 abbrev pub spaced : ℕ → List ℕ

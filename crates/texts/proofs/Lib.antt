@@ -8,7 +8,6 @@ pub mod OneCutFault
 pub mod TextLengths
 pub mod PutSoFar
 pub mod CutOfLines
-pub mod NumberedLines
 pub mod TraceFields
 pub mod OneTraceLine
 pub mod LastElement

@@ -13,8 +13,8 @@ use Rattle.lane.specs.declared.report.LaneReport.{LaneReport}
 use Rattle.receiver.specs.declared.outcome.Outcome.{Outcome}
 use Rattle.receiver.specs.SameOutcome.{GaveTheSame, ReportTheSame, IsSameOutcome}
 use Rattle.text_lines.specs.Lines.{line_feed}
-use Rattle.text_lines.specs.Putting.{spaced}
-use Rattle.texts.specs.Report.{named, counts_text, frame_line, flow_lines, request_line, refused_text, lane_line, numbered_lines, report_text}
+use Rattle.text_lines.specs.Putting.{spaced, numbered_texts}
+use Rattle.texts.specs.Report.{named, counts_text, frame_line, flow_lines, request_line, refused_text, lane_line, report_text}
 
 -- the lines of items are those of others, if those of each place are
 lines_from_same : {T : Type 0} (lines : ℕ → T → List ℕ) (n : ℕ) (items others : List T) → length items ≡ length others
@@ -32,10 +32,10 @@ lines_from_same lines n (item ∷ items) (other ∷ others) same each =
     in
     ap (λ front. front ++ flat_map (λ one. lines one.0 one.1) (enumerate_from (n + 1) items)) here ∙ ap (λ more. lines n other ++ more) rest
 
-numbered_lines_same : {T : Type 0} (lines : ℕ → T → List ℕ) (items others : List T) → length items ≡ length others
+numbered_texts_same : {T : Type 0} (lines : ℕ → T → List ℕ) (items others : List T) → length items ≡ length others
     → ((k : ℕ) (item other : T) → slice_get items k ≡ Some item → slice_get others k ≡ Some other → lines k item ≡ lines k other)
-    → numbered_lines lines items ≡ numbered_lines lines others
-numbered_lines_same lines items others same each =
+    → numbered_texts lines items ≡ numbered_texts lines others
+numbered_texts_same lines items others same each =
     let from = λ (k : ℕ). let place : k ≡ 0 + k = omega arith in place in
     lines_from_same lines 0 items others same
     (λ k one another at also. subst (λ place. lines place one ≡ lines place another) (from k) (each k one another at also))
@@ -67,7 +67,7 @@ pub report_text_same : (outcome other : Outcome) → length outcome.requests ≡
     → length outcome.lanes ≡ channel_limit → length other.lanes ≡ channel_limit → IsSameOutcome outcome other → report_text outcome ≡ report_text other
 report_text_same outcome other requests more lanes others same =
     let flows =
-    numbered_lines_same flow_lines outcome.flows.items other.flows.items same.count
+    numbered_texts_same flow_lines outcome.flows.items other.flows.items same.count
     (λ k flow another at also. flow_lines_same k flow another (same.flows k flow another at also))
     in
     let lists = λ (o : Outcome). map (λ requests. requests.items) o.requests in
@@ -86,11 +86,11 @@ report_text_same outcome other requests more lanes others same =
     ∙ flat_map-map (flat_map request_line) (λ requests. requests.items) other.requests
     in
     let lane_lines =
-    numbered_lines_same lane_line outcome.lanes other.lanes (lanes ∙ sym others)
+    numbered_texts_same lane_line outcome.lanes other.lanes (lanes ∙ sym others)
     (λ k lane another at also.
     let below : k < channel_limit = omega (arith, slice_get_within outcome.lanes k lane at, lanes) in
     lane_line_same k lane another (same.reports k lane another below at also))
     in
-    ap (λ front. front ++ flat_map (λ requests. flat_map request_line requests.items) outcome.requests ++ numbered_lines lane_line outcome.lanes) flows
-    ∙ ap (λ middle. numbered_lines flow_lines other.flows.items ++ middle ++ numbered_lines lane_line outcome.lanes) request_lines
-    ∙ ap (λ last. numbered_lines flow_lines other.flows.items ++ flat_map (λ requests. flat_map request_line requests.items) other.requests ++ last) lane_lines
+    ap (λ front. front ++ flat_map (λ requests. flat_map request_line requests.items) outcome.requests ++ numbered_texts lane_line outcome.lanes) flows
+    ∙ ap (λ middle. numbered_texts flow_lines other.flows.items ++ middle ++ numbered_texts lane_line outcome.lanes) request_lines
+    ∙ ap (λ last. numbered_texts flow_lines other.flows.items ++ flat_map (λ requests. flat_map request_line requests.items) other.requests ++ last) lane_lines

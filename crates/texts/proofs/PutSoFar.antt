@@ -6,8 +6,9 @@ use Rattle.docsis_wire.specs.CutUnderWay.{CutUnderWay, HasMade}
 use Rattle.docsis_wire.specs.declared.segment.Segment.{Segment}
 use Rattle.hex.specs.Hex.{encode_lower}
 use Rattle.text_lines.specs.Putting.{Puts}
-use Rattle.text_lines.proofs.SpelledBytes.{puts-both, encode_lower_append}
+use Rattle.text_lines.proofs.SpelledBytes.{encode_lower_append}
 use Rattle.texts.specs.Cut.{segment_line}
+use Rattle.text_lines.proofs.PutTexts.{puts-then}
 
 module _ {T : Type 0} (after : T → List ℕ → T → Type 0) where
   -- the lines of the segments that were given were put
@@ -25,7 +26,7 @@ module _ {T : Type 0} (after : T → List ℕ → T → Type 0) where
     put = subst (λ (all : List ℕ). Puts after start all now)
         (ap (λ (last : List ℕ). flat_map segment_line so_far.segments ++ last) (sym (append-nil (segment_line segment)))
         ∙ sym (flat_map-append segment_line so_far.segments (segment ∷ [])))
-        (puts-both after start middle now (flat_map segment_line so_far.segments) (segment_line segment) so_far.put one);
+        (puts-then after so_far.put one);
   }
 
   -- the digits of a payload's front were put, and this is what is left of it
@@ -41,7 +42,7 @@ module _ {T : Type 0} (after : T → List ℕ → T → Type 0) where
     front = so_far.front ++ part;
     whole = append_assoc so_far.front part rest ∙ ap (λ (t : List ℕ). so_far.front ++ t) (sym is) ∙ so_far.whole;
     put = subst (λ (all : List ℕ). Puts after start all now) (sym (encode_lower_append so_far.front part))
-        (puts-both after start middle now (encode_lower so_far.front) (encode_lower part) so_far.put one);
+        (puts-then after so_far.put one);
   }
 
   -- nothing is left: the whole was put

@@ -23,8 +23,8 @@ use Rattle.texts.specs.AnyHeader.{any_header, no_check}
 use Rattle.texts.specs.Happening.{given_line, happening_lines}
 use Rattle.texts.specs.Happened.{AreHandedIn, HasHappened, HappenedBy, HappenedAt, happening_of, AreNumbered}
 use Rattle.texts.specs.Replay.{IsSetupOf}
-use Rattle.text_lines.specs.Putting.{spaced}
-use Rattle.texts.specs.Report.{named, flow_line, numbered_lines}
+use Rattle.text_lines.specs.Putting.{spaced, numbered_texts}
+use Rattle.texts.specs.Report.{named, flow_line}
 use Rattle.texts.specs.Trace.Line.{shape_of}
 use Rattle.texts.specs.Trace.Place.{Said, nothing_said_in, trace_format}
 
@@ -45,7 +45,7 @@ tally_line channel tally =
 
 -- the lines of what was counted of each flow, and of each channel
 abbrev pub closed_lines : Setup → Closed → List ℕ
-closed_lines setup closed = numbered_lines (closed_flow setup.flows.items) closed.flows.items ++ numbered_lines tally_line closed.lanes.items
+closed_lines setup closed = numbered_texts (closed_flow setup.flows.items) closed.flows.items ++ numbered_texts tally_line closed.lanes.items
 
 -- the lines of what happened by a line, with events or without
 abbrev pub told_lines : Bool → HappenedAt → List ℕ

@@ -1,6 +1,5 @@
 -- The report of an outcome, line by line.
 use Rattle.std.specs.Prelude.{ℕ, List, [], ◌∷◌, ◌++◌, flat_map, codes}
-use Rattle.std.specs.List.{enumerate_from}
 use Rattle.hex.specs.Hex.{encode_lower}
 use Rattle.flow_core.specs.declared.counts.FlowCounts.{FlowCounts}
 use Rattle.lane.specs.declared.admitted.Request.{Request}
@@ -50,13 +49,9 @@ lane_line channel lane =
     codes "lane" ++ spaced channel ++ named (codes "admitted") lane.admitted ++ codes " refused" ++ refused_text lane.refused.items
     ++ line_feed ∷ []
 
--- the lines of items, each made with its place
-abbrev pub numbered_lines : {T : Type 0} → (ℕ → T → List ℕ) → List T → List ℕ
-numbered_lines lines items = flat_map (λ one. lines one.0 one.1) (enumerate_from 0 items)
-
 -- The report of an outcome: the lines of each flow and its frames, of each channel's requests, and of each lane.
 abbrev pub report_text : Outcome → List ℕ
 report_text outcome =
-    numbered_lines flow_lines outcome.flows.items
+    numbered_texts flow_lines outcome.flows.items
     ++ flat_map (λ requests. flat_map request_line requests.items) outcome.requests
-    ++ numbered_lines lane_line outcome.lanes
+    ++ numbered_texts lane_line outcome.lanes

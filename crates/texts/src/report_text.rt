@@ -1,8 +1,7 @@
 //! The report of an outcome.
 ghost use Rattle.std.specs.Prelude.{◌≡◌, flat_map, IfOk};
-ghost use Rattle.text_lines.specs.Putting.{Puts};
-ghost use Rattle.texts.specs.Report.{frame_line, flow_lines, request_line, lane_line};
-ghost use Rattle.texts.specs.Report.{numbered_lines, report_text};
+ghost use Rattle.text_lines.specs.Putting.{Puts, numbered_texts};
+ghost use Rattle.texts.specs.Report.{frame_line, flow_lines, request_line, lane_line, report_text};
 
 use crate::report_lines::{put_flow_line, put_frame_line, put_lane_line, put_request_line};
 use docsis_wire::Bytes;
@@ -25,7 +24,7 @@ fn put_frames<O: PutText>(out: &mut O, k: usize, frames: &[Bytes])
 
 /// Puts the lines of flows and of their frames.
 fn put_flows<O: PutText>(out: &mut O, flows: &[FlowOutcome])
-    ensures { Puts O.after out.old (numbered_lines flow_lines flows.now) out.new }
+    ensures { Puts O.after out.old (numbered_texts flow_lines flows.now) out.new }
 {
     for (k, flow) in flows.iter().enumerate() {
         put_flow_line(out, k, flow.sfid, &flow.counts);
@@ -54,7 +53,7 @@ fn put_channels<O: PutText>(out: &mut O, channels: &[Vec<Request>])
 
 /// Puts the lines of lanes.
 fn put_lanes<O: PutText>(out: &mut O, lanes: &[LaneReport])
-    ensures { Puts O.after out.old (numbered_lines lane_line lanes.now) out.new }
+    ensures { Puts O.after out.old (numbered_texts lane_line lanes.now) out.new }
 {
     for (channel, lane) in lanes.iter().enumerate() {
         put_lane_line(out, channel, lane);

@@ -1,5 +1,6 @@
 //! The consumer that keeps times.
-ghost use Rattle.std.specs.Prelude.{◌≡◌, ◌<◌, [], ◌∷◌, ◌++◌, Some, None, Option, MatchOption, IfSome, IfOk, IsTrue, slice_get, length};
+ghost use Rattle.std.specs.Prelude.{◌≡◌, ◌<◌, ◌≤◌, [], ◌∷◌, ◌++◌, length, vec_capacity};
+ghost use Rattle.std.specs.Prelude.{Some, None, Option, MatchOption, IfSome, IfOk, IsTrue, slice_get};
 ghost use Rattle.timed_frames.specs.declared.timed_step.TimedStep.{TimedStep};
 ghost use Rattle.timed_frames.specs.Seen.{HasSeenNothing, HasSeen, HasGiven, Keeps};
 
@@ -11,6 +12,9 @@ use docsis_wire::Bytes;
 use flow_core::FlowCounts;
 use lane::Request;
 use std::alloc::{AllocError, Global};
+
+/// For so many steps at most room is kept once they are let go.
+const KEPT_ROOM: usize = 256;
 
 /// Keeps what it is given of a capture, with times, until that is let go.
 ///
@@ -53,13 +57,18 @@ impl TimedFrames {
         &self.waiting
     }
 
-    /// Lets go of what waits. The room for it stays, so that what comes next asks for none.
-    pub fn let_go(&mut self)
+    /// Lets go of what waits. Room for 256 steps stays at most, so that what comes next asks for
+    /// none.
+    pub fn let_go(&mut self, alloc: Global)
         ensures none_waits { self.new.waiting.items ≡ [] }
+        ensures room { vec_capacity self.new.waiting ≤ 256 }
         ensures lasts { self.new.lasts ≡ self.old.lasts }
         ensures whole { self.new.whole ≡ self.old.whole }
     {
         self.waiting.clear();
+        if self.waiting.capacity() > KEPT_ROOM {
+            self.waiting = Vec::new(alloc);
+        }
     }
 
     /// The burst of a flow that was handed in last.

@@ -23,7 +23,7 @@ struct Joined {
     /// How many bytes of frames and of lines of requests were taken.
     frames: usize,
     lines: usize,
-    lost_requests: bool,
+    lost_requests: Option<EngineFault>,
 }
 
 /// What comes of the capture where it is joined into arrays, a piece of 50 bytes after another, or
@@ -74,7 +74,7 @@ fn join_into(alloc: Global, frames: &mut [u8], lines: &mut [u8]) -> Joined {
             done: Err(fault),
             frames: 0,
             lines: 0,
-            lost_requests: false,
+            lost_requests: None,
         },
     }
 }
@@ -98,8 +98,9 @@ fn are_whole_lines(bytes: &[u8], count: usize) -> bool {
 fn a_capture_is_joined(rt: HostRuntime) -> Result<(), Fail> {
     let (mut frames, mut lines) = ([0u8; 96], [0u8; 80]);
     let mut joined = join_into(rt.alloc(), &mut frames, &mut lines);
-    if joined.done == Err(EngineFault::OutOfMemory) || joined.lost_requests {
+    if joined.done == Err(EngineFault::OutOfMemory) || joined.lost_requests.is_some() {
         println!(rt; "refused")?;
+        assert!(rt; joined.lost_requests.is_none_or(|why| why == EngineFault::OutOfMemory));
         assert!(rt; are_whole_records(&frames, joined.frames));
         assert!(rt; are_whole_lines(&lines, joined.lines));
         assert!(rt; joined.done.is_err() || joined.frames == 96);
@@ -110,7 +111,7 @@ fn a_capture_is_joined(rt: HostRuntime) -> Result<(), Fail> {
         done: Ok(()),
         frames: 96,
         lines: 80,
-        lost_requests: false,
+        lost_requests: None,
     };
     assert!(rt; joined == wanted);
     assert!(rt; frames == FRAMES_APART && lines == REQUESTS_APART);
@@ -281,7 +282,7 @@ fn what_waits_is_whole_or_says_so(rt: HostRuntime) -> Result<(), Fail> {
     }
     assert!(rt; timed.is_whole());
     assert!(rt; timed.waiting().len() == usize::from(BURSTS) && are_in_order(timed.waiting()));
-    timed.let_go();
+    timed.let_go(rt.alloc());
     assert!(rt; timed.waiting().is_empty());
     Ok(())
 }

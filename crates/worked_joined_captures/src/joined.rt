@@ -130,7 +130,7 @@ fn a_capture_is_counted(rt: HostRuntime) -> Result<(), Fail> {
     for channel in &summary.channels {
         assert!(rt; channel.bursts == 1 && channel.admitted == 1 && channel.refused.is_empty());
     }
-    assert!(rt; !joined.tally.lost_requests());
+    assert!(rt; joined.tally.lost_requests().is_none());
     Ok(())
 }
 

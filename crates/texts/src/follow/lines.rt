@@ -1,9 +1,8 @@
 //! The lines of what is followed.
 ghost use Rattle.std.specs.Prelude.{flat_map};
-ghost use Rattle.text_lines.specs.Putting.{Puts};
+ghost use Rattle.text_lines.specs.Putting.{Puts, numbered_texts};
 ghost use Rattle.texts.specs.Follow.{tally_line, closed_flow, closed_lines};
 ghost use Rattle.texts.specs.Happening.{given_line, happening_lines};
-ghost use Rattle.texts.specs.Report.{numbered_lines};
 
 use super::event_lines::put_event;
 use super::happening::Happening;
@@ -60,7 +59,7 @@ fn put_flow<O: PutText>(out: &mut O, records: &[FlowRecord], k: usize, counts: &
 /// Puts the lines of what was counted of flows.
 fn put_flows<O: PutText>(out: &mut O, records: &[FlowRecord], flows: &[FlowCounts])
     ensures { Puts O.after out.old
-        (numbered_lines (closed_flow records.now) flows.now) out.new }
+        (numbered_texts (closed_flow records.now) flows.now) out.new }
 {
     for (k, counts) in flows.iter().enumerate() {
         put_flow(out, records, k, counts);
@@ -80,7 +79,7 @@ fn put_tally<O: PutText>(out: &mut O, channel: usize, tally: &LaneTally)
 
 /// Puts the lines of what was counted of channels.
 fn put_tallies<O: PutText>(out: &mut O, tallies: &[LaneTally])
-    ensures { Puts O.after out.old (numbered_lines tally_line tallies.now) out.new }
+    ensures { Puts O.after out.old (numbered_texts tally_line tallies.now) out.new }
 {
     for (channel, tally) in tallies.iter().enumerate() {
         put_tally(out, channel, tally);

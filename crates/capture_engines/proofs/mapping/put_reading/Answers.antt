@@ -1,6 +1,6 @@
 use Rattle.std.proofs.Common.{[], ◌++◌, cond, sym, subst, ◌∙◌}
 use Rattle.text_lines.specs.Putting.{Puts}
-use Rattle.text_lines.proofs.SpelledBytes.{puts-both}
+use Rattle.text_lines.proofs.PutTexts.{puts-then}
 use Rattle.registered_map.specs.Holding.{registered_in}
 use Rattle.registered_map.specs.MapText.{map_text}
 use Rattle.seen_sids.specs.Seen.{seen_in}
@@ -18,7 +18,7 @@ returns g c =
     elim c.if-is_empty.branch [
       | then-is_empty w ↦
           subst (λ b. Puts A old (cond b (seen_text seen) [] ++ map_text map) new) (sym (sym c.is_empty.ensures ∙ w.if-is_empty.true))
-          (puts-both A old c.if-is_empty.out new (seen_text seen) (map_text map) (subst (λ o. Puts A old (seen_text seen) o) (sym w.out-is) w.put_seen.ensures) c.put_map.ensures)
+          (puts-then A (subst (λ o. Puts A old (seen_text seen) o) (sym w.out-is) w.put_seen.ensures) c.put_map.ensures)
       | else-is_empty w ↦
           subst (λ b. Puts A old (cond b (seen_text seen) [] ++ map_text map) new) (sym (sym c.is_empty.ensures ∙ w.if-is_empty.false))
           (subst (λ o. Puts A o (map_text map) new) w.out-is c.put_map.ensures)

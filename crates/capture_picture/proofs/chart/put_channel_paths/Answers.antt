@@ -1,6 +1,6 @@
 use Rattle.capture_picture.specs.Charts.{channel_path}
 use Rattle.capture_picture.specs.declared.picture.PictureChannel.{PictureChannel}
-use Rattle.capture_picture.proofs.PutTexts.{puts-one-more-numbered}
+use Rattle.text_lines.proofs.PutTexts.{puts-one-more-numbered}
 use Rattle.capture_picture.proofs.chart.put_channel_paths.Goals as goal
 
 pub loop-place-preserved : goal.loop-place-preserved

@@ -3,7 +3,7 @@ use Rattle.capture_picture.specs.Marking.{no_marks}
 use Rattle.capture_picture.specs.Grid.{stroke_left}
 use Rattle.capture_picture.specs.Charts.{stroke_text}
 use Rattle.capture_picture.specs.declared.column.Column.{Column}
-use Rattle.capture_picture.proofs.PutTexts.{puts-one-more-numbered}
+use Rattle.text_lines.proofs.PutTexts.{puts-one-more-numbered}
 use Rattle.capture_picture.proofs.chart.put_channel_strokes.Goals as goal
 
 pub loop-at-preserved : goal.loop-at-preserved

@@ -1,4 +1,4 @@
-use Rattle.capture_picture.proofs.PutTexts.{puts-then}
+use Rattle.text_lines.proofs.PutTexts.{puts-then}
 use Rattle.capture_picture.proofs.panel.put_index_labels.Goals as goal
 
 pub returns : goal.returns

@@ -3,7 +3,7 @@ use Rattle.capture_picture.specs.Marking.{kept_within, no_marks, count_of_mark}
 use Rattle.capture_picture.specs.Grid.{column_left}
 use Rattle.capture_picture.specs.Panel.{mark_stroke}
 use Rattle.capture_picture.specs.declared.column.Column.{Column}
-use Rattle.capture_picture.proofs.PutTexts.{puts-one-more-numbered}
+use Rattle.text_lines.proofs.PutTexts.{puts-one-more-numbered}
 use Rattle.capture_picture.proofs.panel.put_mark_strokes.Goals as goal
 
 pub loop-at-preserved : goal.loop-at-preserved

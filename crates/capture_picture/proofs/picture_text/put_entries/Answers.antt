@@ -1,6 +1,6 @@
 use Rattle.capture_picture.specs.PictureText.{entry_text}
 use Rattle.capture_picture.specs.declared.picture.PictureChannel.{PictureChannel}
-use Rattle.capture_picture.proofs.PutTexts.{puts-one-more-numbered}
+use Rattle.text_lines.proofs.PutTexts.{puts-one-more-numbered}
 use Rattle.capture_picture.proofs.picture_text.put_entries.Goals as goal
 
 pub loop-place-preserved : goal.loop-place-preserved

@@ -1,5 +1,5 @@
 use Rattle.std.proofs.lemmas.Bool.{ne_eqb}
-use Rattle.capture_picture.proofs.PutTexts.{puts-then}
+use Rattle.text_lines.proofs.PutTexts.{puts-then}
 use Rattle.capture_picture.proofs.picture_text.put_others.Goals as goal
 
 pub returns : goal.returns

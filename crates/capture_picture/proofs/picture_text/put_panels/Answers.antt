@@ -2,7 +2,7 @@ use Rattle.std.proofs.Common.{◌+◌, ◌*◌, length}
 use Rattle.capture_picture.specs.ShownFlow.{ShownFlow}
 use Rattle.capture_picture.specs.Panel.{panel_text}
 use Rattle.capture_picture.specs.PictureText.{panels_top}
-use Rattle.capture_picture.proofs.PutTexts.{puts-one-more-numbered}
+use Rattle.text_lines.proofs.PutTexts.{puts-one-more-numbered}
 use Rattle.capture_picture.proofs.picture_text.put_panels.Goals as goal
 
 pub loop-place-preserved : goal.loop-place-preserved

@@ -1,7 +1,6 @@
 use Rattle.std.proofs.Common.{◌+◌, ◌*◌, length, take}
-use Rattle.text_lines.specs.Putting.{Puts}
+use Rattle.text_lines.specs.Putting.{Puts, numbered_texts}
 use Rattle.capture_picture.specs.ShownFlow.{ShownFlow}
-use Rattle.capture_picture.specs.Svg.{numbered_texts}
 use Rattle.capture_picture.specs.Panel.{panel_text}
 use Rattle.capture_picture.specs.PictureText.{panels_top}
 use Rattle.capture_picture.proofs.picture_text.put_panels.Given as goal

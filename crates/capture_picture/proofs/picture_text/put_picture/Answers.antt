@@ -4,7 +4,7 @@ use Rattle.capture_picture.specs.Picture.{picture_in}
 use Rattle.capture_picture.specs.Grid.{end_of}
 use Rattle.capture_picture.specs.PictureText.{picture_height, panels_text}
 use Rattle.capture_picture.specs.declared.grid.Grid.{Grid}
-use Rattle.capture_picture.proofs.PutTexts.{puts-then}
+use Rattle.text_lines.proofs.PutTexts.{puts-then}
 use Rattle.capture_picture.proofs.picture_text.put_picture.Goals as goal
 
 pub returns : goal.returns

@@ -1,6 +1,6 @@
 use Rattle.capture_summary.specs.Counting.{new_flow}
 use Rattle.capture_summary.specs.Report.{flow_lines}
-use Rattle.capture_summary.proofs.PutLines.{puts-then, puts-one-more-numbered}
+use Rattle.text_lines.proofs.PutTexts.{puts-then, puts-one-more-numbered}
 use Rattle.capture_summary.proofs.report.put_flows.Goals as goal
 
 pub loop-k-preserved : goal.loop-k-preserved

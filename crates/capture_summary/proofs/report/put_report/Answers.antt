@@ -1,4 +1,4 @@
-use Rattle.capture_summary.proofs.PutLines.{puts-then}
+use Rattle.text_lines.proofs.PutTexts.{puts-then}
 use Rattle.capture_summary.proofs.report.put_report.Goals as goal
 
 pub returns : goal.returns

@@ -1,5 +1,5 @@
 use Rattle.std.proofs.lemmas.Bool.{ne_eqb}
-use Rattle.capture_summary.proofs.PutLines.{puts-then}
+use Rattle.text_lines.proofs.PutTexts.{puts-then}
 use Rattle.capture_summary.proofs.summary_text.put_counted_line.Goals as goal
 
 pub returns : goal.returns

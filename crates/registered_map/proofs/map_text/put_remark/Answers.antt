@@ -1,4 +1,4 @@
-use Rattle.registered_map.proofs.PutLines.{puts-then}
+use Rattle.text_lines.proofs.PutTexts.{puts-then}
 use Rattle.registered_map.proofs.map_text.put_remark.Goals as goal
 
 pub returns : goal.returns

@@ -1,5 +1,5 @@
 use Rattle.std.proofs.lemmas.Bool.{ne_eqb}
-use Rattle.seen_sids.proofs.PutLines.{puts-then}
+use Rattle.text_lines.proofs.PutTexts.{puts-then}
 use Rattle.seen_sids.proofs.seen_text.put_others.Goals as goal
 
 pub returns : goal.returns

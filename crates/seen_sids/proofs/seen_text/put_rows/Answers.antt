@@ -1,6 +1,6 @@
 use Rattle.std.proofs.Common.{None, []}
 use Rattle.seen_sids.specs.declared.seen_sid.SeenSid.{SeenSid}
-use Rattle.seen_sids.proofs.PutLines.{puts-row}
+use Rattle.seen_sids.proofs.PutRows.{puts-row}
 use Rattle.seen_sids.proofs.seen_text.put_rows.Goals as goal
 
 pub loop-place-preserved : goal.loop-place-preserved

@@ -1,4 +1,4 @@
-use Rattle.seen_sids.proofs.PutLines.{puts-then}
+use Rattle.text_lines.proofs.PutTexts.{puts-then}
 use Rattle.seen_sids.proofs.seen_text.put_twin.Goals as goal
 
 pub returns-in-Some : goal.returns-in-Some

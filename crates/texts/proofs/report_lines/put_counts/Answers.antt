@@ -1,4 +1,4 @@
-use Rattle.texts.proofs.PutLines.{puts-then}
+use Rattle.text_lines.proofs.PutTexts.{puts-then}
 use Rattle.texts.proofs.report_lines.put_counts.Goals as goal
 
 pub returns : goal.returns

@@ -1,7 +1,7 @@
 use Rattle.std.proofs.Common.{take}
-use Rattle.text_lines.specs.Putting.{Puts}
-use Rattle.texts.specs.Report.{lane_line, numbered_lines}
+use Rattle.text_lines.specs.Putting.{Puts, numbered_texts}
+use Rattle.texts.specs.Report.{lane_line}
 use Rattle.texts.proofs.report_text.put_lanes.Given as goal
 
 abbrev pub invariant-loop-channel : goal.invariant-loop-channel
-invariant-loop-channel g l = Puts g.O.PutText.after l.fn.out (numbered_lines lane_line (take l.channel l.lanes)) l.out
+invariant-loop-channel g l = Puts g.O.PutText.after l.fn.out (numbered_texts lane_line (take l.channel l.lanes)) l.out

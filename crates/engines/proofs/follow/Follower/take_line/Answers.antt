@@ -5,11 +5,11 @@ use Rattle.text_lines.specs.Putting.{Puts}
 use Rattle.texts.specs.Happening.{happening_lines}
 use Rattle.texts.specs.Happened.{happening_of}
 use Rattle.std.proofs.lemmas.Result.{err_from_is_err_and}
-use Rattle.texts.proofs.PutLines.{puts-nothing}
 use Rattle.engines.specs.declared.fault.EngineFault.TheVariants.{OutOfMemory}
 use Rattle.engines.specs.Inside.Following.{HasFollowedSoFar, all_at}
 use Rattle.engines.proofs.NumberedHappenings.{lines_at}
 use Rattle.engines.proofs.FollowedLines.{retaken, taken_told, told_above, fault_of_piece, followed_line}
+use Rattle.text_lines.proofs.PutTexts.{puts-nothing}
 use Rattle.engines.proofs.follow.Follower.take_line.Goals as goal
 
 pub returns-in_err-take_piece : goal.returns-in_err-take_piece

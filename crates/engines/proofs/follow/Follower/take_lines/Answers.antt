@@ -6,10 +6,10 @@ use Rattle.std.proofs.lemmas.Result.{err_from_is_err_and}
 use Rattle.text_lines.specs.Putting.{Puts}
 use Rattle.texts.specs.Follow.{told_lines}
 use Rattle.texts.specs.Happened.{HappenedAt}
-use Rattle.texts.proofs.PutLines.{puts-nothing, puts-then}
 use Rattle.engines.specs.Following.{IsTextOfFront}
 use Rattle.engines.specs.Inside.Following.{HasFollowedBytes, IsFollowFault}
 use Rattle.engines.proofs.FollowedLines.{front_of_two, fault_of_two}
+use Rattle.text_lines.proofs.PutTexts.{puts-nothing, puts-then}
 use Rattle.engines.proofs.follow.Follower.take_lines.Goals as goal
 
 -- the lines of two lists were put

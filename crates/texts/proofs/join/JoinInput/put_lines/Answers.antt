@@ -1,6 +1,6 @@
 use Rattle.std.proofs.Common.{refl}
 use Rattle.texts.specs.Join.{frame_line}
-use Rattle.texts.proofs.PutLines.{puts-closed}
+use Rattle.text_lines.proofs.PutTexts.{puts-closed}
 use Rattle.texts.proofs.join.JoinInput.put_lines.Goals as goal
 
 pub returns-then-is_closed : goal.returns-then-is_closed

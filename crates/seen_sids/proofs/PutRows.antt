@@ -1,15 +1,10 @@
--- Texts that are put one behind another.
+-- Rows that are put one behind another.
 use Rattle.std.proofs.Common.{◌≡◌, ℕ, ◌+◌, ◌<◌, List, [], ◌∷◌, ◌++◌, length, take, get_or, sym, ap, subst, ◌∙◌, append-nil, append_assoc}
 use Rattle.std.proofs.lemmas.List.{take_more}
 use Rattle.text_lines.specs.Putting.{Puts}
 use Rattle.seen_sids.specs.declared.seen_sid.SeenSid.{SeenSid}
 use Rattle.seen_sids.specs.SeenText.{row_line, rows_after, rows_text}
-use Rattle.text_lines.proofs.SpelledBytes.{puts-both}
-
-module _ {T : Type 0} (after : T → List ℕ → T → Type 0) where
-  -- one text was put, and another behind it
-  pub puts-then : {first middle last : T} {more others : List ℕ} → Puts after first more middle → Puts after middle others last → Puts after first (more ++ others) last
-  puts-then {first} {middle} {last} {more} {others} puts next = puts-both after first middle last more others puts next
+use Rattle.text_lines.proofs.PutTexts.{puts-then}
 
 -- the line of the row behind those that are there
 rows_after-push : (above rows : List SeenSid) (row : SeenSid) → rows_after above (rows ++ row ∷ []) ≡ rows_after above rows ++ row_line (above ++ rows) row
@@ -31,4 +26,4 @@ module _ {T : Type 0} (after : T → List ℕ → T → Type 0) where
       let row = get_or rows place any in
       subst (λ (all : List ℕ). Puts after first all last)
       (sym (rows_text-push (take place rows) row) ∙ ap rows_text (sym (take_more rows place any within)))
-      (puts-both after first middle last (rows_text (take place rows)) (row_line (take place rows) row) puts one)
+      (puts-then after puts one)

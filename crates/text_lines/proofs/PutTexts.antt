@@ -1,12 +1,10 @@
 -- Texts that are put one behind another.
-use Rattle.std.proofs.Common.{◌≡◌, ℕ, ◌+◌, ◌<◌, List, [], ◌∷◌, ◌++◌, length, take, get_or, sym, ap, subst, ◌∙◌, append-nil, add-zero, arith, length-take}
+use Rattle.std.proofs.Common.{◌≡◌, ℕ, ◌+◌, ◌<◌, List, [], ◌∷◌, ◌++◌, length, take, drop, get_or, sym, ap, subst, ◌∙◌, append_assoc, append-nil, add-zero, arith, length-take}
 use Rattle.std.specs.Prelude.{flat_map}
 use Rattle.std.specs.List.{enumerate_from}
-use Rattle.std.proofs.lemmas.List.{take_more}
+use Rattle.std.proofs.lemmas.List.{take_more, take-append-drop}
 use Rattle.std.proofs.lemmas.Grind.{flat_map-append}
-use Rattle.text_lines.specs.Putting.{Puts}
-use Rattle.text_lines.proofs.SpelledBytes.{puts-both}
-use Rattle.capture_picture.specs.Svg.{numbered_texts}
+use Rattle.text_lines.specs.Putting.{Puts, IsClosed, numbered_texts}
 
 -- one more item has the next place
 enumerate_from-push : {T : Type 0} → (n : ℕ) (items : List T) (item : T)
@@ -27,9 +25,14 @@ numbered_texts-push {T} text items item =
     ∙ ap (λ others. numbered_texts text items ++ others) (append-nil (text (0 + length items) item) ∙ ap (λ k. text k item) place)
 
 module _ {T : Type 0} (after : T → List ℕ → T → Type 0) where
+  -- nothing was put
+  pub puts-nothing : (now : T) → Puts after now [] now
+  puts-nothing now start text was = subst (λ (all : List ℕ). after start all now) (sym (append-nil text)) was
+
   -- one text was put, and another behind it
   pub puts-then : {first middle last : T} {more others : List ℕ} → Puts after first more middle → Puts after middle others last → Puts after first (more ++ others) last
-  puts-then {first} {middle} {last} {more} {others} puts next = puts-both after first middle last more others puts next
+  puts-then {first} {middle} {last} {more} {others} puts next start text was =
+      subst (λ (all : List ℕ). after start all last) (append_assoc text more others) (next start (text ++ more) (puts start text was))
 
   -- the text of one more item was put
   pub puts-one-more : {A : Type 0} (items : List A) (i : ℕ) (any : A) → i < length items → (text : A → List ℕ) (first middle last : T)
@@ -39,7 +42,15 @@ module _ {T : Type 0} (after : T → List ℕ → T → Type 0) where
       subst (λ (all : List ℕ). Puts after first all last)
       (ap (λ (t : List ℕ). flat_map text (take i items) ++ t) (sym (append-nil (text item))) ∙ sym (flat_map-append text (take i items) (item ∷ []))
       ∙ ap (flat_map text) (sym (take_more items i any within)))
-      (puts-both after first middle last (flat_map text (take i items)) (text item) puts one)
+      (puts-then puts one)
+
+  -- what takes the text is closed: the texts of the other items make no difference
+  pub puts-closed : {A : Type 0} (text : A → List ℕ) (items : List A) (i : ℕ) (first middle : T) → Puts after first (flat_map text (take i items)) middle
+      → IsClosed after middle → Puts after first (flat_map text items) middle
+  puts-closed {A} text items i first middle puts closed =
+      subst (λ (all : List ℕ). Puts after first all middle)
+      (sym (flat_map-append text (take i items) (drop i items)) ∙ ap (flat_map text) (take-append-drop i items))
+      (puts-then puts (closed (flat_map text (drop i items))))
 
   -- the text of one more item was put, made with its place
   pub puts-one-more-numbered : {A : Type 0} (items : List A) (i : ℕ) (any : A) → i < length items → (text : ℕ → A → List ℕ)
@@ -50,7 +61,7 @@ module _ {T : Type 0} (after : T → List ℕ → T → Type 0) where
       subst (λ (all : List ℕ). Puts after first all last)
       (ap (λ (k : ℕ). numbered_texts text (take i items) ++ text k item) (sym place) ∙ sym (numbered_texts-push text (take i items) item)
       ∙ ap (numbered_texts text) (sym (take_more items i any within)))
-      (puts-both after first middle last (numbered_texts text (take i items)) (text i item) puts one)
+      (puts-then puts one)
     where
       place : length (take i items) ≡ i
       place = omega (arith, length-take i items, within)
