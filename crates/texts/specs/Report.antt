@@ -7,7 +7,7 @@ use Rattle.receiver.specs.declared.outcome.FlowOutcome.{FlowOutcome}
 use Rattle.lane.specs.declared.report.LaneReport.{LaneReport}
 use Rattle.receiver.specs.declared.outcome.Outcome.{Outcome}
 use Rattle.text_lines.specs.Lines.{line_feed}
-use Rattle.text_lines.specs.Putting.{spaced}
+use Rattle.text_lines.specs.Putting.{spaced, numbered_texts}
 
 -- a space, a word, a space and a number
 abbrev pub named : List ℕ → ℕ → List ℕ
