@@ -54,7 +54,7 @@ _segrx() {
             ;;
         *)
             if ((COMP_CWORD == 1)); then
-                words="join cut replay run follow map capture $(_segrx_options)"
+                words="join cut replay run follow map capture $(_segrx_options "")"
             elif [[ ${COMP_WORDS[1]} == capture && $word != -* ]] && ! _segrx_has_map; then
                 compopt -o default
                 return
