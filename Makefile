@@ -1,8 +1,8 @@
 # `make help` lists the targets with what they do.
 .PHONY: run install install-strip uninstall deb try quick check test bench mutants soak help
 
-# Where `make install` puts what: the GNU coding standards' names, and the first ones in capitals too.
-# DESTDIR stands before each of these.
+# Where `make install` puts what, by the names of the GNU coding standards, most of them in capitals
+# too. DESTDIR stands before each folder.
 PREFIX = /usr/local
 prefix = $(PREFIX)
 exec_prefix = $(prefix)
@@ -23,7 +23,7 @@ INSTALL = install
 INSTALL_PROGRAM = $(INSTALL) -m 755
 INSTALL_DATA = $(INSTALL) -m 644
 
-SEGRX ?= crates/segrx/out/segrx
+program = $(or $(SEGRX),crates/segrx/out/segrx)
 placed_program = "$(DESTDIR)$(bindir)/segrx"
 placed_manual = "$(DESTDIR)$(man1dir)/segrx.1"
 placed_completion = "$(DESTDIR)$(bashcompletiondir)/segrx"
@@ -31,10 +31,10 @@ placed_completion = "$(DESTDIR)$(bashcompletiondir)/segrx"
 run: # proves and builds the program, crates side by side, runs it on the sample and leaves it at crates/segrx/out/segrx
 	@scripts/build
 
-install: # installs below PREFIX (/usr/local) what `make` left, with a man page and bash's completion; DESTDIR, BINDIR and the like
+install: # installs below PREFIX what `make` left, with man page and completion (DESTDIR, BINDIR ..)
 	@PYTHONDONTWRITEBYTECODE=1 scripts/build --check
 	mkdir -p "$(DESTDIR)$(bindir)" "$(DESTDIR)$(man1dir)" "$(DESTDIR)$(bashcompletiondir)"
-	$(INSTALL_PROGRAM) "$(SEGRX)" $(placed_program)
+	$(INSTALL_PROGRAM) "$(program)" $(placed_program)
 	$(INSTALL_DATA) docs/segrx.1 $(placed_manual)
 	$(INSTALL_DATA) completions/segrx.bash $(placed_completion)
 
