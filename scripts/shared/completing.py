@@ -23,10 +23,9 @@ def offered(lines):
     for words in lines:
         given.append(f"COMP_WORDS=(segrx {shlex.join(words)}) COMP_CWORD={len(words)} COMPREPLY=()")
         given.append("echo ==; _segrx segrx; printf '%s\\n' \"${COMPREPLY[@]}\"")
-    shell = ["bash", "-u", "-s"]
-    ran = subprocess.run(
-        shell, input="\n".join(given), capture_output=True, text=True, timeout=SECONDS
-    )
+    how = {"capture_output": True, "text": True, "timeout": SECONDS}
+    how["env"] = {**os.environ, "LC_ALL": "C.UTF-8"}
+    ran = subprocess.run(["bash", "-u", "-s"], input="\n".join(given), **how)
     registered, *answers = ran.stdout.split("==\n")
     if registered != "complete -F _segrx segrx\n" or ran.stderr or len(answers) != len(lines):
         raise SystemExit(f"completing: the completion says {registered}{ran.stderr}")
@@ -51,7 +50,7 @@ def terminal_in(folder):
     if child == 0:
         os.chdir(folder)
         given = {"PATH": os.environ["PATH"], "TERM": "dumb", "INPUTRC": "/dev/null"}
-        given |= {"HISTFILE": "", "PS1": "ready>"}
+        given |= {"HISTFILE": "", "PS1": "ready>", "LC_ALL": "C.UTF-8"}
         os.execvpe("bash", ["bash", "--norc", "--noprofile", "-i"], given)
     try:
         read_until(terminal, b"ready>")
