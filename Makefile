@@ -27,6 +27,7 @@ program = $(or $(SEGRX),crates/segrx/out/segrx)
 placed_program = "$(DESTDIR)$(bindir)/segrx"
 placed_manual = "$(DESTDIR)$(man1dir)/segrx.1"
 placed_completion = "$(DESTDIR)$(bashcompletiondir)/segrx"
+folders = "$(bindir)" "$(man1dir)" "$(bashcompletiondir)"
 
 run: # proves and builds the program, crates side by side, runs it on the sample and leaves it at crates/segrx/out/segrx
 	@scripts/build
@@ -41,8 +42,9 @@ install: # installs below PREFIX what `make` left, with man page and completion 
 install-strip:
 	$(MAKE) INSTALL_PROGRAM='$(INSTALL_PROGRAM) -s' install
 
-uninstall: # removes what `make install` put below PREFIX
+uninstall: # removes what `make install` put below PREFIX, and folders there that are empty then
 	rm -f $(placed_program) $(placed_manual) $(placed_completion)
+	@scripts/empty-folders "$(DESTDIR)" "$(prefix)" $(folders)
 
 deb: # makes a Debian package of what `make install` installs, in out/
 	@scripts/package
