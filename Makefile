@@ -1,8 +1,53 @@
 # `make help` lists the targets with what they do.
-.PHONY: run try quick check test bench mutants soak help
+.PHONY: run install install-strip uninstall deb try quick check test bench mutants soak help
+
+# Where `make install` puts what, by the names of the GNU coding standards, most of them in capitals
+# too. DESTDIR stands before each folder.
+PREFIX = /usr/local
+prefix = $(PREFIX)
+exec_prefix = $(prefix)
+BINDIR = $(exec_prefix)/bin
+bindir = $(BINDIR)
+LIBDIR = $(exec_prefix)/lib
+libdir = $(LIBDIR)
+INCLUDEDIR = $(prefix)/include
+includedir = $(INCLUDEDIR)
+DATAROOTDIR = $(prefix)/share
+datarootdir = $(DATAROOTDIR)
+MANDIR = $(datarootdir)/man
+mandir = $(MANDIR)
+man1dir = $(mandir)/man1
+pkgconfigdir = $(libdir)/pkgconfig
+bashcompletiondir = $(datarootdir)/bash-completion/completions
+INSTALL = install
+INSTALL_PROGRAM = $(INSTALL) -m 755
+INSTALL_DATA = $(INSTALL) -m 644
+
+program = $(or $(SEGRX),crates/segrx/out/segrx)
+placed_program = "$(DESTDIR)$(bindir)/segrx"
+placed_manual = "$(DESTDIR)$(man1dir)/segrx.1"
+placed_completion = "$(DESTDIR)$(bashcompletiondir)/segrx"
+folders = "$(bindir)" "$(man1dir)" "$(bashcompletiondir)"
 
 run: # proves and builds the program, crates side by side, runs it on the sample and leaves it at crates/segrx/out/segrx
 	@scripts/build
+
+install: # installs below PREFIX what `make` left, with man page and completion (DESTDIR, BINDIR ..)
+	@PYTHONDONTWRITEBYTECODE=1 scripts/build --check
+	mkdir -p "$(DESTDIR)$(bindir)" "$(DESTDIR)$(man1dir)" "$(DESTDIR)$(bashcompletiondir)"
+	$(INSTALL_PROGRAM) "$(program)" $(placed_program)
+	$(INSTALL_DATA) docs/segrx.1 $(placed_manual)
+	$(INSTALL_DATA) completions/segrx.bash $(placed_completion)
+
+install-strip:
+	$(MAKE) INSTALL_PROGRAM='$(INSTALL_PROGRAM) -s' install
+
+uninstall: # removes what `make install` put below PREFIX, and folders there that are empty then
+	rm -f $(placed_program) $(placed_manual) $(placed_completion)
+	@scripts/empty-folders "$(DESTDIR)" "$(prefix)" $(folders)
+
+deb: # makes a Debian package of what `make install` installs, in out/
+	@scripts/package
 
 try: # replays an example without a proof
 	@scripts/try
