@@ -212,7 +212,7 @@ where
     ensures { (outcome : Result (Unit {0}) CaptureCommandFault)
         × (result ≡ status_of_outcome outcome)
         × ComesOf R.remaining O.contents F.File.remaining
-            (map S.text words.now) reader out outcome }
+        (map S.text words.now) reader out outcome }
 {
     let mut reader = Device::new(reader);
     let mut out = Device::new(out);

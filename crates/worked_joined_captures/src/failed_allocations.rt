@@ -100,7 +100,11 @@ fn a_capture_is_joined(rt: HostRuntime) -> Result<(), Fail> {
     let mut joined = join_into(rt.alloc(), &mut frames, &mut lines);
     if joined.done == Err(EngineFault::OutOfMemory) || joined.lost_requests.is_some() {
         println!(rt; "refused")?;
-        assert!(rt; joined.lost_requests.is_none_or(|why| why == EngineFault::OutOfMemory));
+        assert!(rt;
+            joined
+                .lost_requests
+                .is_none_or(|why| why == EngineFault::OutOfMemory)
+        );
         assert!(rt; are_whole_records(&frames, joined.frames));
         assert!(rt; are_whole_lines(&lines, joined.lines));
         assert!(rt; joined.done.is_err() || joined.frames == 96);
