@@ -4,33 +4,36 @@ ghost use Rattle.delivery.specs.Feeders.{feeder_ring};
 ghost use Rattle.uplink.specs.Inside.Feeding.{HasOffered, Offers};
 
 use consumer::Consumer;
+use crossbeam_utils::sync::EventCount;
 use delivery::Feeder;
 use docsis_wire::Bytes;
 use lane::Request;
 use std::alloc::{AllocError, Global};
 use workers::flush_all;
 
-/// The feeders of all flows. Each frame that it is given is offered to the feeder of its flow; a
-/// request is none of its business.
+/// The feeders of all flows. Each frame that it is given is offered to the feeder of its flow, of
+/// which whoever takes frames is told; a request is none of its business.
 ///
 /// It is whole as long as each frame was offered. For one there may be no memory in the backlog of
 /// its feeder, or no feeder; from then on it isn't whole.
 #[derive(Drop)]
-pub struct Feeding {
+pub struct Feeding<'a> {
     pub feeders: Vec<Feeder>,
     pub whole: bool,
+    pub offered: &'a EventCount,
 }
 
-impl Feeding {
-    /// Moves what the backlogs hold into the rings for as long as they have room.
-    pub fn flush(&mut self)
+impl Feeding<'_> {
+    /// Moves what the backlogs hold into the rings for as long as they have room. It says whether
+    /// frames are left.
+    pub fn flush(&mut self) -> bool
         ensures { HasOffered self.old [] self.new }
     {
-        flush_all(&mut self.feeders);
+        flush_all(&mut self.feeders, self.offered)
     }
 }
 
-impl Consumer for Feeding {
+impl Consumer for Feeding<'_> {
     ghost after = { HasOffered };
 
     fn frame(&mut self, flow: usize, frame: Bytes) {
@@ -38,6 +41,7 @@ impl Consumer for Feeding {
         if !offer(alloc, &mut self.feeders, flow, frame) {
             self.whole = false;
         }
+        self.offered.notify_one();
     }
 
     fn request(&mut self, _request: Request) {}
