@@ -21,7 +21,7 @@ use flow_core::{Event, FlowCounts};
 use mailbox::{Mouth, Taken};
 use std::alloc::{AllocError, Global};
 use std::sync::Wait;
-use workers::{Item, RoomMade, Signals, Waiting, close_feeders};
+use workers::{Item, MouthWait, Signals, close_feeders};
 
 /// All flows, and the order of the items that were taken so far.
 #[derive(Drop)]
@@ -105,26 +105,20 @@ fn take_items<C: HeaderCheck + Drop, R: Wait>(
         flows,
         order: Vec::new(alloc),
     });
-    let mut room = RoomMade::in_mailbox(signals.arrivals());
-    let mut waiting = Waiting::on(signals.arrivals().posted());
+    let mut wait = MouthWait::at(signals.arrivals());
     for _ in rt.forever() {
         if mouth.all_ended() {
             break;
         }
         match mouth.next(rt) {
             Taken::Item { from, item } => {
-                room.note();
-                waiting.end();
+                wait.took();
                 taking = with_item(alloc, taking, feeding, from, item);
             }
-            Taken::End { .. } => {
-                room.note();
-                waiting.end();
-            }
+            Taken::End { .. } => wait.took(),
             Taken::Empty => {
-                room.tell();
                 signals.want_room(feeding.flush());
-                waiting.pause(rt);
+                wait.pause(rt);
             }
         }
     }

@@ -13,7 +13,7 @@
 //! 3. [`start_team`] starts all workers, and [`Team::join`] waits for them and hands on what they
 //!    have [`Done`].
 //! 4. Meanwhile the caller takes [`Item`]s and drives the feeders: [`flush_all`] and
-//!    [`close_feeders`]. It waits by [`Waiting`] and tells of room by [`RoomMade`].
+//!    [`close_feeders`]. It waits by [`MouthWait`].
 //! 5. [`settle_rings`] settles the rings.
 #![tactic(auto)]
 
@@ -24,10 +24,10 @@ mod frame_worker;
 mod item;
 mod lane_worker;
 mod mailboxes;
+mod mouth_wait;
 mod request_worker;
 mod retry;
 mod rings;
-mod room;
 mod signals;
 mod source;
 mod start_word;
@@ -42,12 +42,11 @@ pub use frame_worker::Consumed;
 pub use item::Item;
 pub use lane_worker::LaneDone;
 pub use mailboxes::{OpenMailbox, open_mailbox};
+pub use mouth_wait::MouthWait;
 pub use request_worker::Scheduled;
 pub use rings::{Rings, open_rings, settle_rings};
-pub use room::RoomMade;
 pub use signals::{MailboxSignals, Signals};
 pub use source::{Decisions, ListDecisions, ListSource, Source, Sources};
 pub use tap::{NoTap, Tap, Taps};
 pub use team::{Done, Team, start_team};
-pub use waiting::Waiting;
 pub use work::{Lanes, Share, Work};

@@ -2,9 +2,9 @@
 ghost use Rattle.std.specs.Prelude.{◌≡◌, IfOk, IfSome, Some};
 ghost use Rattle.workers.specs.Inside.Working.{DidSchedule, KeepsOneMore};
 
+use crate::mouth_wait::MouthWait;
 use crate::signals::Signals;
 use crate::tap::Tap;
-use crate::waiting::Waiting;
 use lane::{CHANNELS, Request};
 use mailbox::{Mouth, Taken};
 use std::alloc::{AllocError, Global};
@@ -75,23 +75,19 @@ fn serve_requests<Q: Tap<Request> + Drop, R: Wait>(
         Vec::new(alloc),
         Vec::new(alloc),
     ]);
-    let mut waiting = Waiting::on(signals.requests().posted());
+    let mut wait = MouthWait::at(signals.requests());
     for _ in rt.forever() {
         if mouth.all_ended() {
             break;
         }
         match mouth.next(rt) {
             Taken::Item { from, item } => {
-                signals.requests().taken().notify_one();
-                waiting.end();
+                wait.took();
                 tap.took(item.flow, &item);
                 requests = with_request(requests, from, item);
             }
-            Taken::End { .. } => {
-                signals.requests().taken().notify_one();
-                waiting.end();
-            }
-            Taken::Empty => waiting.pause(rt),
+            Taken::End { .. } => wait.took(),
+            Taken::Empty => wait.pause(rt),
         }
     }
     let requests = requests?;

@@ -11,7 +11,7 @@ use std::sync::Arc;
 pub struct MailboxSignals {
     posted: EventCount,
     taken: EventCount,
-    untold: u16,
+    quiet: u16,
 }
 
 /// What the caller and all workers share. Nothing is claimed of it.
@@ -30,12 +30,12 @@ struct Shared {
 }
 
 impl MailboxSignals {
-    /// Of a mailbox with room for so many entries.
-    fn of(capacity: u16) -> MailboxSignals {
+    /// Of a mailbox of whose takes so many aren't told before the next one is.
+    fn new(quiet: u16) -> MailboxSignals {
         MailboxSignals {
             posted: EventCount::new(),
             taken: EventCount::new(),
-            untold: (capacity / 2).saturating_sub(1),
+            quiet,
         }
     }
 
@@ -49,19 +49,20 @@ impl MailboxSignals {
         &self.taken
     }
 
-    /// After how many takes of which those aren't told that wait for room they are told of the next.
-    pub fn untold(&self) -> u16 {
-        self.untold
+    /// Of how many takes its ports aren't told before they are told of the next one.
+    pub fn quiet(&self) -> u16 {
+        self.quiet
     }
 }
 
 impl Signals {
-    /// For mailboxes with room for so many entries.
+    /// For mailboxes with room for so many entries. Of arrivals ports are told whenever half of the
+    /// mailbox was taken, of requests of each, since a tap may hold the next take up.
     pub fn new(alloc: Global, capacity: u16) -> Result<Signals, AllocError> {
         let shared = Shared {
             start: StartWord::new(),
-            arrivals: MailboxSignals::of(capacity),
-            requests: MailboxSignals::of(capacity),
+            arrivals: MailboxSignals::new((capacity / 2).saturating_sub(1)),
+            requests: MailboxSignals::new(0),
             offered: EventCount::new(),
             wants_room: AtomicCell::new(false),
         };
