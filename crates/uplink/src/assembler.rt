@@ -72,7 +72,7 @@ pub fn assemble<C: HeaderCheck + Drop, R: Wait>(
     let mut feeding = Feeding {
         feeders,
         whole: true,
-        offered: signals.offered(),
+        told: signals.offered(),
     };
     let taking = take_items(alloc, rt, signals, flows, &mut mouth, &mut feeding);
     let done = close_flows(alloc, taking, &mut feeding);

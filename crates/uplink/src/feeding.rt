@@ -20,7 +20,7 @@ use workers::flush_all;
 pub struct Feeding<'a> {
     pub feeders: Vec<Feeder>,
     pub whole: bool,
-    pub offered: &'a EventCount,
+    pub told: &'a EventCount,
 }
 
 impl Feeding<'_> {
@@ -29,7 +29,7 @@ impl Feeding<'_> {
     pub fn flush(&mut self) -> bool
         ensures { HasOffered self.old [] self.new }
     {
-        flush_all(&mut self.feeders, self.offered)
+        flush_all(&mut self.feeders, self.told)
     }
 }
 
@@ -38,24 +38,31 @@ impl Consumer for Feeding<'_> {
 
     fn frame(&mut self, flow: usize, frame: Bytes) {
         let alloc = *self.feeders.allocator();
-        if !offer(alloc, &mut self.feeders, flow, frame) {
+        if !offer(alloc, &mut self.feeders, flow, frame, self.told) {
             self.whole = false;
         }
-        self.offered.notify_one();
     }
 
     fn request(&mut self, _request: Request) {}
 }
 
-/// Offers a frame to the feeder of this index, and says whether it did.
-fn offer(alloc: Global, feeders: &mut [Feeder], flow: usize, frame: Bytes) -> bool
+/// Offers a frame to the feeder of this index, says whether it did, and tells whoever takes.
+fn offer(
+    alloc: Global,
+    feeders: &mut [Feeder],
+    flow: usize,
+    frame: Bytes,
+    told: &EventCount,
+) -> bool
     ensures rings { map feeder_ring feeders.new ≡ map feeder_ring feeders.old }
     ensures offers { IsTrue result → Offers feeders.old flow frame feeders.new }
 {
     if flow >= feeders.len() {
         return false;
     }
-    feeders[flow].offer(own_copy(alloc, frame)).is_ok()
+    let is_offered = feeders[flow].offer(own_copy(alloc, frame)).is_ok();
+    told.notify_one();
+    is_offered
 }
 
 /// The frame in memory of its own size, or as it is where that memory can't be had. What a channel's

@@ -10,20 +10,20 @@ use std::sync::Wait;
 
 /// Moves what the backlogs hold into the rings for as long as they have room, and tells of it. It
 /// says whether frames are left.
-pub fn flush_all(feeders: &mut [Feeder], offered: &EventCount) -> bool
+pub fn flush_all(feeders: &mut [Feeder], told: &EventCount) -> bool
     ensures rings { map feeder_ring feeders.new ≡ map feeder_ring feeders.old }
     ensures offered { map offered feeders.new ≡ map offered feeders.old }
 {
     let mut are_left = false;
     for feeder in feeders.iter_mut() {
-        let left = flush(feeder, offered);
+        let left = flush(feeder, told);
         are_left = are_left || left;
     }
     are_left
 }
 
 /// Flushes one feeder.
-fn flush(feeder: &mut Feeder, offered: &EventCount) -> bool
+fn flush(feeder: &mut Feeder, told: &EventCount) -> bool
     ensures ring { feeder_ring feeder.new ≡ feeder_ring feeder.old }
     ensures offered { offered feeder.new ≡ offered feeder.old }
 {
@@ -31,7 +31,7 @@ fn flush(feeder: &mut Feeder, offered: &EventCount) -> bool
         return false;
     }
     let left = feeder.flush();
-    offered.notify_one();
+    told.notify_one();
     left > 0
 }
 
