@@ -43,7 +43,7 @@ pub fn open_all<C: HeaderCheck + Drop>(
     let closed = Vec::with_capacity(alloc, setup.flows.len());
     let arrivals = open_mailbox(alloc, setup.mailbox);
     let requests = open_mailbox(alloc, setup.mailbox);
-    let signals = Signals::new(alloc, setup.mailbox);
+    let signals = Signals::new(alloc);
     let before = both_made(signals, both_made(lanes, flows));
     let between = both_made(rings, closed);
     let mailboxes = both_made(arrivals, requests);

@@ -61,7 +61,7 @@ fn wait_to_close<R: Wait>(rt: &R, signals: &Signals, feeder: Feeder) -> ClosedFe
     ensures offered { closed_offered result ≡ offered feeder }
 {
     let mut feeder = feeder;
-    let mut waiting = Waiting::on(signals.arrivals().posted());
+    let mut waiting = Waiting::on(&signals.arrivals().posted);
     for _ in rt.forever() {
         let tried = feeder.close();
         signals.offered().notify_one();

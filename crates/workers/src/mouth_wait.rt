@@ -1,20 +1,14 @@
-//! Waiting at the mouth of a mailbox, and telling those who wait for room in it.
+//! Waiting at the mouth of a mailbox.
 use crate::signals::MailboxSignals;
 use crate::waiting::Waiting;
 use std::sync::Wait;
 
-/// The waits of the one who takes from a mailbox, and what it took since it told those of it that
-/// wait for room.
-///
-/// It tells them before it waits itself, and besides as often as the mailbox's signals say. If that
-/// is once for several entries, they fill the mailbox again while something is left to take, and
-/// aren't woken for each entry; between two takes nothing may then be waited for, since they aren't
-/// told of the first.
+/// The waits of the one who takes from a mailbox. It tells those who wait for room of each take: for
+/// anything may be waited for between two takes, as a tap or a check that is held up does.
 #[derive(Drop)]
 pub struct MouthWait<'a> {
     mailbox: &'a MailboxSignals,
     waiting: Waiting<'a>,
-    quiet: u16,
 }
 
 impl<'a> MouthWait<'a> {
@@ -22,30 +16,18 @@ impl<'a> MouthWait<'a> {
     pub fn at(mailbox: &'a MailboxSignals) -> MouthWait<'a> {
         MouthWait {
             mailbox,
-            waiting: Waiting::on(mailbox.posted()),
-            quiet: mailbox.quiet(),
+            waiting: Waiting::on(&mailbox.posted),
         }
     }
 
     /// To be called after each take that gave an entry.
     pub fn took(&mut self) {
         self.waiting.end();
-        if self.quiet == 0 {
-            self.tell();
-        } else {
-            self.quiet -= 1;
-        }
+        self.mailbox.taken.notify_all();
     }
 
     /// To be called after each take that found nothing. It waits as [`Waiting::pause`] does.
     pub fn pause<R: Wait>(&mut self, rt: &R) {
-        self.tell();
         self.waiting.pause(rt);
-    }
-
-    /// Tells those who wait for room.
-    fn tell(&mut self) {
-        self.quiet = self.mailbox.quiet();
-        self.mailbox.taken().notify_all();
     }
 }

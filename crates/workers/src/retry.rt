@@ -14,11 +14,11 @@ pub fn post_item<T: Drop, R: Wait>(rt: &R, mailbox: &MailboxSignals, port: &mut 
     ensures posted { posted port.new ≡ posted port.old ++ item ∷ [] }
 {
     let mut item = item;
-    let mut waiting = Waiting::on(mailbox.taken());
+    let mut waiting = Waiting::on(&mailbox.taken);
     for _ in rt.forever() {
         match port.post(rt, item) {
             Ok(()) => {
-                mailbox.posted().notify_one();
+                mailbox.posted.notify_one();
                 return;
             }
             Err(Full(back)) => item = back,
@@ -37,11 +37,11 @@ pub fn close_port<T: Drop, R: Wait>(
     ensures { HasPosted port [] result }
 {
     let mut port = port;
-    let mut waiting = Waiting::on(mailbox.taken());
+    let mut waiting = Waiting::on(&mailbox.taken);
     for _ in rt.forever() {
         match port.close(rt) {
             Ok(closed) => {
-                mailbox.posted().notify_one();
+                mailbox.posted.notify_one();
                 return closed;
             }
             Err(back) => port = back,

@@ -9,9 +9,19 @@ use std::sync::Arc;
 /// What is told of a mailbox.
 #[derive(Drop)]
 pub struct MailboxSignals {
-    posted: EventCount,
-    taken: EventCount,
-    quiet: u16,
+    /// An entry was posted. The one who takes waits for it.
+    pub posted: EventCount,
+    /// An entry was taken. Who found no room waits for it.
+    pub taken: EventCount,
+}
+
+impl MailboxSignals {
+    fn new() -> MailboxSignals {
+        MailboxSignals {
+            posted: EventCount::new(),
+            taken: EventCount::new(),
+        }
+    }
 }
 
 /// What the caller and all workers share. Nothing is claimed of it.
@@ -29,40 +39,13 @@ struct Shared {
     wants_room: AtomicCell<bool>,
 }
 
-impl MailboxSignals {
-    /// Of a mailbox of whose takes so many aren't told before the next one is.
-    fn new(quiet: u16) -> MailboxSignals {
-        MailboxSignals {
-            posted: EventCount::new(),
-            taken: EventCount::new(),
-            quiet,
-        }
-    }
-
-    /// What its mouth waits for.
-    pub fn posted(&self) -> &EventCount {
-        &self.posted
-    }
-
-    /// What its ports wait for.
-    pub fn taken(&self) -> &EventCount {
-        &self.taken
-    }
-
-    /// Of how many takes its ports aren't told before they are told of the next one.
-    pub fn quiet(&self) -> u16 {
-        self.quiet
-    }
-}
-
 impl Signals {
-    /// For mailboxes with room for so many entries. Of arrivals ports are told whenever half of the
-    /// mailbox was taken, of requests of each, since a tap may hold the next take up.
-    pub fn new(alloc: Global, capacity: u16) -> Result<Signals, AllocError> {
+    /// Of a receiver whose workers wait for the start.
+    pub fn new(alloc: Global) -> Result<Signals, AllocError> {
         let shared = Shared {
             start: StartWord::new(),
-            arrivals: MailboxSignals::new((capacity / 2).saturating_sub(1)),
-            requests: MailboxSignals::new(0),
+            arrivals: MailboxSignals::new(),
+            requests: MailboxSignals::new(),
             offered: EventCount::new(),
             wants_room: AtomicCell::new(false),
         };
@@ -93,7 +76,7 @@ impl Signals {
         &self.shared.requests
     }
 
-    /// What the consumers' worker waits for: that a frame or an end mark was put into a ring.
+    /// A frame or an end mark was put into a ring. The consumers' worker waits for it.
     pub fn offered(&self) -> &EventCount {
         &self.shared.offered
     }
@@ -103,7 +86,7 @@ impl Signals {
         self.shared.wants_room.store(wants);
     }
 
-    /// Frames were taken out of rings.
+    /// Frames were taken out of rings. The assembler is told as of an arrival, if it wants room.
     pub fn tell_of_room(&self) {
         if self.shared.wants_room.load() {
             self.shared.arrivals.posted.notify_one();
