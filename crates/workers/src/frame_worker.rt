@@ -175,18 +175,17 @@ fn take_frames<F: Tap<Bytes> + Drop, R: Wait>(
     let mut tap = tap;
     let mut waiting = Waiting::on(signals.offered());
     for _ in rt.forever() {
-        match look_at_all(all.as_mut_slice(), &mut tap) {
+        let look = look_at_all(all.as_mut_slice(), &mut tap);
+        match look {
             Look::Closed => return all,
             Look::NothingYet => waiting.pause(rt),
-            Look::Took => {
+            Look::Took | Look::TookSome => {
                 signals.tell_of_room();
                 waiting.end();
             }
-            Look::TookSome => {
-                signals.tell_of_room();
-                waiting.end();
-                thread::yield_now();
-            }
+        }
+        if look == Look::TookSome {
+            thread::yield_now();
         }
     }
     unreachable!()

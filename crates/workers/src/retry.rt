@@ -17,10 +17,7 @@ pub fn post_item<T: Drop, R: Wait>(rt: &R, mailbox: &MailboxSignals, port: &mut 
     let mut waiting = Waiting::on(&mailbox.taken);
     for _ in rt.forever() {
         match port.post(rt, item) {
-            Ok(()) => {
-                mailbox.posted.notify_one();
-                return;
-            }
+            Ok(()) => return mailbox.posted.notify_one(),
             Err(Full(back)) => item = back,
         }
         waiting.pause(rt);

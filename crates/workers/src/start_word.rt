@@ -15,7 +15,7 @@ const STOP: u8 = 2;
 #[derive(Drop)]
 pub struct StartWord {
     cell: AtomicCell<u8>,
-    set: EventCount,
+    told: EventCount,
 }
 
 impl StartWord {
@@ -23,25 +23,28 @@ impl StartWord {
     pub fn new() -> StartWord {
         StartWord {
             cell: AtomicCell::new(HOLD),
-            set: EventCount::new(),
+            told: EventCount::new(),
         }
     }
 
     /// Tells the workers to begin.
     pub fn go(&self) {
-        self.cell.store(GO);
-        self.set.notify_all();
+        self.set(GO);
     }
 
     /// Tells the workers to return.
     pub fn stop(&self) {
-        self.cell.store(STOP);
-        self.set.notify_all();
+        self.set(STOP);
+    }
+
+    fn set(&self, word: u8) {
+        self.cell.store(word);
+        self.told.notify_all();
     }
 
     /// Waits until the word is set, and answers whether a worker is to go.
     pub fn is_go<R: Wait>(&self, rt: &R) -> bool {
-        let mut waiting = Waiting::on(&self.set);
+        let mut waiting = Waiting::on(&self.told);
         for _ in rt.forever() {
             match self.cell.load() {
                 HOLD => waiting.pause(rt),
