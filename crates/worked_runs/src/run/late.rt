@@ -1,14 +1,16 @@
 //! Threads that have gone to sleep when what they wait for comes.
 use super::numbered;
-use super::receivers::{no_decisions, no_taps, receive, receive_on_channel_0, sources_of};
+use super::receivers::{
+    no_decisions, no_inputs, no_taps, receive, receive_on_channel_0, sources_of,
+};
 use docsis_wire::{Bytes, HeaderCheck, NoCheck};
 use std::alloc::Global;
 use std::process::Abort;
 use std::sync::Wait;
 use std::test::Fail;
-use std::thread;
 use std::thread::Threads;
 use std::time::{Clock, Duration};
+use std::{fs, thread};
 use uplink::{
     Decision, Decisions, Input, ListSource, Lists, NoTap, Outcome, Request, RunFault, Source, Tap,
     Taps, run,
@@ -23,15 +25,24 @@ const LATE: u64 = 5;
 struct Late<T, R> {
     given: T,
     rt: R,
+    milliseconds: u64,
 }
 
 impl<T, R: Clock> Late<T, R> {
     fn new(given: T, rt: R) -> Late<T, R> {
-        Late { given, rt }
+        Late::by(given, rt, LATE)
+    }
+
+    fn by(given: T, rt: R, milliseconds: u64) -> Late<T, R> {
+        Late {
+            given,
+            rt,
+            milliseconds,
+        }
     }
 
     fn be_late(&self) {
-        thread::sleep(&self.rt, Duration::from_millis(LATE));
+        thread::sleep(&self.rt, Duration::from_millis(self.milliseconds));
     }
 }
 
@@ -140,6 +151,32 @@ where
 fn channels_are_woken_by_a_late_assembler(rt: HostRuntime) -> Result<(), Fail> {
     let outcome = receive_checked_late(rt.alloc(), rt, 16)?;
     numbered::expect_all(&rt, &outcome, 16);
+    Ok(())
+}
+
+/// Where the system says how long this process has had a processor.
+const STAT: &str = "/proc/self/stat";
+
+/// How many hundredths of a second that is, by the process itself and by the system for it: the
+/// twelfth and the thirteenth field behind its name.
+fn processor_time(stat: &str) -> Option<u64> {
+    let (_, fields) = stat.rsplit_once(')')?;
+    let mut fields = fields.split_whitespace().skip(11);
+    let user = fields.next()?.parse::<u64>().ok()?;
+    let system = fields.next()?.parse::<u64>().ok()?;
+    user.checked_add(system)
+}
+
+/// A source comes late with its end, by 400 milliseconds, in which three threads wait. If they
+/// tried again all the time they would take 1.2 seconds of idle processors.
+#[test]
+fn sleepers_take_no_processor(rt: HostRuntime) -> Result<(), Fail> {
+    let before = processor_time(&fs::read_to_string(&rt, STAT)?);
+    let source = Late::by(no_inputs(rt.alloc()), rt, 400);
+    receive_on_channel_0(rt.alloc(), rt, source, no_taps())?;
+    let after = processor_time(&fs::read_to_string(&rt, STAT)?);
+    let (before, after) = (before.expect(&rt, STAT), after.expect(&rt, STAT));
+    assert!(rt; after < before.saturating_add(10), "{before}, then {after}");
     Ok(())
 }
 
