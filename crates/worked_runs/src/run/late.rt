@@ -185,7 +185,7 @@ fn sleepers_take_no_processor(rt: HostRuntime) -> Result<(), Fail> {
 /// this is `bench/run_soak`.
 #[test]
 fn no_run_of_many_stands_still(rt: HostRuntime) -> Result<(), Fail> {
-    for _ in 0..200_u8 {
+    for _ in 0..100_u8 {
         let setup = numbered::narrow(rt.alloc(), 16)?;
         let lists = numbered::lists(rt.alloc(), 8)?;
         let outcome = receive(rt.alloc(), rt, Trace { setup, lists })?;
