@@ -6,7 +6,12 @@ import os
 
 from shared.tree import path, read
 
-KINDS = {"mutants": "mutants/*/*.edit", "types": "mutants/*/refused-by-types/*.edit", "gate": "crates/*/must-fail/*.edit"}
+KINDS = {
+    "mutants": "mutants/*/*.edit",
+    "types": "mutants/*/refused-by-types/*.edit",
+    "tests": "mutants/*/refused-by-tests/*.edit",
+    "gate": "crates/*/must-fail/*.edit",
+}
 
 
 def edits_of(kind):

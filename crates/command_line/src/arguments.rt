@@ -102,8 +102,8 @@ fn replay_command<'a>(alloc: Global) -> Result<Command<'a>, AllocError> {
 
 /// The command `run` with its options.
 fn run_command<'a>(alloc: Global) -> Result<Command<'a>, AllocError> {
-    let mailbox = "Entries that a mailbox holds, 1 to 65535 [default: 16]";
-    let ring = "Frames that a ring holds, 1 to 65535 [default: 16]";
+    let mailbox = "Entries that a mailbox holds, 1 to 65535 [default: 1024]";
+    let ring = "Frames that a ring holds, 1 to 65535 [default: 1024]";
     let about = "Receives a trace on threads, and prints what each flow gave";
     let usage = "segrx run [--losses RULE] [--mailbox N] [--ring N] < TRACE > REPORT";
     command(alloc, "run", about, usage)

@@ -30,7 +30,7 @@ pub struct Refused(pub Vec<u8>);
 
 #[tactic(auto, using(crate::proofs::Sending::sending))]
 impl Feeder {
-    ghost use Rattle.std.specs.Prelude.{◌≡◌, ◌<◌, [], ◌∷◌, ◌++◌, length, IsOk, OnOk, OnErr, IfOk, IfErr};
+    ghost use Rattle.std.specs.Prelude.{◌≡◌, ◌<◌, ◌↔◌, [], ◌∷◌, ◌++◌, length, IsTrue, IsOk, OnOk, OnErr, IfOk, IfErr};
     ghost use Rattle.delivery.specs.Frames.{frames_in};
     ghost use Rattle.delivery.specs.Feeders.{feeder_ring, offered, backlog, room};
     ghost use Rattle.delivery.specs.Feeders.{closed_ring, closed_offered, IsPlaced, IsUnchanged, IsFlushed};
@@ -55,6 +55,13 @@ impl Feeder {
             Ok(()) => Ok(()),
             Err(failed) => Err(Refused(failed.value)),
         }
+    }
+
+    /// Whether frames wait in the backlog.
+    pub fn has_backlog(&self) -> bool
+        ensures { IsTrue result ↔ (0 < length (backlog self.now)) }
+    {
+        !self.backlog.is_empty()
     }
 
     /// Moves frames from the front of the backlog into the ring for as long as the ring has room.

@@ -3,4 +3,4 @@ use Rattle.std.specs.Prelude.{ℕ}
 
 -- the capacity of the rings and mailboxes of a receiver that is replayed, where none is asked for
 abbrev pub default_capacity : ℕ
-default_capacity = 16
+default_capacity = 1024

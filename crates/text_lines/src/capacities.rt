@@ -1,7 +1,7 @@
 //! How much room a receiver of a trace has.
 
 /// How many entries the mailboxes and rings have room for where nothing else is asked for.
-pub const DEFAULT_CAPACITY: u16 = 16;
+pub const DEFAULT_CAPACITY: u16 = 1024;
 
 /// How much room there is between a receiver's parts.
 #[derive(Clone, Copy, Debug, PartialEq, Eq)]

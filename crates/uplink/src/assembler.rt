@@ -21,8 +21,7 @@ use flow_core::{Event, FlowCounts};
 use mailbox::{Mouth, Taken};
 use std::alloc::{AllocError, Global};
 use std::sync::Wait;
-use std::thread;
-use workers::{Item, close_feeders};
+use workers::{Item, MouthWait, Signals, close_feeders};
 
 /// All flows, and the order of the items that were taken so far.
 #[derive(Drop)]
@@ -53,6 +52,7 @@ pub struct AssembledAll {
 pub fn assemble<C: HeaderCheck + Drop, R: Wait>(
     alloc: Global,
     rt: &R,
+    signals: &Signals,
     flows: FlowTable<C>,
     mouth: Mouth<Item>,
     feeders: Vec<Feeder>,
@@ -72,10 +72,11 @@ pub fn assemble<C: HeaderCheck + Drop, R: Wait>(
     let mut feeding = Feeding {
         feeders,
         whole: true,
+        told: signals.offered(),
     };
-    let taking = take_items(alloc, rt, flows, &mut mouth, &mut feeding);
+    let taking = take_items(alloc, rt, signals, flows, &mut mouth, &mut feeding);
     let done = close_flows(alloc, taking, &mut feeding);
-    let feeders = close_feeders(rt, feeding.feeders, closed);
+    let feeders = close_feeders(rt, signals, feeding.feeders, closed);
     AssembledAll {
         mouth,
         feeders,
@@ -88,9 +89,10 @@ pub fn assemble<C: HeaderCheck + Drop, R: Wait>(
 fn take_items<C: HeaderCheck + Drop, R: Wait>(
     alloc: Global,
     rt: &R,
+    signals: &Signals,
     flows: FlowTable<C>,
     mouth: &mut Mouth<Item>,
-    feeding: &mut Feeding,
+    feeding: &mut Feeding<'_>,
 ) -> Option<Taking<C>>
     requires { IsInUse C.accepts flows }
     ensures places { places mouth.new ≡ places mouth.old }
@@ -103,18 +105,20 @@ fn take_items<C: HeaderCheck + Drop, R: Wait>(
         flows,
         order: Vec::new(alloc),
     });
+    let mut wait = MouthWait::at(signals.arrivals());
     for _ in rt.forever() {
         if mouth.all_ended() {
             break;
         }
         match mouth.next(rt) {
             Taken::Item { from, item } => {
+                wait.took();
                 taking = with_item(alloc, taking, feeding, from, item);
             }
-            Taken::End { .. } => {}
+            Taken::End { .. } => wait.took(),
             Taken::Empty => {
-                feeding.flush();
-                thread::yield_now();
+                signals.want_room(feeding.flush());
+                wait.pause(rt);
             }
         }
     }
@@ -126,7 +130,7 @@ fn take_items<C: HeaderCheck + Drop, R: Wait>(
 fn with_item<C: HeaderCheck + Drop>(
     alloc: Global,
     taking: Option<Taking<C>>,
-    feeding: &mut Feeding,
+    feeding: &mut Feeding<'_>,
     from: u8,
     item: Item,
 ) -> Option<Taking<C>>
@@ -155,7 +159,7 @@ fn take_item<C: HeaderCheck + Drop>(
     alloc: Global,
     from: u8,
     item: Event,
-    feeding: &mut Feeding,
+    feeding: &mut Feeding<'_>,
 ) -> Option<()>
     requires in_use { IsInUse C.accepts flows.old }
     requires takable { IsTakable item }
@@ -188,7 +192,7 @@ fn take_segment<C: HeaderCheck + Drop>(
     flow: usize,
     channel: usize,
     segment: Segment,
-    feeding: &mut Feeding,
+    feeding: &mut Feeding<'_>,
 ) -> Option<()>
     requires in_use { IsInUse C.accepts flows.old }
     requires exists { flow < length flows.old.slots.items }
@@ -211,7 +215,7 @@ fn decide<C: HeaderCheck + Drop>(
     alloc: Global,
     flow: usize,
     decision: FlowDecision,
-    feeding: &mut Feeding,
+    feeding: &mut Feeding<'_>,
 ) -> Option<()>
     requires in_use { IsInUse C.accepts flows.old }
     requires exists { flow < length flows.old.slots.items }
@@ -230,7 +234,7 @@ fn decide<C: HeaderCheck + Drop>(
 fn close_flows<C: HeaderCheck + Drop>(
     alloc: Global,
     taking: Option<Taking<C>>,
-    feeding: &mut Feeding,
+    feeding: &mut Feeding<'_>,
 ) -> Option<Assembled>
     requires { IfSome taking (λ was. IsInUse C.accepts was.flows) }
     ensures rings { rings_of feeding.new ≡ rings_of feeding.old }
@@ -252,7 +256,7 @@ fn close_flows<C: HeaderCheck + Drop>(
 fn close_all<C: HeaderCheck + Drop>(
     alloc: Global,
     flows: &mut FlowTable<C>,
-    feeding: &mut Feeding,
+    feeding: &mut Feeding<'_>,
 ) -> Result<Vec<FlowCounts>, AllocError>
     requires { IsInUse C.accepts flows.old }
     ensures rings { rings_of feeding.new ≡ rings_of feeding.old }

@@ -227,7 +227,7 @@ where
         ∷ S3.gives sources.s3 ∷ []) (D.decides decisions)) opened) }
 {
     let Opened {
-        start,
+        signals,
         lanes,
         flows,
         rings,
@@ -236,7 +236,7 @@ where
         requests,
     } = opened;
     let share = Share {
-        start,
+        signals,
         lanes,
         arrivals: arrivals.ports,
         requests,
@@ -248,7 +248,15 @@ where
         mouth,
         feeders,
         done: assembled,
-    } = assemble(alloc, rt, flows, arrivals.mouth, rings.feeders, closed);
+    } = assemble(
+        alloc,
+        rt,
+        &team.signals,
+        flows,
+        arrivals.mouth,
+        rings.feeders,
+        closed,
+    );
     let Some((done, assembled)) = both_done(team.join(rt), assembled) else {
         return Err(AllocError);
     };

@@ -4,38 +4,41 @@ ghost use Rattle.delivery.specs.Feeders.{feeder_ring};
 ghost use Rattle.uplink.specs.Inside.Feeding.{HasOffered, Offers};
 
 use consumer::Consumer;
+use crossbeam_utils::sync::EventCount;
 use delivery::Feeder;
 use docsis_wire::Bytes;
 use lane::Request;
 use std::alloc::{AllocError, Global};
 use workers::flush_all;
 
-/// The feeders of all flows. Each frame that it is given is offered to the feeder of its flow; a
-/// request is none of its business.
+/// The feeders of all flows. Each frame that it is given is offered to the feeder of its flow, of
+/// which whoever takes frames is told; a request is none of its business.
 ///
 /// It is whole as long as each frame was offered. For one there may be no memory in the backlog of
 /// its feeder, or no feeder; from then on it isn't whole.
 #[derive(Drop)]
-pub struct Feeding {
+pub struct Feeding<'a> {
     pub feeders: Vec<Feeder>,
     pub whole: bool,
+    pub told: &'a EventCount,
 }
 
-impl Feeding {
-    /// Moves what the backlogs hold into the rings for as long as they have room.
-    pub fn flush(&mut self)
+impl Feeding<'_> {
+    /// Moves what the backlogs hold into the rings for as long as they have room. It says whether
+    /// frames are left.
+    pub fn flush(&mut self) -> bool
         ensures { HasOffered self.old [] self.new }
     {
-        flush_all(&mut self.feeders);
+        flush_all(&mut self.feeders, self.told)
     }
 }
 
-impl Consumer for Feeding {
+impl Consumer for Feeding<'_> {
     ghost after = { HasOffered };
 
     fn frame(&mut self, flow: usize, frame: Bytes) {
         let alloc = *self.feeders.allocator();
-        if !offer(alloc, &mut self.feeders, flow, frame) {
+        if !offer(alloc, &mut self.feeders, flow, frame, self.told) {
             self.whole = false;
         }
     }
@@ -43,15 +46,23 @@ impl Consumer for Feeding {
     fn request(&mut self, _request: Request) {}
 }
 
-/// Offers a frame to the feeder of this index, and says whether it did.
-fn offer(alloc: Global, feeders: &mut [Feeder], flow: usize, frame: Bytes) -> bool
+/// Offers a frame to the feeder of this index, says whether it did, and tells whoever takes.
+fn offer(
+    alloc: Global,
+    feeders: &mut [Feeder],
+    flow: usize,
+    frame: Bytes,
+    told: &EventCount,
+) -> bool
     ensures rings { map feeder_ring feeders.new ≡ map feeder_ring feeders.old }
     ensures offers { IsTrue result → Offers feeders.old flow frame feeders.new }
 {
     if flow >= feeders.len() {
         return false;
     }
-    feeders[flow].offer(own_copy(alloc, frame)).is_ok()
+    let is_offered = feeders[flow].offer(own_copy(alloc, frame)).is_ok();
+    told.notify_one();
+    is_offered
 }
 
 /// The frame in memory of its own size, or as it is where that memory can't be had. What a channel's

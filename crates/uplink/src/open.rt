@@ -10,13 +10,13 @@ use lane::{Lane, Request};
 use loss_rule::LossRule;
 use receiver::{Setup, Width};
 use std::alloc::{AllocError, Global};
-use workers::{Item, Lanes, OpenMailbox, Rings, StartWord, both_made, open_mailbox, open_rings};
+use workers::{Item, Lanes, OpenMailbox, Rings, Signals, both_made, open_mailbox, open_rings};
 
 /// What a receiver needs before its workers start. `closed` has room for a closed feeder of each
 /// flow.
 #[derive(Drop)]
 pub struct Opened<C> {
-    pub start: StartWord,
+    pub signals: Signals,
     pub lanes: Lanes,
     pub flows: FlowTable<C>,
     pub rings: Rings,
@@ -43,13 +43,14 @@ pub fn open_all<C: HeaderCheck + Drop>(
     let closed = Vec::with_capacity(alloc, setup.flows.len());
     let arrivals = open_mailbox(alloc, setup.mailbox);
     let requests = open_mailbox(alloc, setup.mailbox);
-    let before = both_made(StartWord::new(alloc), both_made(lanes, flows));
+    let signals = Signals::new(alloc);
+    let before = both_made(signals, both_made(lanes, flows));
     let between = both_made(rings, closed);
     let mailboxes = both_made(arrivals, requests);
     let all = both_made(before, both_made(between, mailboxes))?;
-    let ((start, (lanes, flows)), ((rings, closed), (arrivals, requests))) = all;
+    let ((signals, (lanes, flows)), ((rings, closed), (arrivals, requests))) = all;
     Ok(Opened {
-        start,
+        signals,
         lanes,
         flows,
         rings,

@@ -260,7 +260,7 @@ fn words_of_run_are_refused(rt: HostRuntime) -> Result<(), Fail> {
             },
         ) => {
             assert_eq!(rt; rule, LossRule::PassedOrSlid);
-            assert_eq!(rt; (mailbox, ring), (16, 2));
+            assert_eq!(rt; (mailbox, ring), (1024, 2));
         }
         _ => assert!(rt; false, "no run"),
     }

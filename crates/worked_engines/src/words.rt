@@ -109,27 +109,27 @@ const WORDS: [(&str, &[&str], Asked); 56] = [
     (
         "run",
         &["segrx", "run"],
-        Asked::Run(LossRule::Decided, 16, 16),
+        Asked::Run(LossRule::Decided, 1024, 1024),
     ),
     (
         "a rule of run",
         &["segrx", "run", "--losses=slid"],
-        Asked::Run(LossRule::PassedOrSlid, 16, 16),
+        Asked::Run(LossRule::PassedOrSlid, 1024, 1024),
     ),
     (
         "a rule of run in a word of its own",
         &["segrx", "run", "--losses", "slid"],
-        Asked::Run(LossRule::PassedOrSlid, 16, 16),
+        Asked::Run(LossRule::PassedOrSlid, 1024, 1024),
     ),
     (
         "a rule of run behind another option",
         &["segrx", "run", "--ring", "1", "--losses", "passed"],
-        Asked::Run(LossRule::Passed, 16, 1),
+        Asked::Run(LossRule::Passed, 1024, 1),
     ),
     (
         "a rule of run before another option",
         &["segrx", "run", "--losses", "decided", "--mailbox=2"],
-        Asked::Run(LossRule::Decided, 2, 16),
+        Asked::Run(LossRule::Decided, 2, 1024),
     ),
     (
         "a rule without a name",

@@ -116,8 +116,10 @@ fn close_three_times(rt: &impl Abort, feeder: Feeder, taker: Taker) {
     let mut taker = taker;
     let mut feeder = comes_back(rt, feeder);
     assert_eq!(rt; feeder.flush(), 1);
+    assert!(rt; feeder.has_backlog());
     takes(rt, &mut taker, PLAIN);
     assert_eq!(rt; feeder.flush(), 0);
+    assert!(rt; !feeder.has_backlog());
     let feeder = comes_back(rt, feeder);
     takes(rt, &mut taker, EXTENDED);
     close_feeder(rt, feeder);

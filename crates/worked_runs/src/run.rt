@@ -4,6 +4,7 @@ mod backlogs;
 mod count;
 mod failed_allocations;
 mod held_up;
+mod late;
 mod living;
 mod meeting;
 mod numbered;

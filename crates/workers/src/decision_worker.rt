@@ -4,8 +4,8 @@ ghost use Rattle.workers.specs.Inside.Working.{DidDecide};
 
 use crate::item::Item;
 use crate::retry::{close_port, post_item};
+use crate::signals::Signals;
 use crate::source::Decisions;
-use crate::start_word::StartWord;
 use mailbox::{ClosedPort, Port};
 use std::alloc::AllocError;
 use std::snapshot::Snapshot;
@@ -35,7 +35,7 @@ pub type DecisionWorker<D> = PromisedHandle<Option<ClosedPort<Item>>, DecidingPr
 /// Starts the worker of the decisions.
 pub fn start<D, R>(
     rt: &R,
-    start: &StartWord,
+    signals: &Signals,
     work: DecidingWork<D>,
 ) -> Result<DecisionWorker<D>, AllocError>
 where
@@ -43,17 +43,19 @@ where
     R: Threads + Wait + Copy + Send + 'static,
     ensures { IfOk result (λ worker. worker.promise.0.value ≡ work) }
 {
-    let start = start.share()?;
+    let signals = signals.share()?;
     let promise = DecidingPromise(Snapshot::of(&work));
     let theirs = *rt;
-    Ok(thread::spawn_with(rt, promise, move || serve_decisions(&theirs, &start, work))?)
+    Ok(thread::spawn_with(rt, promise, move || {
+        serve_decisions(&theirs, &signals, work)
+    })?)
 }
 
 /// Posts all decisions that name a flow once it is told to go, and then closes its port. It answers
 /// nothing if it is told to stop.
 fn serve_decisions<D: Decisions + Drop, R: Wait>(
     rt: &R,
-    start: &StartWord,
+    signals: &Signals,
     work: DecidingWork<D>,
 ) -> Option<ClosedPort<Item>>
     ensures { IfSome result
@@ -64,14 +66,14 @@ fn serve_decisions<D: Decisions + Drop, R: Wait>(
         mut arrivals,
         mut decisions,
     } = work;
-    if !start.is_go(rt) {
+    if !signals.start().is_go(rt) {
         return None;
     }
     while let Some(decision) = decisions.next() {
         if decision.names_a_flow(flow_count) {
             let event = decision.event();
-            post_item(rt, &mut arrivals, Item { event });
+            post_item(rt, signals.arrivals(), &mut arrivals, Item { event });
         }
     }
-    Some(close_port(rt, arrivals))
+    Some(close_port(rt, signals.arrivals(), arrivals))
 }

@@ -2,23 +2,43 @@
 ghost use Rattle.std.specs.Prelude.{◌≡◌, ◌≤◌, [], length, map};
 ghost use Rattle.delivery.specs.Feeders.{feeder_ring, offered, closed_ring, closed_offered};
 
+use crate::signals::Signals;
+use crate::waiting::Waiting;
+use crossbeam_utils::sync::EventCount;
 use delivery::{ClosedFeeder, Feeder};
 use std::sync::Wait;
-use std::thread;
 
-/// Moves what the backlogs hold into the rings for as long as they have room.
-pub fn flush_all(feeders: &mut [Feeder])
+/// Moves what the backlogs hold into the rings for as long as they have room, and tells of it. It
+/// says whether frames are left.
+pub fn flush_all(feeders: &mut [Feeder], told: &EventCount) -> bool
     ensures rings { map feeder_ring feeders.new ≡ map feeder_ring feeders.old }
     ensures offered { map offered feeders.new ≡ map offered feeders.old }
 {
+    let mut are_left = false;
     for feeder in feeders.iter_mut() {
-        feeder.flush();
+        let left = flush(feeder, told);
+        are_left = are_left || left;
     }
+    are_left
+}
+
+/// Flushes one feeder.
+fn flush(feeder: &mut Feeder, told: &EventCount) -> bool
+    ensures ring { feeder_ring feeder.new ≡ feeder_ring feeder.old }
+    ensures offered { offered feeder.new ≡ offered feeder.old }
+{
+    if !feeder.has_backlog() {
+        return false;
+    }
+    let left = feeder.flush();
+    told.notify_one();
+    left > 0
 }
 
 /// Closes all feeders, and waits for each until it has room for its end mark.
 pub fn close_feeders<R: Wait>(
     rt: &R,
+    signals: &Signals,
     feeders: Vec<Feeder>,
     closed: Vec<ClosedFeeder>,
 ) -> Vec<ClosedFeeder>
@@ -27,24 +47,29 @@ pub fn close_feeders<R: Wait>(
     ensures offered { map closed_offered result.items ≡ map offered feeders.items }
 {
     let mut closed = closed;
+    signals.want_room(true);
     for feeder in feeders {
-        closed.push_reserved(wait_to_close(rt, feeder));
+        closed.push_reserved(wait_to_close(rt, signals, feeder));
     }
     closed
 }
 
-/// Closes a feeder, and tries again until it is closed.
-fn wait_to_close<R: Wait>(rt: &R, feeder: Feeder) -> ClosedFeeder
+/// Closes a feeder, and waits for as long as its ring has no room. Each try may move frames of the
+/// backlog, so whoever takes is told of each.
+fn wait_to_close<R: Wait>(rt: &R, signals: &Signals, feeder: Feeder) -> ClosedFeeder
     ensures ring { closed_ring result ≡ feeder_ring feeder }
     ensures offered { closed_offered result ≡ offered feeder }
 {
     let mut feeder = feeder;
+    let mut waiting = Waiting::on(&signals.arrivals().posted);
     for _ in rt.forever() {
-        match feeder.close() {
+        let tried = feeder.close();
+        signals.offered().notify_one();
+        match tried {
             Ok(closed) => return closed,
             Err(back) => feeder = back,
         }
-        thread::yield_now();
+        waiting.pause(rt);
     }
     unreachable!()
 }

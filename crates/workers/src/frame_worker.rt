@@ -5,8 +5,9 @@ ghost use Rattle.delivery.specs.declared.taker.Taker.{Taker};
 ghost use Rattle.workers.specs.Inside.Working.{HasConsumed, PushesFrame, HaveConsumed, DidConsumeAll};
 ghost use Rattle.workers.specs.Inside.Working.{consuming_of};
 
-use crate::start_word::StartWord;
+use crate::signals::Signals;
 use crate::tap::Tap;
+use crate::waiting::Waiting;
 use delivery::{Taker, Took};
 use docsis_wire::Bytes;
 use std::alloc::{AllocError, Global};
@@ -32,8 +33,10 @@ pub struct Consuming {
 /// What one look at a taker found.
 #[derive(Clone, Copy, Debug, PartialEq, Eq)]
 pub enum Look {
-    /// A frame was taken.
+    /// A frame was taken, of several takers from each that wasn't closed.
     Took,
+    /// Of several takers a frame was taken from one, and nothing was there at another.
+    TookSome,
     /// Nothing was there.
     NothingYet,
     /// All frames were taken.
@@ -87,8 +90,9 @@ impl Look {
     {
         match (self, other) {
             (Look::Closed, Look::Closed) => Look::Closed,
-            (Look::NothingYet, _) | (_, Look::NothingYet) => Look::NothingYet,
-            _ => Look::Took,
+            (Look::Closed | Look::NothingYet, Look::Closed | Look::NothingYet) => Look::NothingYet,
+            (Look::Closed | Look::Took, Look::Closed | Look::Took) => Look::Took,
+            _ => Look::TookSome,
         }
     }
 }
@@ -108,7 +112,7 @@ pub type FrameWorker = PromisedHandle<Option<Vec<Consumed>>, ConsumersPromise>;
 pub fn start<F, R>(
     alloc: Global,
     rt: &R,
-    start: &StartWord,
+    signals: &Signals,
     takers: Vec<Taker>,
     tap: F,
 ) -> Result<FrameWorker, AllocError>
@@ -117,12 +121,12 @@ where
     R: Threads + Wait + Copy + Send + 'static,
     ensures { IfOk result (λ worker. worker.promise.0.value ≡ takers) }
 {
-    let start = start.share()?;
+    let signals = signals.share()?;
     let promise = ConsumersPromise(Snapshot::of(&takers));
     let all = begin(alloc, takers)?;
     let theirs = *rt;
     Ok(thread::spawn_with(rt, promise, move || {
-        serve_consumers(alloc, &theirs, &start, all, tap)
+        serve_consumers(alloc, &theirs, &signals, all, tap)
     })?)
 }
 
@@ -143,32 +147,45 @@ fn begin(alloc: Global, takers: Vec<Taker>) -> Result<Vec<Consuming>, AllocError
 fn serve_consumers<F: Tap<Bytes> + Drop, R: Wait>(
     alloc: Global,
     rt: &R,
-    start: &StartWord,
+    signals: &Signals,
     all: Vec<Consuming>,
     tap: F,
 ) -> Option<Vec<Consumed>>
     ensures { (takers : List Taker) → HaveConsumed takers all.items
         → IfSome result (λ done. DidConsumeAll takers done.items) }
 {
-    if !start.is_go(rt) {
+    if !signals.start().is_go(rt) {
         return None;
     }
-    consumed_of(alloc, take_frames(rt, all, tap))
+    consumed_of(alloc, take_frames(rt, signals, all, tap))
 }
 
 /// Takes until each taker has answered `Closed`.
-fn take_frames<F: Tap<Bytes> + Drop, R: Wait>(rt: &R, all: Vec<Consuming>, tap: F) -> Vec<Consuming>
+fn take_frames<F: Tap<Bytes> + Drop, R: Wait>(
+    rt: &R,
+    signals: &Signals,
+    all: Vec<Consuming>,
+    tap: F,
+) -> Vec<Consuming>
     ensures consumed { (takers : List Taker)
         → HaveConsumed takers all.items → HaveConsumed takers result.items }
     ensures closed { All (λ one. is_closed one.taker ≡ true) result.items }
 {
     let mut all = all;
     let mut tap = tap;
+    let mut waiting = Waiting::on(signals.offered());
     for _ in rt.forever() {
-        match look_at_all(all.as_mut_slice(), &mut tap) {
+        let look = look_at_all(all.as_mut_slice(), &mut tap);
+        match look {
             Look::Closed => return all,
-            Look::NothingYet => thread::yield_now(),
-            Look::Took => {}
+            Look::NothingYet => waiting.pause(rt),
+            Look::Took | Look::TookSome => {
+                signals.tell_of_room();
+                waiting.end();
+            }
+        }
+        if look == Look::TookSome {
+            thread::yield_now();
         }
     }
     unreachable!()

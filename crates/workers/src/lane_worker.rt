@@ -8,8 +8,8 @@ ghost use Rattle.workers.specs.Inside.Working.{DidLane, HasServedAll};
 
 use crate::item::Item;
 use crate::retry::{close_port, post_item};
+use crate::signals::Signals;
 use crate::source::Source;
-use crate::start_word::StartWord;
 use flow_records::Event;
 use lane::{Admitted, Answer, Lane, LaneReport, Request, admitted_segment};
 use mailbox::{ClosedPort, Port};
@@ -66,7 +66,7 @@ pub type LaneWorker<S> = PromisedHandle<Option<LaneDone>, LanePromise<S>>;
 pub fn start<S, R>(
     alloc: Global,
     rt: &R,
-    start: &StartWord,
+    signals: &Signals,
     work: LaneWork<S>,
 ) -> Result<LaneWorker<S>, AllocError>
 where
@@ -74,11 +74,11 @@ where
     R: Threads + Wait + Copy + Send + 'static,
     ensures { IfOk result (λ worker. worker.promise.0.value ≡ work) }
 {
-    let start = start.share()?;
+    let signals = signals.share()?;
     let promise = LanePromise(Snapshot::of(&work));
     let theirs = *rt;
     Ok(thread::spawn_with(rt, promise, move || {
-        serve_channel(alloc, &theirs, &start, work)
+        serve_channel(alloc, &theirs, &signals, work)
     })?)
 }
 
@@ -87,25 +87,25 @@ where
 fn serve_channel<S: Source + Drop, R: Wait>(
     alloc: Global,
     rt: &R,
-    start: &StartWord,
+    signals: &Signals,
     work: LaneWork<S>,
 ) -> Option<LaneDone>
     ensures { IfSome result
         (DidLane work.lane work.arrivals work.requests (S.gives work.source)) }
 {
-    if !start.is_go(rt) {
+    if !signals.start().is_go(rt) {
         return None;
     }
     let mut work = work;
-    let report = take_inputs(alloc, rt, &mut work);
+    let report = take_inputs(alloc, rt, signals, &mut work);
     let LaneWork {
         lane: _,
         arrivals,
         requests,
         source: _,
     } = work;
-    let arrivals = close_port(rt, arrivals);
-    let requests = close_port(rt, requests);
+    let arrivals = close_port(rt, signals.arrivals(), arrivals);
+    let requests = close_port(rt, signals.requests(), requests);
     let report = report.ok()?;
     Some(LaneDone {
         arrivals,
@@ -119,6 +119,7 @@ fn serve_channel<S: Source + Drop, R: Wait>(
 fn take_inputs<S: Source, R: Wait>(
     alloc: Global,
     rt: &R,
+    signals: &Signals,
     work: &mut LaneWork<S>,
 ) -> Result<LaneReport, AllocError>
     ensures { IfOk result (HasServedAll (S.gives work.old.source) work.old work.new) }
@@ -127,7 +128,7 @@ fn take_inputs<S: Source, R: Wait>(
     while let Some(input) = work.source.next() {
         let answer = work.lane.answer(alloc, &input)?;
         report.note(&answer)?;
-        post_admitted(rt, &mut work.arrivals, &mut work.requests, answer);
+        post_admitted(rt, signals, &mut work.arrivals, &mut work.requests, answer);
     }
     Ok(report)
 }
@@ -135,6 +136,7 @@ fn take_inputs<S: Source, R: Wait>(
 /// Posts what an answer admits, its request first.
 fn post_admitted<R: Wait>(
     rt: &R,
+    signals: &Signals,
     arrivals: &mut Port<Item>,
     requests: &mut Port<Request>,
     answer: Answer,
@@ -154,8 +156,8 @@ fn post_admitted<R: Wait>(
         request,
     } = admitted;
     if let Some(request) = request {
-        post_item(rt, requests, request);
+        post_item(rt, signals.requests(), requests, request);
     }
     let event = Event::Arrive { flow, segment };
-    post_item(rt, arrivals, Item { event });
+    post_item(rt, signals.arrivals(), arrivals, Item { event });
 }

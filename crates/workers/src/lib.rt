@@ -6,14 +6,14 @@
 //!
 //! The calls, in the order of use:
 //!
-//! 1. [`open_mailbox`] opens a mailbox, and [`open_rings`] the ring of each flow; [`StartWord::new`]
-//!    makes the word by which the workers are told to begin.
+//! 1. [`open_mailbox`] opens a mailbox, and [`open_rings`] the ring of each flow; [`Signals::new`]
+//!    makes what threads tell each other by: when to begin, and when to wake.
 //! 2. [`Work::new`] gives each worker its part of what was opened. [`Sources`], [`Decisions`] and
 //!    [`Taps`] are what the caller brings.
 //! 3. [`start_team`] starts all workers, and [`Team::join`] waits for them and hands on what they
 //!    have [`Done`].
 //! 4. Meanwhile the caller takes [`Item`]s and drives the feeders: [`flush_all`] and
-//!    [`close_feeders`].
+//!    [`close_feeders`]. It waits by [`MouthWait`].
 //! 5. [`settle_rings`] settles the rings.
 #![tactic(auto)]
 
@@ -24,13 +24,16 @@ mod frame_worker;
 mod item;
 mod lane_worker;
 mod mailboxes;
+mod mouth_wait;
 mod request_worker;
 mod retry;
 mod rings;
+mod signals;
 mod source;
 mod start_word;
 mod tap;
 mod team;
+mod waiting;
 mod work;
 
 pub use both::{both_done, both_made};
@@ -39,10 +42,11 @@ pub use frame_worker::Consumed;
 pub use item::Item;
 pub use lane_worker::LaneDone;
 pub use mailboxes::{OpenMailbox, open_mailbox};
+pub use mouth_wait::MouthWait;
 pub use request_worker::Scheduled;
 pub use rings::{Rings, open_rings, settle_rings};
+pub use signals::{MailboxSignals, Signals};
 pub use source::{Decisions, ListDecisions, ListSource, Source, Sources};
-pub use start_word::StartWord;
 pub use tap::{NoTap, Tap, Taps};
 pub use team::{Done, Team, start_team};
 pub use work::{Lanes, Share, Work};

@@ -2,7 +2,8 @@
 ghost use Rattle.std.specs.Prelude.{◌≡◌, IfOk, IfSome, Some};
 ghost use Rattle.workers.specs.Inside.Working.{DidSchedule, KeepsOneMore};
 
-use crate::start_word::StartWord;
+use crate::mouth_wait::MouthWait;
+use crate::signals::Signals;
 use crate::tap::Tap;
 use lane::{CHANNELS, Request};
 use mailbox::{Mouth, Taken};
@@ -34,7 +35,7 @@ pub type RequestWorker = PromisedHandle<Option<Scheduled>, SchedulingPromise>;
 pub fn start<Q, R>(
     alloc: Global,
     rt: &R,
-    start: &StartWord,
+    signals: &Signals,
     mouth: Mouth<Request>,
     tap: Q,
 ) -> Result<RequestWorker, AllocError>
@@ -43,11 +44,11 @@ where
     R: Threads + Wait + Copy + Send + 'static,
     ensures { IfOk result (λ worker. worker.promise.0.value ≡ mouth) }
 {
-    let start = start.share()?;
+    let signals = signals.share()?;
     let promise = SchedulingPromise(Snapshot::of(&mouth));
     let theirs = *rt;
     Ok(thread::spawn_with(rt, promise, move || {
-        serve_requests(alloc, &theirs, &start, mouth, tap)
+        serve_requests(alloc, &theirs, &signals, mouth, tap)
     })?)
 }
 
@@ -57,13 +58,13 @@ where
 fn serve_requests<Q: Tap<Request> + Drop, R: Wait>(
     alloc: Global,
     rt: &R,
-    start: &StartWord,
+    signals: &Signals,
     mouth: Mouth<Request>,
     tap: Q,
 ) -> Option<Scheduled>
     ensures { IfSome result (DidSchedule mouth) }
 {
-    if !start.is_go(rt) {
+    if !signals.start().is_go(rt) {
         return None;
     }
     let mut mouth = mouth;
@@ -74,17 +75,19 @@ fn serve_requests<Q: Tap<Request> + Drop, R: Wait>(
         Vec::new(alloc),
         Vec::new(alloc),
     ]);
+    let mut wait = MouthWait::at(signals.requests());
     for _ in rt.forever() {
         if mouth.all_ended() {
             break;
         }
         match mouth.next(rt) {
             Taken::Item { from, item } => {
+                wait.took();
                 tap.took(item.flow, &item);
                 requests = with_request(requests, from, item);
             }
-            Taken::End { .. } => {}
-            Taken::Empty => thread::yield_now(),
+            Taken::End { .. } => wait.took(),
+            Taken::Empty => wait.pause(rt),
         }
     }
     let requests = requests?;

@@ -8,8 +8,8 @@ use crate::frame_worker::{self, Consumed, FrameWorker};
 use crate::item::Item;
 use crate::lane_worker::{self, LaneDone, LaneWork, LaneWorker};
 use crate::request_worker::{self, RequestWorker, Scheduled};
+use crate::signals::Signals;
 use crate::source::{Decisions, Source};
-use crate::start_word::StartWord;
 use crate::tap::{Tap, Taps};
 use crate::work::Work;
 use delivery::Taker;
@@ -20,9 +20,10 @@ use std::alloc::{AllocError, Global};
 use std::sync::Wait;
 use std::thread::{Promise, PromisedHandle, Threads};
 
-/// The workers, each by its handle.
+/// The workers, each by its handle, and what they share with the caller.
 #[derive(Drop)]
 pub struct Team<S0: Source, S1: Source, S2: Source, S3: Source, D: Decisions> {
+    pub signals: Signals,
     pub lanes: (LanePair<S0, S1>, LanePair<S2, S3>),
     pub others: (DecisionWorker<D>, (RequestWorker, FrameWorker)),
 }
@@ -66,23 +67,27 @@ where
     ensures scheduler { IfOk result (λ team. team.others.1.0.promise.0.value ≡ work.requests) }
     ensures consumers { IfOk result (λ team. team.others.1.1.promise.0.value ≡ work.takers) }
 {
-    let start = work.start;
-    let first = start_two(alloc, rt, &start, work.l0, work.l1);
-    let second = start_two(alloc, rt, &start, work.l2, work.l3);
-    let lanes = both_started(rt, &start, first, second);
-    let decider = decision_worker::start(rt, &start, work.decisions);
-    let takers = start_takers(alloc, rt, &start, work.requests, work.takers, work.taps);
-    let others = both_started(rt, &start, decider, takers);
-    let (lanes, others) = both_started(rt, &start, lanes, others)?;
-    start.go();
-    Ok(Team { lanes, others })
+    let signals = work.signals;
+    let first = start_two(alloc, rt, &signals, work.l0, work.l1);
+    let second = start_two(alloc, rt, &signals, work.l2, work.l3);
+    let lanes = both_started(rt, &signals, first, second);
+    let decider = decision_worker::start(rt, &signals, work.decisions);
+    let takers = start_takers(alloc, rt, &signals, work.requests, work.takers, work.taps);
+    let others = both_started(rt, &signals, decider, takers);
+    let (lanes, others) = both_started(rt, &signals, lanes, others)?;
+    signals.start().go();
+    Ok(Team {
+        signals,
+        lanes,
+        others,
+    })
 }
 
 /// Starts the workers of two channels.
 fn start_two<S0, S1, R>(
     alloc: Global,
     rt: &R,
-    start: &StartWord,
+    signals: &Signals,
     one: LaneWork<S0>,
     other: LaneWork<S1>,
 ) -> Result<LanePair<S0, S1>, AllocError>
@@ -93,16 +98,16 @@ where
     ensures one { IfOk result (λ pair. pair.0.promise.0.value ≡ one) }
     ensures other { IfOk result (λ pair. pair.1.promise.0.value ≡ other) }
 {
-    let one = lane_worker::start(alloc, rt, start, one);
-    let other = lane_worker::start(alloc, rt, start, other);
-    both_started(rt, start, one, other)
+    let one = lane_worker::start(alloc, rt, signals, one);
+    let other = lane_worker::start(alloc, rt, signals, other);
+    both_started(rt, signals, one, other)
 }
 
 /// Starts the workers that take requests and frames.
 fn start_takers<F, Q, R>(
     alloc: Global,
     rt: &R,
-    start: &StartWord,
+    signals: &Signals,
     requests: Mouth<Request>,
     takers: Vec<Taker>,
     taps: Taps<F, Q>,
@@ -114,16 +119,16 @@ where
     ensures scheduler { IfOk result (λ pair. pair.0.promise.0.value ≡ requests) }
     ensures consumers { IfOk result (λ pair. pair.1.promise.0.value ≡ takers) }
 {
-    let scheduler = request_worker::start(alloc, rt, start, requests, taps.requests);
-    let consumers = frame_worker::start(alloc, rt, start, takers, taps.frames);
-    both_started(rt, start, scheduler, consumers)
+    let scheduler = request_worker::start(alloc, rt, signals, requests, taps.requests);
+    let consumers = frame_worker::start(alloc, rt, signals, takers, taps.frames);
+    both_started(rt, signals, scheduler, consumers)
 }
 
 /// Both workers, or parts of the team, that were started. Where one wasn't, all are told to stop,
 /// and the other is waited for.
 fn both_started<A: Workers + Drop, B: Workers + Drop, R: Threads>(
     rt: &R,
-    start: &StartWord,
+    signals: &Signals,
     one: Result<A, AllocError>,
     other: Result<B, AllocError>,
 ) -> Result<(A, B), AllocError>
@@ -132,7 +137,7 @@ fn both_started<A: Workers + Drop, B: Workers + Drop, R: Threads>(
     match (one, other) {
         (Ok(one), Ok(other)) => Ok((one, other)),
         (one, other) => {
-            start.stop();
+            signals.start().stop();
             end_started(rt, one);
             end_started(rt, other);
             Err(AllocError)

@@ -7,8 +7,8 @@ use crate::item::Item;
 use crate::lane_worker::LaneWork;
 use crate::mailboxes::OpenMailbox;
 use crate::retry::close_port;
+use crate::signals::Signals;
 use crate::source::Sources;
-use crate::start_word::StartWord;
 use crate::tap::Taps;
 use delivery::Taker;
 use lane::{Lane, Request};
@@ -24,11 +24,11 @@ pub struct Lanes {
     pub l3: Lane,
 }
 
-/// What was opened for the workers: the start word, the lanes, the ports of the arrivals, the
+/// What was opened for the workers: what they share, the lanes, the ports of the arrivals, the
 /// mailbox of the requests, and the taker of each flow.
 #[derive(Drop)]
 pub struct Share {
-    pub start: StartWord,
+    pub signals: Signals,
     pub lanes: Lanes,
     pub arrivals: Ports<Item>,
     pub requests: OpenMailbox<Request>,
@@ -38,7 +38,7 @@ pub struct Share {
 /// What the workers are started with.
 #[derive(Drop)]
 pub struct Work<S0, S1, S2, S3, D, F, Q> {
-    pub start: StartWord,
+    pub signals: Signals,
     pub l0: LaneWork<S0>,
     pub l1: LaneWork<S1>,
     pub l2: LaneWork<S2>,
@@ -94,16 +94,16 @@ impl<S0, S1, S2, S3, D, F, Q> Work<S0, S1, S2, S3, D, F, Q> {
         ensures unused { HasPosted share.requests.ports.p4 [] result.1 }
     {
         let Share {
-            start,
+            signals,
             lanes,
             arrivals,
             requests,
             takers,
         } = share;
         let ports = requests.ports;
-        let unused_port = close_port(rt, ports.p4);
+        let unused_port = close_port(rt, signals.requests(), ports.p4);
         let work = Work {
-            start,
+            signals,
             l0: LaneWork::new(lanes.l0, arrivals.p0, ports.p0, sources.s0),
             l1: LaneWork::new(lanes.l1, arrivals.p1, ports.p1, sources.s1),
             l2: LaneWork::new(lanes.l2, arrivals.p2, ports.p2, sources.s2),

@@ -1,13 +1,16 @@
 //! Frames that lie in a backlog while nothing comes.
 use super::count::Count;
 use super::numbered;
-use super::receivers::receive_on_channel_0;
-use docsis_wire::Bytes;
+use super::receivers::{receive_checked_on_channel_0, receive_on_channel_0};
+use docsis_wire::{Bytes, HeaderCheck};
 use std::alloc::{AllocError, Global};
 use std::sync::{Arc, Wait};
 use std::test::Fail;
+use std::thread;
 use std::thread::Threads;
+use std::time::{Clock, Duration};
 use uplink::{Input, ListSource, NoTap, Outcome, RunFault, Source, Tap, Taps};
+use worked_traces::traces::push_segment;
 
 /// How many segments come, each with a frame: more than the ring and the mailbox hold.
 const SEGMENTS: u16 = 8;
@@ -101,6 +104,62 @@ fn backlog_is_moved_on_while_nothing_comes(rt: HostRuntime) -> Result<(), Fail> 
     let shown = Count::shared(rt.alloc())?;
     let outcome = receive_late(rt.alloc(), rt, &used_up, &shown)?;
     numbered::expect_frames(&rt, &outcome, SEGMENTS);
+    used_up.expect_met(&rt, "the source's end");
+    shown.expect_met(&rt, "the frames");
+    Ok(())
+}
+
+/// A segment with the front of a frame of two bytes.
+const UNFINISHED: &[u8] = &[0x80, 0, 0, 64, 0, 0, 0, 0, 0, 0, 0, 2, 0x11, 0x11, 0];
+
+/// Lets each header pass, that of a frame of two bytes late.
+#[derive(Drop)]
+struct CheckedLate<R> {
+    rt: R,
+}
+
+impl<R: Clock> HeaderCheck for CheckedLate<R> {
+    ghost use Rattle.std.specs.Prelude.{true};
+
+    ghost accepts = { λ _ _. true };
+
+    fn passes(&self, header: &[u8]) -> bool {
+        if header.get(3) == Some(&2) {
+            thread::sleep(&self.rt, Duration::from_millis(200));
+        }
+        true
+    }
+}
+
+/// Receives the segments as before, and an unfinished one behind them, whose header is checked late.
+fn receive_held_up<R>(
+    alloc: Global,
+    rt: R,
+    used_up: &Arc<Count, Global>,
+    shown: &Arc<Count, Global>,
+) -> Result<Outcome, RunFault>
+where
+    R: Threads + Wait + Clock + Copy + Send + 'static,
+{
+    let mut inputs = numbered::inputs_on_channel_0(alloc, SEGMENTS, 0)?;
+    push_segment(alloc, &mut inputs, u32::from(SEGMENTS), 1, UNFINISHED)?;
+    let source = EndingLate::new(ListSource::new(inputs), used_up, shown)?;
+    let taps = Taps {
+        frames: BeginningLate::new(used_up, shown)?,
+        requests: NoTap,
+    };
+    receive_checked_on_channel_0(alloc, rt, source, taps, CheckedLate { rt })
+}
+
+/// While the last header is checked the consumer takes what is in the ring, and goes to sleep. The
+/// unfinished frame isn't offered, so it is woken only if the backlog that moves on wakes it.
+#[test]
+fn moved_backlog_wakes_the_consumer(rt: HostRuntime) -> Result<(), Fail> {
+    let used_up = Count::shared(rt.alloc())?;
+    let shown = Count::shared(rt.alloc())?;
+    let outcome = receive_held_up(rt.alloc(), rt, &used_up, &shown)?;
+    assert!(rt; outcome.flows.len() == 1);
+    assert!(rt; outcome.flows[0].frames.len() == usize::from(SEGMENTS));
     used_up.expect_met(&rt, "the source's end");
     shown.expect_met(&rt, "the frames");
     Ok(())

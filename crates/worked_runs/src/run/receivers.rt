@@ -1,6 +1,6 @@
 //! Receivers that several tests run.
 use super::numbered;
-use docsis_wire::{Bytes, NoCheck};
+use docsis_wire::{Bytes, HeaderCheck, NoCheck};
 use std::alloc::Global;
 use std::sync::Wait;
 use std::thread::Threads;
@@ -78,6 +78,24 @@ where
     Q: Tap<Request> + Drop + Send + 'static,
     R: Threads + Wait + Copy + Send + 'static,
 {
+    receive_checked_on_channel_0(alloc, rt, source, taps, NoCheck)
+}
+
+/// The same, with this check of headers.
+pub fn receive_checked_on_channel_0<S, F, Q, C, R>(
+    alloc: Global,
+    rt: R,
+    source: S,
+    taps: Taps<F, Q>,
+    check: C,
+) -> Result<Outcome, RunFault>
+where
+    S: Source + Drop + Send + 'static,
+    F: Tap<Bytes> + Drop + Send + 'static,
+    Q: Tap<Request> + Drop + Send + 'static,
+    C: HeaderCheck + Drop,
+    R: Threads + Wait + Copy + Send + 'static,
+{
     let setup = numbered::narrow(alloc, 16)?;
     let sources = Sources {
         s0: source,
@@ -85,13 +103,5 @@ where
         s2: no_inputs(alloc),
         s3: no_inputs(alloc),
     };
-    run(
-        alloc,
-        rt,
-        setup,
-        sources,
-        no_decisions(alloc),
-        taps,
-        NoCheck,
-    )
+    run(alloc, rt, setup, sources, no_decisions(alloc), taps, check)
 }

@@ -14,6 +14,6 @@ pub returns-clause-offers : goal.returns-clause-offers
 returns-clause-offers c = λ said.
     offers-at c.args.feeders.now c.args.flow c.args.frame c.index-feeders-flow.result c.offer.new.self
     (omega (arith, c.if-flow-feeders.false)) c.index-feeders-flow.is
-    (on-good c.offer.result (sym c.is_ok.ensures.value ∙ said) c.offer.ensures.ok
+    (on-good c.offer.result (sym c.is_ok-is_offered.ensures.value ∙ said) c.offer.ensures.ok
     ∙ ap (λ (one : Feeder). offered one ++ c.own_copy.result.items ∷ []) (sym c.index-feeders-flow.is)
     ∙ ap (λ (frame : List ℕ). offered c.index-feeders-flow.result ++ frame ∷ []) c.own_copy.ensures)
