@@ -18,7 +18,7 @@ from shared.tree import path
 
 # As root tshark takes interfaces from the system's folder alone, so somebody else runs it then.
 NOBODY = 65534
-SECONDS = 30
+SECONDS = 60
 PR_SET_CHILD_SUBREAPER = 36
 # The names of the sample in the folder in which tshark runs.
 CAPTURE, MAP = "bonded.pcapng", "bonded.map"
