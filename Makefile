@@ -19,6 +19,11 @@ mandir = $(MANDIR)
 man1dir = $(mandir)/man1
 pkgconfigdir = $(libdir)/pkgconfig
 bashcompletiondir = $(datarootdir)/bash-completion/completions
+# Wireshark's folder of programs that are interfaces: the one that tshark names, wherever PREFIX is.
+EXTCAPDIR = $(eval EXTCAPDIR := $$(or $$(named_by_tshark),$$(libdir)/wireshark/extcap))$(EXTCAPDIR)
+extcapdir = $(EXTCAPDIR)
+extcap_path = ^\(Global \)\{0,1\}Extcap path:[[:space:]]*
+named_by_tshark = $(shell tshark -G folders 2> /dev/null | sed -n 's|$(extcap_path)||p')
 INSTALL = install
 INSTALL_PROGRAM = $(INSTALL) -m 755
 INSTALL_DATA = $(INSTALL) -m 644
@@ -27,23 +32,30 @@ program = $(or $(SEGRX),crates/segrx/out/segrx)
 placed_program = "$(DESTDIR)$(bindir)/segrx"
 placed_manual = "$(DESTDIR)$(man1dir)/segrx.1"
 placed_completion = "$(DESTDIR)$(bashcompletiondir)/segrx"
-folders = "$(bindir)" "$(man1dir)" "$(bashcompletiondir)"
+folders = "$(bindir)" "$(man1dir)" "$(bashcompletiondir)" "$(extcapdir)"
+extcap_program = "$(DESTDIR)$(extcapdir)" "$(bindir)/segrx"
+# Where nobody has named Wireshark's folder and it can't be written, all else is installed.
+without_extcap = echo "$(extcapdir) can't be written: segrx won't be in Wireshark's menu (EXTCAPDIR)"
 
 run: # proves and builds the program, crates side by side, runs it on the sample and leaves it at crates/segrx/out/segrx
 	@scripts/build
 
-install: # installs below PREFIX what `make` left, with man page and completion (DESTDIR, BINDIR ..)
+install: # installs below PREFIX what `make` left, with man page and completion (DESTDIR, BINDIR ..), and into Wireshark's menu (EXTCAPDIR)
 	@PYTHONDONTWRITEBYTECODE=1 scripts/build --check
 	mkdir -p "$(DESTDIR)$(bindir)" "$(DESTDIR)$(man1dir)" "$(DESTDIR)$(bashcompletiondir)"
 	$(INSTALL_PROGRAM) "$(program)" $(placed_program)
 	$(INSTALL_DATA) docs/segrx.1 $(placed_manual)
 	$(INSTALL_DATA) completions/segrx.bash $(placed_completion)
+	@mkdir -p "$(DESTDIR)$(extcapdir)" 2> /dev/null; test -w "$(DESTDIR)$(extcapdir)" || { \
+		$(without_extcap); exit $(if $(filter file,$(origin EXTCAPDIR)),0,1); }; \
+		scripts/extcap-program put $(extcap_program)
 
 install-strip:
 	$(MAKE) INSTALL_PROGRAM='$(INSTALL_PROGRAM) -s' install
 
 uninstall: # removes what `make install` put below PREFIX, and folders there that are empty then
 	rm -f $(placed_program) $(placed_manual) $(placed_completion)
+	@scripts/extcap-program remove $(extcap_program)
 	@scripts/empty-folders "$(DESTDIR)" "$(prefix)" $(folders)
 
 deb: # makes a Debian package of what `make install` installs, in out/
