@@ -1,0 +1,2 @@
+pub mod QueueGrowing
+pub mod Opened

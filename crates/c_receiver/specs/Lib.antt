@@ -1,0 +1,4 @@
+pub mod Statuses
+pub mod Queued
+pub mod Held
+pub mod Made

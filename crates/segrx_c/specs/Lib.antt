@@ -1,0 +1,4 @@
+pub mod Handle
+pub mod Answers
+pub mod Handed
+pub mod Made

@@ -1,0 +1,37 @@
+"""C programs over the static library `segrx_c`."""
+
+import os
+import subprocess
+import sys
+
+from shared import built
+from shared.tree import path
+
+LIBRARY = path("crates", "segrx_c", "out", "libsegrx_c.a")
+WARNINGS = ["-Wall", "-Wextra", "-Wconversion", "-Werror"]
+VALGRIND = ["valgrind", "-q", "--leak-check=full", "--show-leak-kinds=all", "--errors-for-leak-kinds=all", "--error-exitcode=9"]
+
+
+def library():
+    """The library that was built last, or a build of it where there is none or a source is newer."""
+    if not os.path.exists(LIBRARY) or built.is_older(LIBRARY, ["segrx_c"]):
+        ran = subprocess.run(["rt", "lib"], cwd=path("crates", "segrx_c"), capture_output=True, text=True)
+        if ran.returncode != 0:
+            sys.exit(f"segrx_c isn't proved:\n{ran.stdout[-3000:]}{ran.stderr[-3000:]}")
+    return LIBRARY
+
+
+def heap():
+    """The toolchain's part in C, by which a library asks for memory: malloc, realloc and free. It stands beside the page that
+    `rt doc` names."""
+    page = subprocess.run(["rt", "doc"], capture_output=True, text=True, check=True).stdout.strip()
+    return os.path.join(os.path.dirname(page), "c", "liblibc_c.a")
+
+
+def compile_program(source, program, options=()):
+    """Compiles a C program, which stands at this path from the top, and links it with the library."""
+    command = ["gcc", "-std=gnu11", "-O2", "-g", *WARNINGS, *options, "-I", path("include"), "-o", program, path(*source.split("/"))]
+    ran = subprocess.run([*command, library(), heap()], capture_output=True, text=True)
+    if ran.returncode != 0:
+        sys.exit(f"{source} doesn't compile:\n{ran.stderr}")
+    return program
