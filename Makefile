@@ -27,23 +27,37 @@ program = $(or $(SEGRX),crates/segrx/out/segrx)
 placed_program = "$(DESTDIR)$(bindir)/segrx"
 placed_manual = "$(DESTDIR)$(man1dir)/segrx.1"
 placed_completion = "$(DESTDIR)$(bashcompletiondir)/segrx"
-folders = "$(bindir)" "$(man1dir)" "$(bashcompletiondir)"
+folders = "$(bindir)" "$(man1dir)" "$(bashcompletiondir)" "$(pkgconfigdir)" "$(libdir)" "$(includedir)"
 
-run: # proves and builds the program, crates side by side, runs it on the sample and leaves it at crates/segrx/out/segrx
+# What C programs link, its header, and what pkg-config says of it.
+library = crates/segrx_c/out/libsegrx.a
+placed_library = "$(DESTDIR)$(libdir)/libsegrx.a"
+placed_header = "$(DESTDIR)$(includedir)/segrx.h"
+placed_package = "$(DESTDIR)$(pkgconfigdir)/segrx.pc"
+version = $$(sed -n '/^\#\# /{s///p;q}' CHANGELOG.md)
+
+run: # proves and builds the program and the C library, crates side by side, runs it on the sample and leaves it at crates/segrx/out/segrx
 	@scripts/build
 
 install: # installs below PREFIX what `make` left, with man page and completion (DESTDIR, BINDIR ..)
 	@PYTHONDONTWRITEBYTECODE=1 scripts/build --check
 	mkdir -p "$(DESTDIR)$(bindir)" "$(DESTDIR)$(man1dir)" "$(DESTDIR)$(bashcompletiondir)"
+	mkdir -p "$(DESTDIR)$(libdir)" "$(DESTDIR)$(includedir)" "$(DESTDIR)$(pkgconfigdir)"
 	$(INSTALL_PROGRAM) "$(program)" $(placed_program)
 	$(INSTALL_DATA) docs/segrx.1 $(placed_manual)
 	$(INSTALL_DATA) completions/segrx.bash $(placed_completion)
+	$(INSTALL_DATA) $(library) $(placed_library)
+	$(INSTALL_DATA) include/segrx.h $(placed_header)
+	sed -e "s|@version@|$(version)|; s|@prefix@|$(prefix)|; s|@exec_prefix@|$(exec_prefix)|" \
+	    -e "s|@libdir@|$(libdir)|; s|@includedir@|$(includedir)|" packaging/segrx.pc | \
+	    $(INSTALL_DATA) /dev/stdin $(placed_package)
 
 install-strip:
 	$(MAKE) INSTALL_PROGRAM='$(INSTALL_PROGRAM) -s' install
 
 uninstall: # removes what `make install` put below PREFIX, and folders there that are empty then
 	rm -f $(placed_program) $(placed_manual) $(placed_completion)
+	rm -f $(placed_library) $(placed_header) $(placed_package)
 	@scripts/empty-folders "$(DESTDIR)" "$(prefix)" $(folders)
 
 deb: # makes a Debian package of what `make install` installs, in out/
