@@ -59,8 +59,8 @@ pub enum Refusal {
 
 /// What is left to do where the library's `malloc` failed.
 ///
-/// The library asks the program's `malloc` for memory, and tells where that answers NULL. Rust's own
-/// allocations, such as those of a [`Vec`] of the caller's, end the program as they ever do.
+/// The library asks the program's `malloc` for memory, and tells where that answers NULL. Rust's
+/// own allocations, such as those of a [`Vec`] of the caller's, end the program as they ever do.
 #[derive(Clone, Copy, Debug, PartialEq, Eq)]
 pub enum Shortage {
     /// What was handed in isn't taken: make the call again, with the same arguments. Nothing is
@@ -72,8 +72,8 @@ pub enum Shortage {
     Unfinished,
     /// A frame or a request that was given is lost, for want of a place in the queue. It is never
     /// told which. From then on every call that hands something in ends so, whatever else it would
-    /// have said, also that it is to be made again. What waits can still be taken. Then the receiver
-    /// is best dropped, and a new one made.
+    /// have said, also that it is to be made again. What waits can still be taken. Then the
+    /// receiver is best dropped, and a new one made.
     NotKept,
 }
 

@@ -3,14 +3,14 @@
 //!
 //! What holds for every call, by the header's paragraphs:
 //!
-//! - *Handles.* A [`Handle`] is made by `segrx_receiver_new` alone, where it answered `SEGRX_OK`. It
-//!   can't be copied, and [`Drop`] is the one place that passes it to `segrx_receiver_free`.
+//! - *Handles.* A [`Handle`] is made by `segrx_receiver_new` alone, where it answered `SEGRX_OK`.
+//!   It can't be copied, and [`Drop`] is the one place that passes it to `segrx_receiver_free`.
 //! - *Threads.* A [`NonNull`] is neither [`Send`] nor [`Sync`], so a handle is used by the thread
 //!   that made it and by no other.
 //! - *Pointers.* They come from references, slices and vectors, so none is NULL, also where the
 //!   length is 0. Those that are lent for a write, or for a read where the header asks for memory
-//!   that is writable and that nothing else uses, come from `&mut` borrows, which also can't overlap.
-//!   They last until the call has returned, and the library keeps none.
+//!   that is writable and that nothing else uses, come from `&mut` borrows, which also can't
+//!   overlap. They last until the call has returned, and the library keeps none.
 //! - *Memory.* The library takes its own from `malloc`; Rust's doesn't cross the border.
 #![allow(unsafe_code)]
 
@@ -153,8 +153,8 @@ impl Handle {
         unsafe { segrx_receiver_go_on(self.0.as_ptr(), flow) }
     }
 
-    /// Tells the first frame that waits. Where all its bytes fit into the capacity of the room, they
-    /// take the place of what was there.
+    /// Tells the first frame that waits. Where all its bytes fit into the capacity of the room,
+    /// they take the place of what was there.
     pub(crate) fn next_frame(&mut self, room: &mut Vec<u8>) -> (Status, FrameHead) {
         let mut frame = FrameHead::default();
         room.clear();
@@ -180,8 +180,8 @@ impl Handle {
 
     pub(crate) fn next_request(&mut self) -> (Status, Request) {
         let mut request = Request::default();
-        // SAFETY: handle and pointer are as in the head of this module. `Request` is laid out as the
-        // header's struct, and is initialized.
+        // SAFETY: handle and pointer are as in the head of this module. `Request` is laid out as
+        // the header's struct, and is initialized.
         let status = unsafe { segrx_receiver_next_request(self.0.as_ptr(), &mut request) };
         (status, request)
     }

@@ -1,10 +1,10 @@
 //! The receiving side of DOCSIS 3.0 upstream channel bonding: safe calls of segrx's C library.
 //!
-//! A bonded cable modem cuts the MAC frames of a service flow into numbered segments, without regard
-//! to where a frame ends, and sends them on several upstream channels at once (CableLabs
-//! CM-SP-MULPIv3.0, continuous concatenation and fragmentation). A [`Receiver`] takes the grants that
-//! were sent and the bursts that came in them, orders each flow's segments, decides or is told which
-//! are lost, and gives the frames and the requests for grants.
+//! A bonded cable modem cuts the MAC frames of a service flow into numbered segments, without
+//! regard to where a frame ends, and sends them on several upstream channels at once (CableLabs
+//! CM-SP-MULPIv3.0, continuous concatenation and fragmentation). A [`Receiver`] takes the grants
+//! that were sent and the bursts that came in them, orders each flow's segments, decides or is told
+//! which are lost, and gives the frames and the requests for grants.
 //!
 //! What the library does is proved; that this crate calls it rightly is tested.
 //!

@@ -16,8 +16,8 @@ use std::iter;
 ///
 /// A receiver stays on the thread that made it: it is neither [`Send`] nor [`Sync`], since the C
 /// library asks that a handle be used by the thread that made it alone. Different receivers may be
-/// used by different threads at once. To take bursts of several threads, send their bytes to the one
-/// that has the receiver.
+/// used by different threads at once. To take bursts of several threads, send their bytes to the
+/// one that has the receiver.
 ///
 /// ```compile_fail,E0277
 /// fn on_another_thread(mut receiver: segrx::Receiver) {
@@ -128,12 +128,12 @@ impl Receiver {
         self.handle.go_on(flow).done()
     }
 
-    /// Takes the first frame that waits, if one does: its bytes take the place of what is in `room`,
-    /// which grows where that is needed, and the index of its flow is returned. Where none waits
-    /// `room` is empty afterwards.
+    /// Takes the first frame that waits, if one does: its bytes take the place of what is in
+    /// `room`, which grows where that is needed, and the index of its flow is returned. Where none
+    /// waits `room` is empty afterwards.
     ///
-    /// One `Vec` for all frames saves an allocation a frame; [`frames`](Receiver::frames) gives each
-    /// its own.
+    /// One `Vec` for all frames saves an allocation a frame; [`frames`](Receiver::frames) gives
+    /// each its own.
     pub fn next_frame(&mut self, room: &mut Vec<u8>) -> Option<usize> {
         loop {
             let (status, frame) = self.handle.next_frame(room);
@@ -180,9 +180,9 @@ impl Receiver {
         status.done().map(|()| counts)
     }
 
-    /// Closes a flow: what is missing before a held segment is lost, and what it has left to give is
-    /// given. Says what was counted of it. Then it begins anew at this number, 0 to 8191, as when a
-    /// modem comes back.
+    /// Closes a flow: what is missing before a held segment is lost, and what it has left to give
+    /// is given. Says what was counted of it. Then it begins anew at this number, 0 to 8191, as
+    /// when a modem comes back.
     ///
     /// # Errors
     ///

@@ -59,7 +59,8 @@ unsafe extern "C" fn realloc(memory: *mut c_void, bytes: usize) -> *mut c_void {
 
 struct PastMalloc;
 
-// SAFETY: the C library gives memory that nobody has, aligned as asked, and takes back what it gave.
+// SAFETY: the C library gives memory that nobody has, aligned as asked, and takes back what it
+// gave.
 unsafe impl GlobalAlloc for PastMalloc {
     unsafe fn alloc(&self, layout: Layout) -> *mut u8 {
         // SAFETY: alignments are powers of two.

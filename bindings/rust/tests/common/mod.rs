@@ -24,8 +24,8 @@ pub fn receiver() -> Receiver {
     Receiver::new(2, &[FLOW], &rows(), LossRule::Decided).expect("a lawful setup")
 }
 
-/// A segment with this number, in which a frame begins at once if there is a payload. It asks for so
-/// many units for SID cluster 1.
+/// A segment with this number, in which a frame begins at once if there is a payload. It asks for
+/// so many units for SID cluster 1.
 pub fn segment(number: u16, units: u16, payload: &[u8]) -> Vec<u8> {
     let begins = if payload.is_empty() { 0 } else { 0x8000 };
     let words: [u16; 4] = [begins, number << 3 | 1, units, 0];
