@@ -88,7 +88,6 @@ extern "C" {
 }
 
 /// A handle of a receiver, which frees it.
-#[derive(Debug)]
 pub(crate) struct Handle(NonNull<Opaque>);
 
 impl Handle {

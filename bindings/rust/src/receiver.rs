@@ -4,13 +4,14 @@ use crate::errors::{Error, SetupError, Shortage};
 use crate::handle::Handle;
 use crate::status::Status;
 use crate::values::{Counts, Decision, Flow, Frame, LossRule, Request, Row, Verdict};
+use std::fmt::{self, Debug, Formatter};
 use std::iter;
 
 /// A receiver of up to 16 upstream channels and up to 16,384 service flows.
 ///
 /// What it gives, frames and requests, waits in it until it is taken, each in the order in which it
-/// was given, and can be taken at any time, also after [`close`](Receiver::close). Dropping a
-/// receiver frees it, with all that waits.
+/// was given, and can be taken at any time, also after [`close`](Receiver::close). It stays in
+/// memory until then. Dropping a receiver frees it, with all that waits.
 ///
 /// # Threads
 ///
@@ -29,7 +30,6 @@ use std::iter;
 ///
 /// The library asks `malloc` for memory, and a call in which that fails answers
 /// [`Error::Memory`]; [`Shortage`] says of each kind what is left to do.
-#[derive(Debug)]
 pub struct Receiver {
     handle: Handle,
     /// The bytes of a burst. The library asks for memory that is writable and used by nothing else
@@ -203,5 +203,11 @@ impl Receiver {
     /// [`Shortage::NotKept`] says that a frame or request is missing.
     pub fn close(&mut self) -> Result<(), Shortage> {
         self.handle.close().closed()
+    }
+}
+
+impl Debug for Receiver {
+    fn fmt(&self, to: &mut Formatter<'_>) -> fmt::Result {
+        to.debug_struct("Receiver").finish_non_exhaustive()
     }
 }

@@ -100,7 +100,7 @@ fn persist(
 ) -> Result<(), Shortage> {
     loop {
         match call(receiver) {
-            Ok(()) | Err(Error::Refused(_)) => return Ok(()),
+            Ok(()) => return Ok(()),
             Err(Error::Memory(Shortage::NotTaken)) => met.not_taken += 1,
             Err(Error::Memory(Shortage::Unfinished)) => {
                 met.unfinished += 1;
