@@ -6,7 +6,7 @@ use std::alloc::Allocator;
 use std::marker::Model;
 
 /// What is answered where a box was to be made: its pointer and the right to free it, or NULL; and
-/// number.
+/// a number.
 pub struct Handed<T, A: Allocator> {
     pub number: u32,
     pub at: *mut T,

@@ -1,7 +1,7 @@
 -- The receiver behind the handle is closed.
-use Rattle.segrx_c.proofs.Steps.{◌≡◌, ℕ, ◌^◌, ◌<◌, ◌*◌, ◌≤◌, List, [], ◌∷◌, ◌++◌, length, Bool, true, false, refl, lit<, arith, w8, w16, w32, w64, MutBor, Bor, Ura, full_share, named, Val, vint, vbool, vptr, vnull, SProp, ent, sep, ex, id⊢, via, fst∗, Lft, Share, Fml, ftrue, fsep, flft, flent, Memory, Routine, Calls, Loops, WpFn, Logic, sem, Fun, fact, fact_i, fact_use, emp, tables, framed, ‵, raw, ◌⊛◌, some, later, at_ret, ◌$◌, ◌∵◌, !, qed, by, move, keep, drop, use0, use1, use2, use3, split, split3, join, pick, fsplit, fjoin, await, lft_new, lft_end, Body, of_opd, bin, lit, addr, stop, and_then, no_more, first, branches, skips, exec, returns, returns_within, enter, agg, alloc_all, pass_all, free_all, look_at, get, through, sets, lands_as, env, FmC, yes, Is, shows, mem, uint_vals, uint_Tells, uint_Makes, uint_Lawful, bool_vals, bool_Tells, bool_Makes, u8, u16, u32, u64, usize, bool, MutRef, mut_vals, lends_ref, ref_back, Ptr, block_ptr, null_ptr, ptr_val, RawPtr, rawptr_vals, rawptr_Tells, Testable, tests_null, plain, owned, peeks, heard, nothing, Contract, Triple, calls_at, Clauses, lasts, on_entry, triple_of, Stays, stay_dropped, walk_of, Goes-dropped, proved, leaves, typed, boxed-Testable, ended-1, ended-2, ended-3, apart, counted, row_in, row_out, rejoined, within, beyond, nat_lt, not, T, subst, sym, nltb→le, feq, feq_i, feq_l, cells, Arr, Array, Array-apart, Array-whole, whole_in, lends_slice, slice_back, lends_shr_slice, lent_back, Incl-refl, ShrSlice, MutSlice, slice_val, LentSlice, big_lit, points_to, uint_Copied}
-use Rattle.segrx_c.specs.Handle.{boxed_at, handle_at, value_at, row_at}
-use Rattle.segrx_c.specs.Answers.{Numbered, Unless, UnlessBeyond}
+use Rattle.segrx_c.proofs.Steps.{ℕ, [], ◌∷◌, ◌++◌, refl, lit<, w32, MutBor, Ura, full_share, named, Val, vint, vptr, vnull, SProp, ent, sep, ex, id⊢, Lft, Fml, ftrue, flft, flent, Memory, Routine, Calls, Loops, WpFn, Logic, sem, Fun, fact, fact_i, fact_use, emp, tables, framed, ‵, raw, ◌⊛◌, some, later, at_ret, ◌$◌, ◌∵◌, !, qed, by, move, keep, drop, use0, use1, use2, use3, split, split3, join, pick, fsplit, fjoin, await, lft_new, lft_end, Body, of_opd, bin, lit, addr, stop, and_then, no_more, first, branches, skips, exec, returns, returns_within, enter, alloc_all, pass_all, free_all, look_at, get, through, sets, lands_as, env, FmC, yes, Is, shows, mem, uint_Makes, uint_Lawful, u32, MutRef, mut_vals, lends_ref, ref_back, Ptr, block_ptr, null_ptr, RawPtr, rawptr_vals, rawptr_Tells, Testable, tests_null, plain, owned, peeks, heard, nothing, Contract, Triple, calls_at, Clauses, lasts, on_entry, triple_of, Stays, stay_dropped, walk_of, Goes-dropped, proved, leaves, typed, boxed-Testable, ended-1}
+use Rattle.segrx_c.specs.Handle.{boxed_at, handle_at}
+use Rattle.segrx_c.specs.Answers.{Numbered, Unless}
 use Rattle.c_receiver.specs.declared.held.HeldReceiver.{HeldReceiver}
 use Rattle.c_receiver.specs.contracts.held.HeldReceiver.{the_row as R}
 use Rattle.c_receiver.specs.Held.{IsInUse}

@@ -1,5 +1,5 @@
 -- The receiver behind the handle becomes a box again, and is let go.
-use Rattle.segrx_c.proofs.Steps.{Memory, Routine, Calls, Loops, Logic, Fun, FmC, Contract, Triple, Clauses, Lasts, proved, rawptr_vals, rawptr_Tells, ◌≡◌, ℕ, List, [], ◌∷◌, ◌++◌, refl, sym, ap, subst, ◌∙◌, lit<, w32, Ura, Val, vint, vptr, vnull, SProp, ent, sep, id⊢, via, fst∗, snd∗, ftrue, fsep, WpFn, sem, fact, fact_i, fact_use, emp, tables, framed, ‵, raw, ◌⊛◌, some, later, at_ret, ◌$◌, ◌∵◌, !, qed, by, move, keep, drop, use0, use1, use2, split, join, pick, fsplit, fjoin, feq_i, feq_l, await, of_opd, bin, lit, and_then, no_more, first, branches, skips, exec, returns, returns_within, enter, agg, alloc_all, pass_all, free_all, look_at, get, sets, lands_as, env, yes, Is, shows, uint_Makes, uint_Lawful, u32, Ptr, block_ptr, null_ptr, RawPtr, Testable, tests_null, plain, owned, peeks, heard, nothing, calls_at, lasts, triple_of, Stays, stay_dropped, walk_of, Goes-dropped, leaves, boxed-Testable}
+use Rattle.segrx_c.proofs.Steps.{Memory, Routine, Calls, Loops, Logic, Fun, FmC, Contract, Triple, Clauses, Lasts, proved, rawptr_vals, rawptr_Tells, ◌≡◌, ℕ, [], ◌∷◌, ◌++◌, refl, lit<, w32, Ura, Val, vint, vptr, vnull, SProp, ent, sep, id⊢, via, snd∗, ftrue, fsep, WpFn, sem, fact, fact_i, fact_use, emp, tables, framed, ‵, raw, ◌⊛◌, some, later, at_ret, ◌$◌, ◌∵◌, !, qed, by, move, keep, drop, use0, use1, use2, split, join, pick, fsplit, fjoin, await, of_opd, bin, lit, and_then, no_more, first, branches, skips, exec, returns, returns_within, enter, agg, alloc_all, pass_all, free_all, look_at, get, sets, lands_as, env, yes, Is, shows, uint_Makes, uint_Lawful, u32, Ptr, block_ptr, null_ptr, RawPtr, Testable, tests_null, plain, owned, peeks, heard, nothing, calls_at, lasts, triple_of, Stays, stay_dropped, walk_of, Goes-dropped, leaves, boxed-Testable}
 use Rattle.std.proofs.Common.{Some}
 use Rattle.std.specs.declared.alloc.Global.{Global}
 use Rattle.std.proofs.alloc.Calls.{Al, Fits}

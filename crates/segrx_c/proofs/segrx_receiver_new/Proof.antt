@@ -1,6 +1,6 @@
 -- The flows and the rows are lent for the call; what is made goes to the caller's variable, which is NULL until then.
-use Rattle.segrx_c.proofs.Steps.{Memory, Routine, Calls, Loops, Logic, Fun, FmC, Contract, Triple, Clauses, Lasts, lasts, proved, rawptr_vals, rawptr_Tells, ◌≡◌, ℕ, ◌^◌, ◌<◌, ◌*◌, ◌≤◌, List, [], ◌∷◌, ◌++◌, length, Bool, true, false, refl, sym, ap, subst, ◌∙◌, lit<, arith, w32, w64, Ura, Val, vint, vptr, vnull, SProp, ent, sep, ex, id⊢, via, snd∗, Fml, Lft, ftrue, fsep, feq, flft, flent, Incl-refl, named, full_share, Bor, WpFn, sem, fact, fact_i, fact_use, emp, tables, framed, ‵, raw, ◌⊛◌, some, later, at_ret, ◌$◌, ◌∵◌, !, qed, by, move, keep, drop, use0, use1, use2, use3, split, split3, join, pick, fsplit, fjoin, feq_i, feq_l, await, of_opd, bin, lit, big_lit, and_then, no_more, first, branches, skips, exec, returns, returns_within, enter, agg, alloc_all, pass_all, free_all, look_at, get, get_in, through, stop, fld, sub, whole, sets, assigns, store, lands_as, env, yes, Is, shows, uint_vals, uint_Tells, uint_Makes, uint_Lawful, u32, usize, Ptr, block_ptr, null_ptr, ptr_val, RawPtr, Testable, tests_null, plain, owned, only, peeks, heard, nothing, calls_at, on_entry, triple_of, Stays, stay_dropped, walk_of, Goes-dropped, leaves, typed, ended-4, apart, counted, row_in, row_out, within, beyond, pointer_out, pointer_in, nat_lt, not, T, nltb→le, points_to, Array, Array-apart, Array-whole, ShrSlice, slice_val, lends_shr_slice, lent_back, lft_new, lft_end}
-use Rattle.std.proofs.Common.{Option, Some, None}
+use Rattle.segrx_c.proofs.Steps.{Memory, Routine, Calls, Loops, Logic, Fun, FmC, Contract, Triple, Clauses, Lasts, lasts, proved, rawptr_vals, rawptr_Tells, ◌≡◌, ℕ, ◌^◌, ◌<◌, ◌*◌, ◌≤◌, List, [], ◌∷◌, ◌++◌, length, Bool, true, false, refl, sym, ap, subst, lit<, arith, w32, w64, Ura, Val, vint, vptr, vnull, SProp, ent, sep, ex, id⊢, Fml, Lft, ftrue, fsep, feq, flft, flent, Incl-refl, named, full_share, Bor, WpFn, sem, fact, tables, framed, ‵, raw, ◌⊛◌, some, later, at_ret, ◌$◌, ◌∵◌, !, qed, by, move, keep, drop, use1, use2, use3, split, split3, join, pick, fsplit, fjoin, feq_i, feq_l, await, of_opd, bin, lit, big_lit, and_then, no_more, first, branches, skips, exec, returns, returns_within, enter, agg, alloc_all, pass_all, free_all, look_at, get, get_in, through, stop, fld, sub, whole, sets, assigns, store, lands_as, env, yes, Is, uint_vals, uint_Tells, uint_Makes, u32, usize, Ptr, block_ptr, null_ptr, ptr_val, RawPtr, Testable, tests_null, plain, owned, only, heard, nothing, calls_at, triple_of, Stays, stay_dropped, walk_of, Goes-dropped, leaves, typed, ended-4, apart, counted, row_in, row_out, within, beyond, pointer_out, pointer_in, nat_lt, not, T, nltb→le, points_to, Array, Array-apart, Array-whole, ShrSlice, slice_val, lends_shr_slice, lent_back, lft_new, lft_end}
+use Rattle.std.proofs.Common.{Option, None}
 use Rattle.std.proofs.alloc.Calls.{Al, Fits}
 use Rattle.std.specs.declared.alloc.Global.{Global}
 use Rattle.std.specs.contracts.alloc.Global as heap
@@ -24,7 +24,7 @@ use Rattle.segrx_c.specs.Handle.{value_at, row_at}
 use Rattle.segrx_c.specs.Made.{Gives, made_at}
 use Rattle.segrx_c.specs.declared.handed.Handed.{Handed}
 use Rattle.segrx_c.specs.contracts.handed.Handed as handed
-use Rattle.segrx_c.proofs.HandedSteps.{word, handed_out, handed_typed_at, made-in}
+use Rattle.segrx_c.proofs.HandedSteps.{handed_out, handed_typed_at, made-in}
 use Rattle.segrx_c.specs.contracts.calls.make as g
 use Rattle.segrx_c.proofs.calls.make.Symbol.{name as #callee}
 use Rattle.segrx_c.proofs.calls.make.Met as callee

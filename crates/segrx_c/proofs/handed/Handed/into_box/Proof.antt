@@ -41,7 +41,7 @@ use mir.Raw.{raw as bare}
 use denote.RawPtr.{Ptr, null_ptr, in_a_block}
 use Rattle.std.proofs.BoxSteps.Form.{τ}
 use Rattle.std.specs.Box.Ownership.{box_owns}
-use Rattle.std.proofs.BoxSteps.Form.{Bx, D, R, P, B, args, box_ty, word, box_typed}
+use Rattle.std.proofs.BoxSteps.Form.{Bx, D, R, P, B, args, box_ty, box_typed}
 use Rattle.std.proofs.BoxSteps.Steps.{box_out, box_in}
 use Rattle.segrx_c.specs.contracts.handed.Handed as parts
 use Rattle.std.specs.contracts.boxed.Box.from_raw as Fr

@@ -38,7 +38,7 @@ use Rattle.std.proofs.Common.{lit<, Some}
 use Rattle.segrx_c.proofs.HandedSteps.{word as word', made, handed_in, handed_typed}
 use types.Run.{lit}
 use Rattle.std.specs.Box.Ownership.{box_owns}
-use Rattle.std.proofs.BoxSteps.Form.{Bx, D, τ, R, P, B, word, box_typed}
+use Rattle.std.proofs.BoxSteps.Form.{Bx, τ, R, P, B, word, box_typed}
 use Rattle.std.proofs.BoxSteps.Steps.{box_out, box_in}
 use Rattle.segrx_c.specs.contracts.handed.Handed as parts
 use Rattle.std.specs.contracts.boxed.Box.into_raw_with_allocator as Ra

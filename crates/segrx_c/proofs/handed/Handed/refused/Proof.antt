@@ -1,50 +1,40 @@
 -- `refused` makes NULL, which owns nothing.
-use mathlib.Core.Path.{◌≡◌, refl, sym, subst, ap}
+use mathlib.Core.Path.{refl, sym, subst}
 use mathlib.Core.List.{List, [], ◌∷◌, ◌++◌}
 use lib.Dec.{T}
 use seplogic.Ra.Ura.{Ura}
 use mir.Syntax.{Fn, ty_struct, ty_int, ty_ptr, tcons, tnil}
 use mir.MapTy.{inst_fn}
-use mir.Val.{Val, vptr, has_ty, WT}
-use base.Logic.{SProp, ent, id⊢}
+use mir.Val.{Val, has_ty, WT}
+use base.Logic.{SProp, ent}
 use base.Fml.{ftrue, fsep, flft}
-use contract.BorrowLft.{◌⊑◌}
 use prog.Memory.{Memory}
 use prog.Routine.{Routine}
 use prog.Wp.{WpFn, Tables}
 use types.Logic.{Logic}
-use contract.Monad.{Fun, fact}
+use contract.Monad.{Fun}
 use contract.Running.{tables, tables_of}
-use sound.WpLaws.{fm_of, WpFn-mono}
+use sound.WpLaws.{WpFn-mono}
 use types.Kit.{Item, ‵, raw, ◌⊛◌, ◌$◌, ◌∵◌, !, qed, by, move, keep, join, split, fsplit, fjoin, feq_l, flt_l, suffices, done}
-use types.Part.{whole, sub}
-use types.Run.{stop, fld, no_more, and_then, of_opd, returns, enter, first, blocks, exec}
-use types.ByLocal.{alloc_all, pass_all, free_all, look_at, get, get_in, sets, lands_last, env}
+use types.Run.{no_more, and_then, of_opd, returns, enter}
+use types.ByLocal.{alloc_all, pass_all, free_all, look_at, get, sets, env}
 use denote.RattleType.{RattleType}
 use denote.Exit.{no}
-use denote.RawPtr.{block_ptr}
 use denote.Signature.{plain}
-use denote.Steps.{heard, nothing, only}
-use denote.Triple.Call.{calls_at_last}
+use denote.Steps.{nothing}
 use denote.Triple.Clauses.{Ended, Clauses}
 use denote.Triple.Spec.{triple_of}
-use denote.Triple.Statement.{Triple, Contract}
 use denote.Triple.Table.{entered}
 use denote.Triple.Walked.{says, Stays, stay_dropped, walk_of, ends_at, walk_Meets, Goes-dropped}
-use Rattle.std.proofs.alloc.Calls.{token, Goes-blank}
-use Rattle.std.specs.Box.Ownership.{box_owns}
-use Rattle.std.proofs.BoxSteps.Form.{Bx, D, R, P, B, args, box_ty, word, box_typed}
-use Rattle.std.proofs.BoxSteps.Steps.{box_out, box_in}
+use Rattle.std.proofs.BoxSteps.Form.{Bx, R, P, args}
 use Rattle.segrx_c.specs.contracts.handed.Handed as parts
 use Rattle.std.proofs.Common.{ℕ, ◌^◌, ◌<◌, lit<, None, w32}
 use Rattle.std.proofs.alloc.Calls.{α, Fits, handle_tells}
 use Rattle.std.proofs.ResultValues.{and_tt}
-use Rattle.segrx_c.specs.Handed.{given_at}
 use Rattle.segrx_c.proofs.HandedSteps.{word as word', made, handed_in}
-use mir.Val.{vint, vnull}
+use mir.Val.{vint}
 use types.Run.{lit}
 use types.Part.{agg}
-use denote.RattleType.{owns}
 use denote.Builtin.{u32}
 use denote.RawPtr.{null_ptr}
 use denote.Exit.{yes}
