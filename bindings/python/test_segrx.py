@@ -15,8 +15,8 @@ def segment(number, units=0, payload=FRAME):
     return b"".join(word.to_bytes(2, "big") for word in words) + payload
 
 
-def fields(struct):
-    return tuple(getattr(struct, name) for name, _ in struct._fields_)
+def named(struct):
+    return {name: getattr(struct, name) for name, _ in struct._fields_}
 
 
 class Calls(unittest.TestCase):
@@ -33,17 +33,20 @@ class Calls(unittest.TestCase):
         return raised.exception.status
 
     def test_frames_requests_and_counts(self):
-        verdicts = [self.send(number % 2, segment(number, number)) for number in (2, 2, 0, 4, 0)]
-        wanted = [Status.OK, Status.REPEAT, Status.OK, Status.OK, Status.LATE]
-        self.assertEqual(verdicts, wanted)
-        self.assertEqual(self.send(1, segment(9, 65535)), Status.BEYOND)
+        wanted = [(2, Status.OK), (2, Status.REPEAT), (2, Status.REPEAT), (0, Status.OK)]
+        wanted += [(3, Status.OK), (9, Status.BEYOND), *[(0, Status.LATE)] * 6]
+        for number, verdict in wanted:
+            self.assertEqual(self.send(1, segment(number, 100 + number)), verdict, number)
+        self.assertEqual(self.send(0, segment(4, payload=b"\xff" * 5)), Status.OK)
         self.receiver.decide(0, Decision.GAP_TO, 2)
+        self.receiver.decide(0, Decision.SKIP_TO, 11)
         self.receiver.close()
         self.assertEqual([*self.receiver.frames()], [(0, FRAME)] * 3)
-        requests = [fields(request) for request in self.receiver.requests()]
-        self.assertEqual(requests[0], (0, 2, 2, 0, 1))
-        self.assertEqual(requests[-1], (0, 65535, 9, 1, 1))
-        self.assertEqual(fields(self.receiver.counts(0)), (3, 1, 1, 1, 2, 3, 0))
+        requests = [named(request) for request in self.receiver.requests()]
+        self.assertEqual(requests[5], dict(flow=0, units=109, sequence=9, channel=1, cluster=1))
+        self.assertEqual(len(requests), 12)
+        counts = dict(kept=4, late=6, repeat=2, beyond=1, lost=7, frames=3, skipped=5)
+        self.assertEqual(named(self.receiver.counts(0)), counts)
 
     def test_refusals_are_returned(self):
         self.assertEqual(self.receiver.burst(0, 1, False, b""), Status.NO_GRANT)
@@ -76,7 +79,8 @@ class Calls(unittest.TestCase):
 
     def test_a_restart(self):
         self.send(0, segment(0, payload=b"\x00\x00\x00\x00"))
-        self.assertEqual(fields(self.receiver.restart(0, 8000)), (1, 0, 0, 0, 0, 0, 4))
+        counts = self.receiver.restart(0, 8000)
+        self.assertEqual((counts.kept, counts.frames, counts.skipped), (1, 0, 4))
         self.assertEqual(self.send(0, segment(8000)), Status.OK)
 
     def test_longest_frame(self):

@@ -104,37 +104,36 @@ fn the_longest_burst_is_taken() {
 #[test]
 fn every_verdict_and_its_count() {
     let mut receiver = receiver();
+    let late = [(0, Verdict::Late); 6];
     let cases = [
-        (1, Verdict::Kept),
-        (1, Verdict::Repeat),
-        (4, Verdict::Beyond),
-        (8191, Verdict::Late),
+        (2, Verdict::Kept),
+        (2, Verdict::Repeat),
+        (2, Verdict::Repeat),
         (0, Verdict::Kept),
-        (1, Verdict::Late),
         (3, Verdict::Kept),
+        (5, Verdict::Beyond),
     ];
-    for (number, verdict) in cases {
-        assert_eq!(
-            send(&mut receiver, 0, &numbered(number)),
-            Ok(verdict),
-            "{}",
-            number
-        );
+    for (number, verdict) in cases.iter().chain(&late) {
+        let answer = send(&mut receiver, 0, &numbered(*number));
+        assert_eq!(answer, Ok(*verdict), "{}", number);
     }
+    let fill = segment(4, 0, &[0xff; 5]);
+    assert_eq!(send(&mut receiver, 1, &fill), Ok(Verdict::Kept));
+    receiver.decide(0, Decision::GapTo(2)).unwrap();
+    receiver.decide(0, Decision::SkipTo(11)).unwrap();
     receiver.close().unwrap();
-    let counts = receiver.counts(0).unwrap();
     let wanted = Counts {
-        kept: 3,
-        late: 2,
-        repeat: 1,
+        kept: 4,
+        late: 6,
+        repeat: 2,
         beyond: 1,
-        lost: 1,
+        lost: 7,
         frames: 3,
-        skipped: 0,
+        skipped: 5,
     };
-    assert_eq!(counts, wanted);
+    assert_eq!(receiver.counts(0), Ok(wanted));
     let given: Vec<_> = receiver.frames().map(|frame| frame.bytes).collect();
-    assert_eq!(given, [frame(0), frame(1), frame(3)]);
+    assert_eq!(given, [frame(0), frame(2), frame(3)]);
 }
 
 #[test]
