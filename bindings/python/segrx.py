@@ -172,7 +172,7 @@ class Receiver:
         """The frames that wait, each with its flow before it. Each is taken as it is asked for."""
         head, room = FrameHead(), ctypes.create_string_buffer(MOST_OF_A_FRAME)
         while self._given("next_frame", room, len(room), ctypes.byref(head)):
-            yield head.flow, room.raw[: head.length]
+            yield head.flow, ctypes.string_at(room, head.length)
 
     def requests(self):
         """The requests that wait. Each is taken as it is asked for."""
