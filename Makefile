@@ -32,20 +32,34 @@ program = $(or $(SEGRX),crates/segrx/out/segrx)
 placed_program = "$(DESTDIR)$(bindir)/segrx"
 placed_manual = "$(DESTDIR)$(man1dir)/segrx.1"
 placed_completion = "$(DESTDIR)$(bashcompletiondir)/segrx"
-folders = "$(bindir)" "$(man1dir)" "$(bashcompletiondir)" "$(extcapdir)"
+folders = "$(bindir)" "$(man1dir)" "$(bashcompletiondir)" "$(extcapdir)" \
+	"$(pkgconfigdir)" "$(libdir)" "$(includedir)"
 extcap_program = "$(DESTDIR)$(extcapdir)" "$(bindir)/segrx"
 # Where nobody has named Wireshark's folder and it can't be written, all else is installed.
 without_extcap = echo "$(extcapdir) can't be written: segrx won't be in Wireshark's menu (EXTCAPDIR)"
 
-run: # proves and builds the program, crates side by side, runs it on the sample and leaves it at crates/segrx/out/segrx
+# What C programs link, its header, and what pkg-config says of it.
+library = crates/segrx_c/out/libsegrx.a
+placed_library = "$(DESTDIR)$(libdir)/libsegrx.a"
+placed_header = "$(DESTDIR)$(includedir)/segrx.h"
+placed_package = "$(DESTDIR)$(pkgconfigdir)/segrx.pc"
+version = $$(sed -n '/^\#\# /{s///p;q}' CHANGELOG.md)
+
+run: # proves and builds the program and the C library, crates side by side, runs it on the sample and leaves it at crates/segrx/out/segrx
 	@scripts/build
 
 install: # installs below PREFIX what `make` left, with man page and completion (DESTDIR, BINDIR ..), and into Wireshark's menu (EXTCAPDIR)
 	@PYTHONDONTWRITEBYTECODE=1 scripts/build --check
 	mkdir -p "$(DESTDIR)$(bindir)" "$(DESTDIR)$(man1dir)" "$(DESTDIR)$(bashcompletiondir)"
+	mkdir -p "$(DESTDIR)$(libdir)" "$(DESTDIR)$(includedir)" "$(DESTDIR)$(pkgconfigdir)"
 	$(INSTALL_PROGRAM) "$(program)" $(placed_program)
 	$(INSTALL_DATA) docs/segrx.1 $(placed_manual)
 	$(INSTALL_DATA) completions/segrx.bash $(placed_completion)
+	$(INSTALL_DATA) $(library) $(placed_library)
+	$(INSTALL_DATA) include/segrx.h $(placed_header)
+	sed -e "s|@version@|$(version)|; s|@prefix@|$(prefix)|; s|@exec_prefix@|$(exec_prefix)|" \
+	    -e "s|@libdir@|$(libdir)|; s|@includedir@|$(includedir)|" packaging/segrx.pc | \
+	    $(INSTALL_DATA) /dev/stdin $(placed_package)
 	@mkdir -p "$(DESTDIR)$(extcapdir)" 2> /dev/null; test -w "$(DESTDIR)$(extcapdir)" || { \
 		$(without_extcap); exit $(if $(filter file,$(origin EXTCAPDIR)),0,1); }; \
 		scripts/extcap-program put $(extcap_program)
@@ -55,6 +69,7 @@ install-strip:
 
 uninstall: # removes what `make install` put below PREFIX, and folders there that are empty then
 	rm -f $(placed_program) $(placed_manual) $(placed_completion)
+	rm -f $(placed_library) $(placed_header) $(placed_package)
 	@scripts/extcap-program remove $(extcap_program)
 	@scripts/empty-folders "$(DESTDIR)" "$(prefix)" $(folders)
 
