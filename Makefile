@@ -1,5 +1,5 @@
 # `make help` lists the targets with what they do.
-.PHONY: run install install-strip uninstall deb try quick check test bench mutants soak help
+.PHONY: run install install-strip uninstall deb library try quick check test bench mutants soak help
 
 # Where `make install` puts what, by the names of the GNU coding standards, most of them in capitals
 # too. DESTDIR stands before each folder.
@@ -39,7 +39,7 @@ extcap_program = "$(DESTDIR)$(extcapdir)" "$(bindir)/segrx"
 without_extcap = echo "$(extcapdir) can't be written: segrx won't be in Wireshark's menu (EXTCAPDIR)"
 
 # What C programs link, its header, and what pkg-config says of it.
-library = crates/segrx_c/out/libsegrx.a
+library = $(or $(SEGRX_ARCHIVE),crates/segrx_c/out/libsegrx.a)
 placed_library = "$(DESTDIR)$(libdir)/libsegrx.a"
 placed_header = "$(DESTDIR)$(includedir)/segrx.h"
 placed_package = "$(DESTDIR)$(pkgconfigdir)/segrx.pc"
@@ -75,6 +75,9 @@ uninstall: # removes what `make install` put below PREFIX, and folders there tha
 
 deb: # makes a Debian package of what `make install` installs, in out/
 	@scripts/package
+
+library: # proves and builds the C library, and looks at it from C, Rust and Python and at what is installed of it
+	@scripts/c-library && scripts/hostile-c && scripts/bindings --count 1000 && scripts/put-in-place
 
 try: # replays an example without a proof
 	@scripts/try
