@@ -43,6 +43,8 @@ library = $(or $(SEGRX_ARCHIVE),crates/segrx_c/out/libsegrx.a)
 placed_library = "$(DESTDIR)$(libdir)/libsegrx.a"
 placed_header = "$(DESTDIR)$(includedir)/segrx.h"
 placed_package = "$(DESTDIR)$(pkgconfigdir)/segrx.pc"
+# A folder's name as the right side of a substitution by sed.
+in_sed = $(subst |,\|,$(subst &,\&,$(1)))
 version = $$(sed -n '/^\#\# /{s///p;q}' CHANGELOG.md)
 
 run: # proves and builds the program and the C library, crates side by side, runs it on the sample and leaves it at crates/segrx/out/segrx
@@ -55,10 +57,11 @@ install: # installs below PREFIX what `make` left, with man page and completion 
 	$(INSTALL_PROGRAM) "$(program)" $(placed_program)
 	$(INSTALL_DATA) docs/segrx.1 $(placed_manual)
 	$(INSTALL_DATA) completions/segrx.bash $(placed_completion)
-	$(INSTALL_DATA) $(library) $(placed_library)
+	$(INSTALL_DATA) "$(library)" $(placed_library)
 	$(INSTALL_DATA) include/segrx.h $(placed_header)
-	sed -e "s|@version@|$(version)|; s|@prefix@|$(prefix)|; s|@exec_prefix@|$(exec_prefix)|" \
-	    -e "s|@libdir@|$(libdir)|; s|@includedir@|$(includedir)|" packaging/segrx.pc | \
+	sed -e "s|@version@|$(version)|; s|@prefix@|$(call in_sed,$(prefix))|" \
+	    -e "s|@exec_prefix@|$(call in_sed,$(exec_prefix))|; s|@libdir@|$(call in_sed,$(libdir))|" \
+	    -e "s|@includedir@|$(call in_sed,$(includedir))|" packaging/segrx.pc | \
 	    $(INSTALL_DATA) /dev/stdin $(placed_package)
 	@mkdir -p "$(DESTDIR)$(extcapdir)" 2> /dev/null; test -w "$(DESTDIR)$(extcapdir)" || { \
 		$(without_extcap); exit $(if $(filter file,$(origin EXTCAPDIR)),0,1); }; \

@@ -52,6 +52,9 @@
 extern "C" {
 #endif
 
+/* The most bytes that a frame has, its header included. */
+#define SEGRX_LONGEST_FRAME 65541
+
 /* What a call answers. */
 enum segrx_status {
     /* The call is done. Of a burst: it was admitted, and its segment is kept. */
@@ -70,7 +73,8 @@ enum segrx_status {
     SEGRX_UNKNOWN_DECISION = 6,
     /* No frame, or no request, waits. */
     SEGRX_NOTHING = 7,
-    /* The room is smaller than the frame, whose length is told and which still waits. */
+    /* The room is smaller than the frame, whose length is told and which still waits, before all
+     * others. Room for SEGRX_LONGEST_FRAME is never too small. */
     SEGRX_ROOM_TOO_SMALL = 8,
     /* The receiver's close was begun: nothing is taken any more. */
     SEGRX_CLOSED = 9,
@@ -82,8 +86,9 @@ enum segrx_status {
      * by segrx_receiver_go_on, or when the next comes to the flow. */
     SEGRX_UNFINISHED = 12,
     /* malloc failed for the place of a frame or a request in the queue: it is missing. The call is
-     * done all the same. From then on each call that hands something in answers so in the place of
-     * what it else would, so whether it was done isn't told: take what waits, and free the receiver. */
+     * done all the same. From then on a call that hands something in mostly answers so in the place
+     * of what it else would, so whether it was done isn't told: take what waits, and free the
+     * receiver. */
     SEGRX_NOT_KEPT = 13,
     /* A burst was admitted, and its segment came when its number had passed. */
     SEGRX_LATE = 14,
@@ -91,12 +96,14 @@ enum segrx_status {
     SEGRX_REPEAT = 15,
     /* A burst was admitted, and the number of its segment is beyond the window. */
     SEGRX_BEYOND = 16,
-    /* More is passed than may be: see the function. Nothing was done. */
+    /* More is passed than may be: see the function. Nothing was done. It comes before all others but
+     * SEGRX_NULL, also for too many flows or rows of a setup. */
     SEGRX_LENGTH_RANGE = 17,
 
-    /* Of a setup, the first of these that applies, from SEGRX_NO_CHANNELS on: no channel; more than
-     * 16; no flow; more than 16,384; a flow's field is out of its range, or its identifier is another
-     * flow's; a row's channel or identifier is out of range, or given before, or its flow isn't. */
+    /* Of a setup, the first of these that applies, behind SEGRX_UNKNOWN_RULE and from
+     * SEGRX_NO_CHANNELS on: no channel; more than 16; no flow; a flow's field is out of its range, or
+     * its identifier is another flow's; a row's channel or identifier is out of range, or given
+     * before, or its flow isn't. SEGRX_TOO_MANY_FLOWS and SEGRX_FLOW_COUNT are never answered. */
     SEGRX_NO_CHANNELS = 20,
     SEGRX_TOO_MANY_CHANNELS = 21,
     SEGRX_NO_FLOWS = 22,
@@ -109,7 +116,8 @@ enum segrx_status {
     SEGRX_ROW_OF_NO_FLOW = 29,
 
     /* A grant is refused, and nothing changed: fewer than 8 bytes or more than 65,535; the number of
-     * one that is outstanding; no such service identifier on the channel; 65,536 are outstanding. */
+     * one that is outstanding; no such service identifier on the channel; 65,536 are outstanding.
+     * SEGRX_GRANT_OUT_OF_MEMORY is never answered, nor is SEGRX_BURST_OUT_OF_MEMORY below. */
     SEGRX_GRANT_RANGE = 33,
     SEGRX_GRANT_KNOWN = 34,
     SEGRX_UNKNOWN_SID = 35,

@@ -35,7 +35,7 @@ static int receive(struct segrx_receiver *receiver) {
 }
 
 static void print_frames(struct segrx_receiver *receiver) {
-    uint8_t room[2000];
+    static uint8_t room[SEGRX_LONGEST_FRAME];
     struct segrx_frame frame = {0};
     while (segrx_receiver_next_frame(receiver, room, sizeof room, &frame) == SEGRX_OK) {
         printf("frame of flow %zu: ", frame.flow);

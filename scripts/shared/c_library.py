@@ -9,6 +9,7 @@ from shared import built
 from shared.tree import path
 
 LIBRARY = path("crates", "segrx_c", "out", "libsegrx_c.a")
+ARCHIVE = path("crates", "segrx_c", "out", "libsegrx.a")
 WARNINGS = ["-Wall", "-Wextra", "-Wconversion", "-Werror"]
 VALGRIND = ["valgrind", "-q", "--leak-check=full", "--show-leak-kinds=all", "--errors-for-leak-kinds=all", "--error-exitcode=9"]
 
@@ -29,19 +30,13 @@ def make_archive():
     """Leaves libsegrx.a beside the library, which `make install` puts in place."""
     library()
     subprocess.run([path("scripts", "library")], check=True)
-
-
-def heap():
-    """The toolchain's part in C, by which a library asks for memory: malloc, realloc and free. It stands beside the page that
-    `rt doc` names."""
-    page = subprocess.run(["rt", "doc"], capture_output=True, text=True, check=True).stdout.strip()
-    return os.path.join(os.path.dirname(page), "c", "liblibc_c.a")
+    return ARCHIVE
 
 
 def compile_program(source, program, options=()):
     """Compiles a C program, which stands at this path from the top, and links it with the library."""
     command = ["gcc", "-std=gnu11", "-O2", "-g", *WARNINGS, *options, "-I", path("include"), "-o", program, path(*source.split("/"))]
-    ran = subprocess.run([*command, library(), heap()], capture_output=True, text=True)
+    ran = subprocess.run([*command, make_archive()], capture_output=True, text=True)
     if ran.returncode != 0:
         sys.exit(f"{source} doesn't compile:\n{ran.stderr}")
     return program

@@ -61,7 +61,9 @@ class Menu:
         prefix = self.in_room("a user's prefix")
         words = ["make", "install", f"PREFIX={prefix}", f"EXTCAPDIR={self.programs}"]
         given = {name: value for name, value in os.environ.items() if name != "MAKEFLAGS"}
-        how = {"cwd": path(), "env": given | {"SEGRX": segrx}, "stdout": subprocess.DEVNULL}
+        # No library is built for this: the program's bytes stand in its place.
+        given |= {"SEGRX": segrx, "SEGRX_ARCHIVE": segrx}
+        how = {"cwd": path(), "env": given, "stdout": subprocess.DEVNULL}
         subprocess.run(words, check=True, **how)
         return os.path.join(prefix, "bin", "segrx")
 

@@ -7,6 +7,9 @@ use crate::values::{Counts, Decision, Flow, Frame, LossRule, Request, Row, Verdi
 use std::fmt::{self, Debug, Formatter};
 use std::iter;
 
+/// The most bytes that a burst may have. The library looks at this before all else.
+const LONGEST_BURST: usize = 65_535;
+
 /// A receiver of up to 16 upstream channels and up to 16,384 service flows.
 ///
 /// What it gives, frames and requests, waits in it until it is taken, each in the order in which it
@@ -95,6 +98,9 @@ impl Receiver {
         check_is_right: bool,
         bytes: &[u8],
     ) -> Result<Verdict, Error> {
+        if bytes.len() > LONGEST_BURST {
+            return Err(Error::LengthRange);
+        }
         self.burst.clear();
         self.burst.extend_from_slice(bytes);
         self.handle

@@ -373,7 +373,7 @@ pub fn do_job<T: Files + Threads + Wait + Copy + Send + 'static>(
             Ok(passed.wrapping_add(slid))
         }
         Job::Run => {
-            let words = ["segrx", "run"];
+            let words = ["segrx", "run", "--mailbox", "16", "--ring", "16"];
             let narrow = trace(alloc, rt, &words, LOSSLESS, scale, dice, digest)?;
             let words = ["segrx", "run", "--mailbox", "1024", "--ring", "1024"];
             let wide = trace(alloc, rt, &words, LOSSLESS, scale, dice, digest)?;
