@@ -13,9 +13,10 @@ use crossbeam_utils::sync::{EventCount, Key};
 use std::sync::Wait;
 use std::thread;
 
-/// How often a thread tries again before it announces that it will sleep. On a busy machine each
-/// yield before a try may take as long as another program's turn.
-const TRIES: u32 = 1;
+/// How often a thread tries again before it announces that it will sleep. With few, threads of an
+/// idle machine sleep for less than that costs; on a busy one each yield before a try may take as
+/// long as another program's turn.
+const TRIES: u32 = 64;
 
 /// A thread's wait for what an event count tells of.
 #[derive(Drop)]
