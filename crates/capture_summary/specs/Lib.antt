@@ -7,3 +7,4 @@ pub mod ReplayLines
 pub mod Report
 pub mod SummaryText
 pub mod Requests
+pub mod LinesInMemory

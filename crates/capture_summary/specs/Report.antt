@@ -9,7 +9,8 @@ use Rattle.lane.specs.declared.refusal.Refusal.{Refusal}
 use Rattle.lane.specs.declared.refusal.Refusal.TheVariants.{GrantRange, GrantKnown, UnknownSid, TooManyGrants, GrantOutOfMemory, NoGrant, TooLong, BadCheck, TooShort, PointerPast, BurstOutOfMemory}
 use Rattle.capture.specs.declared.burst.Passed.TheVariants.{CutShort, OtherType, Malformed, NoSegmentHeader, NoChannelOrSid}
 use Rattle.capture_summary.specs.Counting.{count_of_refusal, count_of_reason}
-use Rattle.capture_summary.specs.Words.{spaced, named, reason_text}
+use Rattle.text_lines.specs.Putting.{spaced}
+use Rattle.capture_summary.specs.Words.{named, reason_text}
 use Rattle.capture_summary.specs.declared.flow_summary.FlowSummary.{FlowSummary}
 use Rattle.capture_summary.specs.declared.refusals.RefusalCounts.{RefusalCounts}
 use Rattle.capture_summary.specs.declared.channel_summary.ChannelSummary.{ChannelSummary}

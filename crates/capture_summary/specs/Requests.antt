@@ -1,8 +1,11 @@
 -- Requests as CSV.
-use Rattle.std.specs.Prelude.{ℕ, ◌+◌, ◌/◌, ◌%◌, List, [], ◌∷◌, ◌++◌, drop, codes}
+use Rattle.std.specs.Prelude.{◌≡◌, ℕ, ◌+◌, ◌/◌, ◌%◌, List, [], ◌∷◌, ◌++◌, drop, codes, false, Vec}
 use Rattle.std.specs.Fmt.{decimal}
 use Rattle.text_lines.specs.Lines.{line_feed}
 use Rattle.lane.specs.declared.admitted.Request.{Request}
+use Rattle.std.specs.declared.alloc.Global.{Global}
+use Rattle.csv.specs.declared.writer.Writer.{Writer}
+use Rattle.csv.specs.Writing.{default_writer, needs_quotes, writer_setup, fields_written, has_written}
 
 -- nanoseconds in a second
 abbrev pub second : ℕ
@@ -25,3 +28,14 @@ abbrev pub request_line : ℕ → ℕ → Request → List ℕ
 request_line nanoseconds sid request =
     seconds_text nanoseconds ++ field_text request.channel ++ field_text sid ++ field_text request.flow ++ field_text request.cluster
     ++ field_text request.units ++ line_feed ∷ []
+
+-- a writer with the library's own settings that has begun no line
+pub record IsReady (writer : Writer (Vec ℕ Global)) : Type 0 where
+  pub settings : writer_setup writer ≡ default_writer
+  pub unbegun : fields_written writer ≡ 0
+  pub unshown : has_written writer ≡ false
+
+-- a number as a field of a line: its digits, which need no quotes
+pub record IsNumberField (number : ℕ) (field : List ℕ) : Type 0 where
+  pub digits : field ≡ decimal number
+  pub plain : needs_quotes default_writer field ≡ false

@@ -1,15 +1,11 @@
 -- The words of lines.
 use Rattle.std.specs.Prelude.{ℕ, List, ◌++◌, codes}
-use Rattle.std.specs.Fmt.{decimal}
+use Rattle.text_lines.specs.Putting.{spaced}
 use Rattle.capture.specs.declared.burst.Passed.TheVariants.{CutShort, OtherType, Malformed, NoSegmentHeader, NoChannelOrSid}
 use Rattle.lane.specs.declared.refusal.Refusal.{Refusal}
 use Rattle.lane.specs.declared.refusal.Refusal.TheVariants.{GrantRange, GrantKnown, UnknownSid, TooManyGrants, GrantOutOfMemory, NoGrant, TooLong, BadCheck, TooShort, PointerPast, BurstOutOfMemory}
 use Rattle.capture_summary.specs.declared.passed.PassedReason.{PassedReason}
 use Rattle.capture_summary.specs.declared.passed.PassedReason.TheVariants as reason
-
--- a space and a number
-abbrev pub spaced : ℕ → List ℕ
-spaced number = codes " " ++ decimal number
 
 -- a word, a space and a number
 abbrev pub named : List ℕ → ℕ → List ℕ

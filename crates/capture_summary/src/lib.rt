@@ -7,10 +7,8 @@
 //! flow before it began anew. All counts stay at their greatest value.
 //!
 //! In the end [`put_report`] puts the lines of the report, and [`put_summary`] what people read. As
-//! the capture goes on, [`put_request_names`] and [`put_request`] put what was requested as CSV.
-//! They put text as every report is put, and not by the crate `csv`: its writer holds a buffer of
-//! its own over a device of its own, and each of its calls can fail, where a field here is a number
-//! that needs no quotes.
+//! the capture goes on, [`RequestLines`] takes what was requested and makes lines of CSV of it, which
+//! the crate `csv` writes.
 //!
 //! What matters most: a sequence, a count and a text are those of the definitions `sequence_of`,
 //! `with_frame`, `with_refusal`, `with_passed`, `report_text`, `summary_text` and `request_line`.
@@ -36,7 +34,7 @@ pub use flow_summary::FlowSummary;
 pub use passed::{PassedCounts, PassedReason};
 pub use refusals::RefusalCounts;
 pub use report::put_report;
-pub use requests::{put_request, put_request_names};
+pub use requests::RequestLines;
 pub use sequence::{FrameSequence, sequence_of};
 pub use summary::CaptureSummary;
 pub use summary_text::put_summary;

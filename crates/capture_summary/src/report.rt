@@ -11,10 +11,10 @@ use crate::flow_summary::FlowSummary;
 use crate::passed::{ALL_REASONS, PassedCounts, PassedReason};
 use crate::refusals::{ALL_REFUSALS, RefusalCounts};
 use crate::summary::CaptureSummary;
-use crate::words::{put_named, put_spaced, put_word};
+use crate::words::put_named;
 use flow_core::FlowCounts;
 use lane::Refusal;
-use text_lines::{PutText, put_number};
+use text_lines::{PutText, put_number, put_spaced, put_word};
 
 /// Puts the line of the flow with this index, its service flow identifier and its counts.
 fn put_flow_line<O: PutText>(out: &mut O, k: usize, sfid: u32, counts: &FlowCounts)

@@ -9,9 +9,9 @@ use crate::flow_summary::FlowSummary;
 use crate::passed::{ALL_REASONS, PassedCounts, PassedReason};
 use crate::refusals::{ALL_REFUSALS, RefusalCounts, refusal_text};
 use crate::summary::CaptureSummary;
-use crate::words::{put_named, put_word};
+use crate::words::put_named;
 use lane::Refusal;
-use text_lines::PutText;
+use text_lines::{PutText, put_word};
 
 /// Puts what became of the segments of a flow.
 fn put_segments_line<O: PutText>(out: &mut O, flow: &FlowSummary)

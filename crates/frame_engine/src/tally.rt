@@ -6,8 +6,8 @@ use capture_map::{CaptureMap, MapChannel};
 use capture_picture::CapturePicture;
 use capture_rules::ClockCounts;
 use capture_summary::{
-    CaptureSummary, ChannelSummary, FlowSummary, PassedCounts, PassedReason, both_counts,
-    put_request, put_request_names, sequence_of,
+    CaptureSummary, ChannelSummary, FlowSummary, PassedCounts, PassedReason, RequestLines,
+    both_counts, sequence_of,
 };
 use captured_flows::BurstTaken;
 use docsis_wire::Bytes;
@@ -17,7 +17,6 @@ use lane::{Refusal, Request};
 use receiver::Reply;
 use std::alloc::{AllocError, Global};
 use std::io::Write;
-use text_lines::TextBuffer;
 use timed_frames::{LastBurst, TimedStep};
 
 /// A receiver has so many channels.
@@ -32,7 +31,7 @@ pub struct CaptureTally {
     /// The time of the last record.
     last_time: u64,
     /// The lines of requests that aren't written yet, where they are asked for.
-    requests: Option<TextBuffer>,
+    requests: Option<RequestLines>,
     /// Why lines of requests were lost, if they were.
     lost_requests: Option<EngineFault>,
     /// What is drawn, where a picture is asked for.
@@ -93,9 +92,9 @@ impl CaptureTally {
     {
         let mut requests = None;
         if with_requests {
-            let mut text = TextBuffer::new(alloc);
-            put_request_names(&mut text);
-            requests = Some(text);
+            let mut lines = RequestLines::new(alloc);
+            lines.put_names();
+            requests = Some(lines);
         }
         Ok(CaptureTally {
             summary: CaptureSummary {
@@ -129,6 +128,7 @@ impl CaptureTally {
     pub fn picture(&self) -> Option<&CapturePicture>
         ensures whole { IfSome result (λ picture. IfSome self.now.drawing (λ drawing.
             (drawing.is_whole ≡ true) × (drawing.picture ≡ picture.now))) }
+        ensures some { IfSome self.now.drawing (λ drawing. drawing.is_whole ≡ true → result ≢ None) }
         ensures none { self.now.drawing ≡ None → result ≡ None }
     {
         match &self.drawing {
@@ -213,7 +213,7 @@ impl CaptureTally {
                 self.draw_burst(alloc, *flow, *burst);
             }
             TimedStep::Frame { flow, frame, .. } => self.count_frame(*flow, frame),
-            TimedStep::Asked { burst, request } => self.count_request(*burst, request),
+            TimedStep::Asked { burst, request } => self.count_request(alloc, *burst, request),
             TimedStep::Ended { flow, counts } => self.count_ended(*flow, *counts),
         }
     }
@@ -282,12 +282,12 @@ impl CaptureTally {
     }
 
     /// Counts a request, and puts its line where lines are asked for.
-    fn count_request(&mut self, burst: LastBurst, request: &Request) {
+    fn count_request(&mut self, alloc: Global, burst: LastBurst, request: &Request) {
         if let Some(summary) = self.summary.flows.get_mut(request.flow) {
             summary.count_request(request.units);
         }
-        if let Some(text) = &mut self.requests {
-            put_request(text, burst.time, burst.sid, request);
+        if let Some(lines) = &mut self.requests {
+            lines.put(alloc, burst.time, burst.sid, request);
         }
     }
 
@@ -318,15 +318,15 @@ impl CaptureTally {
         alloc: Global,
         writer: &mut Option<Device<Q>>,
     ) {
-        let (Some(text), Some(writer)) = (self.requests.take(), writer) else {
+        let (Some(lines), Some(writer)) = (self.requests.take(), writer) else {
             return;
         };
-        let Ok(lines) = text.finish() else {
+        let Ok(text) = lines.finish() else {
             self.lost_requests = Some(EngineFault::OutOfMemory);
             return;
         };
-        match write_text(writer, &lines) {
-            Ok(()) => self.requests = Some(TextBuffer::new(alloc)),
+        match write_text(writer, &text) {
+            Ok(()) => self.requests = Some(RequestLines::new(alloc)),
             Err(_) => self.lost_requests = Some(EngineFault::Write),
         }
     }

@@ -2,8 +2,8 @@
 mod failed_allocations;
 
 use capture_summary::{
-    CaptureSummary, ChannelSummary, FlowSummary, PassedCounts, RefusalCounts, put_report,
-    put_request, put_request_names, put_summary,
+    CaptureSummary, ChannelSummary, FlowSummary, PassedCounts, RefusalCounts, RequestLines,
+    put_report, put_summary,
 };
 use csv::{ByteRecord, ReaderBuilder};
 use flow_core::FlowCounts;
@@ -265,17 +265,17 @@ time,channel,sid,flow,cluster,units
 
 /// The lines of requests that were made at these times, in nanoseconds, on these SIDs.
 fn lines_of_requests(alloc: Global) -> Result<Vec<u8>, AllocError> {
-    let mut text = TextBuffer::new(alloc);
-    put_request_names(&mut text);
+    let mut lines = RequestLines::new(alloc);
+    lines.put_names();
     for (time, sid, request) in [
         (1_600_000_000_123_456_789, 256, request(0, 0, 1, 9)),
         (1_600_000_000_000_000_005, 16_383, request(3, 0, 0, 65_535)),
         (u64::MAX, 1, request(15, 3, 7, 1)),
         (0, 2, request(0, 3, 0, 3)),
     ] {
-        put_request(&mut text, time, sid, &request);
+        lines.put(alloc, time, sid, &request);
     }
-    text.finish()
+    lines.finish()
 }
 
 #[test]
