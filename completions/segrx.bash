@@ -7,7 +7,7 @@ _segrx_options() {
         replay) echo --losses ;;
         run) echo --losses --mailbox --ring ;;
         follow) echo --losses --channels --events ;;
-        capture) echo --losses --wait --reorder --link --no-check --report --requests --picture ;;
+        capture) echo --losses --wait --reorder --link --no-check --report --json --requests --picture ;;
     esac
     echo -h --help
 }
@@ -17,7 +17,7 @@ _segrx_has_map() {
     local place
     for ((place = 2; place < COMP_CWORD; place++)); do
         case ${COMP_WORDS[place]} in
-            --losses | --wait | --reorder | --link | --report | --requests | --picture)
+            --losses | --wait | --reorder | --link | --report | --json | --requests | --picture)
                 [[ ${COMP_WORDS[place + 1]} == "=" ]] && ((place++))
                 ((place++))
                 ;;
@@ -48,7 +48,7 @@ _segrx() {
         --fill) words="zero ones" ;;
         --link) words="docsis xra" ;;
         --first | --mailbox | --ring | --channels | --wait | --reorder) return ;;
-        --report | --requests | --picture | *[\<\>]*)
+        --report | --json | --requests | --picture | *[\<\>]*)
             compopt -o default
             return
             ;;

@@ -1,5 +1,5 @@
-"""What `segrx capture` writes: a pcap file of frames, the report of its summary, and requests as CSV. A time for which a pcap
-file has no place, in the year 2106 or later, is written as the greatest one.
+"""What `segrx capture` writes: a pcap file of frames, the report of its summary, the same as a JSON object on one line, and
+requests as CSV. A time for which a pcap file has no place, in the year 2106 or later, is written as the greatest one.
 
 The report has the lines of replay's report but for those of frames and requests, and more:
 
@@ -16,12 +16,22 @@ with a line of names, and its times are seconds with nine decimals.
 """
 
 import collections
+import json
 
 from shared.plain_capture import DOCSIS, ENCRYPTED, RIGHT, UPSTREAM_FRAME, WRONG
 from shared.plain_packets import BURST_INFO_TLV, CHANNEL_TLV, SID_TLV, XRA, Record, last_value, packet_in, records_of
 from shared.written_captures import GREATEST_PCAP_TIME, NANOSECONDS, number, pcap_file, short_number, tlv, xra_packet
 
 LINKS = {"docsis": DOCSIS, "xra": XRA}
+# The refusals of a lane, by their numbers, and the kinds of records that are passed over, as JSON has them.
+REFUSED_NAMES = [
+    *["grant_out_of_range", "grant_known", "unknown_sid", "too_many_grants", "grant_out_of_memory"],
+    *["no_grant", "too_long", "bad_check", "too_short", "pointer_past_the_end", "burst_out_of_memory"],
+]
+PASSED_NAMES = [
+    *["cut_short", "malformed", "no_channel_or_sid", "no_segment_header"],
+    *["other_link_type", "other_type", "unknown_channel", "unknown_sid"],
+]
 REQUEST_NAMES = "time,channel,sid,flow,cluster,units"
 BURST_REFERENCE_TLV = 1  # in a TLV with burst info
 
@@ -94,6 +104,48 @@ def report_of(reading):
     yield line_of("records", reading.records, earlier=reading.earlier_times)
     clocks = {name: sum(getattr(flow, name) for flow in reading.captured) for name in ("set_back", "crowded")}
     yield line_of("clock", **clocks)
+
+
+def flow_as_json(reading, index, flow):
+    counts = flow.counts()
+    requests = [request.units for request in reading.requests if request.flow == index]
+    return counts | {
+        "sfid": flow.setup.sfid,
+        "repeated": counts.pop("repeat"),
+        "fcs_right": reading.sequences[index, RIGHT],
+        "fcs_wrong": reading.sequences[index, WRONG],
+        "encrypted": reading.sequences[index, ENCRYPTED],
+        "restarts": flow.restarts,
+        "requests": len(requests),
+        "units": sum(requests),
+    }
+
+
+def channel_as_json(reading, channel, lane):
+    refused = collections.Counter(lane.refused())
+    return {
+        "channel": channel,
+        "id": reading.map.channels[channel],
+        "bursts": reading.bursts[channel],
+        "above_grant": reading.above_grant[channel],
+        "admitted": sum(answer == lane.ADMITTED for _, answer, _ in lane.answers),
+        "refused": {name: refused[number] for number, name in enumerate(REFUSED_NAMES, 1)},
+    }
+
+
+def json_of(reading):
+    """The line of JSON of a reading."""
+    passed = {why.lower().replace(" ", "_"): count for why, count in reading.passed.items()}
+    told = {
+        "records": reading.records,
+        "earlier": reading.earlier_times,
+        "clock_set_back": sum(flow.set_back for flow in reading.captured),
+        "clock_crowded": sum(flow.crowded for flow in reading.captured),
+        "flows": [flow_as_json(reading, index, flow) for index, flow in enumerate(reading.captured)],
+        "channels": [channel_as_json(reading, channel, lane) for channel, lane in sorted(reading.lanes.items())],
+        "passed": dict.fromkeys(PASSED_NAMES, 0) | passed,
+    }
+    yield json.dumps(told, sort_keys=True, separators=(",", ":"))
 
 
 def requests_of(reading):

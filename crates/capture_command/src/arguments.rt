@@ -38,6 +38,7 @@ pub fn capture_line<'a>(alloc: Global) -> Result<Command<'a>, AllocError> {
     let reorder = "How long a burst waits for its neighbours [default: 2]";
     let link = "Frames alone, or packets with channel and SID [default: docsis]";
     let report = "Also write the counts to this file";
+    let json = "Also write the counts to this file, as JSON";
     let requests = "Also write the requests to this file, as CSV";
     let picture = "Also draw the segments of the flows into this file, as SVG";
     let usage = "segrx capture MAP [OPTION]... < CAPTURE > FRAMES";
@@ -62,6 +63,7 @@ pub fn capture_line<'a>(alloc: Global) -> Result<Command<'a>, AllocError> {
             "Let headers of frames pass that end with a wrong check",
         ))?
         .arg(option(alloc, "report", "FILE", report))?
+        .arg(option(alloc, "json", "FILE", json))?
         .arg(option(alloc, "requests", "FILE", requests))?
         .arg(option(alloc, "picture", "FILE", picture))
 }

@@ -38,6 +38,8 @@ pub struct CaptureAsked {
     pub settings: CaptureSettings,
     /// The path of the file for the report.
     pub report: Option<String>,
+    /// The path of the file for the counts as JSON.
+    pub json: Option<String>,
     /// The path of the file for the requests.
     pub requests: Option<String>,
     /// The path of the file for the picture.
@@ -176,6 +178,7 @@ pub fn read_capture_words<'a, S: AsStr>(
         map: String::from_str(alloc, path)?,
         settings: asked_settings(words)?,
         report: read_path(alloc, &matches, "report")?,
+        json: read_path(alloc, &matches, "json")?,
         requests: read_path(alloc, &matches, "requests")?,
         picture: read_path(alloc, &matches, "picture")?,
     }))

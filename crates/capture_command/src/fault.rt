@@ -23,7 +23,7 @@ pub enum CaptureCommandFault {
     /// The map can't be opened or read.
     #[error("the map cannot be read")]
     MapFile,
-    /// A file of the report, the requests or the picture can't be made or written.
+    /// A file of the report, the JSON, the requests or the picture can't be made or written.
     #[error("a file cannot be written")]
     OutputFile,
     /// The words, the capture, the memory or the output.

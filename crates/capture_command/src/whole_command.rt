@@ -11,6 +11,7 @@ ghost use Rattle.capture_command.specs.Program.{Captures, Obeys, ComesOf, status
 use crate::asked::{CaptureAsked, CaptureWords, read_capture_words};
 use crate::fault::CaptureCommandFault;
 use crate::files::{created, map_of_file};
+use capture_json::summary_json;
 use capture_picture::put_picture;
 use capture_summary::{put_report, put_summary};
 use engines::{Device, EngineFault, TextWriter, held_room, write_text};
@@ -19,11 +20,13 @@ use std::alloc::Global;
 use std::convert::AsStr;
 use std::io::{Read, Write};
 use std::rt::Files;
+use text_lines::PutText;
 
 /// What a file shows of a capture.
 #[derive(Clone, Copy)]
 enum Shown {
     Report,
+    Json,
     /// If no burst is missing in it.
     Picture,
 }
@@ -39,6 +42,7 @@ fn write_shown<W: Write>(
     let mut text = TextWriter::new(file, &mut room);
     match shown {
         Shown::Report => put_report(&mut text, &tally.summary),
+        Shown::Json => text.put(&summary_json(alloc, &tally.summary)?),
         Shown::Picture => match tally.picture() {
             Some(picture) => put_picture(&mut text, picture),
             None => return Err(CaptureCommandFault::Engine(EngineFault::OutOfMemory)),
@@ -91,7 +95,7 @@ fn tell_lost_requests(tally: &CaptureTally) -> Result<(), CaptureCommandFault> {
     }
 }
 
-/// Writes what was counted: the summary, and the report and the picture where they are asked for.
+/// Writes what was counted: the summary, and report, JSON and picture where they are asked for.
 /// Each is written though another fails; the first fault is told, and behind these that lines of
 /// requests were lost.
 fn write_counts<F: Files, E: Write>(
@@ -103,9 +107,11 @@ fn write_counts<F: Files, E: Write>(
 ) -> Result<(), CaptureCommandFault> {
     let summary = write_summary(alloc, tally, err);
     let report = write_file(alloc, rt, &asked.report, tally, Shown::Report);
+    let json = write_file(alloc, rt, &asked.json, tally, Shown::Json);
     let picture = write_file(alloc, rt, &asked.picture, tally, Shown::Picture);
     summary?;
     report?;
+    json?;
     picture?;
     tell_lost_requests(tally)
 }

@@ -1,6 +1,7 @@
 //! The texts of a capture, as a plain reading in another language has its report and its requests.
 mod failed_allocations;
 
+use capture_json::summary_json;
 use capture_summary::{
     CaptureSummary, ChannelSummary, FlowSummary, PassedCounts, RefusalCounts, RequestLines,
     put_report, put_summary,
@@ -309,5 +310,44 @@ fn lines_of_requests_are_read_by_a_reader_of_csv(rt: HostRuntime) -> Result<(), 
         }
     }
     assert!(rt; matches!(reader.read_byte_record(&mut row), Ok(false)));
+    Ok(())
+}
+
+/// All that was counted of a capture of much, as JSON: one line.
+const JSON: &str = "\
+{\"channels\":[{\"above_grant\":1,\"admitted\":307,\"bursts\":310,\"channel\":0,\"id\":5,\
+\"refused\":{\"bad_check\":2,\"burst_out_of_memory\":0,\"grant_known\":0,\
+\"grant_out_of_memory\":0,\"grant_out_of_range\":0,\"no_grant\":0,\
+\"pointer_past_the_end\":1,\"too_long\":0,\"too_many_grants\":0,\"too_short\":0,\
+\"unknown_sid\":0}},{\"above_grant\":0,\"admitted\":1,\"bursts\":13,\"channel\":3,\
+\"id\":4294967295,\"refused\":{\"bad_check\":1,\"burst_out_of_memory\":2,\
+\"grant_known\":1,\"grant_out_of_memory\":1,\"grant_out_of_range\":1,\"no_grant\":1,\
+\"pointer_past_the_end\":1,\"too_long\":1,\"too_many_grants\":1,\"too_short\":1,\
+\"unknown_sid\":1}},{\"above_grant\":0,\"admitted\":0,\"bursts\":0,\"channel\":15,\
+\"id\":0,\"refused\":{\"bad_check\":0,\"burst_out_of_memory\":0,\"grant_known\":0,\
+\"grant_out_of_memory\":0,\"grant_out_of_range\":0,\"no_grant\":0,\
+\"pointer_past_the_end\":0,\"too_long\":0,\"too_many_grants\":0,\"too_short\":0,\
+\"unknown_sid\":0}}],\"clock_crowded\":6,\"clock_set_back\":5,\"earlier\":3,\
+\"flows\":[{\"beyond\":3,\"encrypted\":4,\"fcs_right\":114,\"fcs_wrong\":2,\"frames\":120,\
+\"kept\":300,\"late\":1,\"lost\":10,\"repeated\":2,\"requests\":2,\"restarts\":1,\
+\"sfid\":100,\"skipped\":4567,\"units\":65544},{\"beyond\":0,\"encrypted\":0,\
+\"fcs_right\":0,\"fcs_wrong\":0,\"frames\":0,\"kept\":0,\"late\":0,\"lost\":0,\
+\"repeated\":0,\"requests\":0,\"restarts\":0,\"sfid\":4294967295,\"skipped\":0,\
+\"units\":0},{\"beyond\":0,\"encrypted\":0,\"fcs_right\":0,\"fcs_wrong\":0,\"frames\":0,\
+\"kept\":0,\"late\":0,\"lost\":0,\"repeated\":0,\"requests\":0,\"restarts\":0,\"sfid\":0,\
+\"skipped\":0,\"units\":0},{\"beyond\":18446744073709551615,\
+\"encrypted\":18446744073709551615,\"fcs_right\":18446744073709551615,\
+\"fcs_wrong\":18446744073709551615,\"frames\":18446744073709551615,\
+\"kept\":18446744073709551615,\"late\":18446744073709551615,\"lost\":18446744073709551615,\
+\"repeated\":18446744073709551615,\"requests\":2,\"restarts\":18446744073709551615,\
+\"sfid\":7,\"skipped\":18446744073709551615,\"units\":4}],\"passed\":{\"cut_short\":2,\
+\"malformed\":4,\"no_channel_or_sid\":6,\"no_segment_header\":5,\"other_link_type\":1,\
+\"other_type\":3,\"unknown_channel\":7,\"unknown_sid\":8},\"records\":1234}
+";
+
+#[test]
+fn json_tells_all_that_was_counted(rt: HostRuntime) -> Result<(), Fail> {
+    let text = summary_json(rt.alloc(), &much(rt.alloc())?)?;
+    assert!(rt; text.as_slice() == JSON.as_bytes());
     Ok(())
 }

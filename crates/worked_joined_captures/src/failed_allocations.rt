@@ -160,6 +160,7 @@ fn program_into(alloc: Global, bytes: &[u8], out: &mut [u8], err: &mut [u8]) -> 
         "capture",
         MAP_PATH,
         "--report=report",
+        "--json=json",
         "--requests",
         "lines",
         "--picture=drawn",

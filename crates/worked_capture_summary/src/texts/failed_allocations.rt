@@ -1,6 +1,7 @@
 //! Each allocation is refused once: a text that lacks something is not given, and a second call
 //! gives all of it.
-use super::{LINES, REPORT, lines_of_requests, much};
+use super::{JSON, LINES, REPORT, lines_of_requests, much};
+use capture_json::summary_json;
 use capture_summary::put_report;
 use std::alloc::{AllocError, Global};
 use std::test::Fail;
@@ -31,5 +32,19 @@ fn lines_of_requests_are_put(rt: HostRuntime) -> Result<(), Fail> {
         Err(AllocError) => lines_of_requests(rt.alloc())?,
     };
     assert!(rt; text.as_slice() == LINES.as_bytes());
+    Ok(())
+}
+
+#[test]
+fn json_is_made(rt: HostRuntime) -> Result<(), Fail> {
+    let summary = match much(rt.alloc()) {
+        Ok(summary) => summary,
+        Err(AllocError) => much(rt.alloc())?,
+    };
+    let text = match summary_json(rt.alloc(), &summary) {
+        Ok(text) => text,
+        Err(AllocError) => summary_json(rt.alloc(), &summary)?,
+    };
+    assert!(rt; text.as_slice() == JSON.as_bytes());
     Ok(())
 }

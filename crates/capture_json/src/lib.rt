@@ -1,0 +1,139 @@
+//! What was counted of a capture as JSON, for programs: one object, on one line.
+//!
+//! [`summary_json`] makes its text. Its members are documented in docs/FORMATS.md; all of them are
+//! there, whatever came of the capture.
+#![tactic(auto)]
+
+ghost use Rattle.std.specs.Prelude.{◌≡◌, ◌∷◌, ◌++◌, [], IfOk, map};
+ghost use Rattle.serde_json.specs.View.{view};
+ghost use Rattle.serde_json.specs.Written.{compact_text};
+ghost use Rattle.text_lines.specs.Lines.{line_feed};
+ghost use Rattle.capture_json.specs.Counted.{flow_data, refused_data, channel_data};
+ghost use Rattle.capture_json.specs.Counted.{passed_data, summary_data};
+
+use capture_summary::{CaptureSummary, ChannelSummary, FlowSummary, PassedCounts, RefusalCounts};
+use lane::Refusal;
+use serde_json::{Value, json};
+use std::alloc::{AllocError, Global};
+
+/// What was counted of a flow.
+fn flow_value(alloc: Global, flow: &FlowSummary) -> Result<Value, AllocError>
+    ensures { IfOk result (λ value. view value ≡ flow_data flow.now) }
+{
+    let counts = &flow.counts;
+    json!(in alloc; {
+        "beyond": counts.beyond,
+        "encrypted": flow.encrypted,
+        "fcs_right": flow.right,
+        "fcs_wrong": flow.wrong,
+        "frames": counts.frames,
+        "kept": counts.kept,
+        "late": counts.late,
+        "lost": counts.lost,
+        "repeated": counts.repeat,
+        "requests": flow.requests,
+        "restarts": flow.restarts,
+        "sfid": flow.sfid,
+        "skipped": counts.skipped,
+        "units": flow.units
+    })
+}
+
+/// How often a lane refused something, by reason.
+fn refused_value(alloc: Global, refused: &RefusalCounts) -> Result<Value, AllocError>
+    ensures { IfOk result (λ value. view value ≡ refused_data refused.now) }
+{
+    json!(in alloc; {
+        "bad_check": refused.of(Refusal::BadCheck),
+        "burst_out_of_memory": refused.of(Refusal::BurstOutOfMemory),
+        "grant_known": refused.of(Refusal::GrantKnown),
+        "grant_out_of_memory": refused.of(Refusal::GrantOutOfMemory),
+        "grant_out_of_range": refused.of(Refusal::GrantRange),
+        "no_grant": refused.of(Refusal::NoGrant),
+        "pointer_past_the_end": refused.of(Refusal::PointerPast),
+        "too_long": refused.of(Refusal::TooLong),
+        "too_many_grants": refused.of(Refusal::TooManyGrants),
+        "too_short": refused.of(Refusal::TooShort),
+        "unknown_sid": refused.of(Refusal::UnknownSid)
+    })
+}
+
+/// What was counted of a channel.
+fn channel_value(alloc: Global, one: &ChannelSummary) -> Result<Value, AllocError>
+    ensures { IfOk result (λ value. view value ≡ channel_data one.now) }
+{
+    let refused = refused_value(alloc, &one.refused)?;
+    json!(in alloc; {
+        "above_grant": one.above,
+        "admitted": one.admitted,
+        "bursts": one.bursts,
+        "channel": one.channel,
+        "id": one.id,
+        "refused": refused
+    })
+}
+
+/// How many records were passed over, by reason.
+fn passed_value(alloc: Global, passed: &PassedCounts) -> Result<Value, AllocError>
+    ensures { IfOk result (λ value. view value ≡ passed_data passed.now) }
+{
+    json!(in alloc; {
+        "cut_short": passed.cut_short,
+        "malformed": passed.malformed,
+        "no_channel_or_sid": passed.no_channel_or_sid,
+        "no_segment_header": passed.no_segment_header,
+        "other_link_type": passed.other_link_type,
+        "other_type": passed.other_type,
+        "unknown_channel": passed.unknown_channel,
+        "unknown_sid": passed.unknown_sid
+    })
+}
+
+/// What was counted of these flows.
+fn flow_values(alloc: Global, flows: &[FlowSummary]) -> Result<Vec<Value>, AllocError>
+    ensures { IfOk result (λ values. map view values.items ≡ map flow_data flows.now) }
+{
+    let mut values = Vec::with_capacity(alloc, flows.len())?;
+    for flow in flows {
+        values.push(flow_value(alloc, flow)?)?;
+    }
+    Ok(values)
+}
+
+/// What was counted of these channels.
+fn channel_values(alloc: Global, channels: &[ChannelSummary]) -> Result<Vec<Value>, AllocError>
+    ensures { IfOk result (λ values. map view values.items ≡ map channel_data channels.now) }
+{
+    let mut values = Vec::with_capacity(alloc, channels.len())?;
+    for one in channels {
+        values.push(channel_value(alloc, one)?)?;
+    }
+    Ok(values)
+}
+
+/// All that was counted.
+fn summary_value(alloc: Global, summary: &CaptureSummary) -> Result<Value, AllocError>
+    ensures { IfOk result (λ value. view value ≡ summary_data summary.now) }
+{
+    let channels = channel_values(alloc, &summary.channels)?;
+    let flows = flow_values(alloc, &summary.flows)?;
+    let passed = passed_value(alloc, &summary.passed)?;
+    json!(in alloc; {
+        "channels": channels,
+        "clock_crowded": summary.crowded,
+        "clock_set_back": summary.set_back,
+        "earlier": summary.earlier,
+        "flows": flows,
+        "passed": passed,
+        "records": summary.records
+    })
+}
+
+/// The text of all that was counted, a line. Otherwise it reports that an allocation failed.
+pub fn summary_json(alloc: Global, summary: &CaptureSummary) -> Result<Vec<u8>, AllocError>
+    ensures { IfOk result (λ text. text.items ≡ compact_text (summary_data summary.now) ++ line_feed ∷ []) }
+{
+    let mut text = summary_value(alloc, summary)?.to_vec(alloc)?;
+    text.push(b'\n')?;
+    Ok(text)
+}
