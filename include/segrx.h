@@ -86,9 +86,9 @@ enum segrx_status {
      * by segrx_receiver_go_on, or when the next comes to the flow. */
     SEGRX_UNFINISHED = 12,
     /* malloc failed for the place of a frame or a request in the queue: it is missing. The call is
-     * done all the same. From then on a call that hands something in mostly answers so in the place
-     * of what it else would, so whether it was done isn't told: take what waits, and free the
-     * receiver. */
+     * done all the same. From then on each call that hands something in, and each close, answers so,
+     * whether it was done or not, unless it answers SEGRX_NULL, SEGRX_LENGTH_RANGE,
+     * SEGRX_UNKNOWN_DECISION or SEGRX_CLOSED: take what waits, and free the receiver. */
     SEGRX_NOT_KEPT = 13,
     /* A burst was admitted, and its segment came when its number had passed. */
     SEGRX_LATE = 14,

@@ -4,6 +4,9 @@
 #include <stddef.h>
 #include <stdlib.h>
 
+/* What is asked for has an alignment of at most 16, which malloc's memory has. */
+_Static_assert(_Alignof(max_align_t) >= 16, "malloc's memory is aligned to less than 16 bytes");
+
 /* Whether there is memory, and where. Where there is none it is an address that nobody uses. */
 struct tried {
     bool granted;

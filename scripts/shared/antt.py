@@ -67,8 +67,8 @@ def definitions(file):
     found, now, start, begun, indent = {}, None, None, None, 0
     for at, line in enumerate([*lines, "end of the file"]):
         deep = len(line) - len(line.lstrip())
-        if line.strip() and deep == 0:
-            indent = 0
+        if line.strip() and deep < indent:
+            indent = deep
         is_remark = line.strip().startswith("--")
         if line.strip() and deep <= indent and is_remark and begun is None:
             begun = at
@@ -88,7 +88,7 @@ def definitions(file):
             if name is not None and name not in ("use", "mod"):
                 now, start = name, begun if begun is not None else at
             if words[0] == "module":
-                indent = 2
+                indent = deep + 2
             begun = None
     return found
 

@@ -10,7 +10,7 @@ from shared.tree import below, crate_lines, path, read, shown, sources
 
 Clause = namedtuple("Clause", "kind name text first last")
 Contract = namedtuple("Contract", "name place head clauses is_public")
-HEAD_OF_CLAUSE = re.compile(r"(?:\s*//[^\n]*)*\s*(requires|ensures)(?: \*)?(?: (\w+))? \{")
+HEAD_OF_CLAUSE = re.compile(r"(?:\s*//[^\n]*)*\s*(requires|ensures)(?: ?\*)?(?: (\w+))? \{")
 
 
 def line_at(text, at):
@@ -41,9 +41,10 @@ def contracts(file):
     """The functions of a file that have a contract: each with its type, if it is a method, and its clauses."""
     text, found = read(file), []
     owners = [(it.start(), closing(text, text.index("{", it.start())), it[1]) for it in OWNER.finditer(text)]
-    for function in re.finditer(r"^ *(pub )?(?:pub\([a-z]+\) )?fn (\w+)", text, re.M):
-        first_clause = re.compile(r"\n\s*(?:requires|ensures)(?: \*)?(?: \w+)? \{").search(text, function.start())
+    for function in re.finditer(r'^ *(pub )?(?:pub\([a-z]+\) )?(?:unsafe )?(?:extern "C" )?fn (\w+)', text, re.M):
+        first_clause = re.compile(r"\n\s*(?:requires|ensures)(?: ?\*)?(?: \w+)? \{").search(text, function.start())
         head = text[function.start() : first_clause.start()] if first_clause else ""
+        head = re.sub(r"\n\s*ghost \w+: \{[^\n]*\}(?=\n|$)", "", head)
         if not first_clause or re.search(r"\{|;\s*$|\bfn \w+[\s\S]*\bfn \w+", head):
             continue
         clauses = list(clauses_after(text, first_clause.start()))

@@ -12,7 +12,6 @@ use Rattle.bonded_flows.specs.declared.decision.FlowDecision.{FlowDecision}
 use Rattle.bonded_flows.specs.declared.decision.FlowDecision.TheVariants.{Gap, GapTo, SkipTo}
 use Rattle.bonded_flows.specs.declared.flow_slot.DecideFault.{DecideFault}
 use Rattle.bonded_flows.specs.declared.flow_slot.NotReady.{NotReady}
-use Rattle.bonded_flows.specs.ByRule.{is_in_range}
 use Rattle.bonded_flows.specs.Slots.{LeavesOf}
 use Rattle.bonded_flows.specs.Table.{TableSetup, OthersStay, NoneBeginsToClose}
 use Rattle.receiver.specs.declared.receiver.Receiver.{Receiver}
@@ -88,10 +87,10 @@ Takes held channel input answer held' =
     (λ receiver. (receiver' : Receiver NoCheck) × (held'.state ≡ state.Open receiver') × TakesInto receiver held.queue channel input answer receiver' held'.queue)
     (Refuses held answer held')
 
--- the same, or there was no memory for a copy of the burst, and nothing was done
+-- the same, or there was no memory for a copy of the burst, which is told, and nothing was done
 pub data CopiesAndTakes (held : HeldReceiver) (channel : ℕ) (input : Input) (answer : Status) (held' : HeldReceiver) : Type 0 where
   copied : Takes held channel input answer held' → CopiesAndTakes held channel input answer held'
-  not_copied : answer ≡ status.OutOfMemory → held' ≡ held → CopiesAndTakes held channel input answer held'
+  not_copied : answer ≡ told held.queue.whole status.OutOfMemory → held' ≡ held → CopiesAndTakes held channel input answer held'
 
 abbrev pub TakesGrant : HeldReceiver → ℕ → ℕ → ℕ → ℕ → Status → HeldReceiver → Type 0
 TakesGrant held channel number sid bytes answer held' = Takes held channel (Grant number sid bytes) answer held'

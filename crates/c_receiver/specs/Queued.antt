@@ -1,5 +1,5 @@
 -- What a queue has after it was given something.
-use Rattle.std.specs.Prelude.{◌≡◌, ℕ, IsTrue, Option, Some, None, List, ◌++◌, filter_map}
+use Rattle.std.specs.Prelude.{◌≡◌, IsTrue, Option, Some, None, List, [], ◌∷◌, ◌++◌, filter_map}
 use Rattle.lane.specs.declared.admitted.Request.{Request}
 use Rattle.consumer.specs.declared.given.Given.{Given}
 use Rattle.consumer.specs.declared.given.Given.TheVariants.{Frame, Asked}
@@ -20,6 +20,15 @@ pub record GrewBy (start : Queue) (given : List Given) (end : Queue) : Type 0 wh
   pub frames : end.frames.items ≡ start.frames.items ++ filter_map as_frame given
   pub requests : end.requests.items ≡ start.requests.items ++ filter_map as_request given
 
--- if nothing is missing at the end, nothing was at the start, and all that was given waits
-abbrev pub HasQueued : Queue → List Given → Queue → Type 0
-HasQueued start given end = IsTrue end.whole → IsTrue start.whole × GrewBy start given end
+-- some of these, each once and in order
+pub data AreSomeOf : List Given → List Given → Type 0 where
+  none_kept : AreSomeOf [] []
+  one_kept : {some all : List Given} (one : Given) → AreSomeOf some all → AreSomeOf (some ++ one ∷ []) (all ++ one ∷ [])
+  one_missed : {some all : List Given} (one : Given) → AreSomeOf some all → AreSomeOf some (all ++ one ∷ [])
+
+-- some of what was given waits besides; if nothing is missing at the end, nothing was at the start, and it is all
+pub record HasQueued (start : Queue) (given : List Given) (end : Queue) : Type 0 where
+  pub kept : List Given
+  pub some : AreSomeOf kept given
+  pub grew : GrewBy start kept end
+  pub all : IsTrue end.whole → IsTrue start.whole × (kept ≡ given)

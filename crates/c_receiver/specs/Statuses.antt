@@ -1,5 +1,5 @@
 -- What a call answers, as a number, and for which answer of a receiver.
-use Rattle.std.specs.Prelude.{ℕ, ◌+◌, Bool, true, false, Option, Some, None, Result, Ok, Err}
+use Rattle.std.specs.Prelude.{ℕ, ◌+◌, Bool, true, false, Result, Ok, Err}
 use Rattle.flow_records.specs.declared.record.SetupFault.TheVariants as setup_fault
 use Rattle.lane.specs.declared.sids.LaneFault.TheVariants as lane_fault
 use Rattle.lane.specs.Report.{refusal_number}

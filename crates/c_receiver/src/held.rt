@@ -6,7 +6,8 @@ ghost use Rattle.c_receiver.specs.Held.{no_check, IsInUse, StateInUse};
 ghost use Rattle.c_receiver.specs.Held.{Takes, TakesGrant, TakesBurst, Decides, DecidesSo};
 ghost use Rattle.c_receiver.specs.Held.{IsDecision};
 ghost use Rattle.c_receiver.specs.Held.{GoesOn, Restarts, Counts, AnswersCounts};
-ghost use Rattle.c_receiver.specs.Held.{GivesFrame, GivesRequest, Closes, ClosesState, state_after, of_close};
+ghost use Rattle.c_receiver.specs.Held.{GivesFrame, GivesRequest};
+ghost use Rattle.c_receiver.specs.Held.{Closes, ClosesState, state_after, of_close};
 ghost use Rattle.c_receiver.specs.Made.{IsMade, IsNotMade};
 
 use crate::open;
@@ -90,7 +91,7 @@ impl HeldReceiver {
         ensures in_use { IsInUse self.new }
     {
         let Ok(copied) = Vec::from_slice(self.alloc, bytes) else {
-            return Status::OutOfMemory;
+            return self.queue.told(Status::OutOfMemory);
         };
         let bytes = Bytes::from(copied);
         self.take(
@@ -296,5 +297,6 @@ fn decision_of(kind: u32, number: u16) -> Option<FlowDecision>
     }
 }
 
-/// Lets a receiver go, with all that waits.
+/// Lets a receiver go, with all that waits. Nothing of it is left for a clause to speak of: that its
+/// memory is given back is seen by valgrind (`scripts/c-library`, `scripts/hostile-c`).
 pub fn discard(_held: Box<HeldReceiver>) {}

@@ -33,11 +33,12 @@ pub enum Status {
     FlowClosing,
     /// An allocation failed, and the call is to be made again: what was handed in isn't taken.
     OutOfMemory,
-    /// What was handed in is taken, and an allocation failed before its flow had given all. The rest
-    /// is given when the flow is gone on with, or when the next comes to it.
+    /// What was handed in is taken, and an allocation failed before its flow had given all. The
+    /// rest is given when the flow is gone on with, or when the next comes to it.
     Unfinished,
     /// An allocation failed for the place of a frame or of a request in the queue: it is missing.
-    /// Each later call answers so too, and what it says of the flows is otherwise as ever.
+    /// From then on what hands something in to an open receiver, and each close, answers so in the
+    /// place of what it else would.
     NotKept,
     /// A burst was admitted, and its segment came when its number had passed.
     Late,

@@ -1,11 +1,10 @@
 -- A pointer that is handed out, taken apart and put together. Assumes `Logic`.
-use Rattle.std.proofs.Common.{◌≡◌, ℕ, ◌^◌, ◌<◌, List, [], ◌∷◌, ◌++◌, refl, sym, ap, subst, ◌∙◌, Option, w32}
+use Rattle.std.proofs.Common.{◌≡◌, ℕ, ◌^◌, ◌<◌, List, [], ◌∷◌, ◌++◌, refl, ◌∙◌, Option, w32}
 use seplogic.Ra.Ura.{Ura}
-use mir.Val.{Val, vint, vptr, vstruct, vcons, vnil, of_list}
-use base.Fml.{ftrue, fsep}
+use mir.Val.{Val, vint, vstruct, vcons, vnil, of_list}
 use types.Logic.{Logic}
 use types.Kit.{Goal, Seq, Item, ‵, ◌$◌, move, drop, fsplit, fjoin, fpick, fpack, feq_l, feq_i, flt_l, flt_i}
-use denote.RattleType.{RattleType, Valss, owns}
+use denote.RattleType.{RattleType, Valss}
 use denote.Builtin.{u32, RawPtr}
 use denote.RawPtr.{Ptr, block_ptr, null_ptr, ptr_val}
 use base.Logic.{ent, id⊢}

@@ -66,7 +66,7 @@ use Rattle.c_receiver.specs.contracts.held.HeldReceiver.{the_row as R}
 use Rattle.c_receiver.specs.declared.status.Status.TheVariants as status
 use Rattle.c_receiver.specs.Statuses.{status_number}
 use Rattle.segrx_c.specs.Handle.{boxed_at, row_at, unless_so}
-use Rattle.segrx_c.specs.Answers.{UnlessBeyond}
+use Rattle.segrx_c.specs.Answers.{Unless, length_refused}
 
 -- a pointer is a machine value of its type
 pub typed : (p : Ptr) → T (has_ty ty_ptr (ptr_val p)) × WT (ptr_val p)
@@ -83,12 +83,16 @@ module _ {M : Type 1} {𝓤 : Ura M} (𝓛 : Logic 𝓤) (p : Ptr) (b o : ℕ) w
   pub pointer_in : ent 𝓤 (sem 𝓛 (fat full_share ty_ptr b o (ptr_val p))) (sem 𝓛 (points_to RawPtr (block_ptr b o) p))
   pointer_in = qed 𝓛 (‵ (fat full_share ty_ptr b o (ptr_val p)) ∷ []) ∵ feq_i ! (List Val) (ptr_val p ∷ []) (ptr_val p ∷ []) refl $ move ! (1 ∷ 0 ∷ []) $ by ! (part_in 𝓛 RawPtr refl full_share p b o (ptr_val p))
 
--- what is said of a call unless more is passed than may be
-pub within : (y : Bool) (number : ℕ) (P : Type 0) → y ≡ false → P → UnlessBeyond y number P
-within y number P e p = subst (λ (z : Bool). UnlessBeyond z number P) (sym e) p
+-- what is said of a call where no more of a length is passed than may be, and where more is
+module _ (y : Bool) (lengths : List Bool) (number : ℕ) (Same P : Type 0) where
+  abbrev Said : Bool → Type 0
+  Said z = Unless (length_refused (z ∷ lengths)) number Same P
 
-pub beyond : (y : Bool) (number : ℕ) (P : Type 0) → y ≡ true → number ≡ status_number status.LengthRange → UnlessBeyond y number P
-beyond y number P e p = subst (λ (z : Bool). UnlessBeyond z number P) (sym e) p
+  pub within : y ≡ false → Unless (length_refused lengths) number Same P → Said y
+  within e p = subst Said (sym e) p
+
+  pub beyond : y ≡ true → number ≡ status_number status.LengthRange → Same → Said y
+  beyond e told same = subst Said (sym e) (told, same)
 
 -- a constant of more than a few digits, as `lit` is of others
 module _ {M : Type 1} {𝓤 : Ura M} {K : Type 0} {𝓛 : Logic 𝓤} {Γ : List (Item 𝓤)} {E : Env 𝓤 𝓛.H} where

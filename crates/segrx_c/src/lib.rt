@@ -1,16 +1,16 @@
 //! A receiver for C: `include/segrx.h` declares the functions and says how to call them.
 //!
-//! Each export tests its pointers and lengths, and makes one call of [`c_receiver`], whose clauses it
-//! states again, for the memory behind the pointers. So the proofs of exports are by hand, and alike:
-//! what lies behind a pointer is lent for the call and comes back. What a C program has to ensure is
-//! in each `requires`: that what its pointers point to is there and its own, and that a handle is one
-//! that [`segrx_receiver_new`] gave and [`segrx_receiver_free`] didn't take.
+//! Each export tests its pointers and lengths, and makes one call of [`c_receiver`], whose clauses
+//! it states again, for the memory behind the pointers. So the proofs of exports are by hand, and
+//! alike: what lies behind a pointer is lent for the call and comes back. What a C program has to
+//! ensure is in each `requires`: that what its pointers point to is there and its own, and that a
+//! handle is one that [`segrx_receiver_new`] gave and [`segrx_receiver_free`] didn't take.
 //!
 //! In a clause [`Opaque`] is what a handle is to C; `was` is what lay behind the pointers, and
-//! `after` what lies there at the return.
+//! `after` what lies there at the return. Of a call that is refused both are the same.
 #![tactic(auto)]
 
-ghost use Rattle.std.specs.Prelude.{◌≡◌, ℕ, List, Option, nat_lt};
+ghost use Rattle.std.specs.Prelude.{◌≡◌, ℕ, List, [], ◌∷◌, Option, None, nat_lt};
 ghost use denote.Builtin.{u8 as byte};
 ghost use denote.RawPtr.{Ptr, RawPtr, Testable};
 ghost use types.Logic.{sem};
@@ -29,7 +29,7 @@ ghost use Rattle.c_receiver.specs.Held.{IsInUse, TakesGrant, TakesBurst, Decides
 ghost use Rattle.c_receiver.specs.Held.{Closes, Counts, GivesFrame, GivesRequest};
 ghost use Rattle.segrx_c.specs.Handle.{handle_at, value_at, row_at};
 ghost use Rattle.segrx_c.specs.Made.{Gives, made_at};
-ghost use Rattle.segrx_c.specs.Answers.{Numbered, Unless, UnlessBeyond};
+ghost use Rattle.segrx_c.specs.Answers.{Numbered, Unless, refused, of_free};
 
 mod calls;
 mod handed;
@@ -89,10 +89,9 @@ pub unsafe extern "C" fn segrx_receiver_new(
         ∗ sem 𝓛 (row_at row_type.the_row 262144 rows row_count was.1)
         ∗ sem 𝓛 (value_at RawPtr handle after.0)
         ∗ sem 𝓛 (made_at after.0 after.1)
-        ∗ ⌜ Unless handle result (Unless flows result (Unless rows result
-        (UnlessBeyond (nat_lt 16384 flow_count) result
-        (UnlessBeyond (nat_lt 262144 row_count) result
-        (Gives channels was.0 was.1 rule result after.1))))) ⌝) }
+        ∗ ⌜ Unless (refused (handle ∷ flows ∷ rows ∷ [])
+        (nat_lt 16384 flow_count ∷ nat_lt 262144 row_count ∷ [])) result (after.1 ≡ None)
+        (Gives channels was.0 was.1 rule result after.1) ⌝) }
 {
     if handle.is_null() {
         return NULL_GIVEN;
@@ -138,7 +137,7 @@ pub unsafe extern "C" fn segrx_receiver_grant(
     ghost was: { HeldReceiver }
     requires* memory { sem 𝓛 (handle_at handle was) ∗ ⌜ IsInUse was ⌝ }
     ensures* memory { ∃ₛ (λ (after : HeldReceiver). sem 𝓛 (handle_at handle after)
-        ∗ ⌜ Unless handle result (Numbered (λ answer.
+        ∗ ⌜ Unless (refused (handle ∷ []) []) result (after ≡ was) (Numbered (λ answer.
         TakesGrant was channel number sid bytes answer after) result
         × IsInUse after) ⌝) }
 {
@@ -165,9 +164,10 @@ pub unsafe extern "C" fn segrx_receiver_burst(
         ∗ sem 𝓛 (row_at byte 65535 bytes count was.1) ∗ ⌜ IsInUse was.0 ⌝ }
     ensures* memory { ∃ₛ (λ (after : HeldReceiver). sem 𝓛 (handle_at handle after)
         ∗ sem 𝓛 (row_at byte 65535 bytes count was.1)
-        ∗ ⌜ Unless handle result (Unless bytes result (UnlessBeyond (nat_lt 65535 count) result
-        (Numbered (λ answer. TakesBurst was.0 channel grant hcs_ok was.1 answer after) result
-        × IsInUse after))) ⌝) }
+        ∗ ⌜ Unless (refused (handle ∷ bytes ∷ []) (nat_lt 65535 count ∷ [])) result
+        (after ≡ was.0) (Numbered (λ answer.
+        TakesBurst was.0 channel grant hcs_ok was.1 answer after) result
+        × IsInUse after) ⌝) }
 {
     if handle.is_null() {
         return NULL_GIVEN;
@@ -199,7 +199,7 @@ pub unsafe extern "C" fn segrx_receiver_decide(
     ghost was: { HeldReceiver }
     requires* memory { sem 𝓛 (handle_at handle was) ∗ ⌜ IsInUse was ⌝ }
     ensures* memory { ∃ₛ (λ (after : HeldReceiver). sem 𝓛 (handle_at handle after)
-        ∗ ⌜ Unless handle result (Numbered (λ answer.
+        ∗ ⌜ Unless (refused (handle ∷ []) []) result (after ≡ was) (Numbered (λ answer.
         Decides was flow kind number answer after) result
         × IsInUse after) ⌝) }
 {
@@ -216,7 +216,7 @@ pub unsafe extern "C" fn segrx_receiver_go_on(handle: *mut Opaque, flow: usize) 
     ghost was: { HeldReceiver }
     requires* memory { sem 𝓛 (handle_at handle was) ∗ ⌜ IsInUse was ⌝ }
     ensures* memory { ∃ₛ (λ (after : HeldReceiver). sem 𝓛 (handle_at handle after)
-        ∗ ⌜ Unless handle result (Numbered (λ answer.
+        ∗ ⌜ Unless (refused (handle ∷ []) []) result (after ≡ was) (Numbered (λ answer.
         GoesOn was flow answer after) result
         × IsInUse after) ⌝) }
 {
@@ -246,10 +246,10 @@ pub unsafe extern "C" fn segrx_receiver_next_frame(
         sem 𝓛 (handle_at handle after.0)
         ∗ sem 𝓛 (row_at byte 2147483647 room capacity after.1)
         ∗ sem 𝓛 (value_at frame_type.the_row frame after.2)
-        ∗ ⌜ Unless handle result (Unless room result (Unless frame result
-        (UnlessBeyond (nat_lt 2147483647 capacity) result (Numbered (λ answer.
+        ∗ ⌜ Unless (refused (handle ∷ room ∷ frame ∷ []) (nat_lt 2147483647 capacity ∷ []))
+        result (after ≡ was) (Numbered (λ answer.
         GivesFrame was.0 was.1 was.2 answer after.0 after.1 after.2) result
-        × IsInUse after.0)))) ⌝) }
+        × IsInUse after.0) ⌝) }
 {
     if handle.is_null() {
         return NULL_GIVEN;
@@ -283,9 +283,9 @@ pub unsafe extern "C" fn segrx_receiver_next_request(
         ∗ sem 𝓛 (value_at request_type.the_row request was.1) ∗ ⌜ IsInUse was.0 ⌝ }
     ensures* memory { ∃ₛ (λ (after : HeldReceiver × PlainRequest). sem 𝓛 (handle_at handle after.0)
         ∗ sem 𝓛 (value_at request_type.the_row request after.1)
-        ∗ ⌜ Unless handle result (Unless request result (Numbered (λ answer.
+        ∗ ⌜ Unless (refused (handle ∷ request ∷ []) []) result (after ≡ was) (Numbered (λ answer.
         GivesRequest was.0 was.1 answer after.0 after.1) result
-        × IsInUse after.0)) ⌝) }
+        × IsInUse after.0) ⌝) }
 {
     if handle.is_null() {
         return NULL_GIVEN;
@@ -310,9 +310,9 @@ pub unsafe extern "C" fn segrx_receiver_counts(
         ∗ sem 𝓛 (value_at counts_type.the_row counts was.1) ∗ ⌜ IsInUse was.0 ⌝ }
     ensures* memory { ∃ₛ (λ (after : HeldReceiver × PlainCounts). sem 𝓛 (handle_at handle after.0)
         ∗ sem 𝓛 (value_at counts_type.the_row counts after.1)
-        ∗ ⌜ Unless handle result (Unless counts result (Numbered (λ answer.
+        ∗ ⌜ Unless (refused (handle ∷ counts ∷ []) []) result (after ≡ was) (Numbered (λ answer.
         Counts was.0 flow was.1 answer after.1 × (after.0 ≡ was.0)) result
-        × IsInUse after.0)) ⌝) }
+        × IsInUse after.0) ⌝) }
 {
     if handle.is_null() {
         return NULL_GIVEN;
@@ -338,9 +338,9 @@ pub unsafe extern "C" fn segrx_receiver_restart(
         ∗ sem 𝓛 (value_at counts_type.the_row counts was.1) ∗ ⌜ IsInUse was.0 ⌝ }
     ensures* memory { ∃ₛ (λ (after : HeldReceiver × PlainCounts). sem 𝓛 (handle_at handle after.0)
         ∗ sem 𝓛 (value_at counts_type.the_row counts after.1)
-        ∗ ⌜ Unless handle result (Unless counts result (Numbered (λ answer.
+        ∗ ⌜ Unless (refused (handle ∷ counts ∷ []) []) result (after ≡ was) (Numbered (λ answer.
         Restarts was.0 flow first was.1 answer after.0 after.1) result
-        × IsInUse after.0)) ⌝) }
+        × IsInUse after.0) ⌝) }
 {
     if handle.is_null() {
         return NULL_GIVEN;
@@ -358,7 +358,7 @@ pub unsafe extern "C" fn segrx_receiver_close(handle: *mut Opaque) -> u32
     ghost was: { HeldReceiver }
     requires* memory { sem 𝓛 (handle_at handle was) ∗ ⌜ IsInUse was ⌝ }
     ensures* memory { ∃ₛ (λ (after : HeldReceiver). sem 𝓛 (handle_at handle after)
-        ∗ ⌜ Unless handle result (Numbered (λ answer.
+        ∗ ⌜ Unless (refused (handle ∷ []) []) result (after ≡ was) (Numbered (λ answer.
         Closes was answer after) result
         × IsInUse after) ⌝) }
 {
@@ -374,7 +374,7 @@ pub unsafe extern "C" fn segrx_receiver_close(handle: *mut Opaque) -> u32
 pub unsafe extern "C" fn segrx_receiver_free(alloc: Global, handle: *mut Opaque) -> u32
     ghost was: { HeldReceiver }
     requires* memory { sem 𝓛 (handle_at handle was) }
-    ensures told { Unless handle result (result ≡ 0) }
+    ensures told { result ≡ of_free handle }
 {
     if handle.is_null() {
         return NULL_GIVEN;

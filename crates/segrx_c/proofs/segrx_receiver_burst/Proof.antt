@@ -1,7 +1,7 @@
 -- A burst goes to the receiver behind the handle; its bytes are lent for the call.
 use Rattle.segrx_c.proofs.Steps.{◌≡◌, ℕ, ◌^◌, ◌<◌, ◌*◌, ◌≤◌, List, [], ◌∷◌, ◌++◌, length, Bool, true, false, refl, lit<, arith, w8, w32, w64, MutBor, Bor, Ura, full_share, named, Val, vint, vbool, vptr, vnull, SProp, ent, sep, ex, id⊢, via, fst∗, Lft, Fml, ftrue, fsep, flft, flent, Memory, Routine, Calls, Loops, WpFn, Logic, sem, Fun, fact, fact_i, fact_use, emp, tables, framed, ‵, raw, ◌⊛◌, some, later, at_ret, ◌$◌, ◌∵◌, !, qed, by, move, keep, drop, use0, use1, use2, use3, split, split3, join, pick, fsplit, fjoin, await, lft_new, lft_end, Body, of_opd, bin, lit, addr, stop, and_then, no_more, first, branches, skips, exec, returns, returns_within, enter, agg, alloc_all, pass_all, free_all, look_at, get, through, sets, lands_as, env, FmC, yes, Is, shows, mem, uint_vals, uint_Tells, uint_Makes, uint_Lawful, bool_vals, bool_Tells, bool_Makes, u8, u32, usize, bool, MutRef, mut_vals, lends_ref, ref_back, Ptr, block_ptr, null_ptr, ptr_val, RawPtr, rawptr_vals, rawptr_Tells, Testable, tests_null, plain, owned, peeks, heard, nothing, Contract, Triple, calls_at, Clauses, lasts, on_entry, triple_of, Stays, stay_dropped, walk_of, Goes-dropped, proved, leaves, typed, boxed-Testable, ended-2, apart, counted, row_in, row_out, within, beyond, nat_lt, not, T, subst, sym, nltb→le, feq, feq_i, feq_l, Array, Array-apart, Array-whole, lends_shr_slice, lent_back, Incl-refl, ShrSlice, slice_val, big_lit, points_to, uint_Copied}
 use Rattle.segrx_c.specs.Handle.{boxed_at, handle_at, row_at}
-use Rattle.segrx_c.specs.Answers.{Numbered, Unless, UnlessBeyond}
+use Rattle.segrx_c.specs.Answers.{Numbered, Unless, refused}
 use Rattle.c_receiver.specs.declared.held.HeldReceiver.{HeldReceiver}
 use Rattle.c_receiver.specs.contracts.held.HeldReceiver.{the_row as R}
 use Rattle.c_receiver.specs.Held.{IsInUse}
@@ -43,7 +43,7 @@ module _ {M : Type 1} {𝓤 : Ura M} (𝓛 : Logic 𝓤) (at_mem : Memory → SP
     F1 bytes count after = row_at u8 65535 bytes count was.1
 
     abbrev Q : Ptr → Ptr → ℕ → ℕ → HeldReceiver → Type 0
-    Q handle bytes count answer after = Unless handle answer (Unless bytes answer (UnlessBeyond (nat_lt 65535 count) answer (Numbered (λ answer. TakesBurst was.0 channel number hcs_ok was.1 answer after) answer × IsInUse after)))
+    Q handle bytes count answer after = Unless (refused (handle ∷ bytes ∷ []) (nat_lt 65535 count ∷ [])) answer (after ≡ was.0) (Numbered (λ answer. TakesBurst was.0 channel number hcs_ok was.1 answer after) answer × IsInUse after)
 
     abbrev Ends : Ptr → Ptr → ℕ → ℕ → SProp 𝓤
     Ends handle bytes count answer = ex 𝓤 (λ (after : HeldReceiver). sep 𝓤 (sem 𝓛 (F0 handle after)) (sep 𝓤 (sem 𝓛 (F1 bytes count after)) (fact 𝓤 (Q handle bytes count answer after))))
@@ -53,7 +53,7 @@ module _ {M : Type 1} {𝓤 : Ura M} (𝓛 : Logic 𝓤) (at_mem : Memory → SP
         qed 𝓛 (‵ (handle_at null_ptr was.0) ∷ ‵ (row_at u8 65535 bytes count was.1) ∷ []) ∵ enter ! C Λ code.function (vnull ∷ vint w64 channel ∷ vint w32 number ∷ vbool hcs_ok ∷ ptr_val bytes ∷ vint w64 count ∷ []) _ $
         alloc_all ! (λ l. let En = env code.function.locals l in pass_all ! refl ((tt, record { fits = lit< tt }), ((tt, record { fits = fits-channel }), ((tt, record { fits = fits-number }), ((tt, tt), (typed bytes, ((tt, record { fits = fits-count }), tt)))))) $
         sets ! (bin ! (get ! refl) (lit ! tt) (tests_null null_ptr (lit< tt))) refl (tt, tt) $ first ! $ branches ! (get ! refl)
-        (λ t. sets ! (of_opd ! (lit ! tt)) refl (tt, record { fits = lit< tt }) $ use2 𝓛 (raw (Ends null_ptr bytes count 1)) (ended-2 𝓛 (F0 null_ptr) (F1 bytes count) (Q null_ptr bytes count 1) was.0 refl) $
+        (λ t. sets ! (of_opd ! (lit ! tt)) refl (tt, record { fits = lit< tt }) $ use2 𝓛 (raw (Ends null_ptr bytes count 1)) (ended-2 𝓛 (F0 null_ptr) (F1 bytes count) (Q null_ptr bytes count 1) was.0 (refl, refl)) $
         owned ! u32 (Is u32) (uint_Makes 𝓛 w32) 1 _ (refl, lit< tt) $ returns_within ! (Post null_ptr bytes count) refl (look_at ! 0 refl) $ free_all ! refl $ keep ! (0 ∷ 1 ∷ []) $ nothing ! $ nothing ! $ fjoin ! $ nothing ! $ fjoin ! $ nothing ! $ fjoin ! $ nothing ! $ fjoin ! $ nothing ! $ fjoin ! $ nothing ! $ fjoin ! $ nothing ! $
         by ! (leaves 𝓛 f.ended stayed c (y null_ptr bytes count) (vint w32 1) 1 (tt, (tt, (tt, (tt, (tt, (tt, tt)))))) (tt, (tt, (tt, (tt, (tt, (tt, tt)))))))) (λ t. absurd t))
 
@@ -64,7 +64,7 @@ module _ {M : Type 1} {𝓤 : Ura M} (𝓛 : Logic 𝓤) (at_mem : Memory → SP
         sets ! (bin ! (get ! refl) (lit ! tt) (tests_null (block_ptr b0 o0) may-handle)) refl (tt, tt) $ first ! $ branches ! (get ! refl)
         (λ t. absurd t) (λ t. skips ! $ exec ! C Λ En code.Mir.t-3 (at_ret En (Post (block_ptr b0 o0) null_ptr count)) $
         sets ! (bin ! (get ! refl) (lit ! tt) (tests_null null_ptr (lit< tt))) refl (tt, tt) $ first ! $ branches ! (get ! refl)
-        (λ t. sets ! (of_opd ! (lit ! tt)) refl (tt, record { fits = lit< tt }) $ use2 𝓛 (raw (Ends (block_ptr b0 o0) null_ptr count 1)) (ended-2 𝓛 (F0 (block_ptr b0 o0)) (F1 null_ptr count) (Q (block_ptr b0 o0) null_ptr count 1) was.0 refl) $
+        (λ t. sets ! (of_opd ! (lit ! tt)) refl (tt, record { fits = lit< tt }) $ use2 𝓛 (raw (Ends (block_ptr b0 o0) null_ptr count 1)) (ended-2 𝓛 (F0 (block_ptr b0 o0)) (F1 null_ptr count) (Q (block_ptr b0 o0) null_ptr count 1) was.0 (refl, refl)) $
         owned ! u32 (Is u32) (uint_Makes 𝓛 w32) 1 _ (refl, lit< tt) $ returns_within ! (Post (block_ptr b0 o0) null_ptr count) refl (look_at ! 0 refl) $ free_all ! refl $ keep ! (0 ∷ 1 ∷ []) $ nothing ! $ nothing ! $ fjoin ! $ nothing ! $ fjoin ! $ nothing ! $ fjoin ! $ nothing ! $ fjoin ! $ nothing ! $ fjoin ! $ nothing ! $ fjoin ! $ nothing ! $
         by ! (leaves 𝓛 f.ended stayed c (y (block_ptr b0 o0) null_ptr count) (vint w32 1) 1 (tt, (tt, (tt, (tt, (tt, (tt, tt)))))) (tt, (tt, (tt, (tt, (tt, (tt, tt)))))))) (λ t. absurd t)))
 
@@ -97,7 +97,7 @@ module _ {M : Type 1} {𝓤 : Ura M} (𝓛 : Logic 𝓤) (at_mem : Memory → SP
         fsplit ! $ fsplit ! $ move ! (1 ∷ []) $ drop ! $ move ! (1 ∷ []) $ fsplit ! $ drop ! $ fsplit ! $ drop ! $ fsplit ! $ drop ! $ fsplit ! $ drop ! $
         move ! (5 ∷ 7 ∷ 1 ∷ []) $ use3 𝓛 (later (‵ ((mem R).own_at ws.0 b0 o0))) (ref_back 𝓛 R κ0 γ0 ws.0 b0 o0) $ await ! tt $ move ! (0 ∷ 6 ∷ []) $ fjoin ! $
         move ! (3 ∷ 5 ∷ []) $ lent_back ! tt $ use1 𝓛 (‵ (points_to (Array u8 (length was.1)) (block_ptr b1 o1) was.1)) (Array-whole 𝓛 u8 full_share (length was.1) was.1 b1 o1) $ use1 𝓛 (‵ (F1 (block_ptr b1 o1) (length was.1) ws.0)) (row_in 𝓛 u8 65535 (block_ptr b1 o1) (length was.1) was.1) $
-        move ! (1 ∷ 0 ∷ []) $ use2 𝓛 (raw (Ends (block_ptr b0 o0) (block_ptr b1 o1) (length was.1) r')) (ended-2 𝓛 (F0 (block_ptr b0 o0)) (F1 (block_ptr b1 o1) (length was.1)) (Q (block_ptr b0 o0) (block_ptr b1 o1) (length was.1) r') ws.0 (within _ _ _ e-count (does, still))) $
+        move ! (1 ∷ 0 ∷ []) $ use2 𝓛 (raw (Ends (block_ptr b0 o0) (block_ptr b1 o1) (length was.1) r')) (ended-2 𝓛 (F0 (block_ptr b0 o0)) (F1 (block_ptr b1 o1) (length was.1)) (Q (block_ptr b0 o0) (block_ptr b1 o1) (length was.1) r') ws.0 (within (nat_lt 65535 (length was.1)) [] _ _ _ e-count (does, still))) $
         move ! (2 ∷ 0 ∷ []) $ returns ! (look_at ! 0 refl) $ free_all ! refl $ keep ! (0 ∷ 1 ∷ []) $ nothing ! $ nothing ! $ fjoin ! $ nothing ! $ fjoin ! $ nothing ! $ fjoin ! $ nothing ! $ fjoin ! $ nothing ! $ fjoin ! $ nothing ! $ fjoin ! $ nothing ! $
         by ! (leaves 𝓛 f.ended stayed c (y (block_ptr b0 o0) (block_ptr b1 o1) (length was.1)) v r' (tt, (tt, (tt, (tt, (tt, (tt, tt)))))) (tt, (tt, (tt, (tt, (tt, (tt, tt))))))))))))))))))))
 
@@ -110,7 +110,7 @@ module _ {M : Type 1} {𝓤 : Ura M} (𝓛 : Logic 𝓤) (at_mem : Memory → SP
         sets ! (bin ! (get ! refl) (lit ! tt) (tests_null (block_ptr b1 o1) may-bytes)) refl (tt, tt) $ first ! $ branches ! (get ! refl)
         (λ t. absurd t) (λ t. skips ! $ exec ! C Λ En code.Mir.t-5 (at_ret En (Post (block_ptr b0 o0) (block_ptr b1 o1) count)) $
         sets ! (bin ! (big_lit ! (record { fits = lit< tt })) (get ! refl) tt) refl (tt, tt) $ first ! $ branches ! (get ! refl)
-        (λ t. sets ! (of_opd ! (lit ! tt)) refl (tt, record { fits = lit< tt }) $ use2 𝓛 (raw (Ends (block_ptr b0 o0) (block_ptr b1 o1) count 17)) (ended-2 𝓛 (F0 (block_ptr b0 o0)) (F1 (block_ptr b1 o1) count) (Q (block_ptr b0 o0) (block_ptr b1 o1) count 17) was.0 (beyond _ _ _ e-count refl)) $
+        (λ t. sets ! (of_opd ! (lit ! tt)) refl (tt, record { fits = lit< tt }) $ use2 𝓛 (raw (Ends (block_ptr b0 o0) (block_ptr b1 o1) count 17)) (ended-2 𝓛 (F0 (block_ptr b0 o0)) (F1 (block_ptr b1 o1) count) (Q (block_ptr b0 o0) (block_ptr b1 o1) count 17) was.0 (beyond (nat_lt 65535 count) [] _ _ _ e-count refl refl)) $
         owned ! u32 (Is u32) (uint_Makes 𝓛 w32) 17 _ (refl, lit< tt) $ returns_within ! (Post (block_ptr b0 o0) (block_ptr b1 o1) count) refl (look_at ! 0 refl) $ free_all ! refl $ keep ! (0 ∷ 1 ∷ []) $ nothing ! $ nothing ! $ fjoin ! $ nothing ! $ fjoin ! $ nothing ! $ fjoin ! $ nothing ! $ fjoin ! $ nothing ! $ fjoin ! $ nothing ! $ fjoin ! $ nothing ! $
         by ! (leaves 𝓛 f.ended stayed c (y (block_ptr b0 o0) (block_ptr b1 o1) count) (vint w32 17) 17 (tt, (tt, (tt, (tt, (tt, (tt, tt)))))) (tt, (tt, (tt, (tt, (tt, (tt, tt)))))))) (λ t. absurd (subst (λ (y : Bool). T (not y)) e-count t)))))
 

@@ -1,7 +1,7 @@
 -- A grant goes to the receiver behind the handle.
-use Rattle.segrx_c.proofs.Steps.{ℕ, ◌^◌, ◌<◌, [], ◌∷◌, ◌++◌, refl, lit<, w16, w32, w64, MutBor, Ura, full_share, named, Val, vint, vptr, vnull, SProp, ent, sep, ex, id⊢, Lft, Fml, ftrue, flft, flent, Memory, Routine, Calls, Loops, WpFn, Logic, sem, Fun, fact, fact_i, fact_use, emp, tables, framed, ‵, raw, ◌⊛◌, some, later, at_ret, ◌$◌, ◌∵◌, !, qed, by, move, keep, drop, use0, use1, use2, use3, split, split3, join, pick, fsplit, fjoin, await, lft_new, lft_end, Body, of_opd, bin, lit, addr, stop, and_then, no_more, first, branches, skips, exec, returns, returns_within, enter, alloc_all, pass_all, free_all, look_at, get, through, sets, lands_as, env, FmC, yes, Is, shows, mem, uint_vals, uint_Tells, uint_Makes, uint_Lawful, u16, u32, usize, MutRef, mut_vals, lends_ref, ref_back, Ptr, block_ptr, null_ptr, RawPtr, rawptr_vals, rawptr_Tells, Testable, tests_null, plain, owned, peeks, heard, nothing, Contract, Triple, calls_at, Clauses, lasts, on_entry, triple_of, Stays, stay_dropped, walk_of, Goes-dropped, proved, leaves, typed, boxed-Testable, ended-1}
+use Rattle.segrx_c.proofs.Steps.{◌≡◌, ℕ, ◌^◌, ◌<◌, [], ◌∷◌, ◌++◌, refl, lit<, w16, w32, w64, MutBor, Ura, full_share, named, Val, vint, vptr, vnull, SProp, ent, sep, ex, id⊢, Lft, Fml, ftrue, flft, flent, Memory, Routine, Calls, Loops, WpFn, Logic, sem, Fun, fact, fact_i, fact_use, emp, tables, framed, ‵, raw, ◌⊛◌, some, later, at_ret, ◌$◌, ◌∵◌, !, qed, by, move, keep, drop, use0, use1, use2, use3, split, split3, join, pick, fsplit, fjoin, await, lft_new, lft_end, Body, of_opd, bin, lit, addr, stop, and_then, no_more, first, branches, skips, exec, returns, returns_within, enter, alloc_all, pass_all, free_all, look_at, get, through, sets, lands_as, env, FmC, yes, Is, shows, mem, uint_vals, uint_Tells, uint_Makes, uint_Lawful, u16, u32, usize, MutRef, mut_vals, lends_ref, ref_back, Ptr, block_ptr, null_ptr, RawPtr, rawptr_vals, rawptr_Tells, Testable, tests_null, plain, owned, peeks, heard, nothing, Contract, Triple, calls_at, Clauses, lasts, on_entry, triple_of, Stays, stay_dropped, walk_of, Goes-dropped, proved, leaves, boxed-Testable, ended-1}
 use Rattle.segrx_c.specs.Handle.{boxed_at, handle_at}
-use Rattle.segrx_c.specs.Answers.{Numbered, Unless}
+use Rattle.segrx_c.specs.Answers.{Numbered, Unless, refused}
 use Rattle.c_receiver.specs.declared.held.HeldReceiver.{HeldReceiver}
 use Rattle.c_receiver.specs.contracts.held.HeldReceiver.{the_row as R}
 use Rattle.c_receiver.specs.Held.{IsInUse}
@@ -40,7 +40,7 @@ module _ {M : Type 1} {𝓤 : Ura M} (𝓛 : Logic 𝓤) (at_mem : Memory → SP
     F0 handle after = handle_at handle after
 
     abbrev Q : Ptr → ℕ → HeldReceiver → Type 0
-    Q handle answer after = Unless handle answer (Numbered (λ answer. TakesGrant was channel number sid bytes answer after) answer × IsInUse after)
+    Q handle answer after = Unless (refused (handle ∷ []) []) answer (after ≡ was) (Numbered (λ answer. TakesGrant was channel number sid bytes answer after) answer × IsInUse after)
 
     abbrev Ends : Ptr → ℕ → SProp 𝓤
     Ends handle answer = ex 𝓤 (λ (after : HeldReceiver). sep 𝓤 (sem 𝓛 (F0 handle after)) (fact 𝓤 (Q handle answer after)))
@@ -50,7 +50,7 @@ module _ {M : Type 1} {𝓤 : Ura M} (𝓛 : Logic 𝓤) (at_mem : Memory → SP
         qed 𝓛 (‵ (handle_at null_ptr was) ∷ []) ∵ enter ! C Λ code.function (vnull ∷ vint w64 channel ∷ vint w32 number ∷ vint w16 sid ∷ vint w32 bytes ∷ []) _ $
         alloc_all ! (λ l. let En = env code.function.locals l in pass_all ! refl ((tt, record { fits = lit< tt }), ((tt, record { fits = fits-channel }), ((tt, record { fits = fits-number }), ((tt, record { fits = fits-sid }), ((tt, record { fits = fits-bytes }), tt))))) $
         sets ! (bin ! (get ! refl) (lit ! tt) (tests_null null_ptr (lit< tt))) refl (tt, tt) $ first ! $ branches ! (get ! refl)
-        (λ t. sets ! (of_opd ! (lit ! tt)) refl (tt, record { fits = lit< tt }) $ use1 𝓛 (raw (Ends null_ptr 1)) (ended-1 𝓛 (F0 null_ptr) (Q null_ptr 1) was refl) $
+        (λ t. sets ! (of_opd ! (lit ! tt)) refl (tt, record { fits = lit< tt }) $ use1 𝓛 (raw (Ends null_ptr 1)) (ended-1 𝓛 (F0 null_ptr) (Q null_ptr 1) was (refl, refl)) $
         owned ! u32 (Is u32) (uint_Makes 𝓛 w32) 1 _ (refl, lit< tt) $ returns_within ! (Post null_ptr) refl (look_at ! 0 refl) $ free_all ! refl $ keep ! (0 ∷ 1 ∷ []) $ nothing ! $ nothing ! $ fjoin ! $ nothing ! $ fjoin ! $ nothing ! $ fjoin ! $ nothing ! $ fjoin ! $ nothing ! $ fjoin ! $ nothing ! $
         by ! (leaves 𝓛 f.ended stayed c (y null_ptr) (vint w32 1) 1 (tt, (tt, (tt, (tt, (tt, tt))))) (tt, (tt, (tt, (tt, (tt, tt))))))) (λ t. absurd t))
 

@@ -19,7 +19,7 @@ use base.Fml.{fat}
 use mir.Syntax.{ty_ptr}
 use denote.RattleType.{owns}
 use denote.Signature.{types_at}
-use Rattle.segrx_c.specs.Answers.{Unless, UnlessBeyond}
+use Rattle.segrx_c.specs.Answers.{Unless, refused}
 use Rattle.segrx_c.specs.Handle.{value_at, row_at}
 use Rattle.segrx_c.specs.Made.{Gives, made_at}
 use Rattle.segrx_c.specs.declared.handed.Handed.{Handed}
@@ -94,8 +94,8 @@ module _ {M : Type 1} {𝓤 : Ura M} (𝓛 : Logic 𝓤) (at_mem : Memory → SP
 
     abbrev Q : Ptr → ℕ → Ptr → ℕ → Ptr → ℕ → After → Type 0
     Q flows n rows m handle answer after =
-        Unless handle answer (Unless flows answer (Unless rows answer
-        (UnlessBeyond (nat_lt 16384 n) answer (UnlessBeyond (nat_lt 262144 m) answer (Gives channels was.0 was.1 rule answer after.1)))))
+        Unless (refused (handle ∷ flows ∷ rows ∷ []) (nat_lt 16384 n ∷ nat_lt 262144 m ∷ [])) answer (after.1 ≡ None)
+        (Gives channels was.0 was.1 rule answer after.1)
 
     abbrev Ends : Ptr → ℕ → Ptr → ℕ → Ptr → ℕ → SProp 𝓤
     Ends flows n rows m handle answer =
@@ -106,7 +106,7 @@ module _ {M : Type 1} {𝓤 : Ura M} (𝓛 : Logic 𝓤) (at_mem : Memory → SP
         qed 𝓛 (‵ (row_at flow.the_row 16384 flows n was.0) ∷ ‵ (row_at row.the_row 262144 rows m was.1) ∷ ‵ (value_at RawPtr null_ptr was.2) ∷ []) ∵ enter ! C Λ code.function (hv ∷ vint w32 channels ∷ ptr_val flows ∷ vint w64 n ∷ ptr_val rows ∷ vint w64 m ∷ vint w32 rule ∷ vnull ∷ []) _ $
         alloc_all ! (λ l. let En = env code.function.locals l in pass_all ! refl (fits, ((tt, record { fits = fits-channels }), (typed flows, ((tt, record { fits = fits-n }), (typed rows, ((tt, record { fits = fits-m }), ((tt, record { fits = fits-rule }), ((tt, record { fits = lit< tt }), tt)))))))) $
         sets ! (bin ! (get ! refl) (lit ! tt) (tests_null null_ptr (lit< tt))) refl (tt, tt) $ first ! $ branches ! (get ! refl)
-        (λ t. sets ! (of_opd ! (lit ! tt)) refl (tt, record { fits = lit< tt }) $ nothing ! $ move ! (1 ∷ 2 ∷ 3 ∷ 0 ∷ []) $ move ! (2 ∷ 3 ∷ []) $ join ! $ move ! (1 ∷ 2 ∷ 0 ∷ []) $ use3 𝓛 (raw (Ends flows n rows m null_ptr 1)) (ended-4 𝓛 (F0 flows n) (F1 rows m) (F2 null_ptr) F3 (Q flows n rows m null_ptr 1) (null_ptr, None) refl) $
+        (λ t. sets ! (of_opd ! (lit ! tt)) refl (tt, record { fits = lit< tt }) $ nothing ! $ move ! (1 ∷ 2 ∷ 3 ∷ 0 ∷ []) $ move ! (2 ∷ 3 ∷ []) $ join ! $ move ! (1 ∷ 2 ∷ 0 ∷ []) $ use3 𝓛 (raw (Ends flows n rows m null_ptr 1)) (ended-4 𝓛 (F0 flows n) (F1 rows m) (F2 null_ptr) F3 (Q flows n rows m null_ptr 1) (null_ptr, None) (refl, refl)) $
         owned ! u32 (Is u32) (uint_Makes 𝓛 w32) 1 _ (refl, lit< tt) $ returns_within ! (Post flows n rows m null_ptr) refl (look_at ! 0 refl) $ free_all ! refl $ keep ! (0 ∷ 1 ∷ []) $ nothing ! $ nothing ! $ fjoin ! $ nothing ! $ fjoin ! $ nothing ! $ fjoin ! $ nothing ! $ fjoin ! $ nothing ! $ fjoin ! $ nothing ! $ fjoin ! $ nothing ! $ fjoin ! $ nothing ! $ fjoin ! $ nothing ! $
         by ! (leaves 𝓛 f.ended stayed c (y flows n rows m null_ptr) (vint w32 1) 1 (tt, (tt, (tt, (tt, (tt, (tt, (tt, (tt, tt)))))))) (tt, (tt, (tt, (tt, (tt, (tt, (tt, (tt, tt)))))))))) (λ t. absurd t))
 
@@ -119,7 +119,7 @@ module _ {M : Type 1} {𝓤 : Ura M} (𝓛 : Logic 𝓤) (at_mem : Memory → SP
         (λ t. absurd t) (λ t. skips ! $ exec ! C Λ En code.Mir.t-3 (at_ret En (Post null_ptr n rows m (block_ptr bh oh))) $
         assigns ! (of_opd ! (lit ! tt)) (through ! refl (stop !)) (store ! 0 refl (tt, record { fits = lit< tt })) $
         sets ! (bin ! (get ! refl) (lit ! tt) (tests_null null_ptr (lit< tt))) refl (tt, tt) $ first ! $ branches ! (get ! refl)
-        (λ t. sets ! (of_opd ! (lit ! tt)) refl (tt, record { fits = lit< tt }) $ use1 𝓛 (‵ (points_to RawPtr (block_ptr bh oh) null_ptr)) (pointer_in 𝓛 null_ptr bh oh) $ nothing ! $ move ! (2 ∷ 3 ∷ 1 ∷ 0 ∷ []) $ move ! (2 ∷ 3 ∷ []) $ join ! $ move ! (1 ∷ 2 ∷ 0 ∷ []) $ use3 𝓛 (raw (Ends null_ptr n rows m (block_ptr bh oh) 1)) (ended-4 𝓛 (F0 null_ptr n) (F1 rows m) (F2 (block_ptr bh oh)) F3 (Q null_ptr n rows m (block_ptr bh oh) 1) (null_ptr, None) refl) $
+        (λ t. sets ! (of_opd ! (lit ! tt)) refl (tt, record { fits = lit< tt }) $ use1 𝓛 (‵ (points_to RawPtr (block_ptr bh oh) null_ptr)) (pointer_in 𝓛 null_ptr bh oh) $ nothing ! $ move ! (2 ∷ 3 ∷ 1 ∷ 0 ∷ []) $ move ! (2 ∷ 3 ∷ []) $ join ! $ move ! (1 ∷ 2 ∷ 0 ∷ []) $ use3 𝓛 (raw (Ends null_ptr n rows m (block_ptr bh oh) 1)) (ended-4 𝓛 (F0 null_ptr n) (F1 rows m) (F2 (block_ptr bh oh)) F3 (Q null_ptr n rows m (block_ptr bh oh) 1) (null_ptr, None) (refl, refl)) $
         owned ! u32 (Is u32) (uint_Makes 𝓛 w32) 1 _ (refl, lit< tt) $ returns_within ! (Post null_ptr n rows m (block_ptr bh oh)) refl (look_at ! 0 refl) $ free_all ! refl $ keep ! (0 ∷ 1 ∷ []) $ nothing ! $ nothing ! $ fjoin ! $ nothing ! $ fjoin ! $ nothing ! $ fjoin ! $ nothing ! $ fjoin ! $ nothing ! $ fjoin ! $ nothing ! $ fjoin ! $ nothing ! $ fjoin ! $ nothing ! $ fjoin ! $ nothing ! $
         by ! (leaves 𝓛 f.ended stayed c (y null_ptr n rows m (block_ptr bh oh)) (vint w32 1) 1 (tt, (tt, (tt, (tt, (tt, (tt, (tt, (tt, tt)))))))) (tt, (tt, (tt, (tt, (tt, (tt, (tt, (tt, tt)))))))))) (λ t. absurd t)))
 
@@ -134,7 +134,7 @@ module _ {M : Type 1} {𝓤 : Ura M} (𝓛 : Logic 𝓤) (at_mem : Memory → SP
         sets ! (bin ! (get ! refl) (lit ! tt) (tests_null (block_ptr bf of') may-flows)) refl (tt, tt) $ first ! $ branches ! (get ! refl)
         (λ t. absurd t) (λ t. skips ! $ exec ! C Λ En code.Mir.t-6 (at_ret En (Post (block_ptr bf of') n null_ptr m (block_ptr bh oh))) $
         sets ! (bin ! (get ! refl) (lit ! tt) (tests_null null_ptr (lit< tt))) refl (tt, tt) $ first ! $ branches ! (get ! refl)
-        (λ t. sets ! (of_opd ! (lit ! tt)) refl (tt, record { fits = lit< tt }) $ use1 𝓛 (‵ (points_to RawPtr (block_ptr bh oh) null_ptr)) (pointer_in 𝓛 null_ptr bh oh) $ nothing ! $ move ! (2 ∷ 3 ∷ 1 ∷ 0 ∷ []) $ move ! (2 ∷ 3 ∷ []) $ join ! $ move ! (1 ∷ 2 ∷ 0 ∷ []) $ use3 𝓛 (raw (Ends (block_ptr bf of') n null_ptr m (block_ptr bh oh) 1)) (ended-4 𝓛 (F0 (block_ptr bf of') n) (F1 null_ptr m) (F2 (block_ptr bh oh)) F3 (Q (block_ptr bf of') n null_ptr m (block_ptr bh oh) 1) (null_ptr, None) refl) $
+        (λ t. sets ! (of_opd ! (lit ! tt)) refl (tt, record { fits = lit< tt }) $ use1 𝓛 (‵ (points_to RawPtr (block_ptr bh oh) null_ptr)) (pointer_in 𝓛 null_ptr bh oh) $ nothing ! $ move ! (2 ∷ 3 ∷ 1 ∷ 0 ∷ []) $ move ! (2 ∷ 3 ∷ []) $ join ! $ move ! (1 ∷ 2 ∷ 0 ∷ []) $ use3 𝓛 (raw (Ends (block_ptr bf of') n null_ptr m (block_ptr bh oh) 1)) (ended-4 𝓛 (F0 (block_ptr bf of') n) (F1 null_ptr m) (F2 (block_ptr bh oh)) F3 (Q (block_ptr bf of') n null_ptr m (block_ptr bh oh) 1) (null_ptr, None) (refl, refl)) $
         owned ! u32 (Is u32) (uint_Makes 𝓛 w32) 1 _ (refl, lit< tt) $ returns_within ! (Post (block_ptr bf of') n null_ptr m (block_ptr bh oh)) refl (look_at ! 0 refl) $ free_all ! refl $ keep ! (0 ∷ 1 ∷ []) $ nothing ! $ nothing ! $ fjoin ! $ nothing ! $ fjoin ! $ nothing ! $ fjoin ! $ nothing ! $ fjoin ! $ nothing ! $ fjoin ! $ nothing ! $ fjoin ! $ nothing ! $ fjoin ! $ nothing ! $ fjoin ! $ nothing ! $
         by ! (leaves 𝓛 f.ended stayed c (y (block_ptr bf of') n null_ptr m (block_ptr bh oh)) (vint w32 1) 1 (tt, (tt, (tt, (tt, (tt, (tt, (tt, (tt, tt)))))))) (tt, (tt, (tt, (tt, (tt, (tt, (tt, (tt, tt)))))))))) (λ t. absurd t))))
 
@@ -151,7 +151,7 @@ module _ {M : Type 1} {𝓤 : Ura M} (𝓛 : Logic 𝓤) (at_mem : Memory → SP
         sets ! (bin ! (get ! refl) (lit ! tt) (tests_null (block_ptr br or') may-rows)) refl (tt, tt) $ first ! $ branches ! (get ! refl)
         (λ t. absurd t) (λ t. skips ! $ exec ! C Λ En code.Mir.t-8 (at_ret En (Post (block_ptr bf of') n (block_ptr br or') m (block_ptr bh oh))) $
         sets ! (bin ! (big_lit ! (record { fits = lit< tt })) (get ! refl) tt) refl (tt, tt) $ first ! $ branches ! (get ! refl)
-        (λ t. sets ! (of_opd ! (lit ! tt)) refl (tt, record { fits = lit< tt }) $ use1 𝓛 (‵ (points_to RawPtr (block_ptr bh oh) null_ptr)) (pointer_in 𝓛 null_ptr bh oh) $ nothing ! $ move ! (2 ∷ 3 ∷ 1 ∷ 0 ∷ []) $ move ! (2 ∷ 3 ∷ []) $ join ! $ move ! (1 ∷ 2 ∷ 0 ∷ []) $ use3 𝓛 (raw (Ends (block_ptr bf of') n (block_ptr br or') m (block_ptr bh oh) 17)) (ended-4 𝓛 (F0 (block_ptr bf of') n) (F1 (block_ptr br or') m) (F2 (block_ptr bh oh)) F3 (Q (block_ptr bf of') n (block_ptr br or') m (block_ptr bh oh) 17) (null_ptr, None) (beyond _ _ _ e refl)) $
+        (λ t. sets ! (of_opd ! (lit ! tt)) refl (tt, record { fits = lit< tt }) $ use1 𝓛 (‵ (points_to RawPtr (block_ptr bh oh) null_ptr)) (pointer_in 𝓛 null_ptr bh oh) $ nothing ! $ move ! (2 ∷ 3 ∷ 1 ∷ 0 ∷ []) $ move ! (2 ∷ 3 ∷ []) $ join ! $ move ! (1 ∷ 2 ∷ 0 ∷ []) $ use3 𝓛 (raw (Ends (block_ptr bf of') n (block_ptr br or') m (block_ptr bh oh) 17)) (ended-4 𝓛 (F0 (block_ptr bf of') n) (F1 (block_ptr br or') m) (F2 (block_ptr bh oh)) F3 (Q (block_ptr bf of') n (block_ptr br or') m (block_ptr bh oh) 17) (null_ptr, None) (beyond (nat_lt 16384 n) (nat_lt 262144 m ∷ []) _ _ _ e refl refl)) $
         owned ! u32 (Is u32) (uint_Makes 𝓛 w32) 17 _ (refl, lit< tt) $ returns_within ! (Post (block_ptr bf of') n (block_ptr br or') m (block_ptr bh oh)) refl (look_at ! 0 refl) $ free_all ! refl $ keep ! (0 ∷ 1 ∷ []) $ nothing ! $ nothing ! $ fjoin ! $ nothing ! $ fjoin ! $ nothing ! $ fjoin ! $ nothing ! $ fjoin ! $ nothing ! $ fjoin ! $ nothing ! $ fjoin ! $ nothing ! $ fjoin ! $ nothing ! $ fjoin ! $ nothing ! $
         by ! (leaves 𝓛 f.ended stayed c (y (block_ptr bf of') n (block_ptr br or') m (block_ptr bh oh)) (vint w32 17) 17 (tt, (tt, (tt, (tt, (tt, (tt, (tt, (tt, tt)))))))) (tt, (tt, (tt, (tt, (tt, (tt, (tt, (tt, tt)))))))))) (λ t. absurd (subst (λ (z : Bool). T (not z)) e t))))))
 
@@ -170,7 +170,7 @@ module _ {M : Type 1} {𝓤 : Ura M} (𝓛 : Logic 𝓤) (at_mem : Memory → SP
         sets ! (bin ! (big_lit ! (record { fits = lit< tt })) (get ! refl) tt) refl (tt, tt) $ first ! $ branches ! (get ! refl)
         (λ t. absurd (subst T e-n t)) (λ t. skips ! $ exec ! C Λ En code.Mir.t-10 (at_ret En (Post (block_ptr bf of') n (block_ptr br or') m (block_ptr bh oh))) $
         sets ! (bin ! (big_lit ! (record { fits = lit< tt })) (get ! refl) tt) refl (tt, tt) $ first ! $ branches ! (get ! refl)
-        (λ t. sets ! (of_opd ! (lit ! tt)) refl (tt, record { fits = lit< tt }) $ use1 𝓛 (‵ (points_to RawPtr (block_ptr bh oh) null_ptr)) (pointer_in 𝓛 null_ptr bh oh) $ nothing ! $ move ! (2 ∷ 3 ∷ 1 ∷ 0 ∷ []) $ move ! (2 ∷ 3 ∷ []) $ join ! $ move ! (1 ∷ 2 ∷ 0 ∷ []) $ use3 𝓛 (raw (Ends (block_ptr bf of') n (block_ptr br or') m (block_ptr bh oh) 17)) (ended-4 𝓛 (F0 (block_ptr bf of') n) (F1 (block_ptr br or') m) (F2 (block_ptr bh oh)) F3 (Q (block_ptr bf of') n (block_ptr br or') m (block_ptr bh oh) 17) (null_ptr, None) (within _ _ _ e-n (beyond _ _ _ e refl))) $
+        (λ t. sets ! (of_opd ! (lit ! tt)) refl (tt, record { fits = lit< tt }) $ use1 𝓛 (‵ (points_to RawPtr (block_ptr bh oh) null_ptr)) (pointer_in 𝓛 null_ptr bh oh) $ nothing ! $ move ! (2 ∷ 3 ∷ 1 ∷ 0 ∷ []) $ move ! (2 ∷ 3 ∷ []) $ join ! $ move ! (1 ∷ 2 ∷ 0 ∷ []) $ use3 𝓛 (raw (Ends (block_ptr bf of') n (block_ptr br or') m (block_ptr bh oh) 17)) (ended-4 𝓛 (F0 (block_ptr bf of') n) (F1 (block_ptr br or') m) (F2 (block_ptr bh oh)) F3 (Q (block_ptr bf of') n (block_ptr br or') m (block_ptr bh oh) 17) (null_ptr, None) (within (nat_lt 16384 n) (nat_lt 262144 m ∷ []) _ _ _ e-n (beyond (nat_lt 262144 m) [] _ _ _ e refl refl))) $
         owned ! u32 (Is u32) (uint_Makes 𝓛 w32) 17 _ (refl, lit< tt) $ returns_within ! (Post (block_ptr bf of') n (block_ptr br or') m (block_ptr bh oh)) refl (look_at ! 0 refl) $ free_all ! refl $ keep ! (0 ∷ 1 ∷ []) $ nothing ! $ nothing ! $ fjoin ! $ nothing ! $ fjoin ! $ nothing ! $ fjoin ! $ nothing ! $ fjoin ! $ nothing ! $ fjoin ! $ nothing ! $ fjoin ! $ nothing ! $ fjoin ! $ nothing ! $ fjoin ! $ nothing ! $
         by ! (leaves 𝓛 f.ended stayed c (y (block_ptr bf of') n (block_ptr br or') m (block_ptr bh oh)) (vint w32 17) 17 (tt, (tt, (tt, (tt, (tt, (tt, (tt, (tt, tt)))))))) (tt, (tt, (tt, (tt, (tt, (tt, (tt, (tt, tt)))))))))) (λ t. absurd (subst (λ (z : Bool). T (not z)) e t)))))))
 
@@ -236,7 +236,7 @@ module _ {M : Type 1} {𝓤 : Ura M} (𝓛 : Logic 𝓤) (at_mem : Memory → SP
         sets ! (of_opd ! (get ! refl)) refl (tt, record { fits = small }) $
         use1 𝓛 (‵ (points_to RawPtr (block_ptr bh oh) h.at)) (pointer_in 𝓛 h.at bh oh) $
         move ! (2 ∷ []) $ use1 𝓛 (‵ (made_at h.at h.value)) (made-in 𝓛 h.alloc h.at h.value) $ move ! (3 ∷ 4 ∷ 1 ∷ 0 ∷ []) $
-        move ! (2 ∷ 3 ∷ []) $ join ! $ move ! (1 ∷ 2 ∷ 0 ∷ []) $ use3 𝓛 (raw (Ends (block_ptr bf of') (length was.0) (block_ptr br or') (length was.1) (block_ptr bh oh) h.number)) (ended-4 𝓛 (F0 (block_ptr bf of') (length was.0)) (F1 (block_ptr br or') (length was.1)) (F2 (block_ptr bh oh)) F3 (Q (block_ptr bf of') (length was.0) (block_ptr br or') (length was.1) (block_ptr bh oh) h.number) (h.at, h.value) (within _ _ _ e-n (within _ _ _ e-m gives))) $
+        move ! (2 ∷ 3 ∷ []) $ join ! $ move ! (1 ∷ 2 ∷ 0 ∷ []) $ use3 𝓛 (raw (Ends (block_ptr bf of') (length was.0) (block_ptr br or') (length was.1) (block_ptr bh oh) h.number)) (ended-4 𝓛 (F0 (block_ptr bf of') (length was.0)) (F1 (block_ptr br or') (length was.1)) (F2 (block_ptr bh oh)) F3 (Q (block_ptr bf of') (length was.0) (block_ptr br or') (length was.1) (block_ptr bh oh) h.number) (h.at, h.value) (within (nat_lt 16384 (length was.0)) (nat_lt 262144 (length was.1) ∷ []) _ _ _ e-n (within (nat_lt 262144 (length was.1)) [] _ _ _ e-m gives))) $
         owned ! u32 (Is u32) (uint_Makes 𝓛 w32) h.number _ (refl, small) $ returns ! (look_at ! 0 refl) $ free_all ! refl $ keep ! (0 ∷ 1 ∷ []) $ nothing ! $ nothing ! $ fjoin ! $ nothing ! $ fjoin ! $ nothing ! $ fjoin ! $ nothing ! $ fjoin ! $ nothing ! $ fjoin ! $ nothing ! $ fjoin ! $ nothing ! $ fjoin ! $ nothing ! $ fjoin ! $ nothing ! $
         by ! (leaves 𝓛 f.ended stayed c (y (block_ptr bf of') (length was.0) (block_ptr br or') (length was.1) (block_ptr bh oh)) (vint w32 h.number) h.number (tt, (tt, (tt, (tt, (tt, (tt, (tt, (tt, tt)))))))) (tt, (tt, (tt, (tt, (tt, (tt, (tt, (tt, tt))))))))))))))))))))))
 

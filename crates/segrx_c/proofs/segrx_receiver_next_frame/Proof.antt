@@ -1,7 +1,7 @@
 -- The next frame is told, and its bytes are put into the caller's room, which is lent for the call.
 use Rattle.segrx_c.proofs.Steps.{◌≡◌, ℕ, ◌^◌, ◌<◌, ◌*◌, ◌≤◌, List, [], ◌∷◌, ◌++◌, length, Bool, true, false, refl, lit<, arith, w32, w64, MutBor, Ura, full_share, named, Val, vint, vptr, vnull, SProp, ent, sep, ex, id⊢, via, fst∗, Lft, Fml, ftrue, fsep, flft, flent, Memory, Routine, Calls, Loops, WpFn, Logic, sem, Fun, fact, fact_i, fact_use, emp, tables, framed, ‵, raw, ◌⊛◌, some, later, at_ret, ◌$◌, ◌∵◌, !, qed, by, move, keep, drop, use0, use1, use2, use3, split, split3, join, pick, fsplit, fjoin, await, lft_new, lft_end, Body, of_opd, bin, lit, addr, stop, and_then, no_more, first, branches, skips, exec, returns, returns_within, enter, agg, alloc_all, pass_all, free_all, look_at, get, through, sets, lands_as, env, FmC, yes, Is, shows, mem, uint_vals, uint_Tells, uint_Makes, uint_Lawful, u8, u32, usize, MutRef, mut_vals, lends_ref, ref_back, Ptr, block_ptr, null_ptr, ptr_val, RawPtr, rawptr_vals, rawptr_Tells, Testable, tests_null, plain, owned, peeks, heard, nothing, Contract, Triple, calls_at, Clauses, lasts, on_entry, triple_of, Stays, stay_dropped, walk_of, Goes-dropped, proved, leaves, typed, boxed-Testable, ended-3, apart, row_in, row_out, rejoined, within, beyond, nat_lt, not, T, subst, sym, nltb→le, feq, feq_l, cells, Arr, Array, Array-apart, whole_in, lends_slice, slice_back, MutSlice, slice_val, LentSlice, big_lit, points_to}
 use Rattle.segrx_c.specs.Handle.{boxed_at, handle_at, value_at, row_at}
-use Rattle.segrx_c.specs.Answers.{Numbered, Unless, UnlessBeyond}
+use Rattle.segrx_c.specs.Answers.{Numbered, Unless, refused}
 use Rattle.c_receiver.specs.declared.held.HeldReceiver.{HeldReceiver}
 use Rattle.c_receiver.specs.contracts.held.HeldReceiver.{the_row as R}
 use Rattle.c_receiver.specs.Held.{IsInUse}
@@ -48,7 +48,7 @@ module _ {M : Type 1} {𝓤 : Ura M} (𝓛 : Logic 𝓤) (at_mem : Memory → SP
     F2 frame after = value_at out_type.the_row frame after.2
 
     abbrev Q : Ptr → Ptr → Ptr → ℕ → ℕ → (HeldReceiver × List ℕ × PlainFrame) → Type 0
-    Q handle room frame capacity answer after = Unless handle answer (Unless room answer (Unless frame answer (UnlessBeyond (nat_lt 2147483647 capacity) answer (Numbered (λ answer. GivesFrame was.0 was.1 was.2 answer after.0 after.1 after.2) answer × IsInUse after.0))))
+    Q handle room frame capacity answer after = Unless (refused (handle ∷ room ∷ frame ∷ []) (nat_lt 2147483647 capacity ∷ [])) answer (after ≡ was) (Numbered (λ answer. GivesFrame was.0 was.1 was.2 answer after.0 after.1 after.2) answer × IsInUse after.0)
 
     abbrev Ends : Ptr → Ptr → Ptr → ℕ → ℕ → SProp 𝓤
     Ends handle room frame capacity answer = ex 𝓤 (λ (after : (HeldReceiver × List ℕ × PlainFrame)). sep 𝓤 (sem 𝓛 (F0 handle after)) (sep 𝓤 (sem 𝓛 (F1 room capacity after)) (sep 𝓤 (sem 𝓛 (F2 frame after)) (fact 𝓤 (Q handle room frame capacity answer after)))))
@@ -58,7 +58,7 @@ module _ {M : Type 1} {𝓤 : Ura M} (𝓛 : Logic 𝓤) (at_mem : Memory → SP
         qed 𝓛 (‵ (handle_at null_ptr was.0) ∷ ‵ (row_at u8 2147483647 room capacity was.1) ∷ ‵ (value_at out_type.the_row frame was.2) ∷ []) ∵ enter ! C Λ code.function (vnull ∷ ptr_val room ∷ vint w64 capacity ∷ ptr_val frame ∷ []) _ $
         alloc_all ! (λ l. let En = env code.function.locals l in pass_all ! refl ((tt, record { fits = lit< tt }), (typed room, ((tt, record { fits = fits-capacity }), (typed frame, tt)))) $
         sets ! (bin ! (get ! refl) (lit ! tt) (tests_null null_ptr (lit< tt))) refl (tt, tt) $ first ! $ branches ! (get ! refl)
-        (λ t. sets ! (of_opd ! (lit ! tt)) refl (tt, record { fits = lit< tt }) $ use3 𝓛 (raw (Ends null_ptr room frame capacity 1)) (ended-3 𝓛 (F0 null_ptr) (F1 room capacity) (F2 frame) (Q null_ptr room frame capacity 1) was refl) $
+        (λ t. sets ! (of_opd ! (lit ! tt)) refl (tt, record { fits = lit< tt }) $ use3 𝓛 (raw (Ends null_ptr room frame capacity 1)) (ended-3 𝓛 (F0 null_ptr) (F1 room capacity) (F2 frame) (Q null_ptr room frame capacity 1) was (refl, refl)) $
         owned ! u32 (Is u32) (uint_Makes 𝓛 w32) 1 _ (refl, lit< tt) $ returns_within ! (Post null_ptr room frame capacity) refl (look_at ! 0 refl) $ free_all ! refl $ keep ! (0 ∷ 1 ∷ []) $ nothing ! $ nothing ! $ fjoin ! $ nothing ! $ fjoin ! $ nothing ! $ fjoin ! $ nothing ! $ fjoin ! $ nothing ! $
         by ! (leaves 𝓛 f.ended stayed c (y null_ptr room frame capacity) (vint w32 1) 1 (tt, (tt, (tt, (tt, tt)))) (tt, (tt, (tt, (tt, tt)))))) (λ t. absurd t))
 
@@ -69,7 +69,7 @@ module _ {M : Type 1} {𝓤 : Ura M} (𝓛 : Logic 𝓤) (at_mem : Memory → SP
         sets ! (bin ! (get ! refl) (lit ! tt) (tests_null (block_ptr b0 o0) may-handle)) refl (tt, tt) $ first ! $ branches ! (get ! refl)
         (λ t. absurd t) (λ t. skips ! $ exec ! C Λ En code.Mir.t-3 (at_ret En (Post (block_ptr b0 o0) null_ptr frame capacity)) $
         sets ! (bin ! (get ! refl) (lit ! tt) (tests_null null_ptr (lit< tt))) refl (tt, tt) $ first ! $ branches ! (get ! refl)
-        (λ t. sets ! (of_opd ! (lit ! tt)) refl (tt, record { fits = lit< tt }) $ use3 𝓛 (raw (Ends (block_ptr b0 o0) null_ptr frame capacity 1)) (ended-3 𝓛 (F0 (block_ptr b0 o0)) (F1 null_ptr capacity) (F2 frame) (Q (block_ptr b0 o0) null_ptr frame capacity 1) was refl) $
+        (λ t. sets ! (of_opd ! (lit ! tt)) refl (tt, record { fits = lit< tt }) $ use3 𝓛 (raw (Ends (block_ptr b0 o0) null_ptr frame capacity 1)) (ended-3 𝓛 (F0 (block_ptr b0 o0)) (F1 null_ptr capacity) (F2 frame) (Q (block_ptr b0 o0) null_ptr frame capacity 1) was (refl, refl)) $
         owned ! u32 (Is u32) (uint_Makes 𝓛 w32) 1 _ (refl, lit< tt) $ returns_within ! (Post (block_ptr b0 o0) null_ptr frame capacity) refl (look_at ! 0 refl) $ free_all ! refl $ keep ! (0 ∷ 1 ∷ []) $ nothing ! $ nothing ! $ fjoin ! $ nothing ! $ fjoin ! $ nothing ! $ fjoin ! $ nothing ! $ fjoin ! $ nothing ! $
         by ! (leaves 𝓛 f.ended stayed c (y (block_ptr b0 o0) null_ptr frame capacity) (vint w32 1) 1 (tt, (tt, (tt, (tt, tt)))) (tt, (tt, (tt, (tt, tt)))))) (λ t. absurd t)))
 
@@ -82,7 +82,7 @@ module _ {M : Type 1} {𝓤 : Ura M} (𝓛 : Logic 𝓤) (at_mem : Memory → SP
         sets ! (bin ! (get ! refl) (lit ! tt) (tests_null (block_ptr b1 o1) may-room)) refl (tt, tt) $ first ! $ branches ! (get ! refl)
         (λ t. absurd t) (λ t. skips ! $ exec ! C Λ En code.Mir.t-5 (at_ret En (Post (block_ptr b0 o0) (block_ptr b1 o1) null_ptr capacity)) $
         sets ! (bin ! (get ! refl) (lit ! tt) (tests_null null_ptr (lit< tt))) refl (tt, tt) $ first ! $ branches ! (get ! refl)
-        (λ t. sets ! (of_opd ! (lit ! tt)) refl (tt, record { fits = lit< tt }) $ use3 𝓛 (raw (Ends (block_ptr b0 o0) (block_ptr b1 o1) null_ptr capacity 1)) (ended-3 𝓛 (F0 (block_ptr b0 o0)) (F1 (block_ptr b1 o1) capacity) (F2 null_ptr) (Q (block_ptr b0 o0) (block_ptr b1 o1) null_ptr capacity 1) was refl) $
+        (λ t. sets ! (of_opd ! (lit ! tt)) refl (tt, record { fits = lit< tt }) $ use3 𝓛 (raw (Ends (block_ptr b0 o0) (block_ptr b1 o1) null_ptr capacity 1)) (ended-3 𝓛 (F0 (block_ptr b0 o0)) (F1 (block_ptr b1 o1) capacity) (F2 null_ptr) (Q (block_ptr b0 o0) (block_ptr b1 o1) null_ptr capacity 1) was (refl, refl)) $
         owned ! u32 (Is u32) (uint_Makes 𝓛 w32) 1 _ (refl, lit< tt) $ returns_within ! (Post (block_ptr b0 o0) (block_ptr b1 o1) null_ptr capacity) refl (look_at ! 0 refl) $ free_all ! refl $ keep ! (0 ∷ 1 ∷ []) $ nothing ! $ nothing ! $ fjoin ! $ nothing ! $ fjoin ! $ nothing ! $ fjoin ! $ nothing ! $ fjoin ! $ nothing ! $
         by ! (leaves 𝓛 f.ended stayed c (y (block_ptr b0 o0) (block_ptr b1 o1) null_ptr capacity) (vint w32 1) 1 (tt, (tt, (tt, (tt, tt)))) (tt, (tt, (tt, (tt, tt)))))) (λ t. absurd t))))
 
@@ -121,7 +121,7 @@ module _ {M : Type 1} {𝓤 : Ura M} (𝓛 : Logic 𝓤) (at_mem : Memory → SP
         move ! (8 ∷ 11 ∷ 3 ∷ []) $ use3 𝓛 (later (‵ ((mem R).own_at ws.0 b0 o0))) (ref_back 𝓛 R κ0 γ0 ws.0 b0 o0) $ await ! tt $ move ! (0 ∷ 10 ∷ []) $ fjoin ! $
         move ! (7 ∷ 9 ∷ 3 ∷ []) $ use3 𝓛 (later (‵ ((Arr (mem u8) (length was.1)).own_at ws.1.0 b1 o1))) (slice_back 𝓛 u8 κ1 γ1 ws.1.0 (length was.1) b1 o1) $ await ! tt $ use1 𝓛 (‵ (points_to (Array u8 (length was.1)) (block_ptr b1 o1) ws.1.0)) (rejoined 𝓛 u8 tt (length was.1) ws.1.0 b1 o1) $ use1 𝓛 (‵ (F1 (block_ptr b1 o1) (length was.1) (ws.0, ws.1.0, ws.1.1.0))) (row_in 𝓛 u8 2147483647 (block_ptr b1 o1) (length was.1) ws.1.0) $
         move ! (5 ∷ 7 ∷ 2 ∷ []) $ use3 𝓛 (later (‵ ((mem out_type.the_row).own_at ws.1.1.0 b2 o2))) (ref_back 𝓛 out_type.the_row κ2 γ2 ws.1.1.0 b2 o2) $ await ! tt $
-        move ! (2 ∷ 1 ∷ 0 ∷ []) $ use3 𝓛 (raw (Ends (block_ptr b0 o0) (block_ptr b1 o1) (block_ptr b2 o2) (length was.1) r')) (ended-3 𝓛 (F0 (block_ptr b0 o0)) (F1 (block_ptr b1 o1) (length was.1)) (F2 (block_ptr b2 o2)) (Q (block_ptr b0 o0) (block_ptr b1 o1) (block_ptr b2 o2) (length was.1) r') ((ws.0, ws.1.0, ws.1.1.0)) (within _ _ _ e-capacity (does, still))) $
+        move ! (2 ∷ 1 ∷ 0 ∷ []) $ use3 𝓛 (raw (Ends (block_ptr b0 o0) (block_ptr b1 o1) (block_ptr b2 o2) (length was.1) r')) (ended-3 𝓛 (F0 (block_ptr b0 o0)) (F1 (block_ptr b1 o1) (length was.1)) (F2 (block_ptr b2 o2)) (Q (block_ptr b0 o0) (block_ptr b1 o1) (block_ptr b2 o2) (length was.1) r') ((ws.0, ws.1.0, ws.1.1.0)) (within (nat_lt 2147483647 (length was.1)) [] _ _ _ e-capacity (does, still))) $
         move ! (2 ∷ 0 ∷ []) $ returns ! (look_at ! 0 refl) $ free_all ! refl $ keep ! (0 ∷ 1 ∷ []) $ nothing ! $ nothing ! $ fjoin ! $ nothing ! $ fjoin ! $ nothing ! $ fjoin ! $ nothing ! $ fjoin ! $ nothing ! $
         by ! (leaves 𝓛 f.ended stayed c (y (block_ptr b0 o0) (block_ptr b1 o1) (block_ptr b2 o2) (length was.1)) v r' (tt, (tt, (tt, (tt, tt)))) (tt, (tt, (tt, (tt, tt))))))))))))))))))))))
 
@@ -136,7 +136,7 @@ module _ {M : Type 1} {𝓤 : Ura M} (𝓛 : Logic 𝓤) (at_mem : Memory → SP
         sets ! (bin ! (get ! refl) (lit ! tt) (tests_null (block_ptr b2 o2) may-frame)) refl (tt, tt) $ first ! $ branches ! (get ! refl)
         (λ t. absurd t) (λ t. skips ! $ exec ! C Λ En code.Mir.t-7 (at_ret En (Post (block_ptr b0 o0) (block_ptr b1 o1) (block_ptr b2 o2) capacity)) $
         sets ! (bin ! (big_lit ! (record { fits = lit< tt })) (get ! refl) tt) refl (tt, tt) $ first ! $ branches ! (get ! refl)
-        (λ t. sets ! (of_opd ! (lit ! tt)) refl (tt, record { fits = lit< tt }) $ use3 𝓛 (raw (Ends (block_ptr b0 o0) (block_ptr b1 o1) (block_ptr b2 o2) capacity 17)) (ended-3 𝓛 (F0 (block_ptr b0 o0)) (F1 (block_ptr b1 o1) capacity) (F2 (block_ptr b2 o2)) (Q (block_ptr b0 o0) (block_ptr b1 o1) (block_ptr b2 o2) capacity 17) was (beyond _ _ _ e-capacity refl)) $
+        (λ t. sets ! (of_opd ! (lit ! tt)) refl (tt, record { fits = lit< tt }) $ use3 𝓛 (raw (Ends (block_ptr b0 o0) (block_ptr b1 o1) (block_ptr b2 o2) capacity 17)) (ended-3 𝓛 (F0 (block_ptr b0 o0)) (F1 (block_ptr b1 o1) capacity) (F2 (block_ptr b2 o2)) (Q (block_ptr b0 o0) (block_ptr b1 o1) (block_ptr b2 o2) capacity 17) was (beyond (nat_lt 2147483647 capacity) [] _ _ _ e-capacity refl refl)) $
         owned ! u32 (Is u32) (uint_Makes 𝓛 w32) 17 _ (refl, lit< tt) $ returns_within ! (Post (block_ptr b0 o0) (block_ptr b1 o1) (block_ptr b2 o2) capacity) refl (look_at ! 0 refl) $ free_all ! refl $ keep ! (0 ∷ 1 ∷ []) $ nothing ! $ nothing ! $ fjoin ! $ nothing ! $ fjoin ! $ nothing ! $ fjoin ! $ nothing ! $ fjoin ! $ nothing ! $
         by ! (leaves 𝓛 f.ended stayed c (y (block_ptr b0 o0) (block_ptr b1 o1) (block_ptr b2 o2) capacity) (vint w32 17) 17 (tt, (tt, (tt, (tt, tt)))) (tt, (tt, (tt, (tt, tt)))))) (λ t. absurd (subst (λ (y : Bool). T (not y)) e-capacity t))))))
 

@@ -1,7 +1,7 @@
 -- A flow of the receiver behind the handle begins anew.
-use Rattle.segrx_c.proofs.Steps.{ℕ, ◌^◌, ◌<◌, [], ◌∷◌, ◌++◌, refl, lit<, w16, w32, w64, MutBor, Ura, full_share, named, Val, vint, vptr, vnull, SProp, ent, sep, ex, id⊢, via, fst∗, Lft, Fml, ftrue, flft, flent, Memory, Routine, Calls, Loops, WpFn, Logic, sem, Fun, fact, fact_i, fact_use, emp, tables, framed, ‵, raw, ◌⊛◌, some, later, at_ret, ◌$◌, ◌∵◌, !, qed, by, move, keep, drop, use0, use1, use2, use3, split, split3, join, pick, fsplit, fjoin, await, lft_new, lft_end, Body, of_opd, bin, lit, addr, stop, and_then, no_more, first, branches, skips, exec, returns, returns_within, enter, alloc_all, pass_all, free_all, look_at, get, through, sets, lands_as, env, FmC, yes, Is, shows, mem, uint_vals, uint_Tells, uint_Makes, uint_Lawful, u16, u32, usize, MutRef, mut_vals, lends_ref, ref_back, Ptr, block_ptr, null_ptr, ptr_val, RawPtr, rawptr_vals, rawptr_Tells, Testable, tests_null, plain, owned, peeks, heard, nothing, Contract, Triple, calls_at, Clauses, lasts, on_entry, triple_of, Stays, stay_dropped, walk_of, Goes-dropped, proved, leaves, typed, boxed-Testable, ended-2, points_to}
+use Rattle.segrx_c.proofs.Steps.{◌≡◌, ℕ, ◌^◌, ◌<◌, [], ◌∷◌, ◌++◌, refl, lit<, w16, w32, w64, MutBor, Ura, full_share, named, Val, vint, vptr, vnull, SProp, ent, sep, ex, id⊢, via, fst∗, Lft, Fml, ftrue, flft, flent, Memory, Routine, Calls, Loops, WpFn, Logic, sem, Fun, fact, fact_i, fact_use, emp, tables, framed, ‵, raw, ◌⊛◌, some, later, at_ret, ◌$◌, ◌∵◌, !, qed, by, move, keep, drop, use0, use1, use2, use3, split, split3, join, pick, fsplit, fjoin, await, lft_new, lft_end, Body, of_opd, bin, lit, addr, stop, and_then, no_more, first, branches, skips, exec, returns, returns_within, enter, alloc_all, pass_all, free_all, look_at, get, through, sets, lands_as, env, FmC, yes, Is, shows, mem, uint_vals, uint_Tells, uint_Makes, uint_Lawful, u16, u32, usize, MutRef, mut_vals, lends_ref, ref_back, Ptr, block_ptr, null_ptr, ptr_val, RawPtr, rawptr_vals, rawptr_Tells, Testable, tests_null, plain, owned, peeks, heard, nothing, Contract, Triple, calls_at, Clauses, lasts, on_entry, triple_of, Stays, stay_dropped, walk_of, Goes-dropped, proved, leaves, typed, boxed-Testable, ended-2, points_to}
 use Rattle.segrx_c.specs.Handle.{boxed_at, handle_at, value_at}
-use Rattle.segrx_c.specs.Answers.{Numbered, Unless}
+use Rattle.segrx_c.specs.Answers.{Numbered, Unless, refused}
 use Rattle.c_receiver.specs.declared.held.HeldReceiver.{HeldReceiver}
 use Rattle.c_receiver.specs.contracts.held.HeldReceiver.{the_row as R}
 use Rattle.c_receiver.specs.Held.{IsInUse}
@@ -45,7 +45,7 @@ module _ {M : Type 1} {𝓤 : Ura M} (𝓛 : Logic 𝓤) (at_mem : Memory → SP
     F1 counts after = value_at out_type.the_row counts after.1
 
     abbrev Q : Ptr → Ptr → ℕ → (HeldReceiver × PlainCounts) → Type 0
-    Q handle counts answer after = Unless handle answer (Unless counts answer (Numbered (λ answer. Restarts was.0 flow number was.1 answer after.0 after.1) answer × IsInUse after.0))
+    Q handle counts answer after = Unless (refused (handle ∷ counts ∷ []) []) answer (after ≡ was) (Numbered (λ answer. Restarts was.0 flow number was.1 answer after.0 after.1) answer × IsInUse after.0)
 
     abbrev Ends : Ptr → Ptr → ℕ → SProp 𝓤
     Ends handle counts answer = ex 𝓤 (λ (after : (HeldReceiver × PlainCounts)). sep 𝓤 (sem 𝓛 (F0 handle after)) (sep 𝓤 (sem 𝓛 (F1 counts after)) (fact 𝓤 (Q handle counts answer after))))
@@ -55,7 +55,7 @@ module _ {M : Type 1} {𝓤 : Ura M} (𝓛 : Logic 𝓤) (at_mem : Memory → SP
         qed 𝓛 (‵ (handle_at null_ptr was.0) ∷ ‵ (value_at out_type.the_row counts was.1) ∷ []) ∵ enter ! C Λ code.function (vnull ∷ vint w64 flow ∷ vint w16 number ∷ ptr_val counts ∷ []) _ $
         alloc_all ! (λ l. let En = env code.function.locals l in pass_all ! refl ((tt, record { fits = lit< tt }), ((tt, record { fits = fits-flow }), ((tt, record { fits = fits-number }), (typed counts, tt)))) $
         sets ! (bin ! (get ! refl) (lit ! tt) (tests_null null_ptr (lit< tt))) refl (tt, tt) $ first ! $ branches ! (get ! refl)
-        (λ t. sets ! (of_opd ! (lit ! tt)) refl (tt, record { fits = lit< tt }) $ use2 𝓛 (raw (Ends null_ptr counts 1)) (ended-2 𝓛 (F0 null_ptr) (F1 counts) (Q null_ptr counts 1) was refl) $
+        (λ t. sets ! (of_opd ! (lit ! tt)) refl (tt, record { fits = lit< tt }) $ use2 𝓛 (raw (Ends null_ptr counts 1)) (ended-2 𝓛 (F0 null_ptr) (F1 counts) (Q null_ptr counts 1) was (refl, refl)) $
         owned ! u32 (Is u32) (uint_Makes 𝓛 w32) 1 _ (refl, lit< tt) $ returns_within ! (Post null_ptr counts) refl (look_at ! 0 refl) $ free_all ! refl $ keep ! (0 ∷ 1 ∷ []) $ nothing ! $ nothing ! $ fjoin ! $ nothing ! $ fjoin ! $ nothing ! $ fjoin ! $ nothing ! $ fjoin ! $ nothing ! $
         by ! (leaves 𝓛 f.ended stayed c (y null_ptr counts) (vint w32 1) 1 (tt, (tt, (tt, (tt, tt)))) (tt, (tt, (tt, (tt, tt)))))) (λ t. absurd t))
 
@@ -66,7 +66,7 @@ module _ {M : Type 1} {𝓤 : Ura M} (𝓛 : Logic 𝓤) (at_mem : Memory → SP
         sets ! (bin ! (get ! refl) (lit ! tt) (tests_null (block_ptr b0 o0) may-handle)) refl (tt, tt) $ first ! $ branches ! (get ! refl)
         (λ t. absurd t) (λ t. skips ! $ exec ! C Λ En code.Mir.t-3 (at_ret En (Post (block_ptr b0 o0) null_ptr)) $
         sets ! (bin ! (get ! refl) (lit ! tt) (tests_null null_ptr (lit< tt))) refl (tt, tt) $ first ! $ branches ! (get ! refl)
-        (λ t. sets ! (of_opd ! (lit ! tt)) refl (tt, record { fits = lit< tt }) $ use2 𝓛 (raw (Ends (block_ptr b0 o0) null_ptr 1)) (ended-2 𝓛 (F0 (block_ptr b0 o0)) (F1 null_ptr) (Q (block_ptr b0 o0) null_ptr 1) was refl) $
+        (λ t. sets ! (of_opd ! (lit ! tt)) refl (tt, record { fits = lit< tt }) $ use2 𝓛 (raw (Ends (block_ptr b0 o0) null_ptr 1)) (ended-2 𝓛 (F0 (block_ptr b0 o0)) (F1 null_ptr) (Q (block_ptr b0 o0) null_ptr 1) was (refl, refl)) $
         owned ! u32 (Is u32) (uint_Makes 𝓛 w32) 1 _ (refl, lit< tt) $ returns_within ! (Post (block_ptr b0 o0) null_ptr) refl (look_at ! 0 refl) $ free_all ! refl $ keep ! (0 ∷ 1 ∷ []) $ nothing ! $ nothing ! $ fjoin ! $ nothing ! $ fjoin ! $ nothing ! $ fjoin ! $ nothing ! $ fjoin ! $ nothing ! $
         by ! (leaves 𝓛 f.ended stayed c (y (block_ptr b0 o0) null_ptr) (vint w32 1) 1 (tt, (tt, (tt, (tt, tt)))) (tt, (tt, (tt, (tt, tt)))))) (λ t. absurd t)))
 
