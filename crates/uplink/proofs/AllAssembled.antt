@@ -1,29 +1,41 @@
 -- What the assembler of a running receiver has made of all that it took.
-use Rattle.std.proofs.Common.{◌≡◌, ℕ, ◌<◌, ◌==◌, Bool, IsTrue, Option, Some, None, IfSome, List, [], ◌∷◌, ◌++◌, map, slice_index_or, if◌then◌else◌, Vec, ap, sym, subst, ◌∙◌, append_assoc, append-nil}
+use Rattle.std.proofs.Common.{◌≡◌, ℕ, ◌<◌, ◌==◌, Bool, IsTrue, Option, Some, None, IfSome, List, [], ◌∷◌, ◌++◌, map, slice_index_or, if◌then◌else◌, Vec, refl, ap, sym, subst, ◌∙◌, append_assoc, append-nil}
 use Rattle.std.specs.Global.{Global}
 use Rattle.delivery.specs.Feeders.{closed_offered, offered}
 use Rattle.delivery.specs.declared.feeder.ClosedFeeder.{ClosedFeeder}
 use Rattle.flow_core.specs.declared.counts.FlowCounts.{FlowCounts}
-use Rattle.flow_records.specs.declared.event.Event.{Event}
 use Rattle.lane.specs.Limits.{senders}
 use Rattle.consumer.specs.declared.given.Given.{Given}
 use Rattle.consumer.specs.declared.given.Given.TheVariants.{Frame}
-use Rattle.bonded_flows.specs.declared.flow_table.FlowTable.{FlowTable}
 use Rattle.bonded_flows.specs.Table.{TableInput, StandsFor, IsInUse}
 use Rattle.receiver.specs.TakenInOrder.{table_input_of, table_inputs}
 use Rattle.uplink.specs.declared.assembler.Taking.{Taking}
 use Rattle.uplink.specs.declared.assembler.Assembled.{Assembled}
 use Rattle.uplink.specs.declared.feeding.Feeding.{Feeding}
 use Rattle.uplink.specs.Inside.Feeding.{HasOffered}
-use Rattle.uplink.specs.Inside.Offering.{HasCollected, TakesItem, HasAssembledSoFar, ClosesFlows, HasAssembledAll}
+use Rattle.uplink.specs.Inside.Offering.{HasOrder, TakesItem, HasAssembledSoFar, ClosesFlows, HasAssembledAll, HasAssembled}
 use Rattle.uplink.proofs.FramesOffered.{none-offered, offered-on}
 use Rattle.uplink.proofs.ItemsCollected.{none_collected, one_collected, same_collected}
 use Rattle.receiver.proofs.TakenInOrder.{inputs-more}
 use Rattle.workers.specs.declared.item.Item.{Item}
 
-module _ {C : Type 0} (accepts : C → List ℕ → Bool) (flows0 : FlowTable C) (feeding0 : Feeding) (before : ℕ → List Item) where
+-- no sender is appended
+none-ordered : (kept : Option (Vec ℕ Global)) → HasOrder kept [] kept
+none-ordered None = refl
+none-ordered (Some was) = (was, refl, sym (append-nil was.items))
+
+-- some senders are appended, and then others
+ordered-on : (kept now after : Option (Vec ℕ Global)) (first second : List ℕ) → HasOrder kept first now → HasOrder now second after
+    → HasOrder kept (first ++ second) after
+ordered-on None now after first second is next = let P : Option (Vec ℕ Global) → Type 0 = λ o. HasOrder o second after in subst P is next
+ordered-on (Some was) now after first second is next =
+    let P : Option (Vec ℕ Global) → Type 0 = λ o. HasOrder o second after in
+    let more = subst P is.1 next in
+    (more.0, more.1, more.2 ∙ ap (λ l. l ++ second) is.2 ∙ append_assoc was.items first second)
+
+module _ {C : Type 0} (accepts : C → List ℕ → Bool) (first : Taking C) (feeding0 : Feeding) (before : ℕ → List Item) where
   abbrev SoFar : (ℕ → List Item) → Taking C → Feeding → Type 0
-  SoFar = HasAssembledSoFar accepts flows0 feeding0 before
+  SoFar = HasAssembledSoFar accepts first feeding0 before
 
   -- what was made was made of what was there
   made-of : (now : ℕ → List Item) (feeding : Feeding) (taking : Option (Taking C)) (made : Taking C) → taking ≡ Some made
@@ -31,16 +43,16 @@ module _ {C : Type 0} (accepts : C → List ℕ → Bool) (flows0 : FlowTable C)
   made-of now feeding taking made is so_far = subst (λ (o : Option (Taking C)). IfSome o (λ t. SoFar now t feeding)) is so_far
 
   -- nothing at first
-  pub begins : (first : Taking C) → first.flows ≡ flows0 → first.order.items ≡ [] → SoFar before first feeding0
-  begins first is empty = record {
+  pub begins : SoFar before first feeding0
+  begins = record {
+    order = [];
     items = [];
     given = [];
-    has_collected = subst (λ (order : List ℕ). HasCollected before before order []) (sym empty) (none_collected before);
+    ordered = none-ordered first.order;
+    has_collected = none_collected before;
     stands = λ check setup history given stands.
-        subst (λ (order : List ℕ). StandsFor accepts first.flows check setup (history ++ table_inputs order []) (given ++ [])) (sym empty)
-        (subst (λ (flows : FlowTable C). StandsFor accepts flows check setup (history ++ []) (given ++ [])) (sym is)
-        (subst (λ h. StandsFor accepts flows0 check setup h (given ++ [])) (sym (append-nil history))
-        (subst (λ g. StandsFor accepts flows0 check setup history g) (sym (append-nil given)) stands)));
+        subst (λ h. StandsFor accepts first.flows check setup h (given ++ [])) (sym (append-nil history))
+        (subst (λ g. StandsFor accepts first.flows check setup history g) (sym (append-nil given)) stands);
     offered = none-offered feeding0;
   }
 
@@ -48,27 +60,27 @@ module _ {C : Type 0} (accepts : C → List ℕ → Bool) (flows0 : FlowTable C)
     -- one item was taken
     pub item-made : (from : ℕ) (item : Item) (was now : Option (Taking C)) → from < senders
         → ((sender : ℕ) → new sender ≡ (if sender == from then old sender ++ item ∷ [] else old sender))
-        → IfSome now (λ n. (w : Taking C) × (was ≡ Some w) × (n.order.items ≡ w.order.items ++ from ∷ [])
+        → IfSome now (λ n. (w : Taking C) × (was ≡ Some w) × HasOrder w.order (from ∷ []) n.order
         × TakesItem accepts w.flows feeding from item.event n.flows after)
         → IfSome was (λ w. SoFar old w feeding) → IfSome now (λ n. SoFar new n after)
     item-made from item was None named takes taken so_far = tt
     item-made from item was (Some n) named takes taken so_far =
         let w = taken.0 in
         let made : SoFar old w feeding = made-of old feeding was w taken.1 so_far in
-        let one = one_collected before old new w.order.items made.items made.has_collected from item named takes in
         let more : List Given = map (Frame taken.3.0) taken.3.1.more in
         record {
+          order = made.order ++ from ∷ [];
           items = made.items ++ item.event ∷ [];
           given = made.given ++ more;
-          has_collected = subst (λ (order : List ℕ). HasCollected before new order (made.items ++ item.event ∷ [])) (sym taken.2) one;
+          ordered = ordered-on first.order w.order n.order made.order (from ∷ []) made.ordered taken.2;
+          has_collected = one_collected before old new made.order made.items made.has_collected from item named takes;
           stands = λ check setup history given stands.
-              let inputs = table_inputs w.order.items made.items in
-              subst (λ (order : List ℕ). StandsFor accepts n.flows check setup (history ++ table_inputs order (made.items ++ item.event ∷ [])) (given ++ (made.given ++ more))) (sym taken.2)
-              (subst (λ (all : List TableInput). StandsFor accepts n.flows check setup (history ++ all) (given ++ (made.given ++ more)))
-              (sym (inputs-more w.order.items made.items from item.event made.has_collected.paired))
+              let inputs = table_inputs made.order made.items in
+              subst (λ (all : List TableInput). StandsFor accepts n.flows check setup (history ++ all) (given ++ (made.given ++ more)))
+              (sym (inputs-more made.order made.items from item.event made.has_collected.paired))
               (subst (λ h. StandsFor accepts n.flows check setup h (given ++ (made.given ++ more))) (append_assoc history inputs (table_input_of from item.event ∷ []))
               (subst (λ g. StandsFor accepts n.flows check setup ((history ++ inputs) ++ table_input_of from item.event ∷ []) g) (append_assoc given made.given more)
-              (taken.3.1.stands check setup (history ++ inputs) (given ++ made.given) (made.stands check setup history given stands)))));
+              (taken.3.1.stands check setup (history ++ inputs) (given ++ made.given) (made.stands check setup history given stands))));
           offered = taken.3.1.was_given feeding0 made.given made.offered;
         }
 
@@ -77,19 +89,21 @@ module _ {C : Type 0} (accepts : C → List ℕ → Bool) (flows0 : FlowTable C)
         → IfSome taking (λ t. SoFar old t feeding) → IfSome taking (λ t. SoFar new t after)
     nothing-made None same offered so_far = tt
     nothing-made (Some t) same offered so_far = record {
+      order = so_far.order;
       items = so_far.items;
       given = so_far.given;
-      has_collected = same_collected before old new t.order.items so_far.items so_far.has_collected same;
+      ordered = so_far.ordered;
+      has_collected = same_collected before old new so_far.order so_far.items so_far.has_collected same;
       stands = so_far.stands;
       offered =
           subst (λ given. HasOffered feeding0 given after) (append-nil so_far.given)
           (offered-on feeding0 feeding after so_far.given [] so_far.offered offered);
     }
 
-  module _ (now : ℕ → List Item) (feeding : Feeding) (in_use : IsInUse accepts flows0) where
+  module _ (now : ℕ → List Item) (feeding : Feeding) (in_use : IsInUse accepts first.flows) where
     -- what stands for all that was taken besides
     stands-now : (made : Taking C) → (so_far : SoFar now made feeding)
-        → StandsFor accepts made.flows in_use.check in_use.made (in_use.history ++ table_inputs made.order.items so_far.items) (in_use.given ++ so_far.given)
+        → StandsFor accepts made.flows in_use.check in_use.made (in_use.history ++ table_inputs so_far.order so_far.items) (in_use.given ++ so_far.given)
     stands-now made so_far = so_far.stands in_use.check in_use.made in_use.history in_use.given in_use.stands
 
     -- the flows are in use
@@ -98,7 +112,7 @@ module _ {C : Type 0} (accepts : C → List ℕ → Bool) (flows0 : FlowTable C)
     in-use (Some t) so_far = record {
       check = in_use.check;
       made = in_use.made;
-      history = in_use.history ++ table_inputs t.order.items so_far.items;
+      history = in_use.history ++ table_inputs so_far.order so_far.items;
       given = in_use.given ++ so_far.given;
       stands = stands-now t so_far;
     }
@@ -106,7 +120,7 @@ module _ {C : Type 0} (accepts : C → List ℕ → Bool) (flows0 : FlowTable C)
     -- where nothing failed, what was assembled is what the flows give at last
     module _ (after : Feeding) (closed : List ClosedFeeder) (same : map closed_offered closed ≡ map offered after.feeders.items) where
       all-made : (w : Taking C) (counts : List FlowCounts) → (made : SoFar now w feeding) → IsTrue after.whole → ClosesFlows accepts w.flows feeding counts after
-          → HasAssembledAll accepts flows0 w.order.items made.items feeding0.feeders.items closed counts
+          → HasAssembledAll accepts first.flows made.order made.items feeding0.feeders.items closed counts
       all-made w counts made whole closes =
           let all : HasOffered feeding0 (made.given ++ closes.more) after =
           offered-on feeding0 feeding after made.given closes.more made.offered closes.offered in
@@ -114,21 +128,21 @@ module _ {C : Type 0} (accepts : C → List ℕ → Bool) (flows0 : FlowTable C)
             given = made.given ++ closes.more;
             count = closes.count ∙ (stands-now w made).flow_count ∙ sym in_use.stands.flow_count;
             offered = λ k. ap (λ lists. slice_index_or lists k []) same ∙ (all.offers whole).1 k;
-            gave = λ check setup stands. closes.gave check setup (table_inputs w.order.items made.items) made.given (made.stands check setup [] [] stands);
+            gave = λ check setup stands. closes.gave check setup (table_inputs made.order made.items) made.given (made.stands check setup [] [] stands);
           }
 
       pub assembled : (taking : Option (Taking C)) (done : Option Assembled) → IfSome taking (λ t. SoFar now t feeding)
           → IfSome done (λ d. (w : Taking C) × (taking ≡ Some w) × (d.order ≡ w.order) × ClosesFlows accepts w.flows feeding d.counts.items after)
           → IfSome done (λ _. IsTrue after.whole)
-          → IfSome done (λ d. (items : List Event) × HasCollected before now d.order.items items
-          × HasAssembledAll accepts flows0 d.order.items items feeding0.feeders.items closed d.counts.items)
+          → IfSome done (HasAssembled accepts first feeding0.feeders.items before now closed)
       assembled taking None so_far closes whole = tt
       assembled taking (Some d) so_far closes whole =
           let w = closes.0 in
           let made : SoFar now w feeding = made-of now feeding taking w closes.1 so_far in
-          let order : w.order.items ≡ d.order.items = sym (ap (λ (v : Vec ℕ Global). v.items) closes.2) in (
-            made.items,
-            subst (λ (tags : List ℕ). HasCollected before now tags made.items) order made.has_collected,
-            subst (λ (tags : List ℕ). HasAssembledAll accepts flows0 tags made.items feeding0.feeders.items closed d.counts.items) order
-                (all-made w d.counts.items made whole closes.3),
-          )
+          record {
+            order = made.order;
+            items = made.items;
+            ordered = subst (λ (kept : Option (Vec ℕ Global)). HasOrder first.order made.order kept) (sym closes.2) made.ordered;
+            has_collected = made.has_collected;
+            has_assembled = all-made w d.counts.items made whole closes.3;
+          }

@@ -3,5 +3,8 @@ pub mod ItemsTaken
 pub mod FlowsClosed
 pub mod ItemsCollected
 pub mod AllAssembled
-pub mod RunOutcome
 pub mod AllSettled
+pub mod RequestsByChannel
+pub mod RunAnswer
+pub mod FlowsCollected
+pub mod CollectedOutcome

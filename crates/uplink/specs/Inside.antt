@@ -1,3 +1,4 @@
 pub mod Feeding
 pub mod Offering
 pub mod Running
+pub mod Collected

@@ -1,3 +1,4 @@
 pub mod Faults
 pub mod Headline
+pub mod Received
 pub mod Inside

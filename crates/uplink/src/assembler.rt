@@ -11,7 +11,7 @@ ghost use Rattle.bonded_flows.specs.ByRule.{decision_event, IsTakable as IsDecis
 ghost use Rattle.bonded_flows.specs.Parts.{comes};
 ghost use Rattle.bonded_flows.specs.Table.{IsInUse};
 ghost use Rattle.uplink.specs.Inside.Feeding.{rings_of};
-ghost use Rattle.uplink.specs.Inside.Offering.{HasCollected, HasAssembledSoFar, Takes, TakesItem, ClosesFlows, HasAssembledAll};
+ghost use Rattle.uplink.specs.Inside.Offering.{HasOrder, HasAssembledSoFar, Takes, TakesItem, ClosesFlows, HasAssembled};
 
 use crate::feeding::Feeding;
 use bonded_flows::{FlowDecision, FlowTable};
@@ -23,17 +23,17 @@ use std::alloc::{AllocError, Global};
 use std::sync::Wait;
 use workers::{Item, MouthWait, Signals, close_feeders};
 
-/// All flows, and the order of the items that were taken so far.
+/// All flows, and the order of the items that were taken so far, if it is kept.
 #[derive(Drop)]
 pub struct Taking<C> {
     pub flows: FlowTable<C>,
-    pub order: Vec<u8>,
+    pub order: Option<Vec<u8>>,
 }
 
-/// The order of all items, and what was counted of each flow.
+/// The order of all items, if it was kept, and what was counted of each flow.
 #[derive(Drop)]
 pub struct Assembled {
-    pub order: Vec<u8>,
+    pub order: Option<Vec<u8>>,
     pub counts: Vec<FlowCounts>,
 }
 
@@ -48,25 +48,24 @@ pub struct AssembledAll {
 
 /// Takes until all senders have ended, and offers the frames that each flow gives to its feeder.
 /// Then it closes all flows, and the feeders. Once an allocation failed it drops what it takes.
-/// `closed` has room for a closed feeder of each flow.
+/// `closed` has room for a closed feeder of each flow. The order of the items is appended to
+/// `order`, if there is one.
 pub fn assemble<C: HeaderCheck + Drop, R: Wait>(
     alloc: Global,
     rt: &R,
     signals: &Signals,
-    flows: FlowTable<C>,
+    taking: Taking<C>,
     mouth: Mouth<Item>,
     feeders: Vec<Feeder>,
     closed: Vec<ClosedFeeder>,
 ) -> AssembledAll
-    requires in_use { IsInUse C.accepts flows }
+    requires in_use { IsInUse C.accepts taking.flows }
     requires room { (closed.items ≡ []) × (length feeders.items ≤ closed.cap) }
     ensures places { places result.mouth ≡ places mouth }
     ensures ended { (sender : ℕ) → sender < senders → ended result.mouth sender ≡ true }
     ensures rings { map closed_ring result.feeders.items ≡ map feeder_ring feeders.items }
-    ensures done { IfSome result.done (λ done. (items : List Event)
-        × HasCollected (taken mouth) (taken result.mouth) done.order.items items
-        × HasAssembledAll C.accepts flows done.order.items items feeders.items
-        result.feeders.items done.counts.items) }
+    ensures done { IfSome result.done (λ done. HasAssembled C.accepts taking feeders.items
+        (taken mouth) (taken result.mouth) result.feeders.items done) }
 {
     let mut mouth = mouth;
     let mut feeding = Feeding {
@@ -74,7 +73,7 @@ pub fn assemble<C: HeaderCheck + Drop, R: Wait>(
         whole: true,
         told: signals.offered(),
     };
-    let taking = take_items(alloc, rt, signals, flows, &mut mouth, &mut feeding);
+    let taking = take_items(alloc, rt, signals, taking, &mut mouth, &mut feeding);
     let done = close_flows(alloc, taking, &mut feeding);
     let feeders = close_feeders(rt, signals, feeding.feeders, closed);
     AssembledAll {
@@ -90,21 +89,18 @@ fn take_items<C: HeaderCheck + Drop, R: Wait>(
     alloc: Global,
     rt: &R,
     signals: &Signals,
-    flows: FlowTable<C>,
+    taking: Taking<C>,
     mouth: &mut Mouth<Item>,
     feeding: &mut Feeding<'_>,
 ) -> Option<Taking<C>>
-    requires { IsInUse C.accepts flows }
+    requires { IsInUse C.accepts taking.flows }
     ensures places { places mouth.new ≡ places mouth.old }
     ensures ended { (sender : ℕ) → sender < senders → ended mouth.new sender ≡ true }
     ensures rings { rings_of feeding.new ≡ rings_of feeding.old }
-    ensures so_far { IfSome result (λ made. HasAssembledSoFar C.accepts flows feeding.old
+    ensures so_far { IfSome result (λ made. HasAssembledSoFar C.accepts taking feeding.old
         (taken mouth.old) (taken mouth.new) made feeding.new) }
 {
-    let mut taking = Some(Taking {
-        flows,
-        order: Vec::new(alloc),
-    });
+    let mut taking = Some(taking);
     let mut wait = MouthWait::at(signals.arrivals());
     for _ in rt.forever() {
         if mouth.all_ended() {
@@ -137,19 +133,29 @@ fn with_item<C: HeaderCheck + Drop>(
     requires { IfSome taking (λ was. IsInUse C.accepts was.flows) }
     ensures rings { rings_of feeding.new ≡ rings_of feeding.old }
     ensures takes { IfSome result (λ now. (was : _) × (taking ≡ Some was)
-        × (now.order.items ≡ was.order.items ++ from ∷ [])
+        × HasOrder was.order (from ∷ []) now.order
         × TakesItem C.accepts was.flows feeding.old from item.event now.flows feeding.new) }
 {
     let Taking {
         mut flows,
         mut order,
     } = taking?;
-    order.push(from).ok()?;
+    note_sender(&mut order, from).ok()?;
     take_item(&mut flows, alloc, from, item.event, feeding)?;
     if !feeding.whole {
         return None;
     }
     Some(Taking { flows, order })
+}
+
+/// Appends a sender to the order, if it is kept.
+fn note_sender(order: &mut Option<Vec<u8>>, from: u8) -> Result<(), AllocError>
+    ensures { IfOk result (λ _. HasOrder order.old (from ∷ []) order.new) }
+{
+    if let Some(order) = order {
+        order.push(from)?;
+    }
+    Ok(())
 }
 
 /// Has an item's flow take it, and offers the frames that the flow then gives. An item of a flow
@@ -229,8 +235,8 @@ fn decide<C: HeaderCheck + Drop>(
     Some(())
 }
 
-/// Closes all flows, and offers the frames that this gives. Answers the order of the items and what
-/// was counted of each flow. Nothing where there was nothing, or where an allocation failed.
+/// Closes all flows, and offers the frames that this gives. Answers the order of the items, if it is
+/// kept, and what was counted of each flow. Nothing where there was nothing, or where an allocation failed.
 fn close_flows<C: HeaderCheck + Drop>(
     alloc: Global,
     taking: Option<Taking<C>>,

@@ -1,20 +1,16 @@
-//! A receiver on threads: seven workers beside its caller.
-//!
-//! Four lane workers, one for each channel, and one for the decisions post into the arrivals
-//! mailbox, from which the caller, the assembler, takes. Lane workers post requests into a second
-//! mailbox, from which the scheduler's worker takes. The assembler offers frames to a ring for each
-//! flow, from which the consumers' worker takes.
+//! A receiver on threads that collects what it gives: [`receive`](crate::receive) with consumers
+//! that keep everything.
 ghost use Rattle.std.specs.Prelude.{◌≡◌, ◌↔◌, ◌∷◌, [], IfOk, IfErr, Ok};
 ghost use Rattle.uplink.specs.Faults.{CanRun, IsRunFault};
 ghost use Rattle.uplink.specs.Headline.{KeepsTheHeadline, KeepsTheHeadlineBy};
 ghost use Rattle.receiver.specs.Items.{incoming_from};
 ghost use Rattle.receiver.specs.Outcome.{IsOutcome};
 ghost use Rattle.receiver.specs.Ruled.{IsOutcomeBy};
-ghost use Rattle.uplink.specs.Inside.Running.{CanStart, HasEnded, IsOpened};
 
-use crate::assembler::{AssembledAll, assemble};
-use crate::finish::{Ended, conclude};
-use crate::open::{Opened, open_all};
+use crate::finish::outcome_of;
+use crate::receiving::{prepare, run_prepared};
+use crate::tap::{Tap, Taps};
+use crate::tapped::tapping;
 use docsis_wire::{Bytes, HeaderCheck};
 use flow_core::SetupFault;
 use lane::{LaneFault, Request};
@@ -24,7 +20,7 @@ use std::alloc::{AllocError, Global};
 use std::sync::Wait;
 use std::thread::Threads;
 use thiserror::Error;
-use workers::{Decisions, Share, Source, Sources, Tap, Taps, Work, both_done, start_team};
+use workers::{Decisions, Source, Sources};
 
 /// Why a receiver doesn't run. The first of these is reported.
 #[derive(Clone, Copy, Debug, PartialEq, Eq, Error)]
@@ -69,7 +65,7 @@ impl From<BadSetup> for RunFault {
 }
 
 /// Looks for the first fault of a setup that is to be run. It takes no memory.
-fn check_setup(setup: &Setup) -> Result<(), RunFault>
+pub fn check_setup(setup: &Setup) -> Result<(), RunFault>
     ensures ok { (result ≡ Ok tt) ↔ CanRun setup.now }
     ensures fault { IfErr result (IsRunFault setup.now) }
 {
@@ -181,90 +177,10 @@ where
 {
     crate::laws::consumers_take_the_delivery_sequence();
     let opened = prepare(alloc, rule, &setup, check)?;
-    let flow_count = setup.flows.len();
-    let end = run_opened(alloc, &rt, flow_count, opened, sources, decisions, taps)?;
-    Ok(conclude(alloc, &rt, &setup.flows, end)?)
-}
-
-/// Opens all that a receiver by this rule needs, if its setup can be run.
-fn prepare<C: HeaderCheck + Drop>(
-    alloc: Global,
-    rule: LossRule,
-    setup: &Setup,
-    check: C,
-) -> Result<Opened<C>, RunFault>
-    ensures opened { IfOk result (IsOpened C.accepts (C.accepts check) rule setup.now) }
-    ensures can_run { IfOk result (λ _. CanRun setup.now) }
-    ensures fault { IfErr result (IsRunFault setup.now) }
-{
-    check_setup(setup)?;
-    Ok(open_all(alloc, rule, setup, check)?)
-}
-
-/// Runs what was opened until all threads have returned.
-fn run_opened<S0, S1, S2, S3, D, F, Q, C, R>(
-    alloc: Global,
-    rt: &R,
-    flow_count: usize,
-    opened: Opened<C>,
-    sources: Sources<S0, S1, S2, S3>,
-    decisions: D,
-    taps: Taps<F, Q>,
-) -> Result<Ended, AllocError>
-where
-    S0: Source + Drop + Send + 'static,
-    S1: Source + Drop + Send + 'static,
-    S2: Source + Drop + Send + 'static,
-    S3: Source + Drop + Send + 'static,
-    D: Decisions + Drop + Send + 'static,
-    F: Tap<Bytes> + Drop + Send + 'static,
-    Q: Tap<Request> + Drop + Send + 'static,
-    C: HeaderCheck + Drop,
-    R: Threads + Wait + Copy + Send + 'static,
-    requires opened { CanStart C.accepts opened }
-    ensures { IfOk result (HasEnded C.accepts flow_count
-        (incoming_from (S0.gives sources.s0 ∷ S1.gives sources.s1 ∷ S2.gives sources.s2
-        ∷ S3.gives sources.s3 ∷ []) (D.decides decisions)) opened) }
-{
-    let Opened {
-        signals,
-        lanes,
-        flows,
-        rings,
-        closed,
-        arrivals,
-        requests,
-    } = opened;
-    let share = Share {
-        signals,
-        lanes,
-        arrivals: arrivals.ports,
-        requests,
-        takers: rings.takers,
-    };
-    let (work, unused_port) = Work::new(rt, flow_count, share, sources, decisions, taps);
-    let team = start_team(alloc, rt, work)?;
-    let AssembledAll {
-        mouth,
-        feeders,
-        done: assembled,
-    } = assemble(
-        alloc,
-        rt,
-        &team.signals,
-        flows,
-        arrivals.mouth,
-        rings.feeders,
-        closed,
+    let consumers = tapping(alloc, setup.flows.len(), taps)?;
+    let order = Some(Vec::new(alloc));
+    let ran = run_prepared(
+        alloc, &rt, &setup, opened, order, sources, decisions, consumers,
     );
-    let Some((done, assembled)) = both_done(team.join(rt), assembled) else {
-        return Err(AllocError);
-    };
-    Ok(Ended {
-        done,
-        unused_port,
-        mouth,
-        feeders,
-        assembled,
-    })
+    Ok(outcome_of(alloc, &setup.flows, ran)?)
 }

@@ -1,16 +1,21 @@
 //! What a run gave, once all threads have returned.
-ghost use Rattle.std.specs.Prelude.{◌≡◌, IfOk, length, map};
-ghost use Rattle.uplink.specs.Inside.Running.{CanSettle, HasConcluded, AreFlowsOf};
+ghost use Rattle.std.specs.Prelude.{◌≡◌, IsTrue, IfOk, length};
+ghost use Rattle.lane.specs.Limits.{channel_limit};
+ghost use Rattle.uplink.specs.Inside.Running.{CanSettle, HasConcluded};
+ghost use Rattle.uplink.specs.Inside.Collected.{AreFlowsOf, CanBeMade, IsMadeOf};
 
 use crate::assembler::Assembled;
+use crate::tap::NoTap;
+use crate::tapped::Tapped;
 use delivery::ClosedFeeder;
+use docsis_wire::Bytes;
 use flow_core::{FlowCounts, FlowRecord};
-use lane::Request;
+use lane::{CHANNELS, LaneReport, Request};
 use mailbox::{ClosedPort, ClosedPorts, Mouth, settle};
 use receiver::{FlowOutcome, Outcome};
 use std::alloc::{AllocError, Global};
 use std::sync::Wait;
-use workers::{Consumed, Done, Item, settle_rings};
+use workers::{Consumers, Done, Item, settle_rings};
 
 /// What all threads handed on, in none of which an allocation failed.
 #[derive(Drop)]
@@ -23,19 +28,30 @@ pub struct Ended {
     pub assembled: Assembled,
 }
 
-/// The outcome. Both mailboxes and all rings are settled, and nothing is left in them.
-pub fn conclude<R: Wait>(
-    alloc: Global,
-    rt: &R,
-    records: &[FlowRecord],
-    end: Ended,
-) -> Result<Outcome, AllocError>
-    requires { CanSettle (length records.now) end }
-    ensures { IfOk result (HasConcluded records.now end) }
+/// What a run comes to: what was counted of each flow, what became of the inputs of the channels,
+/// and the order of the items, if it was kept.
+#[derive(Drop)]
+pub struct Concluded {
+    pub counts: Vec<FlowCounts>,
+    pub lanes: [LaneReport; CHANNELS],
+    pub order: Option<Vec<u8>>,
+}
+
+/// Who took what a run gave, and what it came to, unless an allocation failed or a thread could not
+/// be started.
+#[derive(Drop)]
+pub struct Ran<F, Q> {
+    pub consumers: Consumers<F, Q>,
+    pub concluded: Option<Concluded>,
+}
+
+/// What a run came to. Both mailboxes and all rings are settled, and nothing is left in them.
+pub fn conclude<R: Wait>(rt: &R, end: Ended) -> Concluded
+    requires { CanSettle end }
+    ensures { HasConcluded end result }
 {
     let done = end.done;
     let (l0, l1, l2, l3) = (done.l0, done.l1, done.l2, done.l3);
-    let (scheduled, assembled) = (done.scheduled, end.assembled);
     let arrivals = ClosedPorts {
         p0: l0.arrivals,
         p1: l1.arrivals,
@@ -51,38 +67,94 @@ pub fn conclude<R: Wait>(
         p4: end.unused_port,
     };
     let mut feeders = end.feeders;
-    let mut consumed = done.consumed;
+    let mut takers = done.takers;
     settle(rt, arrivals, end.mouth);
-    settle(rt, requests, scheduled.mouth);
-    settle_rings(&mut feeders, &mut consumed);
-    Ok(Outcome {
-        flows: flows_of(alloc, records, consumed, &assembled.counts)?,
-        requests: scheduled.requests,
+    settle(rt, requests, done.mouth);
+    settle_rings(&mut feeders, &mut takers);
+    Concluded {
+        counts: end.assembled.counts,
         lanes: [l0.report, l1.report, l2.report, l3.report],
-        order: assembled.order,
+        order: end.assembled.order,
+    }
+}
+
+/// The outcome of a run that collected what it gave, and kept its order. `AllocError`: an allocation
+/// failed on the way, or fails here.
+pub fn outcome_of<F: Drop, Q: Drop>(
+    alloc: Global,
+    records: &[FlowRecord],
+    ran: Ran<Tapped<F, NoTap>, Tapped<NoTap, Q>>,
+) -> Result<Outcome, AllocError>
+    requires { CanBeMade (length records.now) ran }
+    ensures { IfOk result (IsMadeOf records.now ran) }
+{
+    let Ran {
+        consumers,
+        concluded,
+    } = ran;
+    let Consumers {
+        consumer,
+        scheduler,
+    } = consumers;
+    let (frames, requests) = (consumer.collected, scheduler.collected);
+    let Some(concluded) = concluded else {
+        return Err(AllocError);
+    };
+    let Concluded {
+        counts,
+        lanes,
+        order,
+    } = concluded;
+    let Some(order) = order else {
+        return Err(AllocError);
+    };
+    if !frames.whole || !requests.whole {
+        return Err(AllocError);
+    }
+    Ok(Outcome {
+        flows: flows_of(alloc, records, frames.frames, &counts)?,
+        requests: four_lists(requests.requests),
+        lanes,
+        order,
     })
 }
 
-/// What each flow gave: the frames that its consumer took, and its counts.
+/// What each flow gave: its frames, and its counts.
 fn flows_of(
     alloc: Global,
     records: &[FlowRecord],
-    consumed: Vec<Consumed>,
+    frames: Vec<Vec<Bytes>>,
     counts: &[FlowCounts],
 ) -> Result<Vec<FlowOutcome>, AllocError>
-    requires consumers { length consumed.items ≡ length records.now }
+    requires frames { length frames.items ≡ length records.now }
     requires counts { length counts.now ≡ length records.now }
-    ensures { IfOk result (λ flows. AreFlowsOf records.now
-        (map (λ one. one.frames) consumed.items) counts.now flows.items) }
+    ensures { IfOk result (λ flows. AreFlowsOf records.now frames.items counts.now flows.items) }
 {
     let mut flows = Vec::with_capacity(alloc, records.len())?;
-    for one in consumed {
+    for own in frames {
         let k = flows.len();
         flows.push_reserved(FlowOutcome {
             sfid: records[k].sfid,
-            frames: one.frames,
+            frames: own,
             counts: counts[k],
         });
     }
     Ok(flows)
+}
+
+/// The lists of the four channels.
+fn four_lists<T: Drop>(lists: Vec<Vec<T>>) -> [Vec<T>; CHANNELS]
+    requires { length lists.items ≡ channel_limit }
+    ensures { result ≡ lists.items }
+{
+    let mut lists = lists.into_iter();
+    let (Some(l0), Some(l1), Some(l2), Some(l3)) = (
+        lists.next(),
+        lists.next(),
+        lists.next(),
+        lists.next(),
+    ) else {
+        unreachable!()
+    };
+    [l0, l1, l2, l3]
 }

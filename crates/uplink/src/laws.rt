@@ -22,7 +22,10 @@ ghost use Rattle.flow_core.specs.declared.flow.Flow.{Flow};
 ghost use Rattle.flow_core.specs.Outcome.{IsFlowOutcome};
 ghost use Rattle.flow_core.specs.Stands.{StandsFor};
 ghost use Rattle.loss_rule.specs.declared.rule.LossRule.{LossRule};
+ghost use Rattle.consumer.specs.declared.given.Given.{Given};
+ghost use Rattle.lane.specs.declared.report.LaneReport.{LaneReport};
 ghost use Rattle.uplink.specs.Headline.{KeepsTheHeadline, KeepsTheHeadlineBy};
+ghost use Rattle.uplink.specs.Received.{IsAnswerBy, GivesTheHeadline};
 ghost use Rattle.receiver.specs.declared.setup.Setup.{Setup};
 ghost use Rattle.receiver.specs.declared.outcome.Outcome.{Outcome};
 ghost use Rattle.receiver.specs.Items.{Incoming};
@@ -53,7 +56,8 @@ pub use receiver::laws::{
 /// events and any more; the flow may be drained (`prefix`) or not yet (`prefix_before_drained`).
 /// The order is a lawful one of all that is admitted and all decisions that name a flow, and the
 /// scheduler gets the request of each admitted segment once, in its channel's order. The same holds
-/// by a loss rule (`by_rule`) of the events that the rule makes of what comes to a flow. That events
+/// by a loss rule (`by_rule`) of the events that the rule makes of what comes to a flow, and of what
+/// [`receive`](crate::receive) gives as it runs (`given`). That events
 /// stay near with the gaps of a close is
 /// [`gaps_after_keep_events_near`](flow_core::laws::gaps_after_keep_events_near).
 pub fn consumers_take_the_delivery_sequence()
@@ -65,6 +69,11 @@ pub fn consumers_take_the_delivery_sequence()
         (incoming : Incoming) (order : List ℕ) (outcome : Outcome)
         → IsOutcomeBy rule check setup incoming order outcome
         → KeepsTheHeadlineBy rule check setup incoming order outcome }
+    ensures given { (rule : LossRule) (check : List ℕ → Bool) (setup : Setup)
+        (incoming : Incoming) (order : List ℕ) (frames requests : List Given)
+        (counts : List FlowCounts) (lanes : List LaneReport)
+        → IsAnswerBy rule check setup incoming order frames requests counts lanes
+        → GivesTheHeadline rule check setup incoming order frames requests }
     ensures prefix { (check : List ℕ → Bool) (fill : ℕ) (flow_record : FlowRecord)
         (frames chunks given unoffered later : List (List ℕ)) (segments : List Segment)
         (events more : List FlowEvent) (counts : FlowCounts) (answers : List Applied)

@@ -1,16 +1,19 @@
 //! The receiver on threads, and all that it stands on: an upstream of four channels.
 //!
-//! [`run`] receives what four [`Source`]s and [`Decisions`] give: four lane workers, one for the
-//! decisions, one that takes requests for the scheduler and one that takes frames for the
-//! consumers, beside the caller, which is the assembler. Its clause `headline` is the sentence that
-//! the whole project serves, at the end of a run; what was taken earlier is a law,
-//! [`consumers_take_the_delivery_sequence`](laws::consumers_take_the_delivery_sequence).
+//! [`receive`] receives what four [`Source`]s and [`Decisions`] give, and gives each frame to one
+//! [`Consumer`] and each request to another as they come: four lane workers, one for the decisions,
+//! one that takes requests and one that takes frames, beside the caller, which is the assembler. Its
+//! clause `received` is the sentence that the whole project serves, of what the two were given; what
+//! was taken earlier is a law,
+//! [`consumers_take_the_delivery_sequence`](laws::consumers_take_the_delivery_sequence). [`run`]
+//! does the same with consumers that keep everything.
 //!
 //! The calls, in the order of use:
 //!
-//! 1. A [`Setup`] says which flows and service identifiers there are; [`Sources`] and [`Taps`] are
-//!    what comes in and who looks on.
-//! 2. [`run`] gives the [`Outcome`], or says why there is none ([`RunFault`]).
+//! 1. A [`Setup`] says which flows and service identifiers there are; [`Sources`] are what comes in.
+//! 2. [`receive`] gives back the two consumers with what was counted ([`Received`]), or with the
+//!    fault ([`ReceiveError`]).
+//! 3. [`run`] gives the [`Outcome`], or says why there is none ([`RunFault`]); its [`Taps`] look on.
 //!
 //! `receive` in the crate `uses` is a caller that is proved from this contract alone. The lanes of
 //! the crate `lane` and the receiver on one thread of the crate `receiver` are re-exported:
@@ -23,7 +26,11 @@ mod feeding;
 mod finish;
 pub mod laws;
 mod open;
+mod receiving;
+mod tap;
+mod tapped;
 
+pub use consumer::{Collected, Consumer, Counts, Forgets, Given};
 pub use eight_threads::{RunFault, run, run_by};
 pub use lane::{
     Admitted, Answer, CHANNELS, Input, Lane, LaneFault, LaneReport, Refusal, Request, SidRow,
@@ -34,4 +41,6 @@ pub use receiver::{
     BadSetup, Decision, FlowOutcome, Lists, Outcome, ReplayFault, Setup, admitted_order,
     check_order, replay, replay_by,
 };
-pub use workers::{Decisions, ListDecisions, ListSource, NoTap, Source, Sources, Tap, Taps};
+pub use receiving::{ReceiveError, Received, receive};
+pub use tap::{NoTap, Tap, Taps};
+pub use workers::{Decisions, ListDecisions, ListSource, Source, Sources};

@@ -8,5 +8,6 @@ pub mod Window
 pub mod OneFlow
 pub mod OneAtATime
 pub mod RunCaller
+pub mod CountedRun
 pub mod LossesByRule
 pub mod Midstream

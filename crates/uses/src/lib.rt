@@ -3,6 +3,7 @@
 #![tactic(auto)]
 
 pub mod burst;
+pub mod counted_run;
 pub mod cut_joined_again;
 pub mod delivery_flows;
 pub mod delivery_run;

@@ -1,6 +1,7 @@
 //! What no clause says: that a running receiver ends, at little room too, and that its workers run
 //! beside each other.
 mod backlogs;
+mod consumers;
 mod count;
 mod failed_allocations;
 mod held_up;

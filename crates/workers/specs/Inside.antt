@@ -1,4 +1,7 @@
 pub mod Takable
 pub mod Carried
 pub mod Working
+pub mod Consuming
+pub mod Scheduling
+pub mod Joining
 pub mod Opening

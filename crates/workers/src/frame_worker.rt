@@ -1,33 +1,32 @@
-//! The worker that takes frames for the consumers.
-ghost use Rattle.std.specs.Prelude.{◌≡◌, true, All, List, map, IfOk, IfSome};
+//! The worker that takes frames for the consumer.
+ghost use Rattle.std.specs.Prelude.{◌≡◌, true, All, IfOk, IfErr};
 ghost use Rattle.delivery.specs.Takers.{is_closed};
-ghost use Rattle.delivery.specs.declared.taker.Taker.{Taker};
-ghost use Rattle.workers.specs.Inside.Working.{HasConsumed, PushesFrame, HaveConsumed, DidConsumeAll};
-ghost use Rattle.workers.specs.Inside.Working.{consuming_of};
+ghost use Rattle.workers.specs.Given.{CameBack};
+ghost use Rattle.workers.specs.Inside.Consuming.{FeedsOne, HasFed, DidConsume};
 
 use crate::signals::Signals;
-use crate::tap::Tap;
 use crate::waiting::Waiting;
+use consumer::Consumer;
 use delivery::{Taker, Took};
 use docsis_wire::Bytes;
-use std::alloc::{AllocError, Global};
 use std::snapshot::Snapshot;
 use std::sync::Wait;
 use std::thread;
-use std::thread::{Promise, PromisedHandle, Threads};
+use std::thread::{Promise, PromisedHandle, SpawnError, Threads};
 
-/// A taker that has answered `Closed`, and the frames that it gave.
+/// What the worker of frames works with: a taker of each flow, and who takes the frames.
 #[derive(Drop)]
-pub struct Consumed {
-    pub taker: Taker,
-    pub frames: Vec<Bytes>,
+pub struct FrameWork<F> {
+    pub takers: Vec<Taker>,
+    pub consumer: F,
 }
 
-/// A taker, and the frames that it gave so far, unless an allocation failed for one of them.
+/// What the worker of frames hands back: the consumer, and, unless it was told to stop, the takers,
+/// all of which have answered `Closed`.
 #[derive(Drop)]
-pub struct Consuming {
-    pub taker: Taker,
-    pub frames: Option<Vec<Bytes>>,
+pub struct Consumed<F> {
+    pub consumer: F,
+    pub takers: Option<Vec<Taker>>,
 }
 
 /// What one look at a taker found.
@@ -41,46 +40,6 @@ pub enum Look {
     NothingYet,
     /// All frames were taken.
     Closed,
-}
-
-impl Consuming {
-    /// A taker from which nothing was taken yet.
-    pub fn new(alloc: Global, taker: Taker) -> Consuming
-        ensures { HasConsumed taker result }
-    {
-        Consuming {
-            taker,
-            frames: Some(Vec::new(alloc)),
-        }
-    }
-
-    /// Takes a frame of the flow with this index, if one is there.
-    pub fn look<F: Tap<Bytes>>(&mut self, flow: usize, tap: &mut F) -> Look
-        ensures consumed { (taker : Taker)
-            → HasConsumed taker self.old → HasConsumed taker self.new }
-        ensures closed { result ≡ Look.Closed → is_closed self.new.taker ≡ true }
-    {
-        let Consuming { taker, frames } = self;
-        match taker.take() {
-            Took::Frame(frame) => {
-                let frame = Bytes::from(frame);
-                tap.took(flow, &frame);
-                *frames = with_frame(frames.take(), frame);
-                Look::Took
-            }
-            Took::NothingYet => Look::NothingYet,
-            Took::Closed => Look::Closed,
-        }
-    }
-}
-
-/// The frames with one more. Nothing where there was nothing, or where an allocation failed.
-fn with_frame(frames: Option<Vec<Bytes>>, frame: Bytes) -> Option<Vec<Bytes>>
-    ensures { PushesFrame frames frame result }
-{
-    let mut frames = frames?;
-    frames.push(frame).ok()?;
-    Some(frames)
 }
 
 impl Look {
@@ -97,87 +56,86 @@ impl Look {
     }
 }
 
-/// The takers that the consumers' worker was started with, one for each flow.
+/// The work that the worker of frames was started with.
 #[derive(Drop)]
-pub struct ConsumersPromise(pub Snapshot<Vec<Taker>>);
+pub struct ConsumingPromise<F>(pub Snapshot<FrameWork<F>>);
 
-impl Promise<Option<Vec<Consumed>>> for ConsumersPromise {
-    ghost kept_by = { λ promise result. IfSome result
-        (λ done. DidConsumeAll promise.0.value.items done.items) };
+impl<F: Consumer> Promise<Consumed<F>> for ConsumingPromise<F> {
+    ghost kept_by = { λ promise result. DidConsume F.after promise.0.value.takers.items
+        promise.0.value.consumer result };
 }
 
-pub type FrameWorker = PromisedHandle<Option<Vec<Consumed>>, ConsumersPromise>;
+pub type FrameWorker<F> = PromisedHandle<Consumed<F>, ConsumingPromise<F>>;
 
-/// Starts the consumers' worker.
-pub fn start<F, R>(
-    alloc: Global,
-    rt: &R,
-    signals: &Signals,
-    takers: Vec<Taker>,
-    tap: F,
-) -> Result<FrameWorker, AllocError>
+/// Starts the worker of frames. Where it can't be started, workers are told to stop, and the
+/// consumer comes back.
+pub fn start<F, R>(rt: &R, signals: &Signals, work: FrameWork<F>) -> Result<FrameWorker<F>, F>
 where
-    F: Tap<Bytes> + Drop + Send + 'static,
+    F: Consumer + Drop + Send + 'static,
     R: Threads + Wait + Copy + Send + 'static,
-    ensures { IfOk result (λ worker. worker.promise.0.value ≡ takers) }
+    ensures started { IfOk result (λ worker. worker.promise.0.value ≡ work) }
+    ensures given_back { IfErr result (CameBack F.after work.consumer) }
 {
-    let signals = signals.share()?;
-    let promise = ConsumersPromise(Snapshot::of(&takers));
-    let all = begin(alloc, takers)?;
+    let Ok(shared) = signals.share() else {
+        signals.start().stop();
+        return Err(work.consumer);
+    };
+    let promise = ConsumingPromise(Snapshot::of(&work));
     let theirs = *rt;
-    Ok(thread::spawn_with(rt, promise, move || {
-        serve_consumers(alloc, &theirs, &signals, all, tap)
-    })?)
-}
-
-/// Makes each taker ready to be served.
-fn begin(alloc: Global, takers: Vec<Taker>) -> Result<Vec<Consuming>, AllocError>
-    ensures { IfOk result (λ all. HaveConsumed takers.items all.items) }
-{
-    let mut all = Vec::with_capacity(alloc, takers.len())?;
-    for taker in takers {
-        all.push_reserved(Consuming::new(alloc, taker));
+    let started = thread::spawn_with(rt, promise, move || {
+        let work = work;
+        serve_frames(&theirs, &shared, work)
+    });
+    match started {
+        Ok(worker) => Ok(worker),
+        Err(SpawnError { value: serve }) => {
+            signals.start().stop();
+            Err(serve().consumer)
+        }
     }
-    Ok(all)
 }
 
-/// Takes until each taker has answered `Closed`, once it is told to go. It answers nothing if it is
-/// told to stop, or if an allocation failed; then it goes on taking, and drops what that taker
-/// gives.
-fn serve_consumers<F: Tap<Bytes> + Drop, R: Wait>(
-    alloc: Global,
+/// Takes until each taker has answered `Closed`, once it is told to go, and gives each frame to the
+/// consumer. If it is told to stop, it takes nothing.
+fn serve_frames<F: Consumer + Drop, R: Wait>(
     rt: &R,
     signals: &Signals,
-    all: Vec<Consuming>,
-    tap: F,
-) -> Option<Vec<Consumed>>
-    ensures { (takers : List Taker) → HaveConsumed takers all.items
-        → IfSome result (λ done. DidConsumeAll takers done.items) }
+    work: FrameWork<F>,
+) -> Consumed<F>
+    ensures { DidConsume F.after work.takers.items work.consumer result }
 {
     if !signals.start().is_go(rt) {
-        return None;
+        return Consumed {
+            consumer: work.consumer,
+            takers: None,
+        };
     }
-    consumed_of(alloc, take_frames(rt, signals, all, tap))
+    let FrameWork { takers, consumer } = take_frames(rt, signals, work);
+    Consumed {
+        consumer,
+        takers: Some(takers),
+    }
 }
 
 /// Takes until each taker has answered `Closed`.
-fn take_frames<F: Tap<Bytes> + Drop, R: Wait>(
+fn take_frames<F: Consumer + Drop, R: Wait>(
     rt: &R,
     signals: &Signals,
-    all: Vec<Consuming>,
-    tap: F,
-) -> Vec<Consuming>
-    ensures consumed { (takers : List Taker)
-        → HaveConsumed takers all.items → HaveConsumed takers result.items }
-    ensures closed { All (λ one. is_closed one.taker ≡ true) result.items }
+    work: FrameWork<F>,
+) -> FrameWork<F>
+    ensures fed { HasFed F.after work.takers.items work.consumer
+        result.takers.items result.consumer }
+    ensures closed { All (λ taker. is_closed taker ≡ true) result.takers.items }
 {
-    let mut all = all;
-    let mut tap = tap;
+    let FrameWork {
+        mut takers,
+        mut consumer,
+    } = work;
     let mut waiting = Waiting::on(signals.offered());
     for _ in rt.forever() {
-        let look = look_at_all(all.as_mut_slice(), &mut tap);
+        let look = look_at_all(takers.as_mut_slice(), &mut consumer);
         match look {
-            Look::Closed => return all,
+            Look::Closed => return FrameWork { takers, consumer },
             Look::NothingYet => waiting.pause(rt),
             Look::Took | Look::TookSome => {
                 signals.tell_of_room();
@@ -192,27 +150,29 @@ fn take_frames<F: Tap<Bytes> + Drop, R: Wait>(
 }
 
 /// One look at each taker. `Closed` if that is what all of them answered.
-fn look_at_all<F: Tap<Bytes>>(all: &mut [Consuming], tap: &mut F) -> Look
-    ensures consumed { (takers : List Taker)
-        → HaveConsumed takers all.old → HaveConsumed takers all.new }
-    ensures closed { result ≡ Look.Closed → All (λ one. is_closed one.taker ≡ true) all.new }
+fn look_at_all<F: Consumer>(takers: &mut [Taker], consumer: &mut F) -> Look
+    ensures fed { HasFed F.after takers.old consumer.old takers.new consumer.new }
+    ensures closed { result ≡ Look.Closed → All (λ taker. is_closed taker ≡ true) takers.new }
 {
     let mut found = Look::Closed;
-    for (flow, consuming) in all.iter_mut().enumerate() {
-        let look = consuming.look(flow, tap);
+    for (flow, taker) in takers.iter_mut().enumerate() {
+        let look = look_at(taker, flow, consumer);
         found = found.and(look);
     }
     found
 }
 
-/// What each taker gave. Nothing if an allocation failed.
-fn consumed_of(alloc: Global, all: Vec<Consuming>) -> Option<Vec<Consumed>>
-    ensures { IfSome result (λ done. map consuming_of done.items ≡ all.items) }
+/// Takes a frame of the flow with this index, if one is there, and gives it to the consumer.
+fn look_at<F: Consumer>(taker: &mut Taker, flow: usize, consumer: &mut F) -> Look
+    ensures feeds { FeedsOne F.after flow taker.old consumer.old taker.new consumer.new }
+    ensures closed { result ≡ Look.Closed → is_closed taker.new ≡ true }
 {
-    let mut finished = Vec::with_capacity(alloc, all.len()).ok()?;
-    for Consuming { taker, frames } in all {
-        let frames = frames?;
-        finished.push_reserved(Consumed { taker, frames });
+    match taker.take() {
+        Took::Frame(frame) => {
+            consumer.frame(flow, Bytes::from(frame));
+            Look::Took
+        }
+        Took::NothingYet => Look::NothingYet,
+        Took::Closed => Look::Closed,
     }
-    Some(finished)
 }

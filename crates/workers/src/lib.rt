@@ -1,23 +1,25 @@
 //! The workers of a running receiver, and what they and its caller work with.
 //!
 //! Seven workers run beside the caller: one for each channel, one that passes the decisions on, one
-//! that takes the requests for the scheduler, and one that takes the frames for the consumers. They
-//! stand below `uplink`, whose `run` they serve; nothing here looks into a flow.
+//! that takes the requests and gives them to the scheduler, and one that takes the frames and gives
+//! them to the consumer. They stand below `uplink`, whose receiver they serve; nothing here looks
+//! into a flow.
 //!
 //! The calls, in the order of use:
 //!
 //! 1. [`open_mailbox`] opens a mailbox, and [`open_rings`] the ring of each flow; [`Signals::new`]
 //!    makes what threads tell each other by: when to begin, and when to wake.
 //! 2. [`Work::new`] gives each worker its part of what was opened. [`Sources`], [`Decisions`] and
-//!    [`Taps`] are what the caller brings.
+//!    [`Consumers`] are what the caller brings.
 //! 3. [`start_team`] starts all workers, and [`Team::join`] waits for them and hands on what they
-//!    have [`Done`].
+//!    have [`Done`]. The consumers come back from both, whatever failed.
 //! 4. Meanwhile the caller takes [`Item`]s and drives the feeders: [`flush_all`] and
 //!    [`close_feeders`]. It waits by [`MouthWait`].
 //! 5. [`settle_rings`] settles the rings.
 #![tactic(auto)]
 
 mod both;
+mod consumers;
 mod decision_worker;
 mod feeders;
 mod frame_worker;
@@ -31,22 +33,19 @@ mod rings;
 mod signals;
 mod source;
 mod start_word;
-mod tap;
 mod team;
 mod waiting;
 mod work;
 
 pub use both::{both_done, both_made};
+pub use consumers::Consumers;
 pub use feeders::{close_feeders, flush_all};
-pub use frame_worker::Consumed;
 pub use item::Item;
 pub use lane_worker::LaneDone;
 pub use mailboxes::{OpenMailbox, open_mailbox};
 pub use mouth_wait::MouthWait;
-pub use request_worker::Scheduled;
 pub use rings::{Rings, open_rings, settle_rings};
 pub use signals::{MailboxSignals, Signals};
 pub use source::{Decisions, ListDecisions, ListSource, Source, Sources};
-pub use tap::{NoTap, Tap, Taps};
-pub use team::{Done, Team, start_team};
+pub use team::{Done, Joined, Team, start_team};
 pub use work::{Lanes, Share, Work};

@@ -1,113 +1,107 @@
 //! The worker that takes requests for the scheduler.
-ghost use Rattle.std.specs.Prelude.{◌≡◌, IfOk, IfSome, Some};
-ghost use Rattle.workers.specs.Inside.Working.{DidSchedule, KeepsOneMore};
+ghost use Rattle.std.specs.Prelude.{◌≡◌, IfOk, IfErr};
+ghost use Rattle.workers.specs.Given.{CameBack};
+ghost use Rattle.workers.specs.Inside.Scheduling.{DidSchedule, HasScheduled};
 
 use crate::mouth_wait::MouthWait;
 use crate::signals::Signals;
-use crate::tap::Tap;
-use lane::{CHANNELS, Request};
+use consumer::Consumer;
+use lane::Request;
 use mailbox::{Mouth, Taken};
-use std::alloc::{AllocError, Global};
 use std::snapshot::Snapshot;
 use std::sync::Wait;
 use std::thread;
-use std::thread::{Promise, PromisedHandle, Threads};
+use std::thread::{Promise, PromisedHandle, SpawnError, Threads};
 
-/// The mouth from which the scheduler took until all senders had ended, and the requests of the
-/// channels 0 to 3 that it took.
+/// What the worker of requests works with: the mouth of their mailbox, and who takes them.
 #[derive(Drop)]
-pub struct Scheduled {
+pub struct RequestWork<Q> {
     pub mouth: Mouth<Request>,
-    pub requests: [Vec<Request>; CHANNELS],
+    pub scheduler: Q,
 }
 
-/// The mouth that the scheduler's worker was started with.
+/// What the worker of requests hands back: the scheduler, and, unless it was told to stop, the mouth
+/// from which it took until all senders had ended.
 #[derive(Drop)]
-pub struct SchedulingPromise(pub Snapshot<Mouth<Request>>);
-
-impl Promise<Option<Scheduled>> for SchedulingPromise {
-    ghost kept_by = { λ promise result. IfSome result (DidSchedule promise.0.value) };
+pub struct Scheduled<Q> {
+    pub scheduler: Q,
+    pub mouth: Option<Mouth<Request>>,
 }
 
-pub type RequestWorker = PromisedHandle<Option<Scheduled>, SchedulingPromise>;
+/// The work that the worker of requests was started with.
+#[derive(Drop)]
+pub struct SchedulingPromise<Q>(pub Snapshot<RequestWork<Q>>);
 
-/// Starts the scheduler's worker.
-pub fn start<Q, R>(
-    alloc: Global,
-    rt: &R,
-    signals: &Signals,
-    mouth: Mouth<Request>,
-    tap: Q,
-) -> Result<RequestWorker, AllocError>
+impl<Q: Consumer> Promise<Scheduled<Q>> for SchedulingPromise<Q> {
+    ghost kept_by = { λ promise result. DidSchedule Q.after promise.0.value.mouth
+        promise.0.value.scheduler result };
+}
+
+pub type RequestWorker<Q> = PromisedHandle<Scheduled<Q>, SchedulingPromise<Q>>;
+
+/// Starts the worker of requests. Where it can't be started, workers are told to stop, and the
+/// scheduler comes back.
+pub fn start<Q, R>(rt: &R, signals: &Signals, work: RequestWork<Q>) -> Result<RequestWorker<Q>, Q>
 where
-    Q: Tap<Request> + Drop + Send + 'static,
+    Q: Consumer + Drop + Send + 'static,
     R: Threads + Wait + Copy + Send + 'static,
-    ensures { IfOk result (λ worker. worker.promise.0.value ≡ mouth) }
+    ensures started { IfOk result (λ worker. worker.promise.0.value ≡ work) }
+    ensures given_back { IfErr result (CameBack Q.after work.scheduler) }
 {
-    let signals = signals.share()?;
-    let promise = SchedulingPromise(Snapshot::of(&mouth));
+    let Ok(shared) = signals.share() else {
+        signals.start().stop();
+        return Err(work.scheduler);
+    };
+    let promise = SchedulingPromise(Snapshot::of(&work));
     let theirs = *rt;
-    Ok(thread::spawn_with(rt, promise, move || {
-        serve_requests(alloc, &theirs, &signals, mouth, tap)
-    })?)
+    let started = thread::spawn_with(rt, promise, move || {
+        let work = work;
+        serve_requests(&theirs, &shared, work)
+    });
+    match started {
+        Ok(worker) => Ok(worker),
+        Err(SpawnError { value: serve }) => {
+            signals.start().stop();
+            Err(serve().scheduler)
+        }
+    }
 }
 
-/// Takes requests until all senders have ended, once it is told to go. It answers nothing if it is
-/// told to stop, or if an allocation failed; then it goes on taking, and drops what it takes. A
-/// request of a sender that is no channel is passed over: there is none.
-fn serve_requests<Q: Tap<Request> + Drop, R: Wait>(
-    alloc: Global,
+/// Takes requests until all senders have ended, once it is told to go, and gives each to the
+/// scheduler. If it is told to stop, it takes nothing.
+fn serve_requests<Q: Consumer + Drop, R: Wait>(
     rt: &R,
     signals: &Signals,
-    mouth: Mouth<Request>,
-    tap: Q,
-) -> Option<Scheduled>
-    ensures { IfSome result (DidSchedule mouth) }
+    work: RequestWork<Q>,
+) -> Scheduled<Q>
+    ensures { DidSchedule Q.after work.mouth work.scheduler result }
 {
+    let RequestWork {
+        mut mouth,
+        mut scheduler,
+    } = work;
     if !signals.start().is_go(rt) {
-        return None;
+        return Scheduled {
+            scheduler,
+            mouth: None,
+        };
     }
-    let mut mouth = mouth;
-    let mut tap = tap;
-    let mut requests = Some([
-        Vec::new(alloc),
-        Vec::new(alloc),
-        Vec::new(alloc),
-        Vec::new(alloc),
-    ]);
     let mut wait = MouthWait::at(signals.requests());
     for _ in rt.forever() {
         if mouth.all_ended() {
             break;
         }
         match mouth.next(rt) {
-            Taken::Item { from, item } => {
+            Taken::Item { item, .. } => {
                 wait.took();
-                tap.took(item.flow, &item);
-                requests = with_request(requests, from, item);
+                scheduler.request(item);
             }
             Taken::End { .. } => wait.took(),
             Taken::Empty => wait.pause(rt),
         }
     }
-    let requests = requests?;
-    Some(Scheduled { mouth, requests })
-}
-
-/// With one request more of this channel. Nothing where there was nothing, or where an allocation
-/// failed.
-fn with_request(
-    requests: Option<[Vec<Request>; CHANNELS]>,
-    from: u8,
-    request: Request,
-) -> Option<[Vec<Request>; CHANNELS]>
-    ensures { IfSome result (λ after. (before : _) × (requests ≡ Some before)
-        × KeepsOneMore before from request after) }
-{
-    let mut requests = requests?;
-    let channel = usize::from(from);
-    if channel < requests.len() {
-        requests[channel].push(request).ok()?;
+    Scheduled {
+        scheduler,
+        mouth: Some(mouth),
     }
-    Some(requests)
 }

@@ -3,10 +3,9 @@ ghost use Rattle.std.specs.Prelude.{◌≡◌, [], ℕ, true, Some, All, IfOk, m
 ghost use Rattle.delivery.specs.Feeders.{feeder_ring, offered, room, closed_ring, closed_offered};
 ghost use Rattle.delivery.specs.Takers.{taker_ring, taken, is_closed};
 ghost use Rattle.delivery.specs.declared.feeder.ClosedFeeder.{ClosedFeeder};
-ghost use Rattle.workers.specs.declared.frame_worker.Consumed.{Consumed};
+ghost use Rattle.delivery.specs.declared.taker.Taker.{Taker};
 ghost use Rattle.workers.specs.Inside.Opening.{AreOpenRings, ring_of};
 
-use crate::frame_worker::Consumed;
 use delivery::{ClosedFeeder, Feeder, Taker, ring, settle};
 use flow_records::FlowRecord;
 use std::alloc::{AllocError, Global};
@@ -46,17 +45,14 @@ fn open_ring(alloc: Global, flow: &FlowRecord) -> Result<(Feeder, Taker), AllocE
 }
 
 /// Settles the ring of each flow.
-pub fn settle_rings(feeders: &mut [ClosedFeeder], consumed: &mut [Consumed])
-    requires rings { map closed_ring feeders.old
-        ≡ map (λ one. taker_ring one.taker) consumed.old }
-    requires closed { All (λ one. is_closed one.taker ≡ true) consumed.old }
-    ensures taken { (k : ℕ) (feeder : ClosedFeeder) (one : Consumed)
-        → slice_get feeders.old k ≡ Some feeder → slice_get consumed.old k ≡ Some one
-        → taken one.taker ≡ closed_offered feeder }
-    ensures frames { map (λ one. one.frames) consumed.new
-        ≡ map (λ one. one.frames) consumed.old }
+pub fn settle_rings(feeders: &mut [ClosedFeeder], takers: &mut [Taker])
+    requires rings { map closed_ring feeders.old ≡ map taker_ring takers.old }
+    requires closed { All (λ taker. is_closed taker ≡ true) takers.old }
+    ensures taken { (k : ℕ) (feeder : ClosedFeeder) (taker : Taker)
+        → slice_get feeders.old k ≡ Some feeder → slice_get takers.old k ≡ Some taker
+        → taken taker ≡ closed_offered feeder }
 {
     for k in 0..feeders.len() {
-        settle(&mut feeders[k], &mut consumed[k].taker);
+        settle(&mut feeders[k], &mut takers[k]);
     }
 }

@@ -1,19 +1,21 @@
 //! The seven workers.
-ghost use Rattle.std.specs.Prelude.{◌≡◌, IfOk, IfSome, Ok};
-ghost use Rattle.workers.specs.Inside.Working.{DidLane, DidDecide, DidSchedule, DidConsumeAll};
+ghost use Rattle.std.specs.Prelude.{◌≡◌, IfOk, IfErr, IfSome, Ok, Some};
+ghost use Rattle.workers.specs.Given.{BothCameBack};
+ghost use Rattle.workers.specs.Inside.Joining.{HaveTakenFor};
+ghost use Rattle.workers.specs.Inside.Working.{DidLane, DidDecide};
 
 use crate::both::both_done;
+use crate::consumers::Consumers;
 use crate::decision_worker::{self, DecisionWorker};
-use crate::frame_worker::{self, Consumed, FrameWorker};
+use crate::frame_worker::{self, Consumed, FrameWork, FrameWorker};
 use crate::item::Item;
 use crate::lane_worker::{self, LaneDone, LaneWork, LaneWorker};
-use crate::request_worker::{self, RequestWorker, Scheduled};
+use crate::request_worker::{self, RequestWork, RequestWorker, Scheduled};
 use crate::signals::Signals;
 use crate::source::{Decisions, Source};
-use crate::tap::{Tap, Taps};
 use crate::work::Work;
+use consumer::Consumer;
 use delivery::Taker;
-use docsis_wire::Bytes;
 use lane::Request;
 use mailbox::{ClosedPort, Mouth};
 use std::alloc::{AllocError, Global};
@@ -22,14 +24,26 @@ use std::thread::{Promise, PromisedHandle, Threads};
 
 /// The workers, each by its handle, and what they share with the caller.
 #[derive(Drop)]
-pub struct Team<S0: Source, S1: Source, S2: Source, S3: Source, D: Decisions> {
+pub struct Team<
+    S0: Source,
+    S1: Source,
+    S2: Source,
+    S3: Source,
+    D: Decisions,
+    F: Consumer,
+    Q: Consumer,
+> {
     pub signals: Signals,
     pub lanes: (LanePair<S0, S1>, LanePair<S2, S3>),
-    pub others: (DecisionWorker<D>, (RequestWorker, FrameWorker)),
+    pub decider: DecisionWorker<D>,
+    pub takers: TakerPair<F, Q>,
 }
 
 /// The workers of two channels.
 type LanePair<S0, S1> = (LaneWorker<S0>, LaneWorker<S1>);
+
+/// The workers of frames and of requests.
+type TakerPair<F, Q> = (FrameWorker<F>, RequestWorker<Q>);
 
 /// What the workers have done.
 #[derive(Drop)]
@@ -39,48 +53,65 @@ pub struct Done {
     pub l2: LaneDone,
     pub l3: LaneDone,
     pub decided: ClosedPort<Item>,
-    pub scheduled: Scheduled,
-    pub consumed: Vec<Consumed>,
+    pub mouth: Mouth<Request>,
+    pub takers: Vec<Taker>,
+}
+
+/// What the workers hand back: the consumers, and, unless an allocation failed in one of them, what
+/// they have done.
+#[derive(Drop)]
+pub struct Joined<F, Q> {
+    pub consumers: Consumers<F, Q>,
+    pub done: Option<Done>,
 }
 
 /// Starts all workers and tells them to begin. Where one can't be started, those that were return
-/// at once.
+/// at once, and the consumers come back.
 pub fn start_team<S0, S1, S2, S3, D, F, Q, R>(
     alloc: Global,
     rt: &R,
     work: Work<S0, S1, S2, S3, D, F, Q>,
-) -> Result<Team<S0, S1, S2, S3, D>, AllocError>
+) -> Result<Team<S0, S1, S2, S3, D, F, Q>, Consumers<F, Q>>
 where
     S0: Source + Drop + Send + 'static,
     S1: Source + Drop + Send + 'static,
     S2: Source + Drop + Send + 'static,
     S3: Source + Drop + Send + 'static,
     D: Decisions + Drop + Send + 'static,
-    F: Tap<Bytes> + Drop + Send + 'static,
-    Q: Tap<Request> + Drop + Send + 'static,
+    F: Consumer + Drop + Send + 'static,
+    Q: Consumer + Drop + Send + 'static,
     R: Threads + Wait + Copy + Send + 'static,
     ensures l0 { IfOk result (λ team. team.lanes.0.0.promise.0.value ≡ work.l0) }
     ensures l1 { IfOk result (λ team. team.lanes.0.1.promise.0.value ≡ work.l1) }
     ensures l2 { IfOk result (λ team. team.lanes.1.0.promise.0.value ≡ work.l2) }
     ensures l3 { IfOk result (λ team. team.lanes.1.1.promise.0.value ≡ work.l3) }
-    ensures decider { IfOk result (λ team. team.others.0.promise.0.value ≡ work.decisions) }
-    ensures scheduler { IfOk result (λ team. team.others.1.0.promise.0.value ≡ work.requests) }
-    ensures consumers { IfOk result (λ team. team.others.1.1.promise.0.value ≡ work.takers) }
+    ensures decider { IfOk result (λ team. team.decider.promise.0.value ≡ work.decisions) }
+    ensures frames { IfOk result (λ team. team.takers.0.promise.0.value ≡ work.frames) }
+    ensures requests { IfOk result (λ team. team.takers.1.promise.0.value ≡ work.requests) }
+    ensures given_back { IfErr result
+        (BothCameBack F.after Q.after work.frames.consumer work.requests.scheduler) }
 {
     let signals = work.signals;
+    let takers = match start_takers(rt, &signals, work.frames, work.requests) {
+        Ok(takers) => takers,
+        Err(consumers) => return Err(consumers),
+    };
     let first = start_two(alloc, rt, &signals, work.l0, work.l1);
     let second = start_two(alloc, rt, &signals, work.l2, work.l3);
     let lanes = both_started(rt, &signals, first, second);
     let decider = decision_worker::start(rt, &signals, work.decisions);
-    let takers = start_takers(alloc, rt, &signals, work.requests, work.takers, work.taps);
-    let others = both_started(rt, &signals, decider, takers);
-    let (lanes, others) = both_started(rt, &signals, lanes, others)?;
-    signals.start().go();
-    Ok(Team {
-        signals,
-        lanes,
-        others,
-    })
+    match both_started(rt, &signals, lanes, decider) {
+        Ok((lanes, decider)) => {
+            signals.start().go();
+            Ok(Team {
+                signals,
+                lanes,
+                decider,
+                takers,
+            })
+        }
+        Err(AllocError) => Err(end_takers(rt, takers)),
+    }
 }
 
 /// Starts the workers of two channels.
@@ -103,25 +134,54 @@ where
     both_started(rt, signals, one, other)
 }
 
-/// Starts the workers that take requests and frames.
+/// Starts the workers that take frames and requests. Where one can't be started, the other is told
+/// to stop, and the consumers come back.
 fn start_takers<F, Q, R>(
-    alloc: Global,
     rt: &R,
     signals: &Signals,
-    requests: Mouth<Request>,
-    takers: Vec<Taker>,
-    taps: Taps<F, Q>,
-) -> Result<(RequestWorker, FrameWorker), AllocError>
+    frames: FrameWork<F>,
+    requests: RequestWork<Q>,
+) -> Result<TakerPair<F, Q>, Consumers<F, Q>>
 where
-    F: Tap<Bytes> + Drop + Send + 'static,
-    Q: Tap<Request> + Drop + Send + 'static,
+    F: Consumer + Drop + Send + 'static,
+    Q: Consumer + Drop + Send + 'static,
     R: Threads + Wait + Copy + Send + 'static,
-    ensures scheduler { IfOk result (λ pair. pair.0.promise.0.value ≡ requests) }
-    ensures consumers { IfOk result (λ pair. pair.1.promise.0.value ≡ takers) }
+    ensures frames { IfOk result (λ pair. pair.0.promise.0.value ≡ frames) }
+    ensures requests { IfOk result (λ pair. pair.1.promise.0.value ≡ requests) }
+    ensures given_back { IfErr result
+        (BothCameBack F.after Q.after frames.consumer requests.scheduler) }
 {
-    let scheduler = request_worker::start(alloc, rt, signals, requests, taps.requests);
-    let consumers = frame_worker::start(alloc, rt, signals, takers, taps.frames);
-    both_started(rt, signals, scheduler, consumers)
+    let scheduling = match request_worker::start(rt, signals, requests) {
+        Ok(worker) => worker,
+        Err(scheduler) => {
+            return Err(Consumers {
+                consumer: frames.consumer,
+                scheduler,
+            });
+        }
+    };
+    match frame_worker::start(rt, signals, frames) {
+        Ok(consuming) => Ok((consuming, scheduling)),
+        Err(consumer) => Err(Consumers {
+            consumer,
+            scheduler: scheduling.join(rt).scheduler,
+        }),
+    }
+}
+
+/// Waits for the workers of frames and of requests, which were told to stop.
+fn end_takers<F: Consumer + Drop, Q: Consumer + Drop, R: Threads>(
+    rt: &R,
+    takers: TakerPair<F, Q>,
+) -> Consumers<F, Q>
+    ensures { BothCameBack F.after Q.after takers.0.promise.0.value.consumer
+        takers.1.promise.0.value.scheduler result }
+{
+    let (consuming, scheduling) = takers;
+    Consumers {
+        consumer: consuming.join(rt).consumer,
+        scheduler: scheduling.join(rt).scheduler,
+    }
 }
 
 /// Both workers, or parts of the team, that were started. Where one wasn't, all are told to stop,
@@ -188,60 +248,74 @@ fn join_two<S0: Source, S1: Source, R: Threads>(
     both_done(one.join(rt), other.join(rt))
 }
 
-/// Waits until the workers that take requests and frames have returned. Nothing where an allocation
-/// failed in one of them.
-fn join_takers<R: Threads>(
-    rt: &R,
-    pair: (RequestWorker, FrameWorker),
-) -> Option<(Scheduled, Vec<Consumed>)>
-    ensures scheduled { IfSome result (λ done.
-        DidSchedule pair.0.promise.0.value done.0) }
-    ensures consumed { IfSome result (λ done.
-        DidConsumeAll pair.1.promise.0.value.items done.1.items) }
+/// What all workers have done, if each has done its part.
+fn done_of(
+    lanes: Option<((LaneDone, LaneDone), (LaneDone, LaneDone))>,
+    decided: Option<ClosedPort<Item>>,
+    taken: Option<(Vec<Taker>, Mouth<Request>)>,
+) -> Option<Done>
+    ensures lanes { IfSome result (λ done. lanes
+        ≡ Some ((done.l0, done.l1), (done.l2, done.l3))) }
+    ensures decided { IfSome result (λ done. decided ≡ Some done.decided) }
+    ensures taken { IfSome result (λ done. taken ≡ Some (done.takers, done.mouth)) }
 {
-    let (scheduler, consumers) = pair;
-    both_done(scheduler.join(rt), consumers.join(rt))
+    let ((l0, l1), (l2, l3)) = lanes?;
+    let decided = decided?;
+    let (takers, mouth) = taken?;
+    Some(Done {
+        l0,
+        l1,
+        l2,
+        l3,
+        decided,
+        mouth,
+        takers,
+    })
 }
 
-impl<S0: Source, S1: Source, S2: Source, S3: Source, D: Decisions> Team<S0, S1, S2, S3, D> {
-    /// Waits until all workers have returned. Nothing where an allocation failed in one of them.
-    pub fn join<R: Threads>(self, rt: &R) -> Option<Done>
-        ensures l0 { IfSome result (λ done. DidLane self.lanes.0.0.promise.0.value.lane
+impl<S0, S1, S2, S3, D, F, Q> Team<S0, S1, S2, S3, D, F, Q>
+where
+    S0: Source,
+    S1: Source,
+    S2: Source,
+    S3: Source,
+    D: Decisions,
+    F: Consumer,
+    Q: Consumer,
+{
+    /// Waits until all workers have returned.
+    pub fn join<R: Threads>(self, rt: &R) -> Joined<F, Q>
+        ensures l0 { IfSome result.done (λ done. DidLane self.lanes.0.0.promise.0.value.lane
             self.lanes.0.0.promise.0.value.arrivals self.lanes.0.0.promise.0.value.requests
             (S0.gives self.lanes.0.0.promise.0.value.source) done.l0) }
-        ensures l1 { IfSome result (λ done. DidLane self.lanes.0.1.promise.0.value.lane
+        ensures l1 { IfSome result.done (λ done. DidLane self.lanes.0.1.promise.0.value.lane
             self.lanes.0.1.promise.0.value.arrivals self.lanes.0.1.promise.0.value.requests
             (S1.gives self.lanes.0.1.promise.0.value.source) done.l1) }
-        ensures l2 { IfSome result (λ done. DidLane self.lanes.1.0.promise.0.value.lane
+        ensures l2 { IfSome result.done (λ done. DidLane self.lanes.1.0.promise.0.value.lane
             self.lanes.1.0.promise.0.value.arrivals self.lanes.1.0.promise.0.value.requests
             (S2.gives self.lanes.1.0.promise.0.value.source) done.l2) }
-        ensures l3 { IfSome result (λ done. DidLane self.lanes.1.1.promise.0.value.lane
+        ensures l3 { IfSome result.done (λ done. DidLane self.lanes.1.1.promise.0.value.lane
             self.lanes.1.1.promise.0.value.arrivals self.lanes.1.1.promise.0.value.requests
             (S3.gives self.lanes.1.1.promise.0.value.source) done.l3) }
-        ensures decided { IfSome result (λ done. DidDecide self.others.0.promise.0.value.flow_count
-            self.others.0.promise.0.value.arrivals
-            (D.decides self.others.0.promise.0.value.decisions) done.decided) }
-        ensures scheduled { IfSome result (λ done.
-            DidSchedule self.others.1.0.promise.0.value done.scheduled) }
-        ensures consumed { IfSome result (λ done.
-            DidConsumeAll self.others.1.1.promise.0.value.items done.consumed.items) }
+        ensures decided { IfSome result.done (λ done. DidDecide
+            self.decider.promise.0.value.flow_count self.decider.promise.0.value.arrivals
+            (D.decides self.decider.promise.0.value.decisions) done.decided) }
+        ensures taken { HaveTakenFor F.after Q.after self.takers.0.promise.0.value
+            self.takers.1.promise.0.value result }
     {
         let first = join_two(rt, self.lanes.0);
         let second = join_two(rt, self.lanes.1);
-        let decided = self.others.0.join(rt);
-        let taken = join_takers(rt, self.others.1);
-        let lanes = both_done(first, second);
-        let (lanes, others) = both_done(lanes, both_done(decided, taken))?;
-        let ((l0, l1), (l2, l3)) = lanes;
-        let (decided, (scheduled, consumed)) = others;
-        Some(Done {
-            l0,
-            l1,
-            l2,
-            l3,
-            decided,
-            scheduled,
-            consumed,
-        })
+        let decided = self.decider.join(rt);
+        let (consuming, scheduling) = self.takers;
+        let Consumed { consumer, takers } = consuming.join(rt);
+        let Scheduled { scheduler, mouth } = scheduling.join(rt);
+        let done = done_of(both_done(first, second), decided, both_done(takers, mouth));
+        Joined {
+            consumers: Consumers {
+                consumer,
+                scheduler,
+            },
+            done,
+        }
     }
 }

@@ -2,17 +2,19 @@
 ghost use Rattle.std.specs.Prelude.{◌≡◌, []};
 ghost use Rattle.workers.specs.Inside.Working.{HasPosted};
 
+use crate::consumers::Consumers;
 use crate::decision_worker::DecidingWork;
+use crate::frame_worker::FrameWork;
 use crate::item::Item;
 use crate::lane_worker::LaneWork;
 use crate::mailboxes::OpenMailbox;
+use crate::request_worker::RequestWork;
 use crate::retry::close_port;
 use crate::signals::Signals;
 use crate::source::Sources;
-use crate::tap::Taps;
 use delivery::Taker;
 use lane::{Lane, Request};
-use mailbox::{ClosedPort, Mouth, Ports};
+use mailbox::{ClosedPort, Ports};
 use std::sync::Wait;
 
 /// The lanes of the four channels.
@@ -44,9 +46,8 @@ pub struct Work<S0, S1, S2, S3, D, F, Q> {
     pub l2: LaneWork<S2>,
     pub l3: LaneWork<S3>,
     pub decisions: DecidingWork<D>,
-    pub requests: Mouth<Request>,
-    pub takers: Vec<Taker>,
-    pub taps: Taps<F, Q>,
+    pub requests: RequestWork<Q>,
+    pub frames: FrameWork<F>,
 }
 
 impl<S0, S1, S2, S3, D, F, Q> Work<S0, S1, S2, S3, D, F, Q> {
@@ -58,7 +59,7 @@ impl<S0, S1, S2, S3, D, F, Q> Work<S0, S1, S2, S3, D, F, Q> {
         share: Share,
         sources: Sources<S0, S1, S2, S3>,
         decisions: D,
-        taps: Taps<F, Q>,
+        consumers: Consumers<F, Q>,
     ) -> (Work<S0, S1, S2, S3, D, F, Q>, ClosedPort<Request>)
         ensures l0 { result.0.l0 ≡ record {
           lane = share.lanes.l0;
@@ -89,8 +90,14 @@ impl<S0, S1, S2, S3, D, F, Q> Work<S0, S1, S2, S3, D, F, Q> {
           arrivals = share.arrivals.p4;
           decisions = decisions;
         } }
-        ensures requests { result.0.requests ≡ share.requests.mouth }
-        ensures takers { result.0.takers ≡ share.takers }
+        ensures requests { result.0.requests ≡ record {
+          mouth = share.requests.mouth;
+          scheduler = consumers.scheduler;
+        } }
+        ensures frames { result.0.frames ≡ record {
+          takers = share.takers;
+          consumer = consumers.consumer;
+        } }
         ensures unused { HasPosted share.requests.ports.p4 [] result.1 }
     {
         let Share {
@@ -113,9 +120,14 @@ impl<S0, S1, S2, S3, D, F, Q> Work<S0, S1, S2, S3, D, F, Q> {
                 arrivals: arrivals.p4,
                 decisions,
             },
-            requests: requests.mouth,
-            takers,
-            taps,
+            requests: RequestWork {
+                mouth: requests.mouth,
+                scheduler: consumers.scheduler,
+            },
+            frames: FrameWork {
+                takers,
+                consumer: consumers.consumer,
+            },
         };
         (work, unused_port)
     }

@@ -1,5 +1,6 @@
 -- What the assembler of a running receiver has done with what it took.
-use Rattle.std.specs.Prelude.{◌≡◌, ℕ, ◌<◌, Bool, All, Some, List, [], ◌∷◌, ◌++◌, length, map, slice_get, slice_index_or}
+use Rattle.std.specs.Prelude.{◌≡◌, ℕ, ◌<◌, Bool, All, Option, Some, None, List, Vec, [], ◌∷◌, ◌++◌, length, map, slice_get, slice_index_or}
+use Rattle.std.specs.declared.alloc.Global.{Global}
 use Rattle.delivery.specs.Feeders.{closed_offered}
 use Rattle.delivery.specs.declared.feeder.Feeder.{Feeder}
 use Rattle.delivery.specs.declared.feeder.ClosedFeeder.{ClosedFeeder}
@@ -15,6 +16,7 @@ use Rattle.receiver.specs.Order.{picked}
 use Rattle.receiver.specs.Received.{GaveAllParts}
 use Rattle.receiver.specs.TakenInOrder.{table_input_of, table_inputs}
 use Rattle.uplink.specs.declared.assembler.Taking.{Taking}
+use Rattle.uplink.specs.declared.assembler.Assembled.{Assembled}
 use Rattle.uplink.specs.declared.feeding.Feeding.{Feeding}
 use Rattle.uplink.specs.Inside.Feeding.{offered_to, HasOffered}
 use Rattle.workers.specs.declared.item.Item.{Item}
@@ -25,6 +27,11 @@ pub record HasCollected (before now : ℕ → List Item) (order : List ℕ) (ite
   pub named : All (λ tag. tag < senders) order
   pub paired : length order ≡ length items
   pub taken_is : (sender : ℕ) → carried (now sender) ≡ carried (before sender) ++ picked sender order items
+
+-- these senders were appended to an order that is kept; one that isn't kept stays so
+abbrev pub HasOrder : Option (Vec ℕ Global) → List ℕ → Option (Vec ℕ Global) → Type 0
+HasOrder None order now = now ≡ None
+HasOrder (Some was) order now = (kept : Vec ℕ Global) × (now ≡ Some kept) × (kept.items ≡ was.items ++ order)
 
 -- what each flow gave that is closed, and these are its counts: all that comes of what was handed in of it
 abbrev pub GaveAll : (List ℕ → Bool) → TableSetup → List TableInput → List Given → List FlowCounts → Type 0
@@ -42,12 +49,14 @@ module _ {C : Type 0} (accepts : C → List ℕ → Bool) where
   TakesItem flows feeding from item flows' feeding' = Takes flows feeding (table_input_of from item ∷ []) flows' feeding'
 
   -- Some items were taken since the beginning, in this order, and what the flows gave for them was offered.
-  pub record HasAssembledSoFar (flows0 : FlowTable C) (feeding0 : Feeding) (before now : ℕ → List Item) (made : Taking C) (feeding : Feeding) : Type 0 where
+  pub record HasAssembledSoFar (first : Taking C) (feeding0 : Feeding) (before now : ℕ → List Item) (made : Taking C) (feeding : Feeding) : Type 0 where
+    pub order : List ℕ
     pub items : List Event
     pub given : List Given
-    pub has_collected : HasCollected before now made.order.items items
-    pub stands : (check : List ℕ → Bool) (setup : TableSetup) (history : List TableInput) (given0 : List Given) → StandsFor accepts flows0 check setup history given0
-        → StandsFor accepts made.flows check setup (history ++ table_inputs made.order.items items) (given0 ++ given)
+    pub ordered : HasOrder first.order order made.order
+    pub has_collected : HasCollected before now order items
+    pub stands : (check : List ℕ → Bool) (setup : TableSetup) (history : List TableInput) (given0 : List Given) → StandsFor accepts first.flows check setup history given0
+        → StandsFor accepts made.flows check setup (history ++ table_inputs order items) (given0 ++ given)
     pub offered : HasOffered feeding0 given feeding
 
   -- All flows are closed, and what that gave was offered: whatever was handed in and given before, with this each gave all, and these are the counts.
@@ -64,3 +73,11 @@ module _ {C : Type 0} (accepts : C → List ℕ → Bool) where
     pub count : length counts ≡ length flows.slots.items
     pub offered : (k : ℕ) → slice_index_or (map closed_offered closed) k [] ≡ offered_to feeders k ++ frames_of k given
     pub gave : (check : List ℕ → Bool) (setup : TableSetup) → StandsFor accepts flows check setup [] [] → GaveAll check setup (table_inputs order items) given counts
+
+  -- All items were taken since the beginning, in some order, and they and each flow's close gave what was offered and counted.
+  pub record HasAssembled (first : Taking C) (feeders : List Feeder) (before now : ℕ → List Item) (closed : List ClosedFeeder) (done : Assembled) : Type 0 where
+    pub order : List ℕ
+    pub items : List Event
+    pub ordered : HasOrder first.order order done.order
+    pub has_collected : HasCollected before now order items
+    pub has_assembled : HasAssembledAll first.flows order items feeders closed done.counts.items

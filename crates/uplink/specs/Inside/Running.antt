@@ -1,7 +1,6 @@
 -- What a running receiver opens, what its threads have done once they have returned, and what is concluded from it.
-use Rattle.std.specs.Prelude.{◌≡◌, ℕ, ◌<◌, ◌≤◌, Bool, true, Some, List, [], ◌∷◌, All, map, length, slice_get, slice_index_or, Vec}
+use Rattle.std.specs.Prelude.{◌≡◌, ℕ, ◌<◌, ◌≤◌, Bool, true, Option, Some, List, [], ◌∷◌, All, IfSome, map, length, slice_get, slice_index_or, Vec}
 use Rattle.std.specs.declared.alloc.Global.{Global}
-use Rattle.docsis_wire.specs.declared.buffer.Bytes.{Bytes}
 use Rattle.mailbox.specs.Ports.{closed_posted}
 use Rattle.mailbox.specs.Mouths.{places, taken, ended}
 use Rattle.mailbox.specs.Settling.{closed_addresses}
@@ -10,29 +9,30 @@ use Rattle.delivery.specs.Feeders.{feeder_ring, closed_ring, closed_offered}
 use Rattle.delivery.specs.Takers.{taker_ring, is_closed}
 use Rattle.delivery.specs.Takers as takers
 use Rattle.delivery.specs.declared.feeder.ClosedFeeder.{ClosedFeeder}
-use Rattle.flow_core.specs.declared.counts.FlowCounts.{FlowCounts}
-use Rattle.flow_records.specs.declared.event.Event.{Event}
-use Rattle.flow_records.specs.declared.record.FlowRecord.{FlowRecord}
+use Rattle.delivery.specs.declared.taker.Taker.{Taker}
 use Rattle.lane.specs.declared.admitted.Request.{Request}
-use Rattle.workers.specs.declared.frame_worker.Consumed.{Consumed}
-use Rattle.workers.specs.declared.item.Item.{Item}
-use Rattle.receiver.specs.declared.outcome.FlowOutcome.{FlowOutcome}
-use Rattle.receiver.specs.declared.outcome.Outcome.{Outcome}
-use Rattle.workers.specs.declared.work.Lanes.{Lanes}
-use Rattle.uplink.specs.declared.open.Opened.{Opened}
-use Rattle.uplink.specs.declared.finish.Ended.{Ended}
-use Rattle.receiver.specs.declared.setup.Setup.{Setup}
+use Rattle.lane.specs.Limits.{channel_limit, senders}
+use Rattle.lane.specs.Stands.{StandsFor}
 use Rattle.loss_rule.specs.declared.rule.LossRule.{LossRule}
-use Rattle.receiver.specs.HandedIn.{made_of}
-use Rattle.receiver.specs.Items.{Incoming, lane_setup}
+use Rattle.consumer.specs.declared.given.Given.{Given}
 use Rattle.bonded_flows.specs.Table.{IsInUse}
 use Rattle.bonded_flows.specs.Table.{StandsFor as TableStandsFor}
-use Rattle.lane.specs.Limits.{channel_limit}
-use Rattle.uplink.specs.Inside.Offering.{HasCollected, HasAssembledAll}
-use Rattle.lane.specs.Limits.{senders}
-use Rattle.lane.specs.Stands.{StandsFor}
+use Rattle.receiver.specs.declared.setup.Setup.{Setup}
+use Rattle.receiver.specs.HandedIn.{made_of}
+use Rattle.receiver.specs.Items.{Incoming, lane_setup}
+use Rattle.workers.specs.declared.consumers.Consumers.{Consumers}
+use Rattle.workers.specs.declared.item.Item.{Item}
+use Rattle.workers.specs.declared.work.Lanes.{Lanes}
 use Rattle.workers.specs.Inside.Opening.{AreOpenRings, IsOpenMailbox}
-use Rattle.workers.specs.Inside.Working.{HasPosted, DidLane, DidDecide, DidSchedule, DidConsumeAll}
+use Rattle.workers.specs.Inside.Working.{HasPosted, DidLane, DidDecide}
+use Rattle.workers.specs.Inside.Consuming.{HaveTakenAll}
+use Rattle.workers.specs.Inside.Scheduling.{Sent, given_of, HasTakenAll}
+use Rattle.uplink.specs.declared.open.Opened.{Opened}
+use Rattle.uplink.specs.declared.finish.Ended.{Ended}
+use Rattle.uplink.specs.declared.finish.Concluded.{Concluded}
+use Rattle.uplink.specs.declared.finish.Ran.{Ran}
+use Rattle.uplink.specs.Received.{WereGiven, IsAnswerBy}
+use Rattle.uplink.specs.Inside.Offering.{HasOrder, HasAssembled}
 
 -- the four lanes stand for no inputs
 pub record AreOpenLanes (setup : Setup) (lanes : Lanes) : Type 0 where
@@ -58,23 +58,39 @@ pub record CanStart {C : Type 0} (accepts : C → List ℕ → Bool) (opened : O
   pub none_closed : opened.closed.items ≡ []
   pub room : length opened.rings.feeders.items ≤ opened.closed.cap
 
--- All threads of a receiver have returned: the four lane workers have taken all inputs, the decisions' worker all decisions, the scheduler's worker
--- all requests and the consumers' worker all frames; and the assembler has taken all items.
-pub record HasEnded {C : Type 0} (accepts : C → List ℕ → Bool) (flow_count : ℕ) (incoming : Incoming) (opened : Opened C) (end : Ended) : Type 0 where
+-- All threads of a receiver have returned: the four lane workers have taken all inputs, the decisions' worker all decisions, the worker of requests
+-- these requests, which are all, and the worker of frames these frames, which are all; and the assembler has taken all items.
+pub record HasEnded {C : Type 0} (accepts : C → List ℕ → Bool) (flow_count : ℕ) (incoming : Incoming) (opened : Opened C) (kept : Option (Vec ℕ Global)) (frames : List Given) (sent : List Sent) (end : Ended) : Type 0 where
   pub l0 : DidLane opened.lanes.l0 opened.arrivals.ports.p0 opened.requests.ports.p0 (incoming.inputs 0) end.done.l0
   pub l1 : DidLane opened.lanes.l1 opened.arrivals.ports.p1 opened.requests.ports.p1 (incoming.inputs 1) end.done.l1
   pub l2 : DidLane opened.lanes.l2 opened.arrivals.ports.p2 opened.requests.ports.p2 (incoming.inputs 2) end.done.l2
   pub l3 : DidLane opened.lanes.l3 opened.arrivals.ports.p3 opened.requests.ports.p3 (incoming.inputs 3) end.done.l3
   pub decided : DidDecide flow_count opened.arrivals.ports.p4 incoming.decisions end.done.decided
   pub unused : HasPosted opened.requests.ports.p4 [] end.unused_port
-  pub scheduled : DidSchedule opened.requests.mouth end.done.scheduled
-  pub consumed : DidConsumeAll opened.rings.takers.items end.done.consumed.items
+  pub requests_taken : HasTakenAll opened.requests.mouth sent end.done.mouth
+  pub frames_taken : HaveTakenAll opened.rings.takers.items frames end.done.takers.items
   pub places_same : places end.mouth ≡ places opened.arrivals.mouth
   pub ended_all : (sender : ℕ) → sender < senders → ended end.mouth sender ≡ true
   pub rings : map closed_ring end.feeders.items ≡ map feeder_ring opened.rings.feeders.items
-  pub items : List Event
-  pub has_collected : HasCollected (taken opened.arrivals.mouth) (taken end.mouth) end.assembled.order.items items
-  pub has_assembled : HasAssembledAll accepts opened.flows end.assembled.order.items items opened.rings.feeders.items end.feeders.items end.assembled.counts.items
+  pub assembled : HasAssembled accepts (record { flows = opened.flows; order = kept }) opened.rings.feeders.items
+      (taken opened.arrivals.mouth) (taken end.mouth) end.feeders.items end.assembled
+
+module _ {F Q : Type 0} (takes : F → List Given → F → Type 0) (asks : Q → List Given → Q → Type 0) where
+  -- What was opened ran: the consumers were given some frames and requests, and if all threads have done their part, these are all.
+  pub record RanOpened {C : Type 0} (accepts : C → List ℕ → Bool) (flow_count : ℕ) (incoming : Incoming) (opened : Opened C) (kept : Option (Vec ℕ Global)) (consumers : Consumers F Q) (ran : Consumers F Q × Option Ended) : Type 0 where
+    pub frames : List Given
+    pub requests : List Given
+    pub were_given : WereGiven takes asks consumers.consumer consumers.scheduler frames requests ran.0.consumer ran.0.scheduler
+    pub has_ended : IfSome ran.1 (λ end. (sent : List Sent) × (requests ≡ given_of sent) × HasEnded accepts flow_count incoming opened kept frames sent end)
+
+  -- The consumers were given some frames and requests, and if all threads have done their part, these are with what was counted the one-thread answer for
+  -- some order, which was kept if one was to be kept.
+  pub record HasRun (rule : LossRule) (check : List ℕ → Bool) (setup : Setup) (incoming : Incoming) (kept : Option (Vec ℕ Global)) (consumers : Consumers F Q) (ran : Ran F Q) : Type 0 where
+    pub frames : List Given
+    pub requests : List Given
+    pub were_given : WereGiven takes asks consumers.consumer consumers.scheduler frames requests ran.consumers.consumer ran.consumers.scheduler
+    pub answers : IfSome ran.concluded (λ concluded. (order : List ℕ) × HasOrder kept order concluded.order
+        × IsAnswerBy rule check setup incoming order frames requests concluded.counts.items concluded.lanes)
 
 -- the closed ports of the two mailboxes
 abbrev pub closed_arrivals : Ended → ClosedPorts Item
@@ -90,32 +106,21 @@ abbrev pub all_posted : {T : Type 0} → ClosedPorts T → ℕ → List T
 all_posted ports sender =
     slice_index_or (closed_posted ports.p0 ∷ closed_posted ports.p1 ∷ closed_posted ports.p2 ∷ closed_posted ports.p3 ∷ closed_posted ports.p4 ∷ []) sender []
 
--- Both mailboxes and all rings can be settled: the ends of each belong together, all ends were taken, and there are as many of all as flows.
-pub record CanSettle (flow_count : ℕ) (end : Ended) : Type 0 where
+-- Both mailboxes and all rings can be settled: the ends of each belong together, and all ends were taken.
+pub record CanSettle (end : Ended) : Type 0 where
   pub arrivals : closed_addresses (closed_arrivals end) ≡ places end.mouth
-  pub requests : closed_addresses (closed_requests end) ≡ places end.done.scheduled.mouth
+  pub requests : closed_addresses (closed_requests end) ≡ places end.done.mouth
   pub arrivals_ended : (sender : ℕ) → sender < senders → ended end.mouth sender ≡ true
-  pub requests_ended : (sender : ℕ) → sender < senders → ended end.done.scheduled.mouth sender ≡ true
-  pub rings : map closed_ring end.feeders.items ≡ map (λ one. taker_ring one.taker) end.done.consumed.items
-  pub closed : All (λ one. is_closed one.taker ≡ true) end.done.consumed.items
-  pub consumer_count : length end.done.consumed.items ≡ flow_count
-  pub count_of_counts : length end.assembled.counts.items ≡ flow_count
+  pub requests_ended : (sender : ℕ) → sender < senders → ended end.done.mouth sender ≡ true
+  pub rings : map closed_ring end.feeders.items ≡ map taker_ring end.done.takers.items
+  pub closed : All (λ taker. is_closed taker ≡ true) end.done.takers.items
 
--- what each flow gave: these frames and these counts, by the flow's index
-pub record AreFlowsOf (records : List FlowRecord) (frames : List (Vec Bytes Global)) (counts : List FlowCounts) (flows : List FlowOutcome) : Type 0 where
-  pub count : length flows ≡ length records
-  pub each : (k : ℕ) (flow : FlowOutcome) (flow_record : FlowRecord) (given : Vec Bytes Global) (counted : FlowCounts) → slice_get flows k ≡ Some flow
-      → slice_get records k ≡ Some flow_record → slice_get frames k ≡ Some given → slice_get counts k ≡ Some counted
-      → (flow.sfid ≡ flow_record.sfid) × (flow.frames ≡ given) × (flow.counts ≡ counted)
-
--- What is known once all is settled: all that was posted and offered was taken, and the outcome is what was collected.
-pub record HasConcluded (records : List FlowRecord) (end : Ended) (outcome : Outcome) : Type 0 where
+-- What is known once all is settled: all that was posted and offered was taken, and what is concluded is what was counted.
+pub record HasConcluded (end : Ended) (concluded : Concluded) : Type 0 where
   pub arrivals : (sender : ℕ) → sender < senders → taken end.mouth sender ≡ all_posted (closed_arrivals end) sender
-  pub requests : (sender : ℕ) → sender < senders → taken end.done.scheduled.mouth sender ≡ all_posted (closed_requests end) sender
-  pub frames : (k : ℕ) (feeder : ClosedFeeder) (one : Consumed) → slice_get end.feeders.items k ≡ Some feeder → slice_get end.done.consumed.items k ≡ Some one
-      → takers.taken one.taker ≡ closed_offered feeder
-  pub flows : AreFlowsOf records (map (λ one. one.frames) end.done.consumed.items) end.assembled.counts.items outcome.flows.items
-  pub request_lists : length outcome.requests ≡ channel_limit
-  pub requests_are : outcome.requests ≡ end.done.scheduled.requests
-  pub lanes_are : outcome.lanes ≡ end.done.l0.report ∷ end.done.l1.report ∷ end.done.l2.report ∷ end.done.l3.report ∷ []
-  pub order_is : outcome.order ≡ end.assembled.order
+  pub requests : (sender : ℕ) → sender < senders → taken end.done.mouth sender ≡ all_posted (closed_requests end) sender
+  pub frames : (k : ℕ) (feeder : ClosedFeeder) (taker : Taker) → slice_get end.feeders.items k ≡ Some feeder → slice_get end.done.takers.items k ≡ Some taker
+      → takers.taken taker ≡ closed_offered feeder
+  pub counts_are : concluded.counts ≡ end.assembled.counts
+  pub lanes_are : concluded.lanes ≡ end.done.l0.report ∷ end.done.l1.report ∷ end.done.l2.report ∷ end.done.l3.report ∷ []
+  pub order_is : concluded.order ≡ end.assembled.order

@@ -33,7 +33,7 @@ impl Meeting {
     }
 
     /// One party more is there. Each comes once.
-    fn come(&self) {
+    pub fn come(&self) {
         self.came.fetch_add(1, Ordering::SeqCst);
     }
 

@@ -8,7 +8,7 @@ use Rattle.uplink.proofs.assembler.assemble.Goals as goal
 pub close_flows-done-requires : goal.close_flows-done-requires
 close_flows-done-requires g c =
     let taking = c.take_items-taking in
-    in-use g.C.HeaderCheck.accepts c.args.flows (record { feeders = c.args.feeders; whole = true; told = c.offered.result }) (taken c.args.mouth) (taken taking.new.mouth) taking.new.feeding
+    in-use g.C.HeaderCheck.accepts c.args.taking (record { feeders = c.args.feeders; whole = true; told = c.offered.result }) (taken c.args.mouth) (taken taking.new.mouth) taking.new.feeding
     c.requires.in_use taking.result taking.ensures.so_far
 
 pub returns-clause-done : goal.returns-clause-done
@@ -16,5 +16,5 @@ returns-clause-done g c =
     let first : Feeding = record { feeders = c.args.feeders; whole = true; told = c.offered.result } in
     let taking = c.take_items-taking in
     let closing = c.close_flows-done in
-    assembled g.C.HeaderCheck.accepts c.args.flows first (taken c.args.mouth) (taken taking.new.mouth) taking.new.feeding c.requires.in_use closing.new.feeding
+    assembled g.C.HeaderCheck.accepts c.args.taking first (taken c.args.mouth) (taken taking.new.mouth) taking.new.feeding c.requires.in_use closing.new.feeding
     c.close_feeders-feeders.result.items c.close_feeders-feeders.ensures.offered taking.result closing.result taking.ensures.so_far closing.ensures.closes closing.ensures.whole

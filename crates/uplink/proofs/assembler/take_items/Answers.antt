@@ -10,14 +10,13 @@ loop-init g c =
     record {
       places_are = refl;
       rings = refl;
-      so_far = begins g.C.HeaderCheck.accepts c.args.flows c.args.feeding.now (taken c.args.mouth.now)
-          (record { flows = c.args.flows; order = c.new.result }) refl c.new.ensures.items;
+      so_far = begins g.C.HeaderCheck.accepts c.args.taking c.args.feeding.now (taken c.args.mouth.now);
     }
 
 pub with_item-taking-requires : goal.with_item-taking-requires
 with_item-taking-requires g c =
     let loop = c.loop in
-    in-use g.C.HeaderCheck.accepts c.args.flows c.args.feeding.now (taken c.args.mouth.now) (taken loop.mouth) loop.feeding c.requires loop.taking loop.invariant.so_far
+    in-use g.C.HeaderCheck.accepts c.args.taking c.args.feeding.now (taken c.args.mouth.now) (taken loop.mouth) loop.feeding c.requires loop.taking loop.invariant.so_far
 
 pub loop-preserved-in-Item : goal.loop-preserved-in-Item
 loop-preserved-in-Item g c =
@@ -26,7 +25,7 @@ loop-preserved-in-Item g c =
     record {
       places_are = search rules;
       rings = search rules;
-      so_far = item-made g.C.HeaderCheck.accepts c.args.flows c.args.feeding.now (taken c.args.mouth.now) (taken loop.mouth)
+      so_far = item-made g.C.HeaderCheck.accepts c.args.taking c.args.feeding.now (taken c.args.mouth.now) (taken loop.mouth)
           (taken c.next-in-loop.new.self) loop.feeding c.with_item-taking.new.feeding c.in-Item.from c.in-Item.item loop.taking c.with_item-taking.result
           takes.five takes.taken_is c.with_item-taking.ensures.takes loop.invariant.so_far;
     }
@@ -37,7 +36,7 @@ loop-preserved-in-End g c =
     record {
       places_are = search rules;
       rings = loop.invariant.rings;
-      so_far = nothing-made g.C.HeaderCheck.accepts c.args.flows c.args.feeding.now (taken c.args.mouth.now) (taken loop.mouth)
+      so_far = nothing-made g.C.HeaderCheck.accepts c.args.taking c.args.feeding.now (taken c.args.mouth.now) (taken loop.mouth)
           (taken c.next-in-loop.new.self) loop.feeding loop.feeding loop.taking c.in-End.ensures.takes.taken_is (none-offered loop.feeding) loop.invariant.so_far;
     }
 
@@ -47,6 +46,6 @@ loop-preserved g c =
     record {
       places_are = search rules;
       rings = c.flush.ensures.rings ∙ loop.invariant.rings;
-      so_far = nothing-made g.C.HeaderCheck.accepts c.args.flows c.args.feeding.now (taken c.args.mouth.now) (taken loop.mouth)
+      so_far = nothing-made g.C.HeaderCheck.accepts c.args.taking c.args.feeding.now (taken c.args.mouth.now) (taken loop.mouth)
           (taken c.next-in-loop.new.self) loop.feeding c.flush.new.self loop.taking c.in-Empty.ensures.takes.taken_is c.flush.ensures loop.invariant.so_far;
     }

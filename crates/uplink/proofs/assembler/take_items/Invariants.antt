@@ -10,5 +10,5 @@ invariant-loop g l =
     record {
       places_are : places l.mouth ≡ places l.fn.mouth;
       rings : rings_of l.feeding ≡ rings_of l.fn.feeding;
-      so_far : IfSome l.taking (λ made. HasAssembledSoFar g.C.HeaderCheck.accepts l.fn.flows l.fn.feeding (taken l.fn.mouth) (taken l.mouth) made l.feeding);
+      so_far : IfSome l.taking (λ made. HasAssembledSoFar g.C.HeaderCheck.accepts l.fn.taking l.fn.feeding (taken l.fn.mouth) (taken l.mouth) made l.feeding);
     }

@@ -1,8 +1,10 @@
--- All that was opened is settled, and the outcome follows from what the threads have done.
-use Rattle.std.proofs.Common.{◌∷◌, [], length, sym, subst, ◌∙◌}
+-- What was collected is the outcome, which follows from what the receiver gave.
+use Rattle.std.proofs.Common.{Some, ◌∷◌, [], length, sym, subst, ◌∙◌}
+use Rattle.consumer.specs.Collecting.{HasNothing, HasCollected}
 use Rattle.receiver.specs.Items.{Incoming, incoming_from}
-use Rattle.uplink.specs.Inside.Running.{HasEnded, CanSettle, HasConcluded}
-use Rattle.uplink.proofs.RunOutcome.{can-settle, outcome-of-run}
+use Rattle.uplink.specs.Inside.Collected.{CanBeMade, IsMadeOf}
+use Rattle.uplink.specs.Inside.Running.{HasRun}
+use Rattle.uplink.proofs.CollectedOutcome.{can-be-made, outcome-of-collected}
 use Rattle.uplink.proofs.eight_threads.run_by.Given.{Over}
 use Rattle.uplink.proofs.eight_threads.run_by.Goals as goal
 use Rattle.uplink.proofs.eight_threads.run_by.Goals.{After-deref}
@@ -14,31 +16,38 @@ incoming g c =
     incoming_from (g.S0.Source.gives sources.s0 ∷ g.S1.Source.gives sources.s1 ∷ g.S2.Source.gives sources.s2 ∷ g.S3.Source.gives sources.s3 ∷ [])
     (g.D.Decisions.decides c.args.decisions)
 
--- the threads have returned, and there are as many flows as the setup has
-ended : (g : Over) (c : After-deref g)
-    → HasEnded g.C.HeaderCheck.accepts (length c.args.setup.flows.items) (incoming g c) c.in_ok-opened.opened c.in_ok-end.end
-ended g c =
-    subst (λ count. HasEnded g.C.HeaderCheck.accepts count (incoming g c) c.in_ok-opened.opened c.in_ok-end.end)
-    (c.len-flow_count.ensures ∙ c.args.setup.flows.ok.0) c.in_ok-end.ensures
+-- it ran, from nothing kept on
+record Ran (g : Over) (c : After-deref g) : Type 0 where
+  pub run : HasRun (λ start given now. HasCollected start.collected given now.collected) (λ start given now. HasCollected start.collected given now.collected)
+      c.args.rule (g.C.HeaderCheck.accepts c.args.check) c.args.setup (incoming g c) (Some c.new.result) c.in_ok-consumers.consumers c.run_prepared-ran.result
+  pub no_frames : HasNothing (length c.args.setup.flows.items) 0 c.in_ok-consumers.consumers.consumer.collected
 
-pub conclude-requires : goal.conclude-requires
-conclude-requires g c =
-    let accepts = g.C.HeaderCheck.accepts in
-    subst (λ records. CanSettle (length records) c.in_ok-end.end) (sym c.deref.ensures.value)
-    (can-settle accepts (accepts c.args.check) c.args.rule c.args.setup c.in_ok-opened.opened c.in_ok-opened.ensures.opened (incoming g c) c.in_ok-end.end (ended g c))
+ran : (g : Over) (c : After-deref g) → Ran g c
+ran g c = record {
+  run = c.run_prepared-ran.ensures (g.C.HeaderCheck.accepts c.args.check) c.args.rule c.in_ok-opened.ensures.opened;
+  no_frames =
+      subst (λ count. HasNothing count 0 c.in_ok-consumers.consumers.consumer.collected) (c.len.ensures ∙ c.args.setup.flows.ok.0) c.in_ok-consumers.ensures.frames;
+}
+
+pub outcome_of-requires : goal.outcome_of-requires
+outcome_of-requires g c =
+    let has = ran g c in
+    subst (λ records. CanBeMade (length records) c.run_prepared-ran.result) (sym c.deref.ensures.value)
+    (can-be-made c.args.rule (g.C.HeaderCheck.accepts c.args.check) c.args.setup (incoming g c) c.new.result c.new.ensures.items c.in_ok-consumers.consumers
+    c.run_prepared-ran.result has.run has.no_frames c.in_ok-consumers.ensures.requests)
 
 pub returns-clause-answer : goal.returns-clause-answer
 returns-clause-answer g c =
-    let accepts = g.C.HeaderCheck.accepts in
     let before = (goal.at.returns-clause-answer g c).After-deref in
-    let outcome = c.in_ok-conclude.field-0 in
-    outcome-of-run accepts (accepts c.args.check) c.args.rule c.args.setup c.in_ok-opened.opened c.in_ok-opened.ensures.opened (incoming g before) c.in_ok-end.end
-    (ended g before) outcome
-    (subst (λ records. HasConcluded records c.in_ok-end.end outcome) c.deref.ensures.value c.in_ok-conclude.ensures)
+    let has = ran g before in
+    let outcome = c.in_ok-outcome_of.field-0 in
+    outcome-of-collected c.args.rule (g.C.HeaderCheck.accepts c.args.check) c.args.setup (incoming g before) c.new.result c.new.ensures.items c.in_ok-consumers.consumers
+    c.run_prepared-ran.result has.run has.no_frames c.in_ok-consumers.ensures.requests outcome
+    (subst (λ records. IsMadeOf records c.run_prepared-ran.result outcome) c.deref.ensures.value c.in_ok-outcome_of.ensures)
 
 pub returns-clause-headline : goal.returns-clause-headline
 returns-clause-headline g c =
     let check = g.C.HeaderCheck.accepts c.args.check in
     let before = (goal.at.returns-clause-headline g c).After-deref in
-    let outcome = c.in_ok-conclude.field-0 in
+    let outcome = c.in_ok-outcome_of.field-0 in
     c.consumers_take_the_delivery_sequence.ensures.by_rule c.args.rule check c.args.setup (incoming g before) outcome.order.items outcome (returns-clause-answer g c)

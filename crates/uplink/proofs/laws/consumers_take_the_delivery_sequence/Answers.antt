@@ -1,17 +1,19 @@
-use Rattle.std.proofs.Common.{◌≡◌, ◌++◌, ℕ, Bool, List, [], append_assoc, sym, subst, ap, ◌∙◌}
+use Rattle.std.proofs.Common.{◌≡◌, ◌++◌, ℕ, Bool, List, [], append_assoc, sym, subst, ap, ◌∙◌, arith}
 use Rattle.std.proofs.lemmas.List.{append-nil}
-use Rattle.std.proofs.lemmas.Option.{same_Some}
+use Rattle.std.proofs.lemmas.Option.{same_Some, slice_get_within}
+use Rattle.docsis_wire.proofs.StreamPlaces.{element_at}
 use Rattle.delivery.specs.Feeders.{closed_offered}
 use Rattle.delivery.specs.Takers.{taken}
 use Rattle.docsis_wire.specs.declared.segment.Segment.{Segment}
 use Rattle.docsis_wire.specs.Cut.{IsLawfulCut}
 use Rattle.flow_records.specs.declared.record.FlowRecord.{FlowRecord}
+use Rattle.flow_core.specs.declared.counts.FlowCounts.{FlowCounts}
+use Rattle.consumer.specs.Given.{frames_of}
 use Rattle.flow_core.specs.Closing.{IsAllKept}
 use Rattle.flow_core.specs.Events.{FlowEvent}
 use Rattle.flow_core.specs.Near.{AreNear}
 use Rattle.ccf.specs.Filter.{FiltersTo}
-use Rattle.receiver.specs.Outcome.{IsOutcomeOfFlow}
-use Rattle.receiver.specs.declared.outcome.FlowOutcome.{FlowOutcome}
+use Rattle.receiver.specs.Outcome.{GivesAtItsClose, IsOutcomeOfFlow}
 use Rattle.receiver.specs.Items.{events_at, items_of}
 use Rattle.receiver.specs.Ruled.{ruled_flow, comings_at}
 use Rattle.receiver.proofs.MergedLists.{merge-lawful}
@@ -22,20 +24,20 @@ use Rattle.uplink.proofs.laws.consumers_take_the_delivery_sequence.Goals.{After-
 -- what a closed flow gave is the delivery sequence of its events, with the gaps of its close
 module _ (c : After-ruled_events_are_one) (check : List ℕ → Bool) (fill : ℕ) (r : FlowRecord) (frames chunks : List (List ℕ)) (segments : List Segment)
     (cut : IsLawfulCut check frames r.first fill chunks segments) (events : List FlowEvent) (near : AreNear r.first r.window segments events)
-    (flow : FlowOutcome) (gave : IsOutcomeOfFlow check r events flow) where
-  all-kept : FiltersTo (IsAllKept frames chunks gave.gives.outcome.fates) frames flow.frames.items
+    (given : List (List ℕ)) (counts : FlowCounts) (gives : GivesAtItsClose check r events given counts) where
+  all-kept : FiltersTo (IsAllKept frames chunks gives.outcome.fates) frames given
   all-kept =
-      c.closed_flow_gives_the_frames_that_were_all_kept.ensures check frames chunks fill gave.gives.n segments r events flow.frames.items flow.counts cut near
-      gave.gives.outcome gave.gives.closed
+      c.closed_flow_gives_the_frames_that_were_all_kept.ensures check frames chunks fill gives.n segments r events given counts cut near
+      gives.outcome gives.closed
 
-  took-all : TookTheDeliverySequence frames chunks r events flow.frames.items
+  took-all : TookTheDeliverySequence frames chunks r events given
   took-all = record {
-    gaps = gave.gives.n;
-    answers = gave.gives.outcome.answers;
-    fates = gave.gives.outcome.fates;
-    after = gave.gives.outcome.after;
-    closed = gave.gives.closed;
-    sequence = (c.closed_flow_has_come_past_all_kept.ensures.sequence frames chunks flow.frames.items gave.gives.outcome.fates gave.gives.closed).1 all-kept;
+    gaps = gives.n;
+    answers = gives.outcome.answers;
+    fates = gives.outcome.fates;
+    after = gives.outcome.after;
+    closed = gives.closed;
+    sequence = (c.closed_flow_has_come_past_all_kept.ensures.sequence frames chunks given gives.outcome.fates gives.closed).1 all-kept;
     all_kept = all-kept;
   }
 
@@ -49,7 +51,7 @@ returns-clause-headline c = λ check setup incoming order outcome is.
           let events = events_at k is.intake.items in
           let found = is.flows.each k r at in
           let same : found.0 ≡ flow = same_Some found.0 flow (sym found.1 ∙ given) in
-          took-all c check fill r frames chunks segments cut events near flow (subst (IsOutcomeOfFlow check r events) same found.2);
+          took-all c check fill r frames chunks segments cut events near flow.frames.items flow.counts (subst (IsOutcomeOfFlow check r events) same found.2).gives;
       requested = λ channel below. is.requests channel below;
     }
 
@@ -66,9 +68,26 @@ returns-clause-by_rule c = λ rule check setup incoming order outcome is.
           let one : own.events ≡ events =
           (c.ruled_events_are_one.ensures.only rule (ruled_flow setup.sids.items k r) (comings_at k order is.intake.items) own.events events own.lasts lasts own.fates fates
           own.ruled ruled).0 in
-          took-all c check fill r frames chunks segments cut events near flow
-          (subst (λ (e : List FlowEvent). IsOutcomeOfFlow check r e flow) one (subst (IsOutcomeOfFlow check r own.events) same own.gave));
+          took-all c check fill r frames chunks segments cut events near flow.frames.items flow.counts
+          (subst (λ (e : List FlowEvent). IsOutcomeOfFlow check r e flow) one (subst (IsOutcomeOfFlow check r own.events) same own.gave)).gives;
       requested = λ channel below. is.requests channel below;
+    }
+
+pub returns-clause-given : goal.returns-clause-given
+returns-clause-given c = λ rule check setup incoming order frames requests counts lanes is.
+    record {
+      intake = is.intake;
+      lawful = merge-lawful (items_of setup incoming is.intake.answered) order is.intake.items is.intake.merged;
+      delivered = λ k fill r whole chunks segments events lasts fates at ruled cut near.
+          let within = slice_get_within setup.flows.items k r at in
+          let count = element_at counts k (let many = is.flow_count in omega arith) in
+          let own = is.flows k r count.0 at count.1 in
+          let one : own.events ≡ events =
+          (c.ruled_events_are_one.ensures.only rule (ruled_flow setup.sids.items k r) (comings_at k order is.intake.items) own.events events own.lasts lasts own.fates fates
+          own.ruled ruled).0 in
+          took-all c check fill r whole chunks segments cut events near (frames_of k frames) count.0
+          (subst (λ (e : List FlowEvent). GivesAtItsClose check r e (frames_of k frames) count.0) one own.gives);
+      requested = is.requested;
     }
 
 -- what was taken is a prefix of what was offered, that of what the flow gave, that of the delivery sequence so far, and that of a later one

@@ -1,7 +1,6 @@
-use Rattle.std.proofs.Common.{List}
-use Rattle.delivery.specs.declared.taker.Taker.{Taker}
-use Rattle.workers.specs.Inside.Working.{HaveConsumed}
+-- What was taken so far was given to the consumer.
+use Rattle.workers.specs.Inside.Consuming.{HasFed}
 use Rattle.workers.proofs.frame_worker.take_frames.Given as goal
 
 abbrev pub invariant-loop : goal.invariant-loop
-invariant-loop g l = (takers : List Taker) → HaveConsumed takers l.fn.all.items → HaveConsumed takers l.all.items
+invariant-loop g l = HasFed g.F.Consumer.after l.fn.work.takers.items l.fn.work.consumer l.takers.items l.consumer

@@ -1,11 +1,6 @@
--- What was taken since the beginning is kept, unless an allocation failed.
-use Rattle.std.proofs.Common.{◌≡◌, IfSome}
-use Rattle.mailbox.specs.Mouths.{places, taken}
-use Rattle.workers.specs.Inside.Working.{HasKept}
+-- What was taken so far was given to the scheduler.
+use Rattle.workers.specs.Inside.Scheduling.{HasScheduled}
 use Rattle.workers.proofs.request_worker.serve_requests.Given as goal
 
 abbrev pub invariant-loop : goal.invariant-loop
-invariant-loop g l = record {
-  same_places : places l.mouth ≡ places l.fn.mouth;
-  kept : IfSome l.requests (HasKept (taken l.fn.mouth) (taken l.mouth));
-}
+invariant-loop g l = HasScheduled g.Q.Consumer.after l.fn.work.mouth l.fn.work.scheduler l.mouth l.scheduler

@@ -10,10 +10,9 @@ invariant-loop-k l =
     record {
       count : length l.feeders ≡ length l.fn.feeders;
       feeder_rings : map closed_ring l.feeders ≡ map closed_ring l.fn.feeders;
-      taker_rings : map (λ one. taker_ring one.taker) l.consumed ≡ map (λ one. taker_ring one.taker) l.fn.consumed;
+      taker_rings : map taker_ring l.takers ≡ map taker_ring l.fn.takers;
       offered : map closed_offered l.feeders ≡ map closed_offered l.fn.feeders;
-      taken : map (λ one. taken one.taker) l.consumed ≡ map (λ one. taken one.taker) l.fn.consumed;
-      closed : map (λ one. is_closed one.taker) l.consumed ≡ map (λ one. is_closed one.taker) l.fn.consumed;
-      frames : map (λ one. one.frames) l.consumed ≡ map (λ one. one.frames) l.fn.consumed;
-      all_taken : AreTakenBelow l.fn.feeders l.fn.consumed l.k;
+      taken : map taken l.takers ≡ map taken l.fn.takers;
+      closed : map is_closed l.takers ≡ map is_closed l.fn.takers;
+      all_taken : AreTakenBelow l.fn.feeders l.fn.takers l.k;
     }

@@ -1,0 +1,97 @@
+-- What a receiver on threads gave to its consumer and its scheduler as it ran, and what it counted.
+use Rattle.std.specs.Prelude.{◌≡◌, ℕ, ◌<◌, ◌≤◌, Bool, Some, List, [], length, slice_get}
+use Rattle.docsis_wire.specs.declared.segment.Segment.{Segment}
+use Rattle.docsis_wire.specs.Cut.{IsLawfulCut}
+use Rattle.flow_records.specs.declared.record.FlowRecord.{FlowRecord}
+use Rattle.flow_core.specs.declared.counts.FlowCounts.{FlowCounts}
+use Rattle.flow_core.specs.Events.{FlowEvent}
+use Rattle.flow_core.specs.Fates.{Fates}
+use Rattle.flow_core.specs.Near.{AreNear}
+use Rattle.lane.specs.declared.report.LaneReport.{LaneReport}
+use Rattle.lane.specs.Limits.{channel_limit}
+use Rattle.lane.specs.Report.{requests_of, IsReportOf}
+use Rattle.loss_rule.specs.declared.rule.LossRule.{LossRule}
+use Rattle.loss_rule.specs.Rule.{Coming, RuledFlow, Lasts, AreRuled}
+use Rattle.consumer.specs.declared.given.Given.{Given}
+use Rattle.consumer.specs.Given.{frames_of, requests_given}
+use Rattle.receiver.specs.declared.setup.Setup.{Setup}
+use Rattle.receiver.specs.Items.{Incoming, items_of}
+use Rattle.receiver.specs.Intake.{IsIntake}
+use Rattle.receiver.specs.Order.{IsLawfulOrder, lengths_of}
+use Rattle.receiver.specs.Outcome.{GivesAtItsClose}
+use Rattle.receiver.specs.Ruled.{ruled_flow, comings_at}
+use Rattle.workers.specs.Given.{BecameBy}
+use Rattle.uplink.specs.declared.eight_threads.RunFault.TheVariants.{OutOfMemory}
+use Rattle.uplink.specs.declared.receiving.Received.{Received}
+use Rattle.uplink.specs.declared.receiving.ReceiveError.{ReceiveError}
+use Rattle.uplink.specs.Headline.{TookTheDeliverySequence}
+
+-- each frame is of one of so many flows, and nothing else is given
+pub record AreFramesOf (flow_count : ℕ) (frames : List Given) : Type 0 where
+  pub of_flows : (k : ℕ) → flow_count ≤ k → frames_of k frames ≡ []
+  pub no_request : (channel : ℕ) → requests_given channel frames ≡ []
+
+-- each request came on one of the channels, and nothing else is given
+pub record AreRequests (requests : List Given) : Type 0 where
+  pub of_channels : (channel : ℕ) → channel_limit ≤ channel → requests_given channel requests ≡ []
+  pub no_frame : (k : ℕ) → frames_of k requests ≡ []
+
+-- what a flow gave and counted that took the events which by this rule came of all that came to it, and was closed
+pub record IsGivenByRule (rule : LossRule) (check : List ℕ → Bool) (flow : RuledFlow) (flow_record : FlowRecord) (comings : List Coming) (frames : List (List ℕ)) (counts : FlowCounts) : Type 0 where
+  pub events : List FlowEvent
+  pub lasts : Lasts
+  pub fates : Fates
+  pub ruled : AreRuled rule flow comings events lasts fates
+  pub gives : GivesAtItsClose check flow_record events frames counts
+
+-- The one-thread answer by a rule for what comes in, in this order: these frames are given, these requests, these counts of each flow and this report of
+-- each channel.
+pub record IsAnswerBy (rule : LossRule) (check : List ℕ → Bool) (setup : Setup) (incoming : Incoming) (order : List ℕ) (frames requests : List Given) (counts : List FlowCounts) (lanes : List LaneReport) : Type 0 where
+  pub intake : IsIntake setup incoming order
+  pub frames_only : AreFramesOf (length setup.flows.items) frames
+  pub requests_only : AreRequests requests
+  pub flow_count : length counts ≡ length setup.flows.items
+  pub flows : (k : ℕ) (flow_record : FlowRecord) (count : FlowCounts) → slice_get setup.flows.items k ≡ Some flow_record → slice_get counts k ≡ Some count
+      → IsGivenByRule rule check (ruled_flow setup.sids.items k flow_record) flow_record (comings_at k order intake.items) (frames_of k frames) count
+  pub requested : (channel : ℕ) → channel < channel_limit → requests_given channel requests ≡ requests_of (intake.answered channel)
+  pub report_count : length lanes ≡ channel_limit
+  pub reports : (channel : ℕ) (report : LaneReport) → channel < channel_limit → slice_get lanes channel ≡ Some report → IsReportOf (intake.answered channel) report
+
+-- The headline, of what was given for what came in, in this order. The order is a lawful one of all that each channel admits and all decisions that name a
+-- flow. The frames of each flow are its whole delivery sequence, if the flow's segments are those of one lawful cut of a modem's frames and the events that
+-- by the rule come of all that comes to it in that order are near. And the requests of each channel are those of its admitted segments, each once and in
+-- their order.
+pub record GivesTheHeadline (rule : LossRule) (check : List ℕ → Bool) (setup : Setup) (incoming : Incoming) (order : List ℕ) (frames requests : List Given) : Type 0 where
+  pub intake : IsIntake setup incoming order
+  pub lawful : IsLawfulOrder (lengths_of (items_of setup incoming intake.answered)) order
+  pub delivered : (k fill : ℕ) (flow_record : FlowRecord) (whole chunks : List (List ℕ)) (segments : List Segment)
+      (events : List FlowEvent) (lasts : Lasts) (fates : Fates)
+      → slice_get setup.flows.items k ≡ Some flow_record
+      → AreRuled rule (ruled_flow setup.sids.items k flow_record) (comings_at k order intake.items) events lasts fates
+      → IsLawfulCut check whole flow_record.first fill chunks segments
+      → AreNear flow_record.first flow_record.window segments events
+      → TookTheDeliverySequence whole chunks flow_record events (frames_of k frames)
+  pub requested : (channel : ℕ) → channel < channel_limit → requests_given channel requests ≡ requests_of (intake.answered channel)
+
+module _ {F Q : Type 0} (takes : F → List Given → F → Type 0) (asks : Q → List Given → Q → Type 0) where
+  -- the consumer was given these frames, and the scheduler these requests, and nothing else
+  pub record WereGiven (consumer : F) (scheduler : Q) (frames requests : List Given) (consumer' : F) (scheduler' : Q) : Type 0 where
+    pub consumer_became : BecameBy takes consumer frames consumer'
+    pub scheduler_became : BecameBy asks scheduler requests scheduler'
+
+  -- **What was received**: for some lawful order of what came in, what the two were given keeps the headline, and is with what was counted the one-thread
+  -- answer.
+  pub record HasReceived (rule : LossRule) (check : List ℕ → Bool) (setup : Setup) (incoming : Incoming) (consumer : F) (scheduler : Q) (received : Received F Q) : Type 0 where
+    pub order : List ℕ
+    pub frames : List Given
+    pub requests : List Given
+    pub were_given : WereGiven consumer scheduler frames requests received.consumer received.scheduler
+    pub headline : GivesTheHeadline rule check setup incoming order frames requests
+    pub answer : IsAnswerBy rule check setup incoming order frames requests received.flows.items received.lanes
+
+  -- Both come back with a fault. Where the setup can't be run they are as they were handed in.
+  pub record GivesBack (consumer : F) (scheduler : Q) (error : ReceiveError F Q) : Type 0 where
+    pub frames : List Given
+    pub requests : List Given
+    pub were_given : WereGiven consumer scheduler frames requests error.consumer error.scheduler
+    pub untouched : ¬ (error.fault ≡ OutOfMemory) → (error.consumer ≡ consumer) × (error.scheduler ≡ scheduler)

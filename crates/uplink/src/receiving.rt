@@ -1,0 +1,296 @@
+//! A receiver on threads: seven workers beside its caller.
+//!
+//! Four lane workers, one for each channel, and one for the decisions post into the arrivals
+//! mailbox, from which the caller, the assembler, takes. Lane workers post requests into a second
+//! mailbox, from which the worker of requests takes. The assembler offers frames to a ring for each
+//! flow, from which the worker of frames takes.
+ghost use Rattle.std.specs.Prelude.{◌≡◌, ◌≢◌, ◌∷◌, [], Bool, ℕ, List, Some, IfOk, IfErr};
+ghost use Rattle.loss_rule.specs.declared.rule.LossRule.{LossRule};
+ghost use Rattle.receiver.specs.Items.{incoming_from};
+ghost use Rattle.uplink.specs.declared.finish.Concluded.{Concluded};
+ghost use Rattle.uplink.specs.Faults.{CanRun, IsRunFault};
+ghost use Rattle.uplink.specs.Received.{HasReceived, GivesBack};
+ghost use Rattle.uplink.specs.Inside.Running.{CanStart, RanOpened, HasRun, IsOpened};
+
+use crate::assembler::{AssembledAll, Taking, assemble};
+use crate::eight_threads::{RunFault, check_setup};
+use crate::finish::{Concluded, Ended, Ran, conclude};
+use crate::open::{Opened, open_all};
+use consumer::Consumer;
+use docsis_wire::HeaderCheck;
+use flow_core::FlowCounts;
+use lane::{CHANNELS, LaneReport};
+use loss_rule::LossRule;
+use receiver::Setup;
+use std::alloc::Global;
+use std::sync::Wait;
+use std::thread::Threads;
+use workers::{Consumers, Decisions, Joined, Share, Source, Sources, Work, both_done, start_team};
+
+/// What was received, apart from what the consumer and the scheduler made of it.
+#[derive(Debug, Drop)]
+pub struct Received<F, Q> {
+    /// Who took the frames.
+    pub consumer: F,
+    /// Who took the requests.
+    pub scheduler: Q,
+    /// What was counted of each flow, in the order of the records.
+    pub flows: Vec<FlowCounts>,
+    /// What became of the inputs of the channels 0 to 3.
+    pub lanes: [LaneReport; CHANNELS],
+}
+
+/// Why a receiver doesn't run, or doesn't run to its end, with the two that it was to serve.
+#[derive(Debug, Drop)]
+pub struct ReceiveError<F, Q> {
+    /// The fault, the first that there is.
+    pub fault: RunFault,
+    /// Who was to take the frames.
+    pub consumer: F,
+    /// Who was to take the requests.
+    pub scheduler: Q,
+}
+
+/// Receives on seven threads beside the caller's, until all sources and decisions are used up, and
+/// then closes each flow. Each frame is given to `consumer` on the worker of frames, and each
+/// request to `scheduler` on the worker of requests, as they come: nothing of them is kept, nor the
+/// order in which items were taken. Before a segment is taken, what `rule` says is lost is skipped.
+///
+/// **The headline is its contract** (`received`), of what the two were given: there is an order of
+/// the items of the four channels and of the decisions that name a flow, a lawful one, such that the
+/// frames of each flow are its whole delivery sequence, if its segments are those of one lawful cut
+/// of a modem's frames and its events are near, and the requests of each channel are those of its
+/// admitted segments, each once and in order. The answer is the one that one thread gives by the
+/// rule for that order. Nothing else is given to either.
+///
+/// `Setup` and `Lane`: the first fault of the setup. `NoCapacity`: it has none, and the capacity of
+/// the mailboxes is 0. Then nothing was given. `OutOfMemory`: an allocation failed, in whichever
+/// thread, or a thread could not be started. Before all threads are started no source is asked.
+/// Later the worker of a channel whose allocation failed asks its source for nothing more, and all
+/// others go on to their end. The two come back on every answer. The check is used by the caller's
+/// thread alone. The call waits for its threads, and they for the sources: it returns only if these
+/// end.
+///
+/// What waits for a slow consumer stands in memory without bound, and a report has the number of
+/// each refusal.
+pub fn receive<S0, S1, S2, S3, D, F, Q, C, R>(
+    alloc: Global,
+    rt: R,
+    setup: Setup,
+    rule: LossRule,
+    sources: Sources<S0, S1, S2, S3>,
+    decisions: D,
+    consumer: F,
+    scheduler: Q,
+    check: C,
+) -> Result<Received<F, Q>, ReceiveError<F, Q>>
+where
+    S0: Source + Drop + Send + 'static,
+    S1: Source + Drop + Send + 'static,
+    S2: Source + Drop + Send + 'static,
+    S3: Source + Drop + Send + 'static,
+    D: Decisions + Drop + Send + 'static,
+    F: Consumer + Drop + Send + 'static,
+    Q: Consumer + Drop + Send + 'static,
+    C: HeaderCheck + Drop,
+    R: Threads + Wait + Copy + Send + 'static,
+    ensures received { IfOk result (HasReceived F.after Q.after rule (C.accepts check) setup
+        (incoming_from (S0.gives sources.s0 ∷ S1.gives sources.s1 ∷ S2.gives sources.s2
+        ∷ S3.gives sources.s3 ∷ []) (D.decides decisions)) consumer scheduler) }
+    ensures can_run { IfOk result (λ _. CanRun setup) }
+    ensures fault { IfErr result (λ error. IsRunFault setup error.fault) }
+    ensures given_back { IfErr result (GivesBack F.after Q.after consumer scheduler) }
+{
+    crate::laws::consumers_take_the_delivery_sequence();
+    let opened = match prepare(alloc, rule, &setup, check) {
+        Ok(opened) => opened,
+        Err(fault) => {
+            return Err(ReceiveError {
+                fault,
+                consumer,
+                scheduler,
+            });
+        }
+    };
+    let consumers = Consumers {
+        consumer,
+        scheduler,
+    };
+    let ran = run_prepared(
+        alloc, &rt, &setup, opened, None, sources, decisions, consumers,
+    );
+    received_of(ran)
+}
+
+/// What was received, or that an allocation failed or a thread could not be started.
+fn received_of<F, Q>(ran: Ran<F, Q>) -> Result<Received<F, Q>, ReceiveError<F, Q>>
+    ensures received { IfOk result (λ received. (concluded : Concluded)
+        × (ran.concluded ≡ Some concluded)
+        × (received ≡ record {
+          consumer = ran.consumers.consumer;
+          scheduler = ran.consumers.scheduler;
+          flows = concluded.counts;
+          lanes = concluded.lanes;
+        })) }
+    ensures not { IfErr result (λ error. error ≡ record {
+      fault = RunFault.OutOfMemory;
+      consumer = ran.consumers.consumer;
+      scheduler = ran.consumers.scheduler;
+    }) }
+{
+    let Ran {
+        consumers,
+        concluded,
+    } = ran;
+    let Consumers {
+        consumer,
+        scheduler,
+    } = consumers;
+    let Some(concluded) = concluded else {
+        return Err(ReceiveError {
+            fault: RunFault::OutOfMemory,
+            consumer,
+            scheduler,
+        });
+    };
+    Ok(Received {
+        consumer,
+        scheduler,
+        flows: concluded.counts,
+        lanes: concluded.lanes,
+    })
+}
+
+/// Opens all that a receiver by this rule needs, if its setup can be run.
+pub fn prepare<C: HeaderCheck + Drop>(
+    alloc: Global,
+    rule: LossRule,
+    setup: &Setup,
+    check: C,
+) -> Result<Opened<C>, RunFault>
+    ensures opened { IfOk result (IsOpened C.accepts (C.accepts check) rule setup.now) }
+    ensures can_run { IfOk result (λ _. CanRun setup.now) }
+    ensures fault { IfErr result (IsRunFault setup.now) }
+{
+    check_setup(setup)?;
+    Ok(open_all(alloc, rule, setup, check)?)
+}
+
+/// Runs what was opened for a setup until all threads have returned, and settles it. The order of
+/// the items is appended to `order`, if there is one.
+pub fn run_prepared<S0, S1, S2, S3, D, F, Q, C, R>(
+    alloc: Global,
+    rt: &R,
+    setup: &Setup,
+    opened: Opened<C>,
+    order: Option<Vec<u8>>,
+    sources: Sources<S0, S1, S2, S3>,
+    decisions: D,
+    consumers: Consumers<F, Q>,
+) -> Ran<F, Q>
+where
+    S0: Source + Drop + Send + 'static,
+    S1: Source + Drop + Send + 'static,
+    S2: Source + Drop + Send + 'static,
+    S3: Source + Drop + Send + 'static,
+    D: Decisions + Drop + Send + 'static,
+    F: Consumer + Drop + Send + 'static,
+    Q: Consumer + Drop + Send + 'static,
+    C: HeaderCheck + Drop,
+    R: Threads + Wait + Copy + Send + 'static,
+    requires { (accepted : List ℕ → Bool) × (rule : LossRule)
+        × IsOpened C.accepts accepted rule setup.now opened }
+    ensures { (accepted : List ℕ → Bool) (rule : LossRule)
+        → IsOpened C.accepts accepted rule setup.now opened
+        → HasRun F.after Q.after rule accepted setup.now
+        (incoming_from (S0.gives sources.s0 ∷ S1.gives sources.s1 ∷ S2.gives sources.s2
+        ∷ S3.gives sources.s3 ∷ []) (D.decides decisions)) order consumers result }
+{
+    let flow_count = setup.flows.len();
+    let (consumers, ended) = run_opened(
+        alloc, rt, flow_count, opened, order, sources, decisions, consumers,
+    );
+    let concluded = match ended {
+        Some(end) => Some(conclude(rt, end)),
+        None => None,
+    };
+    Ran {
+        consumers,
+        concluded,
+    }
+}
+
+/// Runs what was opened until all threads have returned. It hands back the consumers, and, unless an
+/// allocation failed or a thread could not be started, what the threads handed on.
+fn run_opened<S0, S1, S2, S3, D, F, Q, C, R>(
+    alloc: Global,
+    rt: &R,
+    flow_count: usize,
+    opened: Opened<C>,
+    order: Option<Vec<u8>>,
+    sources: Sources<S0, S1, S2, S3>,
+    decisions: D,
+    consumers: Consumers<F, Q>,
+) -> (Consumers<F, Q>, Option<Ended>)
+where
+    S0: Source + Drop + Send + 'static,
+    S1: Source + Drop + Send + 'static,
+    S2: Source + Drop + Send + 'static,
+    S3: Source + Drop + Send + 'static,
+    D: Decisions + Drop + Send + 'static,
+    F: Consumer + Drop + Send + 'static,
+    Q: Consumer + Drop + Send + 'static,
+    C: HeaderCheck + Drop,
+    R: Threads + Wait + Copy + Send + 'static,
+    requires opened { CanStart C.accepts opened }
+    ensures { RanOpened F.after Q.after C.accepts flow_count
+        (incoming_from (S0.gives sources.s0 ∷ S1.gives sources.s1 ∷ S2.gives sources.s2
+        ∷ S3.gives sources.s3 ∷ []) (D.decides decisions)) opened order consumers result }
+{
+    let Opened {
+        signals,
+        lanes,
+        flows,
+        rings,
+        closed,
+        arrivals,
+        requests,
+    } = opened;
+    let share = Share {
+        signals,
+        lanes,
+        arrivals: arrivals.ports,
+        requests,
+        takers: rings.takers,
+    };
+    let (work, unused_port) = Work::new(rt, flow_count, share, sources, decisions, consumers);
+    let team = match start_team(alloc, rt, work) {
+        Ok(team) => team,
+        Err(consumers) => return (consumers, None),
+    };
+    let AssembledAll {
+        mouth,
+        feeders,
+        done: assembled,
+    } = assemble(
+        alloc,
+        rt,
+        &team.signals,
+        Taking { flows, order },
+        arrivals.mouth,
+        rings.feeders,
+        closed,
+    );
+    let Joined { consumers, done } = team.join(rt);
+    let ended = match both_done(done, assembled) {
+        Some((done, assembled)) => Some(Ended {
+            done,
+            unused_port,
+            mouth,
+            feeders,
+            assembled,
+        }),
+        None => None,
+    };
+    (consumers, ended)
+}
