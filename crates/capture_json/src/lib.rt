@@ -8,7 +8,8 @@ ghost use Rattle.std.specs.Prelude.{◌≡◌, ◌∷◌, ◌++◌, [], IfOk, ma
 ghost use Rattle.serde_json.specs.View.{view};
 ghost use Rattle.serde_json.specs.Written.{compact_text};
 ghost use Rattle.text_lines.specs.Lines.{line_feed};
-ghost use Rattle.capture_json.specs.Counted.{flow_data, refused_data, channel_data};
+ghost use Rattle.capture_json.specs.Counted.{segments_data, frames_data, flow_data};
+ghost use Rattle.capture_json.specs.Counted.{refused_data, channel_data};
 ghost use Rattle.capture_json.specs.Counted.{passed_data, summary_data};
 
 use capture_summary::{CaptureSummary, ChannelSummary, FlowSummary, PassedCounts, RefusalCounts};
@@ -16,26 +17,45 @@ use lane::Refusal;
 use serde_json::{Value, json};
 use std::alloc::{AllocError, Global};
 
-/// What was counted of a flow.
-fn flow_value(alloc: Global, flow: &FlowSummary) -> Result<Value, AllocError>
-    ensures { IfOk result (λ value. view value ≡ flow_data flow.now) }
+/// What became of the segments of a flow.
+fn segments_value(alloc: Global, flow: &FlowSummary) -> Result<Value, AllocError>
+    ensures { IfOk result (λ value. view value ≡ segments_data flow.now) }
 {
     let counts = &flow.counts;
     json!(in alloc; {
         "beyond": counts.beyond,
-        "encrypted": flow.encrypted,
-        "fcs_right": flow.right,
-        "fcs_wrong": flow.wrong,
-        "frames": counts.frames,
         "kept": counts.kept,
         "late": counts.late,
         "lost": counts.lost,
-        "repeated": counts.repeat,
-        "requests": flow.requests,
+        "repeated": counts.repeat
+    })
+}
+
+/// What is known of the frames of a flow.
+fn frames_value(alloc: Global, flow: &FlowSummary) -> Result<Value, AllocError>
+    ensures { IfOk result (λ value. view value ≡ frames_data flow.now) }
+{
+    json!(in alloc; {
+        "all": flow.counts.frames,
+        "encrypted": flow.encrypted,
+        "fcs_right": flow.right,
+        "fcs_wrong": flow.wrong
+    })
+}
+
+/// What was counted of a flow.
+fn flow_value(alloc: Global, flow: &FlowSummary) -> Result<Value, AllocError>
+    ensures { IfOk result (λ value. view value ≡ flow_data flow.now) }
+{
+    let segments = segments_value(alloc, flow)?;
+    let frames = frames_value(alloc, flow)?;
+    json!(in alloc; {
+        "frames": frames,
+        "requests": {"all": flow.requests, "units": flow.units},
         "restarts": flow.restarts,
+        "segments": segments,
         "sfid": flow.sfid,
-        "skipped": counts.skipped,
-        "units": flow.units
+        "skipped_bytes": flow.counts.skipped
     })
 }
 
