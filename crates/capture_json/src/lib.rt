@@ -4,9 +4,9 @@
 //! there, whatever came of the capture.
 #![tactic(auto)]
 
-ghost use Rattle.std.specs.Prelude.{◌≡◌, ◌∷◌, ◌++◌, [], IfOk, map};
+ghost use Rattle.std.specs.Prelude.{◌≡◌, ◌∷◌, ◌++◌, [], false, IfOk, map};
 ghost use Rattle.serde_json.specs.View.{view};
-ghost use Rattle.serde_json.specs.Written.{compact_text};
+ghost use Rattle.serde_json.specs.Written.{compact_text, has_float};
 ghost use Rattle.text_lines.specs.Lines.{line_feed};
 ghost use Rattle.capture_json.specs.Counted.{segments_data, frames_data, flow_data};
 ghost use Rattle.capture_json.specs.Counted.{refused_data, channel_data};
@@ -149,11 +149,21 @@ fn summary_value(alloc: Global, summary: &CaptureSummary) -> Result<Value, Alloc
     })
 }
 
-/// The text of all that was counted, a line. Otherwise it reports that an allocation failed.
-pub fn summary_json(alloc: Global, summary: &CaptureSummary) -> Result<Vec<u8>, AllocError>
-    ensures { IfOk result (λ text. text.items ≡ compact_text (summary_data summary.now) ++ line_feed ∷ []) }
+/// The text of a value without fractions, a line.
+fn line_of(alloc: Global, value: &Value) -> Result<Vec<u8>, AllocError>
+    requires whole { has_float (view value.now) ≡ false }
+    ensures { IfOk result (λ text. text.items ≡ compact_text (view value.now) ++ line_feed ∷ []) }
 {
-    let mut text = summary_value(alloc, summary)?.to_vec(alloc)?;
+    let mut text = value.to_vec(alloc)?;
     text.push(b'\n')?;
     Ok(text)
+}
+
+/// The text of all that was counted, a line. Otherwise it reports that an allocation failed.
+pub fn summary_json(alloc: Global, summary: &CaptureSummary) -> Result<Vec<u8>, AllocError>
+    ensures { IfOk result (λ text. text.items
+        ≡ compact_text (summary_data summary.now) ++ line_feed ∷ []) }
+{
+    let value = summary_value(alloc, summary)?;
+    line_of(alloc, &value)
 }
