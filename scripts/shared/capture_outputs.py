@@ -109,15 +109,14 @@ def report_of(reading):
 def flow_as_json(reading, index, flow):
     counts = flow.counts()
     requests = [request.units for request in reading.requests if request.flow == index]
-    return counts | {
+    known = {"fcs_right": RIGHT, "fcs_wrong": WRONG, "encrypted": ENCRYPTED}
+    return {
         "sfid": flow.setup.sfid,
-        "repeated": counts.pop("repeat"),
-        "fcs_right": reading.sequences[index, RIGHT],
-        "fcs_wrong": reading.sequences[index, WRONG],
-        "encrypted": reading.sequences[index, ENCRYPTED],
+        "segments": {name: counts[name] for name in ("kept", "late", "beyond", "lost")} | {"repeated": counts["repeat"]},
+        "frames": {"all": counts["frames"]} | {name: reading.sequences[index, kind] for name, kind in known.items()},
+        "skipped_bytes": counts["skipped"],
         "restarts": flow.restarts,
-        "requests": len(requests),
-        "units": sum(requests),
+        "requests": {"all": len(requests), "units": sum(requests)},
     }
 
 

@@ -1,5 +1,5 @@
 -- What was counted of a capture, as JSON. The members of an object are in the order of their names.
-use Rattle.std.specs.Prelude.{ℕ, ◌×◌, List, [], ◌∷◌, map, codes}
+use Rattle.std.specs.Prelude.{ℕ, List, [], ◌∷◌, map, codes}
 use Rattle.serde_json.specs.Data.{Data, Members, object, array, number, unsigned, member, no_members}
 use Rattle.serde_json.specs.View.{items_of}
 use Rattle.lane.specs.declared.refusal.Refusal.TheVariants.{GrantRange, GrantKnown, UnknownSid, TooManyGrants, GrantOutOfMemory, NoGrant, TooLong, BadCheck, TooShort, PointerPast, BurstOutOfMemory}
@@ -18,12 +18,25 @@ numbers_then (one ∷ others) rest = member one.0 (number (unsigned one.1)) (num
 abbrev pub numbers : List (List ℕ × ℕ) → Data
 numbers all = object (numbers_then all no_members)
 
+abbrev pub segments_data : FlowSummary → Data
+segments_data flow = numbers
+    ((codes "beyond", flow.counts.beyond) ∷ (codes "kept", flow.counts.kept) ∷ (codes "late", flow.counts.late) ∷ (codes "lost", flow.counts.lost)
+    ∷ (codes "repeated", flow.counts.repeat) ∷ [])
+
+abbrev pub frames_data : FlowSummary → Data
+frames_data flow = numbers
+    ((codes "all", flow.counts.frames) ∷ (codes "encrypted", flow.encrypted) ∷ (codes "fcs_right", flow.right) ∷ (codes "fcs_wrong", flow.wrong) ∷ [])
+
+abbrev pub requests_data : FlowSummary → Data
+requests_data flow = numbers ((codes "all", flow.requests) ∷ (codes "units", flow.units) ∷ [])
+
 abbrev pub flow_data : FlowSummary → Data
-flow_data flow = numbers
-    ((codes "beyond", flow.counts.beyond) ∷ (codes "encrypted", flow.encrypted) ∷ (codes "fcs_right", flow.right) ∷ (codes "fcs_wrong", flow.wrong)
-    ∷ (codes "frames", flow.counts.frames) ∷ (codes "kept", flow.counts.kept) ∷ (codes "late", flow.counts.late) ∷ (codes "lost", flow.counts.lost)
-    ∷ (codes "repeated", flow.counts.repeat) ∷ (codes "requests", flow.requests) ∷ (codes "restarts", flow.restarts) ∷ (codes "sfid", flow.sfid)
-    ∷ (codes "skipped", flow.counts.skipped) ∷ (codes "units", flow.units) ∷ [])
+flow_data flow = object
+    (member (codes "frames") (frames_data flow)
+    (member (codes "requests") (requests_data flow)
+    (numbers_then ((codes "restarts", flow.restarts) ∷ [])
+    (member (codes "segments") (segments_data flow)
+    (numbers_then ((codes "sfid", flow.sfid) ∷ (codes "skipped_bytes", flow.counts.skipped) ∷ []) no_members)))))
 
 abbrev pub refused_data : RefusalCounts → Data
 refused_data refused = numbers

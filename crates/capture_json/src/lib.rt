@@ -4,11 +4,12 @@
 //! there, whatever came of the capture.
 #![tactic(auto)]
 
-ghost use Rattle.std.specs.Prelude.{◌≡◌, ◌∷◌, ◌++◌, [], IfOk, map};
+ghost use Rattle.std.specs.Prelude.{◌≡◌, ◌∷◌, ◌++◌, [], false, IfOk, map};
 ghost use Rattle.serde_json.specs.View.{view};
-ghost use Rattle.serde_json.specs.Written.{compact_text};
+ghost use Rattle.serde_json.specs.Written.{compact_text, has_float};
 ghost use Rattle.text_lines.specs.Lines.{line_feed};
-ghost use Rattle.capture_json.specs.Counted.{flow_data, refused_data, channel_data};
+ghost use Rattle.capture_json.specs.Counted.{segments_data, frames_data, flow_data};
+ghost use Rattle.capture_json.specs.Counted.{refused_data, channel_data};
 ghost use Rattle.capture_json.specs.Counted.{passed_data, summary_data};
 
 use capture_summary::{CaptureSummary, ChannelSummary, FlowSummary, PassedCounts, RefusalCounts};
@@ -16,26 +17,45 @@ use lane::Refusal;
 use serde_json::{Value, json};
 use std::alloc::{AllocError, Global};
 
-/// What was counted of a flow.
-fn flow_value(alloc: Global, flow: &FlowSummary) -> Result<Value, AllocError>
-    ensures { IfOk result (λ value. view value ≡ flow_data flow.now) }
+/// What became of the segments of a flow.
+fn segments_value(alloc: Global, flow: &FlowSummary) -> Result<Value, AllocError>
+    ensures { IfOk result (λ value. view value ≡ segments_data flow.now) }
 {
     let counts = &flow.counts;
     json!(in alloc; {
         "beyond": counts.beyond,
-        "encrypted": flow.encrypted,
-        "fcs_right": flow.right,
-        "fcs_wrong": flow.wrong,
-        "frames": counts.frames,
         "kept": counts.kept,
         "late": counts.late,
         "lost": counts.lost,
-        "repeated": counts.repeat,
-        "requests": flow.requests,
+        "repeated": counts.repeat
+    })
+}
+
+/// What is known of the frames of a flow.
+fn frames_value(alloc: Global, flow: &FlowSummary) -> Result<Value, AllocError>
+    ensures { IfOk result (λ value. view value ≡ frames_data flow.now) }
+{
+    json!(in alloc; {
+        "all": flow.counts.frames,
+        "encrypted": flow.encrypted,
+        "fcs_right": flow.right,
+        "fcs_wrong": flow.wrong
+    })
+}
+
+/// What was counted of a flow.
+fn flow_value(alloc: Global, flow: &FlowSummary) -> Result<Value, AllocError>
+    ensures { IfOk result (λ value. view value ≡ flow_data flow.now) }
+{
+    let segments = segments_value(alloc, flow)?;
+    let frames = frames_value(alloc, flow)?;
+    json!(in alloc; {
+        "frames": frames,
+        "requests": {"all": flow.requests, "units": flow.units},
         "restarts": flow.restarts,
+        "segments": segments,
         "sfid": flow.sfid,
-        "skipped": counts.skipped,
-        "units": flow.units
+        "skipped_bytes": flow.counts.skipped
     })
 }
 
@@ -129,11 +149,21 @@ fn summary_value(alloc: Global, summary: &CaptureSummary) -> Result<Value, Alloc
     })
 }
 
-/// The text of all that was counted, a line. Otherwise it reports that an allocation failed.
-pub fn summary_json(alloc: Global, summary: &CaptureSummary) -> Result<Vec<u8>, AllocError>
-    ensures { IfOk result (λ text. text.items ≡ compact_text (summary_data summary.now) ++ line_feed ∷ []) }
+/// The text of a value without fractions, a line.
+fn line_of(alloc: Global, value: &Value) -> Result<Vec<u8>, AllocError>
+    requires whole { has_float (view value.now) ≡ false }
+    ensures { IfOk result (λ text. text.items ≡ compact_text (view value.now) ++ line_feed ∷ []) }
 {
-    let mut text = summary_value(alloc, summary)?.to_vec(alloc)?;
+    let mut text = value.to_vec(alloc)?;
     text.push(b'\n')?;
     Ok(text)
+}
+
+/// The text of all that was counted, a line. Otherwise it reports that an allocation failed.
+pub fn summary_json(alloc: Global, summary: &CaptureSummary) -> Result<Vec<u8>, AllocError>
+    ensures { IfOk result (λ text. text.items
+        ≡ compact_text (summary_data summary.now) ++ line_feed ∷ []) }
+{
+    let value = summary_value(alloc, summary)?;
+    line_of(alloc, &value)
 }

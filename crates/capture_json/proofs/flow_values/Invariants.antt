@@ -1,0 +1,8 @@
+use Rattle.std.proofs.Common.{◌≡◌, map, take}
+use Rattle.serde_json.specs.View.{view}
+use Rattle.capture_json.specs.Counted.{flow_data}
+use Rattle.capture_json.proofs.flow_values.Given as goal
+
+-- each one so far
+abbrev pub invariant-loop-flow : goal.invariant-loop-flow
+invariant-loop-flow l = map view l.values.items ≡ map flow_data (take l.flow-index l.flows)
