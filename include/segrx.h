@@ -5,20 +5,21 @@
  * CM-SP-MULPIv3.0, continuous concatenation and fragmentation). It orders each flow's segments,
  * decides or is told which are lost, and gives the MAC frames and the requests for grants.
  *
- * What it gives waits in the receiver until it is asked for, each frame and each request once, in the
- * order in which it was given. No header of a frame is checked.
+ * What it gives waits in the receiver until it is asked for, each frame and each request once, in
+ * the order in which it was given. No header of a frame is checked.
  *
- * Statuses. Each function answers one `enum segrx_status`. A NULL, a length, a channel or a flow out
- * of range is a status, and then nothing was done.
+ * Statuses. Each function answers one `enum segrx_status`. A NULL, a length, a channel or a flow
+ * out of range is a status, and then nothing was done.
  *
- * Pointers. None may be NULL, also where the length is 0. What a pointer points to has to be there for
- * the length that is given, initialized where it is a struct, writable (also behind a `const`: in no
- * section that is read-only), and used by nothing else during the call. It stays the caller's: no
- * pointer is kept after the call, and none is given but a handle. Two pointers of one call may not
- * overlap.
+ * Pointers. None may be NULL, also where the length is 0. What a pointer points to has to be there
+ * for the length that is given, initialized where it is a struct, writable (also behind a `const`:
+ * in no section that is read-only), and used by nothing else during the call. It stays the
+ * caller's: no pointer is kept after the call, and none is given but a handle. Two pointers of one
+ * call may not overlap.
  *
  * Handles. `segrx_receiver_new` gives one and `segrx_receiver_free` takes it: after that, or after
- * copying it and freeing one copy, it may not be passed any more. What it points to is the library's.
+ * copying it and freeing one copy, it may not be passed any more. What it points to is the
+ * library's.
  *
  * Threads. There is no state but that behind handles. A handle is used by one thread at a time, the
  * one that made it; different handles by different threads at once.
@@ -32,7 +33,8 @@
  *     struct segrx_flow flow = {.sfid = 100, .first = 0, .window = 16, .clusters = 2};
  *     struct segrx_row row = {.flow = 0, .sid = 17, .channel = 0};
  *     struct segrx_receiver *receiver = NULL;
- *     enum segrx_status status = segrx_receiver_new(4, &flow, 1, &row, 1, SEGRX_DECIDED, &receiver);
+ *     enum segrx_status status =
+ *         segrx_receiver_new(4, &flow, 1, &row, 1, SEGRX_DECIDED, &receiver);
  *     if (status != SEGRX_OK) return status;
  *     segrx_receiver_grant(receiver, 0, 1, 17, 1500);
  *     segrx_receiver_burst(receiver, 0, 1, true, bytes, count);
@@ -82,12 +84,12 @@ enum segrx_status {
     SEGRX_FLOW_CLOSING = 10,
     /* malloc failed, and the call is to be made again: what was handed in isn't taken. */
     SEGRX_OUT_OF_MEMORY = 11,
-    /* What was handed in is taken, and malloc failed before its flow had given all. The rest is given
-     * by segrx_receiver_go_on, or when the next comes to the flow. */
+    /* What was handed in is taken, and malloc failed before its flow had given all. The rest is
+     * given by segrx_receiver_go_on, or when the next comes to the flow. */
     SEGRX_UNFINISHED = 12,
     /* malloc failed for the place of a frame or a request in the queue: it is missing. The call is
-     * done all the same. From then on each call that hands something in, and each close, answers so,
-     * whether it was done or not, unless it answers SEGRX_NULL, SEGRX_LENGTH_RANGE,
+     * done all the same. From then on each call that hands something in, and each close, answers
+     * so, whether it was done or not, unless it answers SEGRX_NULL, SEGRX_LENGTH_RANGE,
      * SEGRX_UNKNOWN_DECISION or SEGRX_CLOSED: take what waits, and free the receiver. */
     SEGRX_NOT_KEPT = 13,
     /* A burst was admitted, and its segment came when its number had passed. */
@@ -96,13 +98,13 @@ enum segrx_status {
     SEGRX_REPEAT = 15,
     /* A burst was admitted, and the number of its segment is beyond the window. */
     SEGRX_BEYOND = 16,
-    /* More is passed than may be: see the function. Nothing was done. It comes before all others but
-     * SEGRX_NULL, also for too many flows or rows of a setup. */
+    /* More is passed than may be: see the function. Nothing was done. It comes before all others
+     * but SEGRX_NULL, also for too many flows or rows of a setup. */
     SEGRX_LENGTH_RANGE = 17,
 
     /* Of a setup, the first of these that applies, behind SEGRX_UNKNOWN_RULE and from
-     * SEGRX_NO_CHANNELS on: no channel; more than 16; no flow; a flow's field is out of its range, or
-     * its identifier is another flow's; a row's channel or identifier is out of range, or given
+     * SEGRX_NO_CHANNELS on: no channel; more than 16; no flow; a flow's field is out of its range,
+     * or its identifier is another flow's; a row's channel or identifier is out of range, or given
      * before, or its flow isn't. SEGRX_TOO_MANY_FLOWS and SEGRX_FLOW_COUNT are never answered. */
     SEGRX_NO_CHANNELS = 20,
     SEGRX_TOO_MANY_CHANNELS = 21,
@@ -115,17 +117,18 @@ enum segrx_status {
     SEGRX_SAME_SID = 28,
     SEGRX_ROW_OF_NO_FLOW = 29,
 
-    /* A grant is refused, and nothing changed: fewer than 8 bytes or more than 65,535; the number of
-     * one that is outstanding; no such service identifier on the channel; 65,536 are outstanding.
-     * SEGRX_GRANT_OUT_OF_MEMORY is never answered, nor is SEGRX_BURST_OUT_OF_MEMORY below. */
+    /* A grant is refused, and nothing changed: fewer than 8 bytes or more than 65,535; the number
+     * of one that is outstanding; no such service identifier on the channel; 65,536 are
+     * outstanding. SEGRX_GRANT_OUT_OF_MEMORY is never answered, nor is SEGRX_BURST_OUT_OF_MEMORY
+     * below. */
     SEGRX_GRANT_RANGE = 33,
     SEGRX_GRANT_KNOWN = 34,
     SEGRX_UNKNOWN_SID = 35,
     SEGRX_TOO_MANY_GRANTS = 36,
     SEGRX_GRANT_OUT_OF_MEMORY = 37,
-    /* A burst is refused: no such grant is outstanding, and nothing changed; or the grant is spent by
-     * it: more bytes than granted; a wrong check sequence; fewer than 8 bytes; the pointer in its
-     * header isn't below the payload's length. */
+    /* A burst is refused: no such grant is outstanding, and nothing changed; or the grant is spent
+     * by it: more bytes than granted; a wrong check sequence; fewer than 8 bytes; the pointer in
+     * its header isn't below the payload's length. */
     SEGRX_NO_GRANT = 38,
     SEGRX_TOO_LONG = 39,
     SEGRX_BAD_CHECK = 40,
@@ -178,7 +181,7 @@ struct segrx_frame {
 /* A request for grants, from the header of a segment. */
 struct segrx_request {
     size_t flow;       /* the index of its flow */
-    uint16_t units;    /* the queue depth that is asked for, in the flow's request units: 1 to 65,535 */
+    uint16_t units;    /* the queue depth asked for, in the flow's request units: 1 to 65,535 */
     uint16_t sequence; /* the number of the segment, 0 to 8191 */
     uint8_t channel;   /* the channel on which it came */
     uint8_t cluster;   /* the SID cluster, below the flow's count */
@@ -199,36 +202,38 @@ struct segrx_counts {
 struct segrx_receiver;
 
 /* Makes a receiver of this many channels, 1 to 16, for these flows, 1 to 16,384, and these rows, at
- * most 262,144, by this rule. `*receiver` is its handle, and NULL where the status isn't SEGRX_OK. */
+ * most 262,144, by this rule. `*receiver` is its handle, and NULL where the status
+ * isn't SEGRX_OK. */
 enum segrx_status segrx_receiver_new(uint32_t channels, const struct segrx_flow *flows,
                                      size_t flow_count, const struct segrx_row *rows,
                                      size_t row_count, uint32_t rule,
                                      struct segrx_receiver **receiver);
 
-/* Takes a grant of so many bytes, 8 to 65,535 with the segment header, that was made on a channel to
- * a service identifier. The number tells outstanding grants of the channel apart. */
+/* Takes a grant of so many bytes, 8 to 65,535 with the segment header, that was made on a channel
+ * to a service identifier. The number tells outstanding grants of the channel apart. */
 enum segrx_status segrx_receiver_grant(struct segrx_receiver *receiver, size_t channel,
                                        uint32_t number, uint16_t sid, uint32_t bytes);
 
 /* Takes what was received in a grant of the channel: the bytes of one segment, at most 65,535, and
- * whether the check sequence of its header is right. A grant in which nothing was received is ended by
- * no bytes whose check is wrong. The bytes are copied. */
+ * whether the check sequence of its header is right. A grant in which nothing was received is ended
+ * by no bytes whose check is wrong. The bytes are copied. */
 enum segrx_status segrx_receiver_burst(struct segrx_receiver *receiver, size_t channel,
                                        uint32_t grant, bool check_is_right, const uint8_t *bytes,
                                        size_t count);
 
-/* Takes the decision, a segrx_decision, that segments of a flow are lost: for two kinds with a number,
- * 0 to 8191. */
+/* Takes the decision, a segrx_decision, that segments of a flow are lost: for two kinds with a
+ * number, 0 to 8191. */
 enum segrx_status segrx_receiver_decide(struct segrx_receiver *receiver, size_t flow,
                                         uint32_t decision, uint16_t number);
 
-/* Does what SEGRX_UNFINISHED left to be done of a flow. Of no such flow nothing is, and the status is
- * SEGRX_OK. */
+/* Does what SEGRX_UNFINISHED left to be done of a flow. Of no such flow nothing is, and the status
+ * is SEGRX_OK. */
 enum segrx_status segrx_receiver_go_on(struct segrx_receiver *receiver, size_t flow);
 
 /* Tells the first frame that waits. Where the room, of so many bytes, at most 2^31 - 1, is large
  * enough, the frame's bytes are copied to its front, and it waits no more; else the status is
- * SEGRX_ROOM_TOO_SMALL. The bytes are copied so that they are the caller's, whatever is called next. */
+ * SEGRX_ROOM_TOO_SMALL. The bytes are copied so that they are the caller's, whatever is called
+ * next. */
 enum segrx_status segrx_receiver_next_frame(struct segrx_receiver *receiver, uint8_t *room,
                                             size_t capacity, struct segrx_frame *frame);
 
@@ -236,15 +241,15 @@ enum segrx_status segrx_receiver_next_frame(struct segrx_receiver *receiver, uin
 enum segrx_status segrx_receiver_next_request(struct segrx_receiver *receiver,
                                               struct segrx_request *request);
 
-/* Tells what was counted of a flow; once the receiver is closed, up to its close. Between a close that
- * SEGRX_OUT_OF_MEMORY broke off and its end the status is SEGRX_CLOSED. */
+/* Tells what was counted of a flow; once the receiver is closed, up to its close. Between a close
+ * that SEGRX_OUT_OF_MEMORY broke off and its end the status is SEGRX_CLOSED. */
 enum segrx_status segrx_receiver_counts(struct segrx_receiver *receiver, size_t flow,
                                         struct segrx_counts *counts);
 
-/* Closes a flow, gives what it has left to give, tells what was counted of it, and has it begin anew at
- * this number, 0 to 8191. */
-enum segrx_status segrx_receiver_restart(struct segrx_receiver *receiver, size_t flow, uint16_t first,
-                                         struct segrx_counts *counts);
+/* Closes a flow, gives what it has left to give, tells what was counted of it, and has it begin
+ * anew at this number, 0 to 8191. */
+enum segrx_status segrx_receiver_restart(struct segrx_receiver *receiver, size_t flow,
+                                         uint16_t first, struct segrx_counts *counts);
 
 /* Closes all flows, and gives what each has left to give. At SEGRX_OUT_OF_MEMORY it is to be called
  * again. What waits can still be taken. */

@@ -34,6 +34,8 @@ struct receiver {
     uint32_t channels;
     size_t flows;
     uint16_t sequence;
+    /* Whether it was told that something is missing. */
+    bool is_missing;
 };
 
 static struct receiver receivers[RECEIVERS];
@@ -56,6 +58,16 @@ static enum segrx_status told(const char *what, enum segrx_status status, const 
 
 #define TOLD(status, ...) \
     told(__func__, status, (const unsigned char[]){__VA_ARGS__}, sizeof((const unsigned char[]){__VA_ARGS__}))
+
+/* Where something is missing, all that is handed in and each close tell so, from then on. */
+static void keeps_telling(struct receiver *receiver, const char *what, enum segrx_status status) {
+    bool is_before = status == SEGRX_NULL || status == SEGRX_LENGTH_RANGE || status == SEGRX_UNKNOWN_DECISION ||
+                     status == SEGRX_CLOSED;
+    if (receiver->is_missing && status != SEGRX_NOT_KEPT && !is_before) fail(what, status);
+    receiver->is_missing = receiver->is_missing || status == SEGRX_NOT_KEPT;
+}
+
+#define HANDED_IN(receiver, ...) keeps_telling(receiver, __func__, TOLD(__VA_ARGS__))
 
 /* A receiver's handle, or now and then NULL. */
 static struct segrx_receiver *handle_of(const struct receiver *receiver) { return once_in(50) ? NULL : receiver->handle; }
@@ -102,10 +114,11 @@ static void make(struct receiver *receiver) {
 
 static void grant(struct receiver *receiver) {
     uint32_t bytes = once_in(40) ? (uint32_t)below(UINT32_MAX) : 8 + (uint32_t)below(200);
-    TOLD(segrx_receiver_grant(handle_of(receiver), below(receiver->channels + once_in(30)), (uint32_t)below(12),
-                              (uint16_t)below(receiver->flows + once_in(30) * 60000), bytes),
-         SEGRX_OK, SEGRX_NULL, SEGRX_NO_CHANNEL, SEGRX_CLOSED, SEGRX_OUT_OF_MEMORY, SEGRX_NOT_KEPT, SEGRX_GRANT_RANGE,
-         SEGRX_GRANT_KNOWN, SEGRX_UNKNOWN_SID);
+    HANDED_IN(receiver,
+              segrx_receiver_grant(handle_of(receiver), below(receiver->channels + once_in(30)), (uint32_t)below(12),
+                                   (uint16_t)below(receiver->flows + once_in(30) * 60000), bytes),
+              SEGRX_OK, SEGRX_NULL, SEGRX_NO_CHANNEL, SEGRX_CLOSED, SEGRX_OUT_OF_MEMORY, SEGRX_NOT_KEPT, SEGRX_GRANT_RANGE,
+              SEGRX_GRANT_KNOWN, SEGRX_UNKNOWN_SID);
 }
 
 static void burst(struct receiver *receiver) {
@@ -124,24 +137,27 @@ static void burst(struct receiver *receiver) {
     /* A short frame at the front, so that frames are given. */
     if (count >= 16 && once_in(2)) memcpy(bytes + 8, (uint8_t[]){0, 0, 0, 2, 0, 0, 0xaa, 0xbb}, 8);
     if (once_in(60)) said = once_in(2) ? SIZE_MAX : 65536 + below(1000000);
-    TOLD(segrx_receiver_burst(handle_of(receiver), below(receiver->channels + once_in(30)), (uint32_t)below(12), !once_in(30),
-                              once_in(50) ? NULL : bytes, said),
-         SEGRX_OK, SEGRX_NULL, SEGRX_NO_CHANNEL, SEGRX_CLOSED, SEGRX_FLOW_CLOSING, SEGRX_OUT_OF_MEMORY, SEGRX_UNFINISHED,
-         SEGRX_NOT_KEPT, SEGRX_LATE, SEGRX_REPEAT, SEGRX_BEYOND, SEGRX_LENGTH_RANGE, SEGRX_NO_GRANT, SEGRX_TOO_LONG,
-         SEGRX_BAD_CHECK, SEGRX_TOO_SHORT, SEGRX_POINTER_PAST);
+    HANDED_IN(receiver,
+              segrx_receiver_burst(handle_of(receiver), below(receiver->channels + once_in(30)), (uint32_t)below(12),
+                                   !once_in(30), once_in(50) ? NULL : bytes, said),
+              SEGRX_OK, SEGRX_NULL, SEGRX_NO_CHANNEL, SEGRX_CLOSED, SEGRX_FLOW_CLOSING, SEGRX_OUT_OF_MEMORY, SEGRX_UNFINISHED,
+              SEGRX_NOT_KEPT, SEGRX_LATE, SEGRX_REPEAT, SEGRX_BEYOND, SEGRX_LENGTH_RANGE, SEGRX_NO_GRANT, SEGRX_TOO_LONG,
+              SEGRX_BAD_CHECK, SEGRX_TOO_SHORT, SEGRX_POINTER_PAST);
 }
 
 static void decide(struct receiver *receiver) {
     uint16_t number = once_in(20) ? (uint16_t)below(65536) : (uint16_t)((receiver->sequence + below(4)) & 8191);
-    TOLD(segrx_receiver_decide(handle_of(receiver), below(receiver->flows + once_in(20)),
-                               once_in(20) ? (uint32_t)below(UINT32_MAX) : (uint32_t)below(3), number),
-         SEGRX_OK, SEGRX_NULL, SEGRX_NO_FLOW, SEGRX_NUMBER_RANGE, SEGRX_UNKNOWN_DECISION, SEGRX_CLOSED, SEGRX_FLOW_CLOSING,
-         SEGRX_OUT_OF_MEMORY, SEGRX_UNFINISHED, SEGRX_NOT_KEPT);
+    HANDED_IN(receiver,
+              segrx_receiver_decide(handle_of(receiver), below(receiver->flows + once_in(20)),
+                                    once_in(20) ? (uint32_t)below(UINT32_MAX) : (uint32_t)below(3), number),
+              SEGRX_OK, SEGRX_NULL, SEGRX_NO_FLOW, SEGRX_NUMBER_RANGE, SEGRX_UNKNOWN_DECISION, SEGRX_CLOSED, SEGRX_FLOW_CLOSING,
+              SEGRX_OUT_OF_MEMORY, SEGRX_UNFINISHED, SEGRX_NOT_KEPT);
 }
 
 static void go_on(struct receiver *receiver) {
-    TOLD(segrx_receiver_go_on(handle_of(receiver), below(receiver->flows + once_in(20))), SEGRX_OK, SEGRX_NULL, SEGRX_CLOSED,
-         SEGRX_FLOW_CLOSING, SEGRX_OUT_OF_MEMORY, SEGRX_NOT_KEPT);
+    HANDED_IN(receiver,
+              segrx_receiver_go_on(handle_of(receiver), below(receiver->flows + once_in(20))),
+              SEGRX_OK, SEGRX_NULL, SEGRX_CLOSED, SEGRX_FLOW_CLOSING, SEGRX_OUT_OF_MEMORY, SEGRX_NOT_KEPT);
 }
 
 static void next_frame(struct receiver *receiver) {
@@ -177,12 +193,16 @@ static void counts(struct receiver *receiver) {
 static void restart(struct receiver *receiver) {
     struct segrx_counts counts = {0};
     uint16_t first = once_in(20) ? (uint16_t)below(65536) : (uint16_t)(receiver->sequence & 8191);
-    TOLD(segrx_receiver_restart(handle_of(receiver), below(receiver->flows + once_in(20)), first, once_in(50) ? NULL : &counts),
-         SEGRX_OK, SEGRX_NULL, SEGRX_NO_FLOW, SEGRX_NUMBER_RANGE, SEGRX_CLOSED, SEGRX_OUT_OF_MEMORY, SEGRX_NOT_KEPT);
+    HANDED_IN(receiver,
+              segrx_receiver_restart(handle_of(receiver), below(receiver->flows + once_in(20)), first,
+                                     once_in(50) ? NULL : &counts),
+              SEGRX_OK, SEGRX_NULL, SEGRX_NO_FLOW, SEGRX_NUMBER_RANGE, SEGRX_CLOSED, SEGRX_OUT_OF_MEMORY, SEGRX_NOT_KEPT);
 }
 
 static void close_it(struct receiver *receiver) {
-    TOLD(segrx_receiver_close(handle_of(receiver)), SEGRX_OK, SEGRX_NULL, SEGRX_OUT_OF_MEMORY, SEGRX_NOT_KEPT);
+    HANDED_IN(receiver,
+              segrx_receiver_close(handle_of(receiver)),
+              SEGRX_OK, SEGRX_NULL, SEGRX_OUT_OF_MEMORY, SEGRX_NOT_KEPT);
 }
 
 static void free_it(struct receiver *receiver) {
