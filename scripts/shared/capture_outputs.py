@@ -24,10 +24,8 @@ from shared.written_captures import GREATEST_PCAP_TIME, NANOSECONDS, number, pca
 
 LINKS = {"docsis": DOCSIS, "xra": XRA}
 # The refusals of a lane, by their numbers, and the kinds of records that are passed over, as JSON has them.
-REFUSED_NAMES = [
-    *["grant_out_of_range", "grant_known", "unknown_sid", "too_many_grants", "grant_out_of_memory"],
-    *["no_grant", "too_long", "bad_check", "too_short", "pointer_past_the_end", "burst_out_of_memory"],
-]
+REFUSED_GRANT_NAMES = ["out_of_range", "known", "unknown_sid", "too_many", "out_of_memory"]
+REFUSED_BURST_NAMES = ["no_grant", "too_long", "bad_check", "too_short", "pointer_past_the_end", "out_of_memory"]
 PASSED_NAMES = [
     *["cut_short", "malformed", "no_channel_or_sid", "no_segment_header"],
     *["other_link_type", "other_type", "unknown_channel", "unknown_sid"],
@@ -128,7 +126,8 @@ def channel_as_json(reading, channel, lane):
         "bursts": reading.bursts[channel],
         "above_grant": reading.above_grant[channel],
         "admitted": sum(answer == lane.ADMITTED for _, answer, _ in lane.answers),
-        "refused": {name: refused[number] for number, name in enumerate(REFUSED_NAMES, 1)},
+        "refused_grants": {name: refused[number] for number, name in enumerate(REFUSED_GRANT_NAMES, 1)},
+        "refused_bursts": {name: refused[number] for number, name in enumerate(REFUSED_BURST_NAMES, 6)},
     }
 
 

@@ -38,19 +38,23 @@ flow_data flow = object
     (member (codes "segments") (segments_data flow)
     (numbers_then ((codes "sfid", flow.sfid) ∷ (codes "skipped_bytes", flow.counts.skipped) ∷ []) no_members)))))
 
-abbrev pub refused_data : RefusalCounts → Data
-refused_data refused = numbers
-    ((codes "bad_check", count_of_refusal refused BadCheck) ∷ (codes "burst_out_of_memory", count_of_refusal refused BurstOutOfMemory)
-    ∷ (codes "grant_known", count_of_refusal refused GrantKnown) ∷ (codes "grant_out_of_memory", count_of_refusal refused GrantOutOfMemory)
-    ∷ (codes "grant_out_of_range", count_of_refusal refused GrantRange) ∷ (codes "no_grant", count_of_refusal refused NoGrant)
-    ∷ (codes "pointer_past_the_end", count_of_refusal refused PointerPast) ∷ (codes "too_long", count_of_refusal refused TooLong)
-    ∷ (codes "too_many_grants", count_of_refusal refused TooManyGrants) ∷ (codes "too_short", count_of_refusal refused TooShort)
+abbrev pub refused_grants_data : RefusalCounts → Data
+refused_grants_data refused = numbers
+    ((codes "known", count_of_refusal refused GrantKnown) ∷ (codes "out_of_memory", count_of_refusal refused GrantOutOfMemory)
+    ∷ (codes "out_of_range", count_of_refusal refused GrantRange) ∷ (codes "too_many", count_of_refusal refused TooManyGrants)
     ∷ (codes "unknown_sid", count_of_refusal refused UnknownSid) ∷ [])
+
+abbrev pub refused_bursts_data : RefusalCounts → Data
+refused_bursts_data refused = numbers
+    ((codes "bad_check", count_of_refusal refused BadCheck) ∷ (codes "no_grant", count_of_refusal refused NoGrant)
+    ∷ (codes "out_of_memory", count_of_refusal refused BurstOutOfMemory) ∷ (codes "pointer_past_the_end", count_of_refusal refused PointerPast)
+    ∷ (codes "too_long", count_of_refusal refused TooLong) ∷ (codes "too_short", count_of_refusal refused TooShort) ∷ [])
 
 abbrev pub channel_data : ChannelSummary → Data
 channel_data one = object (numbers_then
     ((codes "above_grant", one.above) ∷ (codes "admitted", one.admitted) ∷ (codes "bursts", one.bursts) ∷ (codes "channel", one.channel) ∷ (codes "id", one.id) ∷ [])
-    (member (codes "refused") (refused_data one.refused) no_members))
+    (member (codes "refused_bursts") (refused_bursts_data one.refused)
+    (member (codes "refused_grants") (refused_grants_data one.refused) no_members)))
 
 abbrev pub passed_data : PassedCounts → Data
 passed_data passed = numbers

@@ -9,7 +9,7 @@ ghost use Rattle.serde_json.specs.View.{view};
 ghost use Rattle.serde_json.specs.Written.{compact_text, has_float};
 ghost use Rattle.text_lines.specs.Lines.{line_feed};
 ghost use Rattle.capture_json.specs.Counted.{segments_data, frames_data, flow_data};
-ghost use Rattle.capture_json.specs.Counted.{refused_data, channel_data};
+ghost use Rattle.capture_json.specs.Counted.{refused_grants_data, refused_bursts_data, channel_data};
 ghost use Rattle.capture_json.specs.Counted.{passed_data, summary_data};
 
 use capture_summary::{CaptureSummary, ChannelSummary, FlowSummary, PassedCounts, RefusalCounts};
@@ -59,22 +59,30 @@ fn flow_value(alloc: Global, flow: &FlowSummary) -> Result<Value, AllocError>
     })
 }
 
-/// How often a lane refused something, by reason.
-fn refused_value(alloc: Global, refused: &RefusalCounts) -> Result<Value, AllocError>
-    ensures { IfOk result (λ value. view value ≡ refused_data refused.now) }
+/// How often a lane refused a grant, by reason.
+fn refused_grants_value(alloc: Global, refused: &RefusalCounts) -> Result<Value, AllocError>
+    ensures { IfOk result (λ value. view value ≡ refused_grants_data refused.now) }
+{
+    json!(in alloc; {
+        "known": refused.of(Refusal::GrantKnown),
+        "out_of_memory": refused.of(Refusal::GrantOutOfMemory),
+        "out_of_range": refused.of(Refusal::GrantRange),
+        "too_many": refused.of(Refusal::TooManyGrants),
+        "unknown_sid": refused.of(Refusal::UnknownSid)
+    })
+}
+
+/// How often a lane refused a burst, by reason.
+fn refused_bursts_value(alloc: Global, refused: &RefusalCounts) -> Result<Value, AllocError>
+    ensures { IfOk result (λ value. view value ≡ refused_bursts_data refused.now) }
 {
     json!(in alloc; {
         "bad_check": refused.of(Refusal::BadCheck),
-        "burst_out_of_memory": refused.of(Refusal::BurstOutOfMemory),
-        "grant_known": refused.of(Refusal::GrantKnown),
-        "grant_out_of_memory": refused.of(Refusal::GrantOutOfMemory),
-        "grant_out_of_range": refused.of(Refusal::GrantRange),
         "no_grant": refused.of(Refusal::NoGrant),
+        "out_of_memory": refused.of(Refusal::BurstOutOfMemory),
         "pointer_past_the_end": refused.of(Refusal::PointerPast),
         "too_long": refused.of(Refusal::TooLong),
-        "too_many_grants": refused.of(Refusal::TooManyGrants),
-        "too_short": refused.of(Refusal::TooShort),
-        "unknown_sid": refused.of(Refusal::UnknownSid)
+        "too_short": refused.of(Refusal::TooShort)
     })
 }
 
@@ -82,14 +90,16 @@ fn refused_value(alloc: Global, refused: &RefusalCounts) -> Result<Value, AllocE
 fn channel_value(alloc: Global, one: &ChannelSummary) -> Result<Value, AllocError>
     ensures { IfOk result (λ value. view value ≡ channel_data one.now) }
 {
-    let refused = refused_value(alloc, &one.refused)?;
+    let bursts = refused_bursts_value(alloc, &one.refused)?;
+    let grants = refused_grants_value(alloc, &one.refused)?;
     json!(in alloc; {
         "above_grant": one.above,
         "admitted": one.admitted,
         "bursts": one.bursts,
         "channel": one.channel,
         "id": one.id,
-        "refused": refused
+        "refused_bursts": bursts,
+        "refused_grants": grants
     })
 }
 

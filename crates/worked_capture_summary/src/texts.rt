@@ -316,17 +316,17 @@ fn lines_of_requests_are_read_by_a_reader_of_csv(rt: HostRuntime) -> Result<(), 
 /// All that was counted of a capture of much, as JSON: one line.
 const JSON: &str = "\
 {\"channels\":[{\"above_grant\":1,\"admitted\":307,\"bursts\":310,\"channel\":0,\"id\":5,\
-\"refused\":{\"bad_check\":2,\"burst_out_of_memory\":0,\"grant_known\":0,\
-\"grant_out_of_memory\":0,\"grant_out_of_range\":0,\"no_grant\":0,\
-\"pointer_past_the_end\":1,\"too_long\":0,\"too_many_grants\":0,\"too_short\":0,\
+\"refused_bursts\":{\"bad_check\":2,\"no_grant\":0,\"out_of_memory\":0,\
+\"pointer_past_the_end\":1,\"too_long\":0,\"too_short\":0},\
+\"refused_grants\":{\"known\":0,\"out_of_memory\":0,\"out_of_range\":0,\"too_many\":0,\
 \"unknown_sid\":0}},{\"above_grant\":0,\"admitted\":1,\"bursts\":13,\"channel\":3,\
-\"id\":4294967295,\"refused\":{\"bad_check\":1,\"burst_out_of_memory\":2,\
-\"grant_known\":1,\"grant_out_of_memory\":1,\"grant_out_of_range\":1,\"no_grant\":1,\
-\"pointer_past_the_end\":1,\"too_long\":1,\"too_many_grants\":1,\"too_short\":1,\
+\"id\":4294967295,\"refused_bursts\":{\"bad_check\":1,\"no_grant\":1,\"out_of_memory\":2,\
+\"pointer_past_the_end\":1,\"too_long\":1,\"too_short\":1},\
+\"refused_grants\":{\"known\":1,\"out_of_memory\":1,\"out_of_range\":1,\"too_many\":1,\
 \"unknown_sid\":1}},{\"above_grant\":0,\"admitted\":0,\"bursts\":0,\"channel\":15,\
-\"id\":0,\"refused\":{\"bad_check\":0,\"burst_out_of_memory\":0,\"grant_known\":0,\
-\"grant_out_of_memory\":0,\"grant_out_of_range\":0,\"no_grant\":0,\
-\"pointer_past_the_end\":0,\"too_long\":0,\"too_many_grants\":0,\"too_short\":0,\
+\"id\":0,\"refused_bursts\":{\"bad_check\":0,\"no_grant\":0,\"out_of_memory\":0,\
+\"pointer_past_the_end\":0,\"too_long\":0,\"too_short\":0},\
+\"refused_grants\":{\"known\":0,\"out_of_memory\":0,\"out_of_range\":0,\"too_many\":0,\
 \"unknown_sid\":0}}],\"clock_crowded\":6,\"clock_set_back\":5,\"earlier\":3,\
 \"flows\":[{\"frames\":{\"all\":120,\"encrypted\":4,\"fcs_right\":114,\"fcs_wrong\":2},\
 \"requests\":{\"all\":2,\"units\":65544},\"restarts\":1,\"segments\":{\"beyond\":3,\
