@@ -9,7 +9,8 @@ ghost use Rattle.serde_json.specs.View.{view};
 ghost use Rattle.serde_json.specs.Written.{compact_text, has_float};
 ghost use Rattle.text_lines.specs.Lines.{line_feed};
 ghost use Rattle.capture_json.specs.Counted.{segments_data, frames_data, flow_data};
-ghost use Rattle.capture_json.specs.Counted.{refused_grants_data, refused_bursts_data, channel_data};
+ghost use Rattle.capture_json.specs.Counted.{refused_grants_data, refused_bursts_data};
+ghost use Rattle.capture_json.specs.Counted.{channel_data};
 ghost use Rattle.capture_json.specs.Counted.{passed_data, summary_data};
 
 use capture_summary::{CaptureSummary, ChannelSummary, FlowSummary, PassedCounts, RefusalCounts};
@@ -120,7 +121,7 @@ fn passed_value(alloc: Global, passed: &PassedCounts) -> Result<Value, AllocErro
 }
 
 /// What was counted of these flows.
-fn flow_values(alloc: Global, flows: &[FlowSummary]) -> Result<Vec<Value>, AllocError>
+fn all_flows(alloc: Global, flows: &[FlowSummary]) -> Result<Vec<Value>, AllocError>
     ensures { IfOk result (λ values. map view values.items ≡ map flow_data flows.now) }
 {
     let mut values = Vec::with_capacity(alloc, flows.len())?;
@@ -131,7 +132,7 @@ fn flow_values(alloc: Global, flows: &[FlowSummary]) -> Result<Vec<Value>, Alloc
 }
 
 /// What was counted of these channels.
-fn channel_values(alloc: Global, channels: &[ChannelSummary]) -> Result<Vec<Value>, AllocError>
+fn all_channels(alloc: Global, channels: &[ChannelSummary]) -> Result<Vec<Value>, AllocError>
     ensures { IfOk result (λ values. map view values.items ≡ map channel_data channels.now) }
 {
     let mut values = Vec::with_capacity(alloc, channels.len())?;
@@ -145,8 +146,8 @@ fn channel_values(alloc: Global, channels: &[ChannelSummary]) -> Result<Vec<Valu
 fn summary_value(alloc: Global, summary: &CaptureSummary) -> Result<Value, AllocError>
     ensures { IfOk result (λ value. view value ≡ summary_data summary.now) }
 {
-    let channels = channel_values(alloc, &summary.channels)?;
-    let flows = flow_values(alloc, &summary.flows)?;
+    let channels = all_channels(alloc, &summary.channels)?;
+    let flows = all_flows(alloc, &summary.flows)?;
     let passed = passed_value(alloc, &summary.passed)?;
     json!(in alloc; {
         "channels": channels,

@@ -7,8 +7,8 @@
 //! flow before it began anew. All counts stay at their greatest value.
 //!
 //! In the end [`put_report`] puts the lines of the report, and [`put_summary`] what people read. As
-//! the capture goes on, [`RequestLines`] takes what was requested and makes lines of CSV of it, which
-//! the crate `csv` writes.
+//! the capture goes on, [`RequestLines`] takes what was requested and makes lines of CSV of it, by
+//! the crate `csv`.
 //!
 //! What matters most: a sequence, a count and a text are those of the definitions `sequence_of`,
 //! `with_frame`, `with_refusal`, `with_passed`, `report_text`, `summary_text` and `request_line`.

@@ -44,8 +44,8 @@ fn digits_in(buffer: &mut Buffer, number: u64) -> &[u8]
     buffer.format(number).as_bytes()
 }
 
-/// Lines of requests as CSV, in memory: fields with commas between them, and a line feed behind each
-/// line. They are whole as long as there was memory for all that was put.
+/// Lines of requests as CSV, in memory: fields with commas between them, and a line feed behind
+/// each line. They are whole as long as there was memory for all that was put.
 #[derive(Drop)]
 pub struct RequestLines {
     writer: Writer<Vec<u8>>,
@@ -81,8 +81,8 @@ impl RequestLines {
         self.put_fields(&[b"time", b"channel", b"sid", b"flow", b"cluster", b"units"]);
     }
 
-    /// Puts the line of a request, which a burst of this SID made at this time, in nanoseconds since
-    /// the beginning of 1970. The time that is put is in seconds.
+    /// Puts the line of a request, which a burst of this SID made at this time, in nanoseconds
+    /// since the beginning of 1970. The time that is put is in seconds.
     pub fn put(&mut self, alloc: Global, nanoseconds: u64, sid: u16, request: &Request)
         ensures { HasGained self.old (request_line nanoseconds sid request.now) self.new }
     {

@@ -1,7 +1,7 @@
 use Rattle.std.proofs.Common.{◌≡◌, map, take}
 use Rattle.serde_json.specs.View.{view}
 use Rattle.capture_json.specs.Counted.{flow_data}
-use Rattle.capture_json.proofs.flow_values.Given as goal
+use Rattle.capture_json.proofs.all_flows.Given as goal
 
 -- each one so far
 abbrev pub invariant-loop-flow : goal.invariant-loop-flow
