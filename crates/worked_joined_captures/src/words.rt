@@ -26,6 +26,14 @@ fn words_without_options_are_the_usual(rt: HostRuntime) -> Result<(), Fail> {
     Ok(())
 }
 
+/// Whether this path was read.
+fn is_path(path: &Option<String>, text: &str) -> bool {
+    match path {
+        Some(path) => path.as_str() == text,
+        None => false,
+    }
+}
+
 #[test]
 fn options_are_read(rt: HostRuntime) -> Result<(), Fail> {
     let words = [
@@ -42,6 +50,9 @@ fn options_are_read(rt: HostRuntime) -> Result<(), Fail> {
         "--report",
         "r",
         "--requests=q",
+        "--json",
+        "j",
+        "--picture=p",
     ];
     match read_capture_words(rt.alloc(), &words)? {
         CaptureWords::Capture(asked) => {
@@ -50,7 +61,8 @@ fn options_are_read(rt: HostRuntime) -> Result<(), Fail> {
             assert!(rt; asked.settings.waits.reorder == 3_600_000_000_000);
             assert!(rt; asked.settings.check == InnerCheck::Nothing);
             assert!(rt; asked.settings.link == FrameLink::Xra);
-            assert!(rt; asked.report.is_some() && asked.requests.is_some());
+            assert!(rt; is_path(&asked.report, "r") && is_path(&asked.requests, "q"));
+            assert!(rt; is_path(&asked.json, "j") && is_path(&asked.picture, "p"));
         }
         CaptureWords::Help(_) => return Err("help".into()),
     }
