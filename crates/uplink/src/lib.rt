@@ -43,4 +43,6 @@ pub use receiver::{
 };
 pub use receiving::{ReceiveError, Received, receive};
 pub use tap::{NoTap, Tap, Taps};
-pub use workers::{Decisions, ListDecisions, ListSource, Source, Sources};
+pub use workers::{
+    Decisions, Foreknown, ListDecisions, ListSource, LiveDecisions, LiveSource, Source, Sources,
+};

@@ -9,7 +9,7 @@
 //!
 //! 1. [`open_mailbox`] opens a mailbox, and [`open_rings`] the ring of each flow; [`Signals::new`]
 //!    makes what threads tell each other by: when to begin, and when to wake.
-//! 2. [`Work::new`] gives each worker its part of what was opened. [`Sources`], [`Decisions`] and
+//! 2. [`Work::new`] gives each worker its part of what was opened. [`Sources`], [`LiveDecisions`] and
 //!    [`Consumers`] are what the caller brings.
 //! 3. [`start_team`] starts all workers, and [`Team::join`] waits for them and hands on what they
 //!    have [`Done`]. The consumers come back from both, whatever failed.
@@ -46,6 +46,8 @@ pub use mailboxes::{OpenMailbox, open_mailbox};
 pub use mouth_wait::MouthWait;
 pub use rings::{Rings, open_rings, settle_rings};
 pub use signals::{MailboxSignals, Signals};
-pub use source::{Decisions, ListDecisions, ListSource, Source, Sources};
+pub use source::{
+    Decisions, Foreknown, ListDecisions, ListSource, LiveDecisions, LiveSource, Source, Sources,
+};
 pub use team::{Done, Joined, Team, start_team};
 pub use work::{Lanes, Share, Work};
