@@ -3,9 +3,9 @@ ghost use Rattle.std.specs.Prelude.{◌≡◌, IfOk, IfSome};
 ghost use Rattle.workers.specs.Inside.Working.{DidDecideAll, HasPassedOn};
 
 use crate::item::Item;
+use crate::live_source::LiveDecisions;
 use crate::retry::{close_port, post_item};
 use crate::signals::Signals;
-use crate::source::LiveDecisions;
 use mailbox::{ClosedPort, Port};
 use std::alloc::AllocError;
 use std::snapshot::Snapshot;

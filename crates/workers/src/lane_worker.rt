@@ -7,9 +7,9 @@ ghost use Rattle.workers.specs.Inside.Carried.{carried};
 ghost use Rattle.workers.specs.Inside.Working.{DidServe, HasServedSource};
 
 use crate::item::Item;
+use crate::live_source::LiveSource;
 use crate::retry::{close_port, post_item};
 use crate::signals::Signals;
-use crate::source::LiveSource;
 use flow_records::Event;
 use lane::{Admitted, Answer, Lane, LaneReport, Request, admitted_segment};
 use mailbox::{ClosedPort, Port};

@@ -25,6 +25,7 @@ mod feeders;
 mod frame_worker;
 mod item;
 mod lane_worker;
+mod live_source;
 mod mailboxes;
 mod mouth_wait;
 mod request_worker;
@@ -42,12 +43,11 @@ pub use consumers::Consumers;
 pub use feeders::{close_feeders, flush_all};
 pub use item::Item;
 pub use lane_worker::LaneDone;
+pub use live_source::{Foreknown, LiveDecisions, LiveSource};
 pub use mailboxes::{OpenMailbox, open_mailbox};
 pub use mouth_wait::MouthWait;
 pub use rings::{Rings, open_rings, settle_rings};
 pub use signals::{MailboxSignals, Signals};
-pub use source::{
-    Decisions, Foreknown, ListDecisions, ListSource, LiveDecisions, LiveSource, Source, Sources,
-};
+pub use source::{Decisions, ListDecisions, ListSource, Source, Sources};
 pub use team::{Done, Joined, Team, start_team};
 pub use work::{Lanes, Share, Work};

@@ -6,7 +6,7 @@ use Rattle.flow_records.specs.declared.decision.Decision.{Decision}
 use Rattle.lane.specs.declared.input.Input.{Input}
 use Rattle.receiver.specs.Items.{Incoming, incoming_from}
 use Rattle.receiver.specs.Ruled.{IsOutcomeBy}
-use Rattle.workers.specs.declared.source.Foreknown.{Foreknown}
+use Rattle.workers.specs.declared.live_source.Foreknown.{Foreknown}
 use Rattle.workers.specs.Given.{Yields}
 use Rattle.uplink.specs.Inside.Collected.{CanBeMade, IsMadeOf}
 use Rattle.uplink.specs.Inside.Running.{HasRun}
