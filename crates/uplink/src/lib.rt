@@ -16,8 +16,9 @@
 //! 3. [`run`] gives the [`Outcome`], or says why there is none ([`RunFault`]); its [`Taps`] look on.
 //!
 //! `count_received` in the crate `uses` is a caller that is proved from the contract of [`receive`]
-//! alone, and `run_caller` one of [`run`]. The lanes of the crate
-//! `lane` and the receiver on one thread of the crate `receiver` are re-exported: [`Lane`], [`replay`], [`admitted_order`] and their types.
+//! alone, and `run_caller` one of [`run`]. The lanes of the crate `lane` and the receiver on one
+//! thread of the crate `receiver` are re-exported: [`Lane`], [`replay`], [`admitted_order`] and
+//! their types.
 #![tactic(auto)]
 
 mod assembler;
