@@ -29,7 +29,7 @@ use Rattle.uplink.specs.declared.tapped.Tapped.{Tapped}
 use Rattle.uplink.specs.Received.{IsAnswerBy}
 use Rattle.uplink.specs.Inside.Collected.{frames_in, requests_in, CanBeMade, IsMadeOf}
 use Rattle.uplink.specs.Inside.Offering.{HasOrder}
-use Rattle.uplink.specs.Inside.Running.{HasRun}
+use Rattle.uplink.specs.Inside.Running.{HasRun, ConcludesAnswer}
 
 -- nothing more is collected where nothing is given
 still-nothing : (start : Collected) → HasCollected start [] start
@@ -68,10 +68,10 @@ kept-order first kept order now has empty is =
     let same : has.0 ≡ now = same_Some has.0 now (sym has.1 ∙ is) in
     ap (λ (v : Vec ℕ Global). v.items) (sym same) ∙ has.2 ∙ ap (λ l. l ++ order) empty
 
-module _ {F Q : Type 0} (rule : LossRule) (check : List ℕ → Bool) (setup : Setup) (incoming : Incoming) (first : Vec ℕ Global) (empty : first.items ≡ [])
+module _ {F Q : Type 0} (rule : LossRule) (check : List ℕ → Bool) (setup : Setup) (came_in : Incoming → Type 0) (first : Vec ℕ Global) (empty : first.items ≡ [])
     (consumers : Consumers (Tapped F NoTap) (Tapped NoTap Q)) (ran : Ran (Tapped F NoTap) (Tapped NoTap Q))
     (has : HasRun (λ start given now. HasCollected start.collected given now.collected) (λ start given now. HasCollected start.collected given now.collected)
-    rule check setup incoming (Some first) consumers ran)
+    rule check setup came_in (Some first) consumers ran)
     (no_frames : HasNothing (length setup.flows.items) 0 consumers.consumer.collected) (no_requests : HasNothing 0 channel_limit consumers.scheduler.collected) where
   -- what was collected of the frames, and of the requests
   frames-collected : IsTrue (frames_in ran).whole → AreCollected (length setup.flows.items) 0 has.frames (frames_in ran)
@@ -92,25 +92,22 @@ module _ {F Q : Type 0} (rule : LossRule) (check : List ℕ → Bool) (setup : S
     counts = counted ran.concluded has.answers;
   }
     where
-      counted : (concluded : Option Concluded)
-          → IfSome concluded (λ c. (order : List ℕ) × HasOrder (Some first) order c.order × IsAnswerBy rule check setup incoming order has.frames has.requests c.counts.items c.lanes)
+      counted : (concluded : Option Concluded) → IfSome concluded (ConcludesAnswer rule check setup came_in (Some first) has.frames has.requests)
           → IfSome concluded (λ c. length c.counts.items ≡ length setup.flows.items)
       counted None answers = tt
-      counted (Some c) answers = answers.2.flow_count
+      counted (Some c) answers = answers.answer.flow_count
 
   module _ (outcome : Outcome) (made : IsMadeOf setup.flows.items ran outcome) where
     -- the answer that was concluded
-    answers : (order : List ℕ) × HasOrder (Some first) order made.concluded.order
-        × IsAnswerBy rule check setup incoming order has.frames has.requests made.concluded.counts.items made.concluded.lanes
+    answers : ConcludesAnswer rule check setup came_in (Some first) has.frames has.requests made.concluded
     answers =
-        subst (λ (o : Option Concluded). IfSome o (λ c. (order : List ℕ) × HasOrder (Some first) order c.order
-        × IsAnswerBy rule check setup incoming order has.frames has.requests c.counts.items c.lanes)) made.was has.answers
+        subst (λ (o : Option Concluded). IfSome o (ConcludesAnswer rule check setup came_in (Some first) has.frames has.requests)) made.was has.answers
 
     abbrev order : List ℕ
-    order = answers.0
+    order = answers.order
 
-    abbrev answer : IsAnswerBy rule check setup incoming order has.frames has.requests made.concluded.counts.items made.concluded.lanes
-    answer = answers.2
+    abbrev answer : IsAnswerBy rule check setup answers.incoming order has.frames has.requests made.concluded.counts.items made.concluded.lanes
+    answer = answers.answer
 
     -- what flow k gave, as the outcome says
     flow-is : (k : ℕ) (flow_record : FlowRecord) (flow : FlowOutcome) → slice_get setup.flows.items k ≡ Some flow_record → slice_get outcome.flows.items k ≡ Some flow
@@ -142,11 +139,11 @@ module _ {F Q : Type 0} (rule : LossRule) (check : List ℕ → Bool) (setup : S
     reported channel report below at = answer.reports channel report below (ap (λ l. slice_get l channel) (sym made.lanes_are) ∙ at)
 
     -- it is the one-thread answer
-    pub outcome-of-collected : IsOutcomeBy rule check setup incoming outcome.order.items outcome
+    pub outcome-of-collected : (incoming : Incoming) × came_in incoming × IsOutcomeBy rule check setup incoming outcome.order.items outcome
     outcome-of-collected =
-        let ordered : outcome.order.items ≡ order = kept-order first made.concluded.order order outcome.order answers.1 empty made.order_is in
+        let ordered : outcome.order.items ≡ order = kept-order first made.concluded.order order outcome.order answers.ordered empty made.order_is in
         let collected = requests-collected made.requests_whole in
-        let is : IsOutcomeBy rule check setup incoming order outcome =
+        let is : IsOutcomeBy rule check setup answers.incoming order outcome =
         record {
           intake = answer.intake;
           flows = record {
@@ -163,4 +160,4 @@ module _ {F Q : Type 0} (rule : LossRule) (check : List ℕ → Bool) (setup : S
           reports = reported;
           order_is = ordered;
         } in
-        subst (λ o. IsOutcomeBy rule check setup incoming o outcome) (sym ordered) is
+        (answers.incoming, answers.came, subst (λ o. IsOutcomeBy rule check setup answers.incoming o outcome) (sym ordered) is)

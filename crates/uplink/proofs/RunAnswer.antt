@@ -56,7 +56,7 @@ use Rattle.uplink.specs.declared.finish.Concluded.{Concluded}
 use Rattle.uplink.specs.Received.{AreFramesOf, AreRequests, IsGivenByRule, IsAnswerBy}
 use Rattle.uplink.specs.Inside.Feeding.{offered_to}
 use Rattle.uplink.specs.Inside.Offering.{HasOrder}
-use Rattle.uplink.specs.Inside.Running.{IsOpened, HasEnded, CanSettle, HasConcluded, closed_arrivals, closed_requests, all_posted}
+use Rattle.uplink.specs.Inside.Running.{IsOpened, HasEnded, CanSettle, HasConcluded, ConcludesAnswer, closed_arrivals, closed_requests, all_posted}
 use Rattle.uplink.proofs.FramesOffered.{offered-there}
 use Rattle.uplink.proofs.RequestsByChannel.{AreOnTheirChannels, no-frame, by-channel, none-from}
 
@@ -342,10 +342,12 @@ module _ {C : Type 0} (accepts : C → List ℕ → Bool) (accepted : List ℕ �
       }
 
       -- so it is what the run comes to
-      pub run-answers : (requests : List Given) → requests ≡ given_of sent
-          → (its : List ℕ) × HasOrder kept its concluded.order × IsAnswerBy rule accepted setup incoming its frames requests concluded.counts.items concluded.lanes
-      run-answers requests same = (
-        order,
-        subst (λ (o : Option (Vec ℕ Global)). HasOrder kept order o) (sym settled.order_is) has.assembled.ordered,
-        subst (λ given. IsAnswerBy rule accepted setup incoming order frames given concluded.counts.items concluded.lanes) (sym same) answer-of-run,
-      )
+      pub run-answers : (requests : List Given) → requests ≡ given_of sent → (came_in : Incoming → Type 0) → came_in incoming
+          → ConcludesAnswer rule accepted setup came_in kept frames requests concluded
+      run-answers requests same came_in came = record {
+        incoming = incoming;
+        came = came;
+        order = order;
+        ordered = subst (λ (o : Option (Vec ℕ Global)). HasOrder kept order o) (sym settled.order_is) has.assembled.ordered;
+        answer = subst (λ given. IsAnswerBy rule accepted setup incoming order frames given concluded.counts.items concluded.lanes) (sym same) answer-of-run;
+      }

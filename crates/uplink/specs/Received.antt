@@ -1,5 +1,5 @@
 -- What a receiver on threads gave to its consumer and its scheduler as it ran, and what it counted.
-use Rattle.std.specs.Prelude.{◌≡◌, ℕ, ◌<◌, ◌≤◌, Bool, Some, List, [], length, slice_get}
+use Rattle.std.specs.Prelude.{◌≡◌, ℕ, ◌<◌, ◌≤◌, Bool, Some, List, [], ◌∷◌, length, slice_get}
 use Rattle.docsis_wire.specs.declared.segment.Segment.{Segment}
 use Rattle.docsis_wire.specs.Cut.{IsLawfulCut}
 use Rattle.flow_records.specs.declared.record.FlowRecord.{FlowRecord}
@@ -7,7 +7,9 @@ use Rattle.flow_core.specs.declared.counts.FlowCounts.{FlowCounts}
 use Rattle.flow_core.specs.Events.{FlowEvent}
 use Rattle.flow_core.specs.Fates.{Fates}
 use Rattle.flow_core.specs.Near.{AreNear}
+use Rattle.lane.specs.declared.input.Input.{Input}
 use Rattle.lane.specs.declared.report.LaneReport.{LaneReport}
+use Rattle.flow_records.specs.declared.decision.Decision.{Decision}
 use Rattle.lane.specs.Limits.{channel_limit}
 use Rattle.lane.specs.Report.{requests_of, IsReportOf}
 use Rattle.loss_rule.specs.declared.rule.LossRule.{LossRule}
@@ -15,7 +17,7 @@ use Rattle.loss_rule.specs.Rule.{Coming, RuledFlow, Lasts, AreRuled}
 use Rattle.consumer.specs.declared.given.Given.{Given}
 use Rattle.consumer.specs.Given.{frames_of, requests_given}
 use Rattle.receiver.specs.declared.setup.Setup.{Setup}
-use Rattle.receiver.specs.Items.{Incoming, items_of}
+use Rattle.receiver.specs.Items.{Incoming, incoming_from, items_of}
 use Rattle.receiver.specs.Intake.{IsIntake}
 use Rattle.receiver.specs.Order.{IsLawfulOrder, lengths_of}
 use Rattle.receiver.specs.Outcome.{GivesAtItsClose}
@@ -25,6 +27,20 @@ use Rattle.uplink.specs.declared.eight_threads.RunFault.TheVariants.{OutOfMemory
 use Rattle.uplink.specs.declared.receiving.Received.{Received}
 use Rattle.uplink.specs.declared.receiving.ReceiveError.{ReceiveError}
 use Rattle.uplink.specs.Headline.{TookTheDeliverySequence}
+
+-- what came in is what the sources of the four channels, and the decisions, gave
+pub record CameFrom (g0 g1 g2 g3 : List Input → Type 0) (decided : List Decision → Type 0) (incoming : Incoming) : Type 0 where
+  pub i0 : List Input
+  pub i1 : List Input
+  pub i2 : List Input
+  pub i3 : List Input
+  pub decisions : List Decision
+  pub incoming_is : incoming ≡ incoming_from (i0 ∷ i1 ∷ i2 ∷ i3 ∷ []) decisions
+  pub gave0 : g0 i0
+  pub gave1 : g1 i1
+  pub gave2 : g2 i2
+  pub gave3 : g3 i3
+  pub gave_decisions : decided decisions
 
 -- each frame is of one of so many flows, and nothing else is given
 pub record AreFramesOf (flow_count : ℕ) (frames : List Given) : Type 0 where
@@ -81,7 +97,9 @@ module _ {F Q : Type 0} (takes : F → List Given → F → Type 0) (asks : Q �
 
   -- **What was received**: for some lawful order of what came in, what the two were given keeps the headline, and is with what was counted the one-thread
   -- answer.
-  pub record HasReceived (rule : LossRule) (check : List ℕ → Bool) (setup : Setup) (incoming : Incoming) (consumer : F) (scheduler : Q) (received : Received F Q) : Type 0 where
+  pub record HasReceived (rule : LossRule) (check : List ℕ → Bool) (setup : Setup) (came_in : Incoming → Type 0) (consumer : F) (scheduler : Q) (received : Received F Q) : Type 0 where
+    pub incoming : Incoming
+    pub came : came_in incoming
     pub order : List ℕ
     pub frames : List Given
     pub requests : List Given

@@ -20,7 +20,7 @@ use std::alloc::{AllocError, Global};
 use std::sync::Wait;
 use std::thread::Threads;
 use thiserror::Error;
-use workers::{Decisions, Source, Sources};
+use workers::{Decisions, Foreknown, Source, Sources};
 
 /// Why a receiver doesn't run. The first of these is reported.
 #[derive(Clone, Copy, Debug, PartialEq, Eq, Error)]
@@ -180,7 +180,14 @@ where
     let consumers = tapping(alloc, setup.flows.len(), taps)?;
     let order = Some(Vec::new(alloc));
     let ran = run_prepared(
-        alloc, &rt, &setup, opened, order, sources, decisions, consumers,
+        alloc,
+        &rt,
+        &setup,
+        opened,
+        order,
+        sources.foreknown(),
+        Foreknown(decisions),
+        consumers,
     );
     Ok(outcome_of(alloc, &setup.flows, ran)?)
 }

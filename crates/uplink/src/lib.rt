@@ -1,10 +1,10 @@
 //! The receiver on threads, and all that it stands on: an upstream of four channels.
 //!
-//! [`receive`] receives what four [`Source`]s and [`Decisions`] give, and gives each frame to one
-//! [`Consumer`] and each request to another as they come: four lane workers, one for the decisions,
-//! one that takes requests and one that takes frames, beside the caller, which is the assembler. Its
-//! clause `received` is the sentence that the whole project serves, of what the two were given; what
-//! was taken earlier is a law,
+//! [`receive`] receives what four [`LiveSource`]s and [`LiveDecisions`] give, and gives each frame to
+//! one [`Consumer`] and each request to another as they come: four lane workers, one for the
+//! decisions, one that takes requests and one that takes frames, beside the caller, which is the
+//! assembler. Its clause `received` is the sentence that the whole project serves, of what the two
+//! were given; what was taken earlier is a law,
 //! [`consumers_take_the_delivery_sequence`](laws::consumers_take_the_delivery_sequence). [`run`]
 //! does the same with consumers that keep everything.
 //!
@@ -15,9 +15,10 @@
 //!    fault ([`ReceiveError`]).
 //! 3. [`run`] gives the [`Outcome`], or says why there is none ([`RunFault`]); its [`Taps`] look on.
 //!
-//! `receive` in the crate `uses` is a caller that is proved from this contract alone. The lanes of
-//! the crate `lane` and the receiver on one thread of the crate `receiver` are re-exported:
-//! [`Lane`], [`replay`], [`admitted_order`] and their types.
+//! `count_received` in the crate `uses` is a caller that is proved from the contract of [`receive`]
+//! alone, and `run_caller` one of [`run`]. The lanes of the crate `lane` and the receiver on one
+//! thread of the crate `receiver` are re-exported: [`Lane`], [`replay`], [`admitted_order`] and
+//! their types.
 #![tactic(auto)]
 
 mod assembler;
@@ -43,4 +44,6 @@ pub use receiver::{
 };
 pub use receiving::{ReceiveError, Received, receive};
 pub use tap::{NoTap, Tap, Taps};
-pub use workers::{Decisions, ListDecisions, ListSource, Source, Sources};
+pub use workers::{
+    Decisions, Foreknown, ListDecisions, ListSource, LiveDecisions, LiveSource, Source, Sources,
+};

@@ -6,10 +6,10 @@
 //! flow, from which the worker of frames takes.
 ghost use Rattle.std.specs.Prelude.{◌≡◌, ◌≢◌, ◌∷◌, [], Bool, ℕ, List, Some, IfOk, IfErr};
 ghost use Rattle.loss_rule.specs.declared.rule.LossRule.{LossRule};
-ghost use Rattle.receiver.specs.Items.{incoming_from};
 ghost use Rattle.uplink.specs.declared.finish.Concluded.{Concluded};
 ghost use Rattle.uplink.specs.Faults.{CanRun, IsRunFault};
-ghost use Rattle.uplink.specs.Received.{HasReceived, GivesBack};
+ghost use Rattle.workers.specs.Given.{Yields};
+ghost use Rattle.uplink.specs.Received.{CameFrom, HasReceived, GivesBack};
 ghost use Rattle.uplink.specs.Inside.Running.{CanStart, RanOpened, HasRun, IsOpened};
 
 use crate::assembler::{AssembledAll, Taking, assemble};
@@ -25,7 +25,9 @@ use receiver::Setup;
 use std::alloc::Global;
 use std::sync::Wait;
 use std::thread::Threads;
-use workers::{Consumers, Decisions, Joined, Share, Source, Sources, Work, both_done, start_team};
+use workers::{
+    Consumers, Joined, LiveDecisions, LiveSource, Share, Sources, Work, both_done, start_team,
+};
 
 /// What was received, apart from what the consumer and the scheduler made of it.
 #[derive(Debug, Drop)]
@@ -85,18 +87,19 @@ pub fn receive<S0, S1, S2, S3, D, F, Q, C, R>(
     check: C,
 ) -> Result<Received<F, Q>, ReceiveError<F, Q>>
 where
-    S0: Source + Drop + Send + 'static,
-    S1: Source + Drop + Send + 'static,
-    S2: Source + Drop + Send + 'static,
-    S3: Source + Drop + Send + 'static,
-    D: Decisions + Drop + Send + 'static,
+    S0: LiveSource + Drop + Send + 'static,
+    S1: LiveSource + Drop + Send + 'static,
+    S2: LiveSource + Drop + Send + 'static,
+    S3: LiveSource + Drop + Send + 'static,
+    D: LiveDecisions + Drop + Send + 'static,
     F: Consumer + Drop + Send + 'static,
     Q: Consumer + Drop + Send + 'static,
     C: HeaderCheck + Drop,
     R: Threads + Wait + Copy + Send + 'static,
     ensures received { IfOk result (HasReceived F.after Q.after rule (C.accepts check) setup
-        (incoming_from (S0.gives sources.s0 ∷ S1.gives sources.s1 ∷ S2.gives sources.s2
-        ∷ S3.gives sources.s3 ∷ []) (D.decides decisions)) consumer scheduler) }
+        (CameFrom (Yields S0.gave S0.is_over sources.s0) (Yields S1.gave S1.is_over sources.s1)
+        (Yields S2.gave S2.is_over sources.s2) (Yields S3.gave S3.is_over sources.s3)
+        (Yields D.gave D.is_over decisions)) consumer scheduler) }
     ensures can_run { IfOk result (λ _. CanRun setup) }
     ensures fault { IfErr result (λ error. IsRunFault setup error.fault) }
     ensures given_back { IfErr result (GivesBack F.after Q.after consumer scheduler) }
@@ -189,11 +192,11 @@ pub fn run_prepared<S0, S1, S2, S3, D, F, Q, C, R>(
     consumers: Consumers<F, Q>,
 ) -> Ran<F, Q>
 where
-    S0: Source + Drop + Send + 'static,
-    S1: Source + Drop + Send + 'static,
-    S2: Source + Drop + Send + 'static,
-    S3: Source + Drop + Send + 'static,
-    D: Decisions + Drop + Send + 'static,
+    S0: LiveSource + Drop + Send + 'static,
+    S1: LiveSource + Drop + Send + 'static,
+    S2: LiveSource + Drop + Send + 'static,
+    S3: LiveSource + Drop + Send + 'static,
+    D: LiveDecisions + Drop + Send + 'static,
     F: Consumer + Drop + Send + 'static,
     Q: Consumer + Drop + Send + 'static,
     C: HeaderCheck + Drop,
@@ -203,8 +206,9 @@ where
     ensures { (accepted : List ℕ → Bool) (rule : LossRule)
         → IsOpened C.accepts accepted rule setup.now opened
         → HasRun F.after Q.after rule accepted setup.now
-        (incoming_from (S0.gives sources.s0 ∷ S1.gives sources.s1 ∷ S2.gives sources.s2
-        ∷ S3.gives sources.s3 ∷ []) (D.decides decisions)) order consumers result }
+        (CameFrom (Yields S0.gave S0.is_over sources.s0) (Yields S1.gave S1.is_over sources.s1)
+        (Yields S2.gave S2.is_over sources.s2) (Yields S3.gave S3.is_over sources.s3)
+        (Yields D.gave D.is_over decisions)) order consumers result }
 {
     let flow_count = setup.flows.len();
     let (consumers, ended) = run_opened(
@@ -233,19 +237,20 @@ fn run_opened<S0, S1, S2, S3, D, F, Q, C, R>(
     consumers: Consumers<F, Q>,
 ) -> (Consumers<F, Q>, Option<Ended>)
 where
-    S0: Source + Drop + Send + 'static,
-    S1: Source + Drop + Send + 'static,
-    S2: Source + Drop + Send + 'static,
-    S3: Source + Drop + Send + 'static,
-    D: Decisions + Drop + Send + 'static,
+    S0: LiveSource + Drop + Send + 'static,
+    S1: LiveSource + Drop + Send + 'static,
+    S2: LiveSource + Drop + Send + 'static,
+    S3: LiveSource + Drop + Send + 'static,
+    D: LiveDecisions + Drop + Send + 'static,
     F: Consumer + Drop + Send + 'static,
     Q: Consumer + Drop + Send + 'static,
     C: HeaderCheck + Drop,
     R: Threads + Wait + Copy + Send + 'static,
     requires opened { CanStart C.accepts opened }
     ensures { RanOpened F.after Q.after C.accepts flow_count
-        (incoming_from (S0.gives sources.s0 ∷ S1.gives sources.s1 ∷ S2.gives sources.s2
-        ∷ S3.gives sources.s3 ∷ []) (D.decides decisions)) opened order consumers result }
+        (CameFrom (Yields S0.gave S0.is_over sources.s0) (Yields S1.gave S1.is_over sources.s1)
+        (Yields S2.gave S2.is_over sources.s2) (Yields S3.gave S3.is_over sources.s3)
+        (Yields D.gave D.is_over decisions)) opened order consumers result }
 {
     let Opened {
         signals,

@@ -25,7 +25,7 @@ use Rattle.receiver.specs.HandedIn.{made_of}
 use Rattle.receiver.specs.Received.{GaveAllParts}
 use Rattle.receiver.specs.Ruled.{comings_at, AreRuledOutcomes}
 use Rattle.receiver.specs.TakenInOrder.{table_inputs}
-use Rattle.uplink.specs.Inside.Running.{AreFlowsOf}
+use Rattle.uplink.specs.Inside.Collected.{AreFlowsOf}
 use Rattle.receiver.proofs.TakenInOrder.{inputs-come, one-part_gave, ruled-outcome}
 use Rattle.uses.specs.declared.midstream.OnChannel.{OnChannel}
 use Rattle.uses.specs.Midstream.{arrival, TakesAll, ClosesAll}

@@ -10,7 +10,9 @@ use Rattle.receiver.specs.Items.{Incoming}
 use Rattle.uplink.specs.Received.{GivesTheHeadline}
 
 -- These are the counts of frames and requests that keep the headline, for some lawful order of what came in.
-pub record AreCounts (rule : LossRule) (check : List ℕ → Bool) (setup : Setup) (incoming : Incoming) (of_frames of_requests : Counts) : Type 0 where
+pub record AreCounts (rule : LossRule) (check : List ℕ → Bool) (setup : Setup) (came_in : Incoming → Type 0) (of_frames of_requests : Counts) : Type 0 where
+  pub incoming : Incoming
+  pub came : came_in incoming
   pub order : List ℕ
   pub frames : List Given
   pub requests : List Given

@@ -1,7 +1,8 @@
 //! A running receiver of which nothing is kept but counts.
-ghost use Rattle.std.specs.Prelude.{◌∷◌, [], IfOk, IfErr};
+ghost use Rattle.std.specs.Prelude.{IfOk, IfErr};
 ghost use Rattle.uplink.specs.Faults.{IsRunFault};
-ghost use Rattle.receiver.specs.Items.{incoming_from};
+ghost use Rattle.uplink.specs.Received.{CameFrom};
+ghost use Rattle.workers.specs.Given.{Yields};
 ghost use Rattle.uses.specs.CountedRun.{AreCounts};
 
 use consumer::Counts;
@@ -10,7 +11,7 @@ use docsis_wire::HeaderCheck;
 use std::alloc::Global;
 use std::sync::Wait;
 use std::thread::Threads;
-use uplink::{Decisions, LossRule, RunFault, Setup, Source, Sources, receive};
+use uplink::{LiveDecisions, LiveSource, LossRule, RunFault, Setup, Sources, receive};
 
 /// Nothing was counted yet.
 const NOTHING: Counts = Counts {
@@ -32,16 +33,17 @@ pub fn count_received<S0, S1, S2, S3, D, C, R>(
     check: C,
 ) -> Result<(Counts, Counts), RunFault>
 where
-    S0: Source + Drop + Send + 'static,
-    S1: Source + Drop + Send + 'static,
-    S2: Source + Drop + Send + 'static,
-    S3: Source + Drop + Send + 'static,
-    D: Decisions + Drop + Send + 'static,
+    S0: LiveSource + Drop + Send + 'static,
+    S1: LiveSource + Drop + Send + 'static,
+    S2: LiveSource + Drop + Send + 'static,
+    S3: LiveSource + Drop + Send + 'static,
+    D: LiveDecisions + Drop + Send + 'static,
     C: HeaderCheck + Drop,
     R: Threads + Wait + Copy + Send + 'static,
     ensures counted { IfOk result (λ counts. AreCounts rule (C.accepts check) setup
-        (incoming_from (S0.gives sources.s0 ∷ S1.gives sources.s1 ∷ S2.gives sources.s2
-        ∷ S3.gives sources.s3 ∷ []) (D.decides decisions)) counts.0 counts.1) }
+        (CameFrom (Yields S0.gave S0.is_over sources.s0) (Yields S1.gave S1.is_over sources.s1)
+        (Yields S2.gave S2.is_over sources.s2) (Yields S3.gave S3.is_over sources.s3)
+        (Yields D.gave D.is_over decisions)) counts.0 counts.1) }
     ensures fault { IfErr result (IsRunFault setup) }
 {
     consumers_begin_with_nothing_given();

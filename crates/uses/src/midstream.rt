@@ -8,7 +8,7 @@ ghost use Rattle.bonded_flows.specs.Table.{IsInUse};
 ghost use Rattle.receiver.specs.declared.setup.BadSetup.{BadSetup};
 ghost use Rattle.receiver.specs.Faults.{IsBadSetup};
 ghost use Rattle.receiver.specs.Ruled.{AreRuledOutcomes};
-ghost use Rattle.uplink.specs.Inside.Running.{AreFlowsOf};
+ghost use Rattle.uplink.specs.Inside.Collected.{AreFlowsOf};
 ghost use Rattle.uses.specs.Midstream.{arrival, TakesAll, ClosesAll};
 
 use bonded_flows::{FlowDecision, FlowTable};

@@ -67,25 +67,22 @@ module _ {S : Type 0} where
   }
 
   -- the source gives no more
-  pub all_served : (taken rest all : List Input) (work now : LaneWork S) (source : S) (report : LaneReport)
-      → taken ++ rest ≡ all → rest ≡ [] → HasServedAll taken work now report
-      → HasServedAll all work (record { lane = now.lane; arrivals = now.arrivals; requests = now.requests; source = source }) report
-  all_served taken rest all work now source report whole none has =
-      let are : taken ≡ all = sym (append-nil taken) ∙ ap (λ t. taken ++ t) (sym none) ∙ whole in
-      record {
-        arrivals_same = has.arrivals_same;
-        requests_same = has.requests_same;
-        serves = λ setup stands.
-            let is = has.serves setup stands in
-            record {
-              answered = is.answered;
-              inputs_are = is.inputs_are ∙ are;
-              stands = is.stands;
-              arrivals_are = is.arrivals_are;
-              requests_are = is.requests_are;
-              report_is = is.report_is;
-            };
-      }
+  pub all_served : (inputs : List Input) (work now : LaneWork S) (source : S) (report : LaneReport) → HasServedAll inputs work now report
+      → HasServedAll inputs work (record { lane = now.lane; arrivals = now.arrivals; requests = now.requests; source = source }) report
+  all_served inputs work now source report has = record {
+    arrivals_same = has.arrivals_same;
+    requests_same = has.requests_same;
+    serves = λ setup stands.
+        let is = has.serves setup stands in
+        record {
+          answered = is.answered;
+          inputs_are = is.inputs_are;
+          stands = is.stands;
+          arrivals_are = is.arrivals_are;
+          requests_are = is.requests_are;
+          report_is = is.report_is;
+        };
+  }
 
   -- all inputs were served, and the ports closed
   pub did_serve : (inputs : List Input) (work now : LaneWork S) (report : LaneReport) (arrivals : ClosedPort Item) (requests : ClosedPort Request)

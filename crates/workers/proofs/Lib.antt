@@ -1,5 +1,6 @@
 pub mod GivenInParts
 pub mod LaneServed
+pub mod DecisionsPassed
 pub mod FramesTaken
 pub mod RequestsTaken
 pub mod AlikeLists

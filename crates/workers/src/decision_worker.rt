@@ -1,11 +1,11 @@
 //! The worker of the decisions.
 ghost use Rattle.std.specs.Prelude.{◌≡◌, IfOk, IfSome};
-ghost use Rattle.workers.specs.Inside.Working.{DidDecide};
+ghost use Rattle.workers.specs.Inside.Working.{DidDecideAll, HasPassedOn};
 
 use crate::item::Item;
+use crate::live_source::LiveDecisions;
 use crate::retry::{close_port, post_item};
 use crate::signals::Signals;
-use crate::source::Decisions;
 use mailbox::{ClosedPort, Port};
 use std::alloc::AllocError;
 use std::snapshot::Snapshot;
@@ -25,9 +25,9 @@ pub struct DecidingWork<D> {
 #[derive(Drop)]
 pub struct DecidingPromise<D>(pub Snapshot<DecidingWork<D>>);
 
-impl<D: Decisions> Promise<Option<ClosedPort<Item>>> for DecidingPromise<D> {
-    ghost kept_by = { λ promise result. IfSome result (DidDecide promise.0.value.flow_count
-        promise.0.value.arrivals (D.decides promise.0.value.decisions)) };
+impl<D: LiveDecisions> Promise<Option<ClosedPort<Item>>> for DecidingPromise<D> {
+    ghost kept_by = { λ promise result. IfSome result
+        (DidDecideAll D.gave D.is_over promise.0.value) };
 }
 
 pub type DecisionWorker<D> = PromisedHandle<Option<ClosedPort<Item>>, DecidingPromise<D>>;
@@ -39,7 +39,7 @@ pub fn start<D, R>(
     work: DecidingWork<D>,
 ) -> Result<DecisionWorker<D>, AllocError>
 where
-    D: Decisions + Drop + Send + 'static,
+    D: LiveDecisions + Drop + Send + 'static,
     R: Threads + Wait + Copy + Send + 'static,
     ensures { IfOk result (λ worker. worker.promise.0.value ≡ work) }
 {
@@ -53,27 +53,38 @@ where
 
 /// Posts all decisions that name a flow once it is told to go, and then closes its port. It answers
 /// nothing if it is told to stop.
-fn serve_decisions<D: Decisions + Drop, R: Wait>(
+fn serve_decisions<D: LiveDecisions + Drop, R: Wait>(
     rt: &R,
     signals: &Signals,
     work: DecidingWork<D>,
 ) -> Option<ClosedPort<Item>>
-    ensures { IfSome result
-        (DidDecide work.flow_count work.arrivals (D.decides work.decisions)) }
+    ensures { IfSome result (DidDecideAll D.gave D.is_over work) }
 {
-    let DecidingWork {
-        flow_count,
-        mut arrivals,
-        mut decisions,
-    } = work;
     if !signals.start().is_go(rt) {
         return None;
     }
-    while let Some(decision) = decisions.next() {
-        if decision.names_a_flow(flow_count) {
+    let mut work = work;
+    pass_on(rt, signals, &mut work);
+    let DecidingWork {
+        flow_count: _,
+        arrivals,
+        decisions: _,
+    } = work;
+    Some(close_port(rt, signals.arrivals(), arrivals))
+}
+
+/// Posts all decisions that name a flow.
+fn pass_on<D: LiveDecisions, R: Wait>(rt: &R, signals: &Signals, work: &mut DecidingWork<D>)
+    ensures { HasPassedOn D.gave D.is_over work.old work.new }
+{
+    for _ in rt.forever() {
+        let Some(decision) = work.decisions.next() else {
+            return;
+        };
+        if decision.names_a_flow(work.flow_count) {
             let event = decision.event();
-            post_item(rt, signals.arrivals(), &mut arrivals, Item { event });
+            post_item(rt, signals.arrivals(), &mut work.arrivals, Item { event });
         }
     }
-    Some(close_port(rt, signals.arrivals(), arrivals))
+    unreachable!()
 }

@@ -4,12 +4,12 @@ ghost use Rattle.mailbox.specs.Ports.{address, posted};
 ghost use Rattle.lane.specs.Report.{admitted_in, requests_in};
 ghost use Rattle.lane.specs.Report.{event_of_admitted};
 ghost use Rattle.workers.specs.Inside.Carried.{carried};
-ghost use Rattle.workers.specs.Inside.Working.{DidLane, HasServedAll};
+ghost use Rattle.workers.specs.Inside.Working.{DidServe, HasServedSource};
 
 use crate::item::Item;
+use crate::live_source::LiveSource;
 use crate::retry::{close_port, post_item};
 use crate::signals::Signals;
-use crate::source::Source;
 use flow_records::Event;
 use lane::{Admitted, Answer, Lane, LaneReport, Request, admitted_segment};
 use mailbox::{ClosedPort, Port};
@@ -55,9 +55,9 @@ pub struct LaneDone {
 #[derive(Drop)]
 pub struct LanePromise<S>(pub Snapshot<LaneWork<S>>);
 
-impl<S: Source> Promise<Option<LaneDone>> for LanePromise<S> {
-    ghost kept_by = { λ promise result. IfSome result (DidLane promise.0.value.lane
-        promise.0.value.arrivals promise.0.value.requests (S.gives promise.0.value.source)) };
+impl<S: LiveSource> Promise<Option<LaneDone>> for LanePromise<S> {
+    ghost kept_by = { λ promise result. IfSome result
+        (DidServe S.gave S.is_over promise.0.value) };
 }
 
 pub type LaneWorker<S> = PromisedHandle<Option<LaneDone>, LanePromise<S>>;
@@ -70,7 +70,7 @@ pub fn start<S, R>(
     work: LaneWork<S>,
 ) -> Result<LaneWorker<S>, AllocError>
 where
-    S: Source + Drop + Send + 'static,
+    S: LiveSource + Drop + Send + 'static,
     R: Threads + Wait + Copy + Send + 'static,
     ensures { IfOk result (λ worker. worker.promise.0.value ≡ work) }
 {
@@ -84,14 +84,13 @@ where
 
 /// Takes all inputs of the source once it is told to go, and then closes both ports. It answers
 /// nothing if it is told to stop, or if an allocation failed; then it takes no more inputs.
-fn serve_channel<S: Source + Drop, R: Wait>(
+fn serve_channel<S: LiveSource + Drop, R: Wait>(
     alloc: Global,
     rt: &R,
     signals: &Signals,
     work: LaneWork<S>,
 ) -> Option<LaneDone>
-    ensures { IfSome result
-        (DidLane work.lane work.arrivals work.requests (S.gives work.source)) }
+    ensures { IfSome result (DidServe S.gave S.is_over work) }
 {
     if !signals.start().is_go(rt) {
         return None;
@@ -116,21 +115,24 @@ fn serve_channel<S: Source + Drop, R: Wait>(
 
 /// Takes all inputs of the source, and posts what each admits before it takes the next. If an
 /// allocation failed it takes no more.
-fn take_inputs<S: Source, R: Wait>(
+fn take_inputs<S: LiveSource, R: Wait>(
     alloc: Global,
     rt: &R,
     signals: &Signals,
     work: &mut LaneWork<S>,
 ) -> Result<LaneReport, AllocError>
-    ensures { IfOk result (HasServedAll (S.gives work.old.source) work.old work.new) }
+    ensures { IfOk result (HasServedSource S.gave S.is_over work.old work.new) }
 {
     let mut report = LaneReport::none(alloc);
-    while let Some(input) = work.source.next() {
+    for _ in rt.forever() {
+        let Some(input) = work.source.next() else {
+            return Ok(report);
+        };
         let answer = work.lane.answer(alloc, &input)?;
         report.note(&answer)?;
         post_admitted(rt, signals, &mut work.arrivals, &mut work.requests, answer);
     }
-    Ok(report)
+    unreachable!()
 }
 
 /// Posts what an answer admits, its request first.

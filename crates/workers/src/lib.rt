@@ -9,7 +9,7 @@
 //!
 //! 1. [`open_mailbox`] opens a mailbox, and [`open_rings`] the ring of each flow; [`Signals::new`]
 //!    makes what threads tell each other by: when to begin, and when to wake.
-//! 2. [`Work::new`] gives each worker its part of what was opened. [`Sources`], [`Decisions`] and
+//! 2. [`Work::new`] gives each worker its part of what was opened. [`Sources`], [`LiveDecisions`] and
 //!    [`Consumers`] are what the caller brings.
 //! 3. [`start_team`] starts all workers, and [`Team::join`] waits for them and hands on what they
 //!    have [`Done`]. The consumers come back from both, whatever failed.
@@ -25,6 +25,7 @@ mod feeders;
 mod frame_worker;
 mod item;
 mod lane_worker;
+mod live_source;
 mod mailboxes;
 mod mouth_wait;
 mod request_worker;
@@ -42,6 +43,7 @@ pub use consumers::Consumers;
 pub use feeders::{close_feeders, flush_all};
 pub use item::Item;
 pub use lane_worker::LaneDone;
+pub use live_source::{Foreknown, LiveDecisions, LiveSource};
 pub use mailboxes::{OpenMailbox, open_mailbox};
 pub use mouth_wait::MouthWait;
 pub use rings::{Rings, open_rings, settle_rings};

@@ -4,6 +4,7 @@ ghost use Rattle.std.specs.Vec.Iter.{into_iter_items};
 ghost use Rattle.lane.specs.declared.input.Input.{Input};
 ghost use Rattle.flow_records.specs.declared.decision.Decision.{Decision};
 
+use crate::live_source::Foreknown;
 use flow_records::Decision;
 use lane::Input;
 use std::vec::IntoIter;
@@ -40,6 +41,23 @@ pub struct Sources<S0, S1, S2, S3> {
     pub s1: S1,
     pub s2: S2,
     pub s3: S3,
+}
+
+impl<S0, S1, S2, S3> Sources<S0, S1, S2, S3> {
+    /// The same, of which it is known before what they give.
+    pub fn foreknown(self) -> Sources<Foreknown<S0>, Foreknown<S1>, Foreknown<S2>, Foreknown<S3>>
+        ensures s0 { result.s0.0 ≡ self.s0 }
+        ensures s1 { result.s1.0 ≡ self.s1 }
+        ensures s2 { result.s2.0 ≡ self.s2 }
+        ensures s3 { result.s3.0 ≡ self.s3 }
+    {
+        Sources {
+            s0: Foreknown(self.s0),
+            s1: Foreknown(self.s1),
+            s2: Foreknown(self.s2),
+            s3: Foreknown(self.s3),
+        }
+    }
 }
 
 /// A source that gives a list of inputs.

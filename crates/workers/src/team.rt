@@ -2,7 +2,7 @@
 ghost use Rattle.std.specs.Prelude.{◌≡◌, IfOk, IfErr, IfSome, Ok, Some};
 ghost use Rattle.workers.specs.Given.{BothCameBack};
 ghost use Rattle.workers.specs.Inside.Joining.{HaveTakenFor};
-ghost use Rattle.workers.specs.Inside.Working.{DidLane, DidDecide};
+ghost use Rattle.workers.specs.Inside.Working.{DidServe, DidDecideAll};
 
 use crate::both::both_done;
 use crate::consumers::Consumers;
@@ -10,9 +10,9 @@ use crate::decision_worker::{self, DecisionWorker};
 use crate::frame_worker::{self, Consumed, FrameWork, FrameWorker};
 use crate::item::Item;
 use crate::lane_worker::{self, LaneDone, LaneWork, LaneWorker};
+use crate::live_source::{LiveDecisions, LiveSource};
 use crate::request_worker::{self, RequestWork, RequestWorker, Scheduled};
 use crate::signals::Signals;
-use crate::source::{Decisions, Source};
 use crate::work::Work;
 use consumer::Consumer;
 use delivery::Taker;
@@ -25,11 +25,11 @@ use std::thread::{Promise, PromisedHandle, Threads};
 /// The workers, each by its handle, and what they share with the caller.
 #[derive(Drop)]
 pub struct Team<
-    S0: Source,
-    S1: Source,
-    S2: Source,
-    S3: Source,
-    D: Decisions,
+    S0: LiveSource,
+    S1: LiveSource,
+    S2: LiveSource,
+    S3: LiveSource,
+    D: LiveDecisions,
     F: Consumer,
     Q: Consumer,
 > {
@@ -73,11 +73,11 @@ pub fn start_team<S0, S1, S2, S3, D, F, Q, R>(
     work: Work<S0, S1, S2, S3, D, F, Q>,
 ) -> Result<Team<S0, S1, S2, S3, D, F, Q>, Consumers<F, Q>>
 where
-    S0: Source + Drop + Send + 'static,
-    S1: Source + Drop + Send + 'static,
-    S2: Source + Drop + Send + 'static,
-    S3: Source + Drop + Send + 'static,
-    D: Decisions + Drop + Send + 'static,
+    S0: LiveSource + Drop + Send + 'static,
+    S1: LiveSource + Drop + Send + 'static,
+    S2: LiveSource + Drop + Send + 'static,
+    S3: LiveSource + Drop + Send + 'static,
+    D: LiveDecisions + Drop + Send + 'static,
     F: Consumer + Drop + Send + 'static,
     Q: Consumer + Drop + Send + 'static,
     R: Threads + Wait + Copy + Send + 'static,
@@ -123,8 +123,8 @@ fn start_two<S0, S1, R>(
     other: LaneWork<S1>,
 ) -> Result<LanePair<S0, S1>, AllocError>
 where
-    S0: Source + Drop + Send + 'static,
-    S1: Source + Drop + Send + 'static,
+    S0: LiveSource + Drop + Send + 'static,
+    S1: LiveSource + Drop + Send + 'static,
     R: Threads + Wait + Copy + Send + 'static,
     ensures one { IfOk result (λ pair. pair.0.promise.0.value ≡ one) }
     ensures other { IfOk result (λ pair. pair.1.promise.0.value ≡ other) }
@@ -233,16 +233,14 @@ fn end_started<W: Workers, R: Threads>(rt: &R, workers: Result<W, AllocError>) {
 
 /// Waits until the workers of two channels have returned. Nothing where an allocation failed in one
 /// of them.
-fn join_two<S0: Source, S1: Source, R: Threads>(
+fn join_two<S0: LiveSource, S1: LiveSource, R: Threads>(
     rt: &R,
     pair: LanePair<S0, S1>,
 ) -> Option<(LaneDone, LaneDone)>
-    ensures one { IfSome result (λ done. DidLane pair.0.promise.0.value.lane
-        pair.0.promise.0.value.arrivals pair.0.promise.0.value.requests
-        (S0.gives pair.0.promise.0.value.source) done.0) }
-    ensures other { IfSome result (λ done. DidLane pair.1.promise.0.value.lane
-        pair.1.promise.0.value.arrivals pair.1.promise.0.value.requests
-        (S1.gives pair.1.promise.0.value.source) done.1) }
+    ensures one { IfSome result (λ done.
+        DidServe S0.gave S0.is_over pair.0.promise.0.value done.0) }
+    ensures other { IfSome result (λ done.
+        DidServe S1.gave S1.is_over pair.1.promise.0.value done.1) }
 {
     let (one, other) = pair;
     both_done(one.join(rt), other.join(rt))
@@ -275,31 +273,26 @@ fn done_of(
 
 impl<S0, S1, S2, S3, D, F, Q> Team<S0, S1, S2, S3, D, F, Q>
 where
-    S0: Source,
-    S1: Source,
-    S2: Source,
-    S3: Source,
-    D: Decisions,
+    S0: LiveSource,
+    S1: LiveSource,
+    S2: LiveSource,
+    S3: LiveSource,
+    D: LiveDecisions,
     F: Consumer,
     Q: Consumer,
 {
     /// Waits until all workers have returned.
     pub fn join<R: Threads>(self, rt: &R) -> Joined<F, Q>
-        ensures l0 { IfSome result.done (λ done. DidLane self.lanes.0.0.promise.0.value.lane
-            self.lanes.0.0.promise.0.value.arrivals self.lanes.0.0.promise.0.value.requests
-            (S0.gives self.lanes.0.0.promise.0.value.source) done.l0) }
-        ensures l1 { IfSome result.done (λ done. DidLane self.lanes.0.1.promise.0.value.lane
-            self.lanes.0.1.promise.0.value.arrivals self.lanes.0.1.promise.0.value.requests
-            (S1.gives self.lanes.0.1.promise.0.value.source) done.l1) }
-        ensures l2 { IfSome result.done (λ done. DidLane self.lanes.1.0.promise.0.value.lane
-            self.lanes.1.0.promise.0.value.arrivals self.lanes.1.0.promise.0.value.requests
-            (S2.gives self.lanes.1.0.promise.0.value.source) done.l2) }
-        ensures l3 { IfSome result.done (λ done. DidLane self.lanes.1.1.promise.0.value.lane
-            self.lanes.1.1.promise.0.value.arrivals self.lanes.1.1.promise.0.value.requests
-            (S3.gives self.lanes.1.1.promise.0.value.source) done.l3) }
-        ensures decided { IfSome result.done (λ done. DidDecide
-            self.decider.promise.0.value.flow_count self.decider.promise.0.value.arrivals
-            (D.decides self.decider.promise.0.value.decisions) done.decided) }
+        ensures l0 { IfSome result.done (λ done. DidServe S0.gave S0.is_over
+            self.lanes.0.0.promise.0.value done.l0) }
+        ensures l1 { IfSome result.done (λ done. DidServe S1.gave S1.is_over
+            self.lanes.0.1.promise.0.value done.l1) }
+        ensures l2 { IfSome result.done (λ done. DidServe S2.gave S2.is_over
+            self.lanes.1.0.promise.0.value done.l2) }
+        ensures l3 { IfSome result.done (λ done. DidServe S3.gave S3.is_over
+            self.lanes.1.1.promise.0.value done.l3) }
+        ensures decided { IfSome result.done (λ done. DidDecideAll D.gave D.is_over
+            self.decider.promise.0.value done.decided) }
         ensures taken { HaveTakenFor F.after Q.after self.takers.0.promise.0.value
             self.takers.1.promise.0.value result }
     {

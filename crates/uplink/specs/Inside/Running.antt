@@ -75,22 +75,37 @@ pub record HasEnded {C : Type 0} (accepts : C → List ℕ → Bool) (flow_count
   pub assembled : HasAssembled accepts (record { flows = opened.flows; order = kept }) opened.rings.feeders.items
       (taken opened.arrivals.mouth) (taken end.mouth) end.feeders.items end.assembled
 
+-- All threads have returned, for something that came in so: the requests were given in the order in which they were taken.
+pub record HasEndedOn {C : Type 0} (accepts : C → List ℕ → Bool) (flow_count : ℕ) (came_in : Incoming → Type 0) (opened : Opened C) (kept : Option (Vec ℕ Global)) (frames requests : List Given) (end : Ended) : Type 0 where
+  pub incoming : Incoming
+  pub came : came_in incoming
+  pub sent : List Sent
+  pub requests_are : requests ≡ given_of sent
+  pub has_ended : HasEnded accepts flow_count incoming opened kept frames sent end
+
+-- What was concluded is with what was given the one-thread answer for something that came in so, in some order, which was kept if one was to be kept.
+pub record ConcludesAnswer (rule : LossRule) (check : List ℕ → Bool) (setup : Setup) (came_in : Incoming → Type 0) (kept : Option (Vec ℕ Global)) (frames requests : List Given) (concluded : Concluded) : Type 0 where
+  pub incoming : Incoming
+  pub came : came_in incoming
+  pub order : List ℕ
+  pub ordered : HasOrder kept order concluded.order
+  pub answer : IsAnswerBy rule check setup incoming order frames requests concluded.counts.items concluded.lanes
+
 module _ {F Q : Type 0} (takes : F → List Given → F → Type 0) (asks : Q → List Given → Q → Type 0) where
   -- What was opened ran: the consumers were given some frames and requests, and if all threads have done their part, these are all.
-  pub record RanOpened {C : Type 0} (accepts : C → List ℕ → Bool) (flow_count : ℕ) (incoming : Incoming) (opened : Opened C) (kept : Option (Vec ℕ Global)) (consumers : Consumers F Q) (ran : Consumers F Q × Option Ended) : Type 0 where
+  pub record RanOpened {C : Type 0} (accepts : C → List ℕ → Bool) (flow_count : ℕ) (came_in : Incoming → Type 0) (opened : Opened C) (kept : Option (Vec ℕ Global)) (consumers : Consumers F Q) (ran : Consumers F Q × Option Ended) : Type 0 where
     pub frames : List Given
     pub requests : List Given
     pub were_given : WereGiven takes asks consumers.consumer consumers.scheduler frames requests ran.0.consumer ran.0.scheduler
-    pub has_ended : IfSome ran.1 (λ end. (sent : List Sent) × (requests ≡ given_of sent) × HasEnded accepts flow_count incoming opened kept frames sent end)
+    pub has_ended : IfSome ran.1 (HasEndedOn accepts flow_count came_in opened kept frames requests)
 
   -- The consumers were given some frames and requests, and if all threads have done their part, these are with what was counted the one-thread answer for
   -- some order, which was kept if one was to be kept.
-  pub record HasRun (rule : LossRule) (check : List ℕ → Bool) (setup : Setup) (incoming : Incoming) (kept : Option (Vec ℕ Global)) (consumers : Consumers F Q) (ran : Ran F Q) : Type 0 where
+  pub record HasRun (rule : LossRule) (check : List ℕ → Bool) (setup : Setup) (came_in : Incoming → Type 0) (kept : Option (Vec ℕ Global)) (consumers : Consumers F Q) (ran : Ran F Q) : Type 0 where
     pub frames : List Given
     pub requests : List Given
     pub were_given : WereGiven takes asks consumers.consumer consumers.scheduler frames requests ran.consumers.consumer ran.consumers.scheduler
-    pub answers : IfSome ran.concluded (λ concluded. (order : List ℕ) × HasOrder kept order concluded.order
-        × IsAnswerBy rule check setup incoming order frames requests concluded.counts.items concluded.lanes)
+    pub answers : IfSome ran.concluded (ConcludesAnswer rule check setup came_in kept frames requests)
 
 -- the closed ports of the two mailboxes
 abbrev pub closed_arrivals : Ended → ClosedPorts Item

@@ -13,8 +13,8 @@ use std::sync::{Arc, Wait};
 use std::test::Fail;
 use std::thread::Threads;
 use uplink::{
-    Collected, Consumer, Counts, Forgets, ListDecisions, ListSource, Lists, LossRule, ReceiveError,
-    Received, Request, Setup, Source, Sources, receive,
+    Collected, Consumer, Counts, Foreknown, Forgets, ListDecisions, ListSource, Lists, LossRule,
+    ReceiveError, Received, Request, Setup, Source, Sources, receive,
 };
 use worked_traces::outcomes::NO_COUNTS;
 use worked_traces::traces::*;
@@ -89,8 +89,8 @@ where
         rt,
         setup,
         LossRule::Decided,
-        sources,
-        no_decisions(alloc),
+        sources.foreknown(),
+        Foreknown(no_decisions(alloc)),
         consumer,
         scheduler,
         NoCheck,
@@ -162,8 +162,8 @@ where
         rt,
         numbered::narrow(alloc, 4096)?,
         LossRule::Decided,
-        sources_of(inputs),
-        ListDecisions::new(decisions),
+        sources_of(inputs).foreknown(),
+        Foreknown(ListDecisions::new(decisions)),
         Collected::new(alloc, 1, 0)?,
         Forgets,
         NoCheck,

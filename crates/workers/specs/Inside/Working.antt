@@ -12,6 +12,8 @@ use Rattle.workers.specs.declared.item.Item.{Item}
 use Rattle.workers.specs.declared.lane_worker.LaneDone.{LaneDone}
 use Rattle.lane.specs.declared.report.LaneReport.{LaneReport}
 use Rattle.workers.specs.declared.lane_worker.LaneWork.{LaneWork}
+use Rattle.workers.specs.declared.decision_worker.DecidingWork.{DecidingWork}
+use Rattle.workers.specs.Given.{BecameBy, Yields}
 use Rattle.lane.specs.Inputs.{LaneSetup, AnsweredInput, AreAnswered, inputs_of}
 use Rattle.lane.specs.Report.{admitted_of, requests_of}
 use Rattle.flow_records.specs.Decisions.{names_a_flow, event_of_decision}
@@ -56,6 +58,31 @@ pub record DidLane (lane : Lane) (arrivals : Port Item) (requests : Port Request
   pub did : (setup : LaneSetup) → StandsFor setup lane []
       → (answered : List AnsweredInput) × AreAnswered setup answered × (inputs_of answered ≡ inputs) × HasServed arrivals requests answered done
 
+-- A channel's worker took all inputs that the source gave until it was over.
+pub record HasServedSource {S : Type 0} (gave : S → List Input → S → Type 0) (is_over : S → Type 0) (work now : LaneWork S) (report : LaneReport) : Type 0 where
+  pub inputs : List Input
+  pub became : BecameBy gave work.source inputs now.source
+  pub over : is_over now.source
+  pub served : HasServedAll inputs work now report
+
+pub record DidServe {S : Type 0} (gave : S → List Input → S → Type 0) (is_over : S → Type 0) (work : LaneWork S) (done : LaneDone) : Type 0 where
+  pub inputs : List Input
+  pub yields : Yields gave is_over work.source inputs
+  pub did : DidLane work.lane work.arrivals work.requests inputs done
+
 -- the decisions' worker posted those of these decisions that name one of so many flows
 abbrev pub DidDecide : ℕ → Port Item → List Decision → ClosedPort Item → Type 0
 DidDecide flow_count port decisions closed = HasSent port (map event_of_decision (filter (names_a_flow flow_count) decisions)) closed
+
+-- it took all decisions that were given until they were over
+pub record HasPassedOn {D : Type 0} (gave : D → List Decision → D → Type 0) (is_over : D → Type 0) (work now : DecidingWork D) : Type 0 where
+  pub decisions : List Decision
+  pub became : BecameBy gave work.decisions decisions now.decisions
+  pub over : is_over now.decisions
+  pub address_is : address now.arrivals ≡ address work.arrivals
+  pub sent_is : carried (posted now.arrivals) ≡ carried (posted work.arrivals) ++ map event_of_decision (filter (names_a_flow work.flow_count) decisions)
+
+pub record DidDecideAll {D : Type 0} (gave : D → List Decision → D → Type 0) (is_over : D → Type 0) (work : DecidingWork D) (closed : ClosedPort Item) : Type 0 where
+  pub decisions : List Decision
+  pub yields : Yields gave is_over work.decisions decisions
+  pub did : DidDecide work.flow_count work.arrivals decisions closed

@@ -1,18 +1,21 @@
 -- Each worker has done what it was given to do, if no allocation failed in any; and both come back, also where the workers could not be started.
 use Rattle.std.proofs.Common.{Option, Some, ◌≡◌, ◌∷◌, [], IfSome, List, refl, sym, subst, ◌∙◌}
 use Rattle.receiver.specs.Items.{Incoming, incoming_from}
+use Rattle.workers.specs.declared.team.Done.{Done}
 use Rattle.workers.specs.declared.lane_worker.LaneWork.{LaneWork}
 use Rattle.workers.specs.declared.decision_worker.DecidingWork.{DecidingWork}
 use Rattle.workers.specs.declared.frame_worker.FrameWork.{FrameWork}
 use Rattle.workers.specs.declared.request_worker.RequestWork.{RequestWork}
-use Rattle.workers.specs.Given.{BecameBy}
+use Rattle.workers.specs.Given.{BecameBy, Yields}
 use Rattle.workers.specs.Inside.Consuming.{HaveTakenAll}
-use Rattle.workers.specs.Inside.Scheduling.{Sent, given_of, HasTakenAll}
-use Rattle.workers.specs.Inside.Working.{DidLane, DidDecide}
+use Rattle.workers.specs.Inside.Scheduling.{given_of, HasTakenAll}
+use Rattle.workers.specs.Inside.Working.{DidServe, DidDecideAll}
 use Rattle.uplink.specs.declared.finish.Ended.{Ended}
-use Rattle.uplink.specs.Inside.Running.{HasEnded}
+use Rattle.uplink.specs.Inside.Running.{HasEndedOn}
+use Rattle.uplink.specs.Received.{CameFrom}
+use Rattle.uplink.proofs.receiving.run_opened.Given.{Over}
 use Rattle.uplink.proofs.receiving.run_opened.Goals as goal
-use Rattle.uplink.proofs.receiving.run_opened.Goals.{in-Some, in-None}
+use Rattle.uplink.proofs.receiving.run_opened.Goals.{After-join-consumers, in-Some, in-None}
 
 pub returns-in-Err : goal.returns-in-Err
 returns-in-Err g c =
@@ -35,18 +38,72 @@ returns-in-Err g c =
 of-done : {X : Type 0} (P : X → Type 0) (ended : Option X) (x : X) → ended ≡ Some x → IfSome ended P → P x
 of-done P ended x is said = subst (λ o. IfSome o P) is said
 
+module _ (g : Over) (c : After-join-consumers g) (done : Done) (is : c.join-consumers.result.done ≡ Some done) where
+  -- what the workers of the channels and of the decisions have done, each with what it was given
+  served0 : DidServe g.S0.LiveSource.gave g.S0.LiveSource.is_over
+      (record { lane = c.args.opened.lanes.l0; arrivals = c.args.opened.arrivals.ports.p0; requests = c.args.opened.requests.ports.p0; source = c.args.sources.s0 }) done.l0
+  served0 =
+      subst (λ (work : LaneWork g.row.S0.Denot). DidServe g.S0.LiveSource.gave g.S0.LiveSource.is_over work done.l0)
+      (c.in-Ok.ensures.l0 ∙ c.new-work.ensures.l0) (of-done _ c.join-consumers.result.done done is c.join-consumers.ensures.l0)
+
+  served1 : DidServe g.S1.LiveSource.gave g.S1.LiveSource.is_over
+      (record { lane = c.args.opened.lanes.l1; arrivals = c.args.opened.arrivals.ports.p1; requests = c.args.opened.requests.ports.p1; source = c.args.sources.s1 }) done.l1
+  served1 =
+      subst (λ (work : LaneWork g.row.S1.Denot). DidServe g.S1.LiveSource.gave g.S1.LiveSource.is_over work done.l1)
+      (c.in-Ok.ensures.l1 ∙ c.new-work.ensures.l1) (of-done _ c.join-consumers.result.done done is c.join-consumers.ensures.l1)
+
+  served2 : DidServe g.S2.LiveSource.gave g.S2.LiveSource.is_over
+      (record { lane = c.args.opened.lanes.l2; arrivals = c.args.opened.arrivals.ports.p2; requests = c.args.opened.requests.ports.p2; source = c.args.sources.s2 }) done.l2
+  served2 =
+      subst (λ (work : LaneWork g.row.S2.Denot). DidServe g.S2.LiveSource.gave g.S2.LiveSource.is_over work done.l2)
+      (c.in-Ok.ensures.l2 ∙ c.new-work.ensures.l2) (of-done _ c.join-consumers.result.done done is c.join-consumers.ensures.l2)
+
+  served3 : DidServe g.S3.LiveSource.gave g.S3.LiveSource.is_over
+      (record { lane = c.args.opened.lanes.l3; arrivals = c.args.opened.arrivals.ports.p3; requests = c.args.opened.requests.ports.p3; source = c.args.sources.s3 }) done.l3
+  served3 =
+      subst (λ (work : LaneWork g.row.S3.Denot). DidServe g.S3.LiveSource.gave g.S3.LiveSource.is_over work done.l3)
+      (c.in-Ok.ensures.l3 ∙ c.new-work.ensures.l3) (of-done _ c.join-consumers.result.done done is c.join-consumers.ensures.l3)
+
+  passed_on : DidDecideAll g.D.LiveDecisions.gave g.D.LiveDecisions.is_over
+      (record { flow_count = c.args.flow_count; arrivals = c.args.opened.arrivals.ports.p4; decisions = c.args.decisions }) done.decided
+  passed_on =
+      subst (λ (work : DecidingWork g.row.D.Denot). DidDecideAll g.D.LiveDecisions.gave g.D.LiveDecisions.is_over work done.decided)
+      (c.in-Ok.ensures.decider ∙ c.new-work.ensures.decisions) (of-done _ c.join-consumers.result.done done is c.join-consumers.ensures.decided)
+
+  -- what came in
+  came : CameFrom
+      (Yields g.S0.LiveSource.gave g.S0.LiveSource.is_over c.args.sources.s0) (Yields g.S1.LiveSource.gave g.S1.LiveSource.is_over c.args.sources.s1)
+      (Yields g.S2.LiveSource.gave g.S2.LiveSource.is_over c.args.sources.s2) (Yields g.S3.LiveSource.gave g.S3.LiveSource.is_over c.args.sources.s3)
+      (Yields g.D.LiveDecisions.gave g.D.LiveDecisions.is_over c.args.decisions)
+      (incoming_from (served0.inputs ∷ served1.inputs ∷ served2.inputs ∷ served3.inputs ∷ []) passed_on.decisions)
+  came = record {
+    i0 = served0.inputs;
+    i1 = served1.inputs;
+    i2 = served2.inputs;
+    i3 = served3.inputs;
+    decisions = passed_on.decisions;
+    incoming_is = refl;
+    gave0 = served0.yields;
+    gave1 = served1.yields;
+    gave2 = served2.yields;
+    gave3 = served3.yields;
+    gave_decisions = passed_on.yields;
+  }
+
 pub returns : goal.returns
 returns g c =
+    let before = (goal.at.returns g c).After-join-consumers in
     let joined = c.join-consumers in
     let started = c.in-Ok.ensures in
     let given = c.new-work.ensures in
     let taken = joined.ensures.taken in
     let sources = c.args.sources in
-    let incoming : Incoming = incoming_from
-    (g.S0.Source.gives sources.s0 ∷ g.S1.Source.gives sources.s1 ∷ g.S2.Source.gives sources.s2 ∷ g.S3.Source.gives sources.s3 ∷ [])
-    (g.D.Decisions.decides c.args.decisions) in
-    let Ends : Option Ended → Type 0 = λ o. IfSome o (λ end. (sent : List Sent) × (given_of taken.sent ≡ given_of sent)
-    × HasEnded g.C.HeaderCheck.accepts c.args.flow_count incoming c.args.opened c.args.order taken.given sent end) in
+    let CameIn : Incoming → Type 0 = CameFrom
+    (Yields g.S0.LiveSource.gave g.S0.LiveSource.is_over sources.s0) (Yields g.S1.LiveSource.gave g.S1.LiveSource.is_over sources.s1)
+    (Yields g.S2.LiveSource.gave g.S2.LiveSource.is_over sources.s2) (Yields g.S3.LiveSource.gave g.S3.LiveSource.is_over sources.s3)
+    (Yields g.D.LiveDecisions.gave g.D.LiveDecisions.is_over c.args.decisions) in
+    let Ends : Option Ended → Type 0 =
+    λ o. IfSome o (HasEndedOn g.C.HeaderCheck.accepts c.args.flow_count CameIn c.args.opened c.args.order taken.given (given_of taken.sent)) in
     record {
       frames = taken.given;
       requests = given_of taken.sent;
@@ -62,38 +119,31 @@ returns g c =
         | in-Some w ↦
             let done = w.in-Some.done in
             let is = w.in-Some.ensures.0 in
-            subst Ends (sym w.ended-is) (
-              taken.sent,
-              refl,
-              record {
-                l0 =
-                    subst (λ (work : LaneWork g.row.S0.Denot). DidLane work.lane work.arrivals work.requests (g.S0.Source.gives work.source) done.l0)
-                    (started.l0 ∙ given.l0) (of-done _ _ _ is joined.ensures.l0);
-                l1 =
-                    subst (λ (work : LaneWork g.row.S1.Denot). DidLane work.lane work.arrivals work.requests (g.S1.Source.gives work.source) done.l1)
-                    (started.l1 ∙ given.l1) (of-done _ _ _ is joined.ensures.l1);
-                l2 =
-                    subst (λ (work : LaneWork g.row.S2.Denot). DidLane work.lane work.arrivals work.requests (g.S2.Source.gives work.source) done.l2)
-                    (started.l2 ∙ given.l2) (of-done _ _ _ is joined.ensures.l2);
-                l3 =
-                    subst (λ (work : LaneWork g.row.S3.Denot). DidLane work.lane work.arrivals work.requests (g.S3.Source.gives work.source) done.l3)
-                    (started.l3 ∙ given.l3) (of-done _ _ _ is joined.ensures.l3);
-                decided =
-                    subst (λ (work : DecidingWork g.row.D.Denot). DidDecide work.flow_count work.arrivals (g.D.Decisions.decides work.decisions) done.decided)
-                    (started.decider ∙ given.decisions) (of-done _ _ _ is joined.ensures.decided);
+            subst Ends (sym w.ended-is) (record {
+              incoming = incoming_from ((served0 g before done is).inputs ∷ (served1 g before done is).inputs ∷ (served2 g before done is).inputs ∷ (served3 g before done is).inputs ∷ [])
+                  (passed_on g before done is).decisions;
+              came = came g before done is;
+              sent = taken.sent;
+              requests_are = refl;
+              has_ended = record {
+                l0 = (served0 g before done is).did;
+                l1 = (served1 g before done is).did;
+                l2 = (served2 g before done is).did;
+                l3 = (served3 g before done is).did;
+                decided = (passed_on g before done is).did;
                 unused = given.unused;
                 requests_taken =
                     subst (λ (work : RequestWork g.row.Q.Denot). HasTakenAll work.mouth taken.sent done.mouth)
-                    (started.requests ∙ given.requests) (of-done _ _ _ is taken.has_all);
+                    (started.requests ∙ given.requests) (of-done _ joined.result.done done is taken.has_all);
                 frames_taken =
                     subst (λ (work : FrameWork g.row.F.Denot). HaveTakenAll work.takers.items taken.given done.takers.items)
-                    (started.frames ∙ given.frames) (of-done _ _ _ is taken.have_all);
+                    (started.frames ∙ given.frames) (of-done _ joined.result.done done is taken.have_all);
                 places_same = c.assemble-mouth.ensures.places;
                 ended_all = c.assemble-mouth.ensures.ended;
                 rings = c.assemble-mouth.ensures.rings;
-                assembled = of-done _ _ _ w.in-Some.ensures.1 c.assemble-mouth.ensures.done;
-              },
-            )
+                assembled = of-done _ c.assemble-mouth.result.done w.in-Some.assembled w.in-Some.ensures.1 c.assemble-mouth.ensures.done;
+              };
+            })
         | in-None w ↦ subst Ends (sym w.ended-is) tt
       ];
     }

@@ -2,7 +2,7 @@
 use Rattle.std.proofs.Common.{rules, arith, ◌<◌, length, subst, ◌∙◌}
 use Rattle.std.specs.Vec.Iter.{into_iter_items}
 use Rattle.std.proofs.lemmas.List.{length-append, nil_from_length}
-use Rattle.uplink.proofs.AllSettled.{AreFlowsSoFar, next_flow, all_flows}
+use Rattle.uplink.proofs.FlowsCollected.{AreFlowsSoFar, next_flow, all_flows}
 use Rattle.uses.proofs.midstream.outcomes_of.Goals as goal
 
 pub loop-frames-preserved : goal.loop-frames-preserved

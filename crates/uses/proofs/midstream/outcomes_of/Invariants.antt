@@ -1,7 +1,7 @@
 -- What so many flows gave, and the frames of the others are still to come.
 use Rattle.std.proofs.Common.{◌≡◌, ◌≤◌, ◌+◌, length, vec_capacity}
 use Rattle.std.specs.Vec.Iter.{into_iter_items}
-use Rattle.uplink.proofs.AllSettled.{AreFlowsSoFar}
+use Rattle.uplink.proofs.FlowsCollected.{AreFlowsSoFar}
 use Rattle.uses.proofs.midstream.outcomes_of.Given as goal
 
 abbrev pub invariant-loop-frames : goal.invariant-loop-frames

@@ -8,7 +8,7 @@ use Rattle.loss_rule.specs.declared.rule.LossRule.{LossRule}
 use Rattle.consumer.specs.Collecting.{HasNothing, HasCollected}
 use Rattle.bonded_flows.specs.declared.flow_table.FlowTable.{FlowTable}
 use Rattle.bonded_flows.specs.Table.{StandsFor}
-use Rattle.uplink.specs.Inside.Running.{AreFlowsOf}
+use Rattle.uplink.specs.Inside.Collected.{AreFlowsOf}
 use Rattle.uses.proofs.TableTakes.{holds-good, takes-of-one, as-many}
 use Rattle.uses.proofs.MidstreamOutcomes.{HasReceived, order_of, items_of, has-received, ruled-outcomes}
 use Rattle.uses.proofs.midstream.receive_from.Given.{Over}

@@ -1,13 +1,10 @@
--- The inputs so far are served, and the others are still to come.
-use Rattle.std.proofs.Common.{◌≡◌, ◌++◌, List, length}
+-- The inputs that the source gave so far are served.
+use Rattle.std.proofs.Common.{List}
 use Rattle.lane.specs.declared.input.Input.{Input}
+use Rattle.workers.specs.Given.{BecameBy}
 use Rattle.workers.specs.Inside.Working.{HasServedAll}
 use Rattle.workers.proofs.lane_worker.take_inputs.Given as goal
 
-abbrev pub invariant-loop-input : goal.invariant-loop-input
-invariant-loop-input g l =
-    (taken : List Input) × (taken ++ g.S.Source.gives l.work.source ≡ g.S.Source.gives l.fn.work.source)
-    × HasServedAll taken l.fn.work l.work l.report
-
-abbrev pub decreases-loop-input : goal.decreases-loop-input
-decreases-loop-input g l = length (g.S.Source.gives l.work.source)
+abbrev pub invariant-loop : goal.invariant-loop
+invariant-loop g l =
+    (inputs : List Input) × BecameBy g.S.LiveSource.gave l.fn.work.source inputs l.work.source × HasServedAll inputs l.fn.work l.work l.report
