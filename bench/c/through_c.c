@@ -1,7 +1,7 @@
-/* Hands in a grant and a burst for each of many segments, and takes the frames behind each burst, as
- * main.rt.txt does it from Rattle: `through_c CHANNELS FLOWS COUNT`. At the end it prints how many
- * segments were sent, in how many nanoseconds they were taken, and how many frames and bytes of frames
- * came. */
+/* Hands in a grant and a burst for each of many segments, and takes the frames behind each burst,
+ * as main.rt.txt does it from Rattle: `through_c CHANNELS FLOWS COUNT`. At the end it prints how
+ * many segments were sent, in how many nanoseconds they were taken, and how many frames and bytes
+ * of frames came. */
 #include <stdint.h>
 #include <stdio.h>
 #include <stdlib.h>

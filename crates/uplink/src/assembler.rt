@@ -159,7 +159,8 @@ fn note_sender(order: &mut Option<Vec<u8>>, from: u8) -> Result<(), AllocError>
 }
 
 /// Has an item's flow take it, and offers the frames that the flow then gives. An item of a flow
-/// that there isn't is passed over; none that is posted is such. Nothing where an allocation failed.
+/// that there isn't is passed over; none that is posted is such. Nothing where an allocation
+/// failed.
 fn take_item<C: HeaderCheck + Drop>(
     flows: &mut FlowTable<C>,
     alloc: Global,
@@ -235,8 +236,9 @@ fn decide<C: HeaderCheck + Drop>(
     Some(())
 }
 
-/// Closes all flows, and offers the frames that this gives. Answers the order of the items, if it is
-/// kept, and what was counted of each flow. Nothing where there was nothing, or where an allocation failed.
+/// Closes all flows, and offers the frames that this gives. Answers the order of the items, if it
+/// is kept, and what was counted of each flow. Nothing where there was nothing, or where an
+/// allocation failed.
 fn close_flows<C: HeaderCheck + Drop>(
     alloc: Global,
     taking: Option<Taking<C>>,

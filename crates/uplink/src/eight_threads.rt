@@ -1,5 +1,5 @@
-//! A receiver on threads that collects what it gives: [`receive`](crate::receive) with consumers
-//! that keep everything.
+//! A receiver on threads that collects what it gives: it runs as [`receive`](crate::receive) does,
+//! with consumers that keep everything, and keeps the order too.
 ghost use Rattle.std.specs.Prelude.{◌≡◌, ◌↔◌, ◌∷◌, [], IfOk, IfErr, Ok};
 ghost use Rattle.uplink.specs.Faults.{CanRun, IsRunFault};
 ghost use Rattle.uplink.specs.Headline.{KeepsTheHeadline, KeepsTheHeadlineBy};

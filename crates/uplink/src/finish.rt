@@ -78,8 +78,8 @@ pub fn conclude<R: Wait>(rt: &R, end: Ended) -> Concluded
     }
 }
 
-/// The outcome of a run that collected what it gave, and kept its order. `AllocError`: an allocation
-/// failed on the way, or fails here.
+/// The outcome of a run that collected what it gave, and kept its order. `AllocError`: an
+/// allocation failed on the way, or fails here.
 pub fn outcome_of<F: Drop, Q: Drop>(
     alloc: Global,
     records: &[FlowRecord],

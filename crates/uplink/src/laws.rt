@@ -56,8 +56,8 @@ pub use receiver::laws::{
 /// events and any more; the flow may be drained (`prefix`) or not yet (`prefix_before_drained`).
 /// The order is a lawful one of all that is admitted and all decisions that name a flow, and the
 /// scheduler gets the request of each admitted segment once, in its channel's order. The same holds
-/// by a loss rule (`by_rule`) of the events that the rule makes of what comes to a flow, and of what
-/// [`receive`](crate::receive) gives as it runs (`given`). That events
+/// by a loss rule (`by_rule`) of the events that the rule makes of what comes to a flow, and of
+/// what [`receive`](crate::receive) gives as it runs (`given`). That events
 /// stay near with the gaps of a close is
 /// [`gaps_after_keep_events_near`](flow_core::laws::gaps_after_keep_events_near).
 pub fn consumers_take_the_delivery_sequence()

@@ -1,7 +1,7 @@
 //! The receiver on threads, and all that it stands on: an upstream of four channels.
 //!
-//! [`receive`] receives what four [`LiveSource`]s and [`LiveDecisions`] give, and gives each frame to
-//! one [`Consumer`] and each request to another as they come: four lane workers, one for the
+//! [`receive`] receives what four [`LiveSource`]s and [`LiveDecisions`] give, and gives each frame
+//! to one [`Consumer`] and each request to another as they come: four lane workers, one for the
 //! decisions, one that takes requests and one that takes frames, beside the caller, which is the
 //! assembler. Its clause `received` is the sentence that the whole project serves, of what the two
 //! were given; what was taken earlier is a law,
@@ -10,10 +10,12 @@
 //!
 //! The calls, in the order of use:
 //!
-//! 1. A [`Setup`] says which flows and service identifiers there are; [`Sources`] are what comes in.
+//! 1. A [`Setup`] says which flows and service identifiers there are; [`Sources`] are what comes
+//!    in.
 //! 2. [`receive`] gives back the two consumers with what was counted ([`Received`]), or with the
 //!    fault ([`ReceiveError`]).
-//! 3. [`run`] gives the [`Outcome`], or says why there is none ([`RunFault`]); its [`Taps`] look on.
+//! 3. [`run`] gives the [`Outcome`], or says why there is none ([`RunFault`]); its [`Taps`] look
+//!    on.
 //!
 //! `count_received` in the crate `uses` is a caller that is proved from the contract of [`receive`]
 //! alone, and `run_caller` one of [`run`]. The lanes of the crate `lane` and the receiver on one

@@ -59,11 +59,11 @@ pub struct ReceiveError<F, Q> {
 /// order in which items were taken. Before a segment is taken, what `rule` says is lost is skipped.
 ///
 /// **The headline is its contract** (`received`), of what the two were given: there is an order of
-/// the items of the four channels and of the decisions that name a flow, a lawful one, such that the
-/// frames of each flow are its whole delivery sequence, if its segments are those of one lawful cut
-/// of a modem's frames and its events are near, and the requests of each channel are those of its
-/// admitted segments, each once and in order. The answer is the one that one thread gives by the
-/// rule for that order. Nothing else is given to either.
+/// the items of the four channels and of the decisions that name a flow, a lawful one, such that
+/// the frames of each flow are its whole delivery sequence, if its segments are those of one lawful
+/// cut of a modem's frames and its events are near, and the requests of each channel are those of
+/// its admitted segments, each once and in order. The answer is the one that one thread gives by
+/// the rule for that order. Nothing else is given to either.
 ///
 /// `Setup` and `Lane`: the first fault of the setup. `NoCapacity`: it has none, and the capacity of
 /// the mailboxes is 0. Then nothing was given. `OutOfMemory`: an allocation failed, in whichever
@@ -224,8 +224,8 @@ where
     }
 }
 
-/// Runs what was opened until all threads have returned. It hands back the consumers, and, unless an
-/// allocation failed or a thread could not be started, what the threads handed on.
+/// Runs what was opened until all threads have returned. It hands back the consumers, and, unless
+/// an allocation failed or a thread could not be started, what the threads handed on.
 fn run_opened<S0, S1, S2, S3, D, F, Q, C, R>(
     alloc: Global,
     rt: &R,

@@ -1,7 +1,7 @@
-//! What is shown each frame and request while a receiver runs, and a consumer that shows them.
+//! What is shown each frame and request while a receiver runs.
 
-/// Looks at each item as it is taken: the consumers' worker calls it with each frame and the
-/// scheduler's worker with each request, and the index of its flow. It runs on that worker's
+/// Looks at each item as it is taken: the worker of frames calls it with each frame and the
+/// worker of requests with each request, and the index of its flow. It runs on that worker's
 /// thread, which takes nothing more until it returns, and is called for items too that are dropped
 /// since an allocation failed.
 pub trait Tap<T> {

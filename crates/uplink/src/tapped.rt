@@ -33,7 +33,8 @@ impl<F: Tap<Bytes>, Q: Tap<Request>> Consumer for Tapped<F, Q> {
     }
 }
 
-/// Who keeps the frames of each flow, and who keeps the requests of each channel, each with its tap.
+/// Who keeps the frames of each flow, and who keeps the requests of each channel, each with its
+/// tap.
 pub type Tapping<F, Q> = Consumers<Tapped<F, NoTap>, Tapped<NoTap, Q>>;
 
 /// Keeps nothing yet, for so many flows.

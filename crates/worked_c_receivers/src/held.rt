@@ -11,8 +11,8 @@ use std::alloc::Global;
 use std::process::Abort;
 use std::test::Fail;
 
-/// The segments, by their channels. The header has eight bytes: of the first a frame begins at once,
-/// of the second behind one byte, of the third none does. The second asks for four units.
+/// The segments, by their channels. The header has eight bytes: of the first a frame begins at
+/// once, of the second behind one byte, of the third none does. The second asks for four units.
 const FIRST: [u8; 15] = [0x80, 0, 0, 0, 0, 0, 0, 0, 0, 0, 0, 2, 0x11, 0x11, 0xaa];
 
 const SECOND: [u8; 14] = [0x80, 1, 0, 8, 0, 4, 0, 0, 0xbb, 1, 1, 0, 3, 0xe0];

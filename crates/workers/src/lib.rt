@@ -9,8 +9,8 @@
 //!
 //! 1. [`open_mailbox`] opens a mailbox, and [`open_rings`] the ring of each flow; [`Signals::new`]
 //!    makes what threads tell each other by: when to begin, and when to wake.
-//! 2. [`Work::new`] gives each worker its part of what was opened. [`Sources`], [`LiveDecisions`] and
-//!    [`Consumers`] are what the caller brings.
+//! 2. [`Work::new`] gives each worker its part of what was opened. [`Sources`], [`LiveDecisions`]
+//!    and [`Consumers`] are what the caller brings.
 //! 3. [`start_team`] starts all workers, and [`Team::join`] waits for them and hands on what they
 //!    have [`Done`]. The consumers come back from both, whatever failed.
 //! 4. Meanwhile the caller takes [`Item`]s and drives the feeders: [`flush_all`] and

@@ -3,8 +3,8 @@ use crate::signals::MailboxSignals;
 use crate::waiting::Waiting;
 use std::sync::Wait;
 
-/// The waits of the one who takes from a mailbox. It tells those who wait for room of each take: for
-/// anything may be waited for between two takes, as a tap or a check that is held up does.
+/// The waits of the one who takes from a mailbox. It tells those who wait for room of each take:
+/// for anything may be waited for between two takes, as a tap or a check that is held up does.
 #[derive(Drop)]
 pub struct MouthWait<'a> {
     mailbox: &'a MailboxSignals,

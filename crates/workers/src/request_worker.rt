@@ -20,8 +20,8 @@ pub struct RequestWork<Q> {
     pub scheduler: Q,
 }
 
-/// What the worker of requests hands back: the scheduler, and, unless it was told to stop, the mouth
-/// from which it took until all senders had ended.
+/// What the worker of requests hands back: the scheduler, and, unless it was told to stop, the
+/// mouth from which it took until all senders had ended.
 #[derive(Drop)]
 pub struct Scheduled<Q> {
     pub scheduler: Q,

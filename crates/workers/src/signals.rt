@@ -71,12 +71,12 @@ impl Signals {
         &self.shared.arrivals
     }
 
-    /// Of the mailbox from which the scheduler's worker takes.
+    /// Of the mailbox from which the worker of requests takes.
     pub fn requests(&self) -> &MailboxSignals {
         &self.shared.requests
     }
 
-    /// A frame or an end mark was put into a ring. The consumers' worker waits for it.
+    /// A frame or an end mark was put into a ring. The worker of frames waits for it.
     pub fn offered(&self) -> &EventCount {
         &self.shared.offered
     }

@@ -1,14 +1,14 @@
 //! Waiting for another thread: some tries, each after a yield, and then sleep.
 //!
-//! **No wake-up is lost.** Who waits announces it at an [`EventCount`], looks again, and sleeps only
-//! if that look found nothing either. Who changes what is waited for does so first, and then tells
-//! the count, which looks whether anybody announced a wait. The steps of the queues, of the rings
-//! and of the counts are sequentially consistent, so they stand in one order. If the look after the
-//! announcement didn't see the change, the look came before the change, so the announcement came
-//! before the count was told: then the count moves on, by which it ends the wait, whether the
-//! thread sleeps already or is about to. Until then nothing was missed, since the look after an
-//! announcement is a whole try. No contract says so: what a thread sees of another is known to no
-//! clause. Tests stand for it.
+//! **No wake-up is lost.** Who waits announces it at an [`EventCount`], looks again, and sleeps
+//! only if that look found nothing either. Who changes what is waited for does so first, and then
+//! tells the count, which looks whether anybody announced a wait. The steps of the queues, of the
+//! rings and of the counts are sequentially consistent, so they stand in one order. If the look
+//! after the announcement didn't see the change, the look came before the change, so the
+//! announcement came before the count was told: then the count moves on, by which it ends the wait,
+//! whether the thread sleeps already or is about to. Until then nothing was missed, since the look
+//! after an announcement is a whole try. No contract says so: what a thread sees of another is
+//! known to no clause. Tests stand for it.
 use crossbeam_utils::sync::{EventCount, Key};
 use std::sync::Wait;
 use std::thread;

@@ -1,6 +1,6 @@
-//! Each allocation is refused once. What was handed in is handed in again where it wasn't taken, and
-//! what was begun is gone on with: then all is given, but for what the queue had no place for, and
-//! that is told from then on.
+//! Each allocation is refused once. What was handed in is handed in again where it wasn't taken,
+//! and what was begun is gone on with: then all is given, but for what the queue had no place for,
+//! and that is told from then on.
 ghost use Rattle.std.specs.Prelude.{IfOk};
 ghost use Rattle.c_receiver.specs.Held.{IsInUse};
 

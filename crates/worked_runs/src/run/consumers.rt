@@ -1,5 +1,4 @@
-//! What no clause of `receive` says: when its consumer and its scheduler are given something, and
-//! that they come back.
+//! What no clause of `receive` says: when its consumer and its scheduler are given something.
 mod failed_allocations;
 
 use super::meeting::{Attending, Meeting};
