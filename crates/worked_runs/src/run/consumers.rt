@@ -1,5 +1,7 @@
 //! What no clause of `receive` says: when its consumer and its scheduler are given something, and
 //! that they come back.
+ghost use Rattle.std.specs.Prelude.{◌≡◌};
+
 mod failed_allocations;
 
 use super::meeting::{Attending, Meeting};
@@ -36,7 +38,9 @@ impl Coming {
         })
     }
 
-    fn come(&mut self) {
+    fn come(&mut self)
+        ensures { self.new.counts ≡ self.old.counts }
+    {
         if !self.came {
             self.came = true;
             self.meeting.come();
