@@ -1,4 +1,6 @@
 //! What no clause of `receive` says: when its consumer and its scheduler are given something.
+ghost use Rattle.std.specs.Prelude.{◌≡◌};
+
 mod failed_allocations;
 
 use super::meeting::{Attending, Meeting};
@@ -35,7 +37,9 @@ impl Coming {
         })
     }
 
-    fn come(&mut self) {
+    fn come(&mut self)
+        ensures { self.new.counts ≡ self.old.counts }
+    {
         if !self.came {
             self.came = true;
             self.meeting.come();
