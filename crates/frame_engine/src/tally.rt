@@ -318,6 +318,9 @@ impl CaptureTally {
         alloc: Global,
         writer: &mut Option<Device<Q>>,
     ) {
+        if self.requests.is_none() {
+            return;
+        }
         let (Some(lines), Some(writer)) = (self.requests.take(), writer) else {
             return;
         };
