@@ -69,9 +69,9 @@ kept-order first kept order now has empty is =
     ap (λ (v : Vec ℕ Global). v.items) (sym same) ∙ has.2 ∙ ap (λ l. l ++ order) empty
 
 module _ {F Q : Type 0} (rule : LossRule) (check : List ℕ → Bool) (setup : Setup) (came_in : Incoming → Type 0) (first : Vec ℕ Global) (empty : first.items ≡ [])
-    (consumers : Consumers (Tapped F NoTap) (Tapped NoTap Q)) (ran : Ran (Tapped F NoTap) (Tapped NoTap Q))
+    (consumers : Consumers (Tapped F NoTap) (Tapped NoTap Q)) (ran : Ran (Tapped F NoTap) (Tapped NoTap Q) LaneReport)
     (has : HasRun (λ start given now. HasCollected start.collected given now.collected) (λ start given now. HasCollected start.collected given now.collected)
-    rule check setup came_in (Some first) consumers ran)
+    IsReportOf rule check setup came_in (Some first) consumers ran)
     (no_frames : HasNothing (length setup.flows.items) 0 consumers.consumer.collected) (no_requests : HasNothing 0 channel_limit consumers.scheduler.collected) where
   -- what was collected of the frames, and of the requests
   frames-collected : IsTrue (frames_in ran).whole → AreCollected (length setup.flows.items) 0 has.frames (frames_in ran)
@@ -92,21 +92,21 @@ module _ {F Q : Type 0} (rule : LossRule) (check : List ℕ → Bool) (setup : S
     counts = counted ran.concluded has.answers;
   }
     where
-      counted : (concluded : Option Concluded) → IfSome concluded (ConcludesAnswer rule check setup came_in (Some first) has.frames has.requests)
+      counted : (concluded : Option (Concluded LaneReport)) → IfSome concluded (ConcludesAnswer IsReportOf rule check setup came_in (Some first) has.frames has.requests)
           → IfSome concluded (λ c. length c.counts.items ≡ length setup.flows.items)
       counted None answers = tt
       counted (Some c) answers = answers.answer.flow_count
 
   module _ (outcome : Outcome) (made : IsMadeOf setup.flows.items ran outcome) where
     -- the answer that was concluded
-    answers : ConcludesAnswer rule check setup came_in (Some first) has.frames has.requests made.concluded
+    answers : ConcludesAnswer IsReportOf rule check setup came_in (Some first) has.frames has.requests made.concluded
     answers =
-        subst (λ (o : Option Concluded). IfSome o (ConcludesAnswer rule check setup came_in (Some first) has.frames has.requests)) made.was has.answers
+        subst (λ (o : Option (Concluded LaneReport)). IfSome o (ConcludesAnswer IsReportOf rule check setup came_in (Some first) has.frames has.requests)) made.was has.answers
 
     abbrev order : List ℕ
     order = answers.order
 
-    abbrev answer : IsAnswerBy rule check setup answers.incoming order has.frames has.requests made.concluded.counts.items made.concluded.lanes
+    abbrev answer : IsAnswerBy IsReportOf rule check setup answers.incoming order has.frames has.requests made.concluded.counts.items made.concluded.lanes
     answer = answers.answer
 
     -- what flow k gave, as the outcome says
@@ -136,7 +136,7 @@ module _ {F Q : Type 0} (rule : LossRule) (check : List ℕ → Bool) (setup : S
     -- each channel's report
     reported : (channel : ℕ) (report : LaneReport) → channel < channel_limit → slice_get outcome.lanes channel ≡ Some report
         → IsReportOf (answer.intake.answered channel) report
-    reported channel report below at = answer.reports channel report below (ap (λ l. slice_get l channel) (sym made.lanes_are) ∙ at)
+    reported channel report below at = answer.noted channel report below (ap (λ l. slice_get l channel) (sym made.lanes_are) ∙ at)
 
     -- it is the one-thread answer
     pub outcome-of-collected : (incoming : Incoming) × came_in incoming × IsOutcomeBy rule check setup incoming outcome.order.items outcome
@@ -156,7 +156,7 @@ module _ {F Q : Type 0} (rule : LossRule) (check : List ℕ → Bool) (setup : S
           request_lists = ap (λ (lists : List (Vec Request Global)). length lists) made.requests_are ∙ collected.channel_count_is;
           requests = λ channel below.
               ap (λ (lists : List (Vec Request Global)). list_at lists channel) made.requests_are ∙ collected.requests channel ∙ answer.requested channel below;
-          report_count = ap (λ (lanes : List LaneReport). length lanes) made.lanes_are ∙ answer.report_count;
+          report_count = ap (λ (lanes : List LaneReport). length lanes) made.lanes_are ∙ answer.lane_count;
           reports = reported;
           order_is = ordered;
         } in

@@ -24,10 +24,9 @@ use Rattle.flow_records.specs.declared.record.FlowRecord.{FlowRecord}
 use Rattle.flow_records.specs.Decisions.{event_of_decision, names_a_flow}
 use Rattle.lane.specs.declared.admitted.Request.{Request}
 use Rattle.lane.specs.declared.lane.Lane.{Lane}
-use Rattle.lane.specs.declared.report.LaneReport.{LaneReport}
 use Rattle.lane.specs.Inputs.{AnsweredInput}
 use Rattle.lane.specs.Limits.{channel_limit, senders}
-use Rattle.lane.specs.Report.{admitted_of, requests_of, event_of_admitted, IsLaneRequest, IsReportOf}
+use Rattle.lane.specs.Report.{admitted_of, requests_of, event_of_admitted, IsLaneRequest}
 use Rattle.lane.specs.Stands.{StandsFor}
 use Rattle.loss_rule.specs.declared.rule.LossRule.{LossRule}
 use Rattle.consumer.specs.declared.given.Given.{Given}
@@ -97,20 +96,20 @@ sent-first : (port : Port Item) (events : List Event) (closed : ClosedPort Item)
 sent-first port events closed has none = has.sent_is ∙ ap (λ items. carried items ++ events) none
 
 -- what the worker of a channel did, with the answers to the channel's inputs
-record HasDone (setup : Setup) (incoming : Incoming) (channel : ℕ) (arrivals : Port Item) (requests : Port Request) (done : LaneDone) : Type 0 where
+record HasDone {N : Type 0} (are_of : List AnsweredInput → N → Type 0) (setup : Setup) (incoming : Incoming) (channel : ℕ) (arrivals : Port Item) (requests : Port Request) (done : LaneDone N) : Type 0 where
   pub answered : List AnsweredInput
   pub lane : IsLaneOf setup incoming channel answered
-  pub served : HasServed arrivals requests answered done
+  pub served : HasServed are_of arrivals requests answered done
 
 -- a worker whose lane was open did its channel's inputs
-done-on : (setup : Setup) (incoming : Incoming) (channel : ℕ) (lane : Lane) (arrivals : Port Item) (requests : Port Request) (done : LaneDone)
-    → StandsFor (lane_setup setup channel) lane [] → DidLane lane arrivals requests (incoming.inputs channel) done
-    → HasDone setup incoming channel arrivals requests done
-done-on setup incoming channel lane arrivals requests done stands did =
+done-on : {N : Type 0} (are_of : List AnsweredInput → N → Type 0) (setup : Setup) (incoming : Incoming) (channel : ℕ) (lane : Lane) (arrivals : Port Item) (requests : Port Request) (done : LaneDone N)
+    → StandsFor (lane_setup setup channel) lane [] → DidLane are_of lane arrivals requests (incoming.inputs channel) done
+    → HasDone are_of setup incoming channel arrivals requests done
+done-on are_of setup incoming channel lane arrivals requests done stands did =
     let its = did.did (lane_setup setup channel) stands in
     record { answered = its.0; lane = record { answers = its.1; inputs = its.2 }; served = its.3 }
 
-module _ {C : Type 0} (accepts : C → List ℕ → Bool) (accepted : List ℕ → Bool) (rule : LossRule) (setup : Setup) (opened : Opened C)
+module _ {C N : Type 0} (are_of : List AnsweredInput → N → Type 0) (accepts : C → List ℕ → Bool) (accepted : List ℕ → Bool) (rule : LossRule) (setup : Setup) (opened : Opened C)
     (is : IsOpened accepts accepted rule setup opened) where
   -- there is a taker for each flow
   takers-counted : length opened.rings.takers.items ≡ length setup.flows.items
@@ -118,23 +117,23 @@ module _ {C : Type 0} (accepts : C → List ℕ → Bool) (accepted : List ℕ �
       sym (length-map opened.rings.takers.items taker_ring) ∙ ap length (sym is.rings.same)
       ∙ length-map opened.rings.feeders.items feeder_ring ∙ is.rings.count_is
 
-  module _ (incoming : Incoming) (kept : Option (Vec ℕ Global)) (frames : List Given) (sent : List Sent) (end : Ended)
-      (has : HasEnded accepts (length setup.flows.items) incoming opened kept frames sent end) where
+  module _ (incoming : Incoming) (kept : Option (Vec ℕ Global)) (frames : List Given) (sent : List Sent) (end : Ended N)
+      (has : HasEnded are_of accepts (length setup.flows.items) incoming opened kept frames sent end) where
     -- what each channel's worker did
-    abbrev DidOn : ℕ → Port Item → Port Request → LaneDone → Type 0
-    DidOn = HasDone setup incoming
+    abbrev DidOn : ℕ → Port Item → Port Request → LaneDone N → Type 0
+    DidOn = HasDone are_of setup incoming
 
     done-0 : DidOn 0 opened.arrivals.ports.p0 opened.requests.ports.p0 end.done.l0
-    done-0 = done-on setup incoming 0 opened.lanes.l0 opened.arrivals.ports.p0 opened.requests.ports.p0 end.done.l0 is.lanes.l0 has.l0
+    done-0 = done-on are_of setup incoming 0 opened.lanes.l0 opened.arrivals.ports.p0 opened.requests.ports.p0 end.done.l0 is.lanes.l0 has.l0
 
     done-1 : DidOn 1 opened.arrivals.ports.p1 opened.requests.ports.p1 end.done.l1
-    done-1 = done-on setup incoming 1 opened.lanes.l1 opened.arrivals.ports.p1 opened.requests.ports.p1 end.done.l1 is.lanes.l1 has.l1
+    done-1 = done-on are_of setup incoming 1 opened.lanes.l1 opened.arrivals.ports.p1 opened.requests.ports.p1 end.done.l1 is.lanes.l1 has.l1
 
     done-2 : DidOn 2 opened.arrivals.ports.p2 opened.requests.ports.p2 end.done.l2
-    done-2 = done-on setup incoming 2 opened.lanes.l2 opened.arrivals.ports.p2 opened.requests.ports.p2 end.done.l2 is.lanes.l2 has.l2
+    done-2 = done-on are_of setup incoming 2 opened.lanes.l2 opened.arrivals.ports.p2 opened.requests.ports.p2 end.done.l2 is.lanes.l2 has.l2
 
     done-3 : DidOn 3 opened.arrivals.ports.p3 opened.requests.ports.p3 end.done.l3
-    done-3 = done-on setup incoming 3 opened.lanes.l3 opened.arrivals.ports.p3 opened.requests.ports.p3 end.done.l3 is.lanes.l3 has.l3
+    done-3 = done-on are_of setup incoming 3 opened.lanes.l3 opened.arrivals.ports.p3 opened.requests.ports.p3 end.done.l3 is.lanes.l3 has.l3
 
     -- there is a closed feeder and a taker for each flow
     feeders-counted : length end.feeders.items ≡ length setup.flows.items
@@ -209,7 +208,7 @@ module _ {C : Type 0} (accepts : C → List ℕ → Bool) (accepted : List ℕ �
     abbrev items : List Event
     items = has.assembled.items
 
-    module _ (concluded : Concluded) (settled : HasConcluded end concluded) where
+    module _ (concluded : Concluded N) (settled : HasConcluded end concluded) where
       -- the items of each sender were taken
       items-taken : (sender : ℕ) → sender < senders → picked sender order items ≡ items_of setup incoming answered sender
       items-taken sender below =
@@ -315,21 +314,20 @@ module _ {C : Type 0} (accepts : C → List ℕ → Bool) (accepted : List ℕ �
             gives = record { n = gave.n; outcome = gave.outcome; closed = gave.closed };
           }
 
-      -- each channel's report is that of its answers
-      reported : (channel : ℕ) (report : LaneReport) → channel < channel_limit → slice_get concluded.lanes channel ≡ Some report
-          → IsReportOf (answered channel) report
-      reported channel report below at =
+      -- what is noted of each channel is of its answers
+      noted : (channel : ℕ) (notes : N) → channel < channel_limit → slice_get concluded.lanes channel ≡ Some notes → are_of (answered channel) notes
+      noted channel notes below at =
           let done = end.done in
-          let reports = done.l0.report ∷ done.l1.report ∷ done.l2.report ∷ done.l3.report ∷ [] in
-          four (λ c. slice_get reports c ≡ Some report → IsReportOf (answered c) report)
-          (λ is. subst (IsReportOf done-0.answered) (same_Some done.l0.report report is) done-0.served.report_is)
-          (λ is. subst (IsReportOf done-1.answered) (same_Some done.l1.report report is) done-1.served.report_is)
-          (λ is. subst (IsReportOf done-2.answered) (same_Some done.l2.report report is) done-2.served.report_is)
-          (λ is. subst (IsReportOf done-3.answered) (same_Some done.l3.report report is) done-3.served.report_is)
+          let all = done.l0.notes ∷ done.l1.notes ∷ done.l2.notes ∷ done.l3.notes ∷ [] in
+          four (λ c. slice_get all c ≡ Some notes → are_of (answered c) notes)
+          (λ is. subst (are_of done-0.answered) (same_Some done.l0.notes notes is) done-0.served.noted)
+          (λ is. subst (are_of done-1.answered) (same_Some done.l1.notes notes is) done-1.served.noted)
+          (λ is. subst (are_of done-2.answered) (same_Some done.l2.notes notes is) done-2.served.noted)
+          (λ is. subst (are_of done-3.answered) (same_Some done.l3.notes notes is) done-3.served.noted)
           channel below (ap (λ l. slice_get l channel) (sym settled.lanes_are) ∙ at)
 
       -- what was given and counted is the answer for what came in, in the order in which it was taken
-      answer-of-run : IsAnswerBy rule accepted setup incoming order frames (given_of sent) concluded.counts.items concluded.lanes
+      answer-of-run : IsAnswerBy are_of rule accepted setup incoming order frames (given_of sent) concluded.counts.items concluded.lanes
       answer-of-run = record {
         intake = record { answered = answered; lanes = lanes-answered; items = items; merged = merged };
         frames_only = only-frames;
@@ -337,17 +335,17 @@ module _ {C : Type 0} (accepts : C → List ℕ → Bool) (accepted : List ℕ �
         flow_count = ap (λ (counts : Vec FlowCounts Global). length counts.items) settled.counts_are ∙ has.assembled.has_assembled.count ∙ is.flows.flow_count;
         flows = λ k flow_record count of_flow at. flow-gave k flow_record count of_flow (ap (λ (counts : Vec FlowCounts Global). slice_get counts.items k) (sym settled.counts_are) ∙ at);
         requested = λ channel below. given-on-channel channel ∙ requests-on channel below;
-        report_count = ap length settled.lanes_are;
-        reports = reported;
+        lane_count = ap length settled.lanes_are;
+        noted = noted;
       }
 
       -- so it is what the run comes to
       pub run-answers : (requests : List Given) → requests ≡ given_of sent → (came_in : Incoming → Type 0) → came_in incoming
-          → ConcludesAnswer rule accepted setup came_in kept frames requests concluded
+          → ConcludesAnswer are_of rule accepted setup came_in kept frames requests concluded
       run-answers requests same came_in came = record {
         incoming = incoming;
         came = came;
         order = order;
         ordered = subst (λ (o : Option (Vec ℕ Global)). HasOrder kept order o) (sym settled.order_is) has.assembled.ordered;
-        answer = subst (λ given. IsAnswerBy rule accepted setup incoming order frames given concluded.counts.items concluded.lanes) (sym same) answer-of-run;
+        answer = subst (λ given. IsAnswerBy are_of rule accepted setup incoming order frames given concluded.counts.items concluded.lanes) (sym same) answer-of-run;
       }

@@ -8,10 +8,10 @@ use Rattle.flow_core.specs.Events.{FlowEvent}
 use Rattle.flow_core.specs.Fates.{Fates}
 use Rattle.flow_core.specs.Near.{AreNear}
 use Rattle.lane.specs.declared.input.Input.{Input}
-use Rattle.lane.specs.declared.report.LaneReport.{LaneReport}
 use Rattle.flow_records.specs.declared.decision.Decision.{Decision}
 use Rattle.lane.specs.Limits.{channel_limit}
-use Rattle.lane.specs.Report.{requests_of, IsReportOf}
+use Rattle.lane.specs.Inputs.{AnsweredInput}
+use Rattle.lane.specs.Report.{requests_of}
 use Rattle.loss_rule.specs.declared.rule.LossRule.{LossRule}
 use Rattle.loss_rule.specs.Rule.{Coming, RuledFlow, Lasts, AreRuled}
 use Rattle.consumer.specs.declared.given.Given.{Given}
@@ -22,6 +22,7 @@ use Rattle.receiver.specs.Intake.{IsIntake}
 use Rattle.receiver.specs.Order.{IsLawfulOrder, lengths_of}
 use Rattle.receiver.specs.Outcome.{GivesAtItsClose}
 use Rattle.receiver.specs.Ruled.{ruled_flow, comings_at}
+use Rattle.receiver.specs.Tallies.{IsTallyOf}
 use Rattle.workers.specs.Given.{BecameBy}
 use Rattle.uplink.specs.declared.eight_threads.RunFault.TheVariants.{OutOfMemory}
 use Rattle.uplink.specs.declared.receiving.Received.{Received}
@@ -60,9 +61,9 @@ pub record IsGivenByRule (rule : LossRule) (check : List ℕ → Bool) (flow : R
   pub ruled : AreRuled rule flow comings events lasts fates
   pub gives : GivesAtItsClose check flow_record events frames counts
 
--- The one-thread answer by a rule for what comes in, in this order: these frames are given, these requests, these counts of each flow and this report of
--- each channel.
-pub record IsAnswerBy (rule : LossRule) (check : List ℕ → Bool) (setup : Setup) (incoming : Incoming) (order : List ℕ) (frames requests : List Given) (counts : List FlowCounts) (lanes : List LaneReport) : Type 0 where
+-- The one-thread answer by a rule for what comes in, in this order: these frames are given, these requests, these counts of each flow and these notes of
+-- each channel, which are of its inputs with their answers.
+pub record IsAnswerBy {N : Type 0} (are_of : List AnsweredInput → N → Type 0) (rule : LossRule) (check : List ℕ → Bool) (setup : Setup) (incoming : Incoming) (order : List ℕ) (frames requests : List Given) (counts : List FlowCounts) (lanes : List N) : Type 0 where
   pub intake : IsIntake setup incoming order
   pub frames_only : AreFramesOf (length setup.flows.items) frames
   pub requests_only : AreRequests requests
@@ -70,8 +71,8 @@ pub record IsAnswerBy (rule : LossRule) (check : List ℕ → Bool) (setup : Set
   pub flows : (k : ℕ) (flow_record : FlowRecord) (count : FlowCounts) → slice_get setup.flows.items k ≡ Some flow_record → slice_get counts k ≡ Some count
       → IsGivenByRule rule check (ruled_flow setup.sids.items k flow_record) flow_record (comings_at k order intake.items) (frames_of k frames) count
   pub requested : (channel : ℕ) → channel < channel_limit → requests_given channel requests ≡ requests_of (intake.answered channel)
-  pub report_count : length lanes ≡ channel_limit
-  pub reports : (channel : ℕ) (report : LaneReport) → channel < channel_limit → slice_get lanes channel ≡ Some report → IsReportOf (intake.answered channel) report
+  pub lane_count : length lanes ≡ channel_limit
+  pub noted : (channel : ℕ) (notes : N) → channel < channel_limit → slice_get lanes channel ≡ Some notes → are_of (intake.answered channel) notes
 
 -- The headline, of what was given for what came in, in this order. The order is a lawful one of all that each channel admits and all decisions that name a
 -- flow. The frames of each flow are its whole delivery sequence, if the flow's segments are those of one lawful cut of a modem's frames and the events that
@@ -105,7 +106,7 @@ module _ {F Q : Type 0} (takes : F → List Given → F → Type 0) (asks : Q �
     pub requests : List Given
     pub were_given : WereGiven consumer scheduler frames requests received.consumer received.scheduler
     pub headline : GivesTheHeadline rule check setup incoming order frames requests
-    pub answer : IsAnswerBy rule check setup incoming order frames requests received.flows.items received.lanes
+    pub answer : IsAnswerBy IsTallyOf rule check setup incoming order frames requests received.flows.items received.lanes
 
   -- Both come back with a fault. Where the setup can't be run they are as they were handed in.
   pub record GivesBack (consumer : F) (scheduler : Q) (error : ReceiveError F Q) : Type 0 where

@@ -47,7 +47,9 @@ pub struct AssembledAll {
 }
 
 /// Takes until all senders have ended, and offers the frames that each flow gives to its feeder.
-/// Then it closes all flows, and the feeders. Once an allocation failed it drops what it takes.
+/// Then it closes all flows, and the feeders. Once an allocation failed, in whichever thread, it
+/// drops what it takes, and closes no flow: so what was offered is what comes first of what would
+/// have been. No clause says so, since none knows what one thread sees of another; a test does.
 /// `closed` has room for a closed feeder of each flow. The order of the items is appended to
 /// `order`, if there is one.
 pub fn assemble<C: HeaderCheck + Drop, R: Wait>(
@@ -74,7 +76,11 @@ pub fn assemble<C: HeaderCheck + Drop, R: Wait>(
         told: signals.offered(),
     };
     let taking = take_items(alloc, rt, signals, taking, &mut mouth, &mut feeding);
-    let done = close_flows(alloc, taking, &mut feeding);
+    let done = if signals.has_failed() {
+        None
+    } else {
+        close_flows(alloc, taking, &mut feeding)
+    };
     let feeders = close_feeders(rt, signals, feeding.feeders, closed);
     AssembledAll {
         mouth,
@@ -85,6 +91,9 @@ pub fn assemble<C: HeaderCheck + Drop, R: Wait>(
 
 /// Takes until all senders have ended, and offers the frames that each flow gives to its feeder.
 /// Nothing where an allocation failed; what comes after that is dropped.
+///
+/// Where the order isn't kept, no item is taken while a frame waits in a backlog: then the mailbox
+/// fills, and sources are asked no more until the consumer has taken.
 fn take_items<C: HeaderCheck + Drop, R: Wait>(
     alloc: Global,
     rt: &R,
@@ -100,6 +109,7 @@ fn take_items<C: HeaderCheck + Drop, R: Wait>(
     ensures so_far { IfSome result (λ made. HasAssembledSoFar C.accepts taking feeding.old
         (taken mouth.old) (taken mouth.new) made feeding.new) }
 {
+    let is_bounded = taking.order.is_none();
     let mut taking = Some(taking);
     let mut wait = MouthWait::at(signals.arrivals());
     for _ in rt.forever() {
@@ -109,7 +119,11 @@ fn take_items<C: HeaderCheck + Drop, R: Wait>(
         match mouth.next(rt) {
             Taken::Item { from, item } => {
                 wait.took();
-                taking = with_item(alloc, taking, feeding, from, item);
+                let flow = item.event.flow();
+                taking = with_item(alloc, signals, taking, feeding, from, item);
+                if is_bounded {
+                    feeding.wait_for_room(rt, signals, flow);
+                }
             }
             Taken::End { .. } => wait.took(),
             Taken::Empty => {
@@ -122,9 +136,11 @@ fn take_items<C: HeaderCheck + Drop, R: Wait>(
 }
 
 /// With one item more, whose flow's frames were offered. Nothing where there was nothing, or where
-/// an allocation failed.
+/// an allocation failed, in whichever thread: an item of another channel may then be one that would
+/// have had to wait.
 fn with_item<C: HeaderCheck + Drop>(
     alloc: Global,
+    signals: &Signals,
     taking: Option<Taking<C>>,
     feeding: &mut Feeding<'_>,
     from: u8,
@@ -136,6 +152,9 @@ fn with_item<C: HeaderCheck + Drop>(
         × HasOrder was.order (from ∷ []) now.order
         × TakesItem C.accepts was.flows feeding.old from item.event now.flows feeding.new) }
 {
+    if signals.has_failed() {
+        return None;
+    }
     let Taking {
         mut flows,
         mut order,

@@ -9,13 +9,14 @@ use delivery::Feeder;
 use docsis_wire::Bytes;
 use lane::Request;
 use std::alloc::{AllocError, Global};
-use workers::flush_all;
+use std::sync::Wait;
+use workers::{Signals, flush_all, wait_for_room};
 
 /// The feeders of all flows. Each frame that it is given is offered to the feeder of its flow, of
 /// which whoever takes frames is told; a request is none of its business.
 ///
 /// It is whole as long as each frame was offered. For one there may be no memory in the backlog of
-/// its feeder, or no feeder; from then on it isn't whole.
+/// its feeder, or no feeder; from then on it isn't whole, and no frame is offered any more.
 #[derive(Drop)]
 pub struct Feeding<'a> {
     pub feeders: Vec<Feeder>,
@@ -31,12 +32,22 @@ impl Feeding<'_> {
     {
         flush_all(&mut self.feeders, self.told)
     }
+
+    /// Waits for as long as a frame of this flow stands in the backlog of its feeder.
+    pub fn wait_for_room<R: Wait>(&mut self, rt: &R, signals: &Signals, flow: usize)
+        ensures { HasOffered self.old [] self.new }
+    {
+        wait_for_room(rt, signals, &mut self.feeders, flow);
+    }
 }
 
 impl Consumer for Feeding<'_> {
     ghost after = { HasOffered };
 
     fn frame(&mut self, flow: usize, frame: Bytes) {
+        if !self.whole {
+            return;
+        }
         let alloc = *self.feeders.allocator();
         if !offer(alloc, &mut self.feeders, flow, frame, self.told) {
             self.whole = false;

@@ -19,8 +19,8 @@ use workers::{Consumers, Done, Item, settle_rings};
 
 /// What all threads handed on, in none of which an allocation failed.
 #[derive(Drop)]
-pub struct Ended {
-    pub done: Done,
+pub struct Ended<N> {
+    pub done: Done<N>,
     /// The fifth port of the requests, which posted nothing.
     pub unused_port: ClosedPort<Request>,
     pub mouth: Mouth<Item>,
@@ -28,25 +28,25 @@ pub struct Ended {
     pub assembled: Assembled,
 }
 
-/// What a run comes to: what was counted of each flow, what became of the inputs of the channels,
+/// What a run comes to: what was counted of each flow, what was noted of the inputs of the channels,
 /// and the order of the items, if it was kept.
 #[derive(Drop)]
-pub struct Concluded {
+pub struct Concluded<N> {
     pub counts: Vec<FlowCounts>,
-    pub lanes: [LaneReport; CHANNELS],
+    pub lanes: [N; CHANNELS],
     pub order: Option<Vec<u8>>,
 }
 
 /// Who took what a run gave, and what it came to, unless an allocation failed or a thread could not
 /// be started.
 #[derive(Drop)]
-pub struct Ran<F, Q> {
+pub struct Ran<F, Q, N> {
     pub consumers: Consumers<F, Q>,
-    pub concluded: Option<Concluded>,
+    pub concluded: Option<Concluded<N>>,
 }
 
 /// What a run came to. Both mailboxes and all rings are settled, and nothing is left in them.
-pub fn conclude<R: Wait>(rt: &R, end: Ended) -> Concluded
+pub fn conclude<N: Drop, R: Wait>(rt: &R, end: Ended<N>) -> Concluded<N>
     requires { CanSettle end }
     ensures { HasConcluded end result }
 {
@@ -73,7 +73,7 @@ pub fn conclude<R: Wait>(rt: &R, end: Ended) -> Concluded
     settle_rings(&mut feeders, &mut takers);
     Concluded {
         counts: end.assembled.counts,
-        lanes: [l0.report, l1.report, l2.report, l3.report],
+        lanes: [l0.notes, l1.notes, l2.notes, l3.notes],
         order: end.assembled.order,
     }
 }
@@ -83,7 +83,7 @@ pub fn conclude<R: Wait>(rt: &R, end: Ended) -> Concluded
 pub fn outcome_of<F: Drop, Q: Drop>(
     alloc: Global,
     records: &[FlowRecord],
-    ran: Ran<Tapped<F, NoTap>, Tapped<NoTap, Q>>,
+    ran: Ran<Tapped<F, NoTap>, Tapped<NoTap, Q>, LaneReport>,
 ) -> Result<Outcome, AllocError>
     requires { CanBeMade (length records.now) ran }
     ensures { IfOk result (IsMadeOf records.now ran) }

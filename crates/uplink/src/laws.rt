@@ -23,7 +23,8 @@ ghost use Rattle.flow_core.specs.Outcome.{IsFlowOutcome};
 ghost use Rattle.flow_core.specs.Stands.{StandsFor};
 ghost use Rattle.loss_rule.specs.declared.rule.LossRule.{LossRule};
 ghost use Rattle.consumer.specs.declared.given.Given.{Given};
-ghost use Rattle.lane.specs.declared.report.LaneReport.{LaneReport};
+ghost use Rattle.receiver.specs.declared.tally.LaneTally.{LaneTally};
+ghost use Rattle.receiver.specs.Tallies.{IsTallyOf};
 ghost use Rattle.uplink.specs.Headline.{KeepsTheHeadline, KeepsTheHeadlineBy};
 ghost use Rattle.uplink.specs.Received.{IsAnswerBy, GivesTheHeadline};
 ghost use Rattle.receiver.specs.declared.setup.Setup.{Setup};
@@ -71,8 +72,8 @@ pub fn consumers_take_the_delivery_sequence()
         → KeepsTheHeadlineBy rule check setup incoming order outcome }
     ensures given { (rule : LossRule) (check : List ℕ → Bool) (setup : Setup)
         (incoming : Incoming) (order : List ℕ) (frames requests : List Given)
-        (counts : List FlowCounts) (lanes : List LaneReport)
-        → IsAnswerBy rule check setup incoming order frames requests counts lanes
+        (counts : List FlowCounts) (lanes : List LaneTally)
+        → IsAnswerBy IsTallyOf rule check setup incoming order frames requests counts lanes
         → GivesTheHeadline rule check setup incoming order frames requests }
     ensures prefix { (check : List ℕ → Bool) (fill : ℕ) (flow_record : FlowRecord)
         (frames chunks given unoffered later : List (List ℕ)) (segments : List Segment)

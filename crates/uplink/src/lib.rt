@@ -41,7 +41,7 @@ pub use lane::{
 };
 pub use loss_rule::LossRule;
 pub use receiver::{
-    BadSetup, Decision, FlowOutcome, Lists, Outcome, ReplayFault, Setup, admitted_order,
+    BadSetup, Decision, FlowOutcome, LaneTally, Lists, Outcome, ReplayFault, Setup, admitted_order,
     check_order, replay, replay_by,
 };
 pub use receiving::{ReceiveError, Received, receive};

@@ -7,6 +7,7 @@
 ghost use Rattle.std.specs.Prelude.{◌≡◌, ◌≢◌, ◌∷◌, [], Bool, ℕ, List, Some, IfOk, IfErr};
 ghost use Rattle.loss_rule.specs.declared.rule.LossRule.{LossRule};
 ghost use Rattle.uplink.specs.declared.finish.Concluded.{Concluded};
+ghost use Rattle.receiver.specs.declared.tally.LaneTally.{LaneTally};
 ghost use Rattle.uplink.specs.Faults.{CanRun, IsRunFault};
 ghost use Rattle.workers.specs.Given.{Yields};
 ghost use Rattle.uplink.specs.Received.{CameFrom, HasReceived, GivesBack};
@@ -19,14 +20,15 @@ use crate::open::{Opened, open_all};
 use consumer::Consumer;
 use docsis_wire::HeaderCheck;
 use flow_core::FlowCounts;
-use lane::{CHANNELS, LaneReport};
+use lane::CHANNELS;
 use loss_rule::LossRule;
-use receiver::Setup;
+use receiver::{LaneTally, Setup};
 use std::alloc::Global;
 use std::sync::Wait;
 use std::thread::Threads;
 use workers::{
-    Consumers, Joined, LiveDecisions, LiveSource, Share, Sources, Work, both_done, start_team,
+    Consumers, Joined, LaneNotes, LiveDecisions, LiveSource, Share, Sources, Work, both_done,
+    start_team,
 };
 
 /// What was received, apart from what the consumer and the scheduler made of it.
@@ -38,8 +40,8 @@ pub struct Received<F, Q> {
     pub scheduler: Q,
     /// What was counted of each flow, in the order of the records.
     pub flows: Vec<FlowCounts>,
-    /// What became of the inputs of the channels 0 to 3.
-    pub lanes: [LaneReport; CHANNELS],
+    /// How many inputs of the channels 0 to 3 were admitted, and how many refused.
+    pub lanes: [LaneTally; CHANNELS],
 }
 
 /// Why a receiver doesn't run, or doesn't run to its end, with the two that it was to serve.
@@ -68,13 +70,16 @@ pub struct ReceiveError<F, Q> {
 /// `Setup` and `Lane`: the first fault of the setup. `NoCapacity`: it has none, and the capacity of
 /// the mailboxes is 0. Then nothing was given. `OutOfMemory`: an allocation failed, in whichever
 /// thread, or a thread could not be started. Before all threads are started no source is asked.
-/// Later the worker of a channel whose allocation failed asks its source for nothing more, and all
-/// others go on to their end. The two come back on every answer. The check is used by the caller's
-/// thread alone. The call waits for its threads, and they for the sources: it returns only if these
-/// end.
+/// Later the worker of a channel whose allocation failed asks its source for nothing more, all
+/// others go on to their end, and no frame is made of what is taken then: so what the two were given
+/// is what comes first of what they would have been given. The two come back on every answer. The
+/// check is used by the caller's thread alone. The call waits for its threads, and they for the
+/// sources: it returns only if these end.
 ///
-/// What waits for a slow consumer stands in memory without bound, and a report has the number of
-/// each refusal.
+/// **A slow consumer is waited for.** While a frame finds no room in its flow's ring, no item is
+/// taken, so the mailboxes fill, and sources are asked for nothing more. What waits is bounded by
+/// the rings, the mailboxes and the frames of one segment, and at the close by what the windows
+/// held; no frame is dropped. Nothing grows with what was received.
 pub fn receive<S0, S1, S2, S3, D, F, Q, C, R>(
     alloc: Global,
     rt: R,
@@ -126,8 +131,8 @@ where
 }
 
 /// What was received, or that an allocation failed or a thread could not be started.
-fn received_of<F, Q>(ran: Ran<F, Q>) -> Result<Received<F, Q>, ReceiveError<F, Q>>
-    ensures received { IfOk result (λ received. (concluded : Concluded)
+fn received_of<F, Q>(ran: Ran<F, Q, LaneTally>) -> Result<Received<F, Q>, ReceiveError<F, Q>>
+    ensures received { IfOk result (λ received. (concluded : Concluded LaneTally)
         × (ran.concluded ≡ Some concluded)
         × (received ≡ record {
           consumer = ran.consumers.consumer;
@@ -181,7 +186,7 @@ pub fn prepare<C: HeaderCheck + Drop>(
 
 /// Runs what was opened for a setup until all threads have returned, and settles it. The order of
 /// the items is appended to `order`, if there is one.
-pub fn run_prepared<S0, S1, S2, S3, D, F, Q, C, R>(
+pub fn run_prepared<S0, S1, S2, S3, D, F, Q, N, C, R>(
     alloc: Global,
     rt: &R,
     setup: &Setup,
@@ -190,7 +195,7 @@ pub fn run_prepared<S0, S1, S2, S3, D, F, Q, C, R>(
     sources: Sources<S0, S1, S2, S3>,
     decisions: D,
     consumers: Consumers<F, Q>,
-) -> Ran<F, Q>
+) -> Ran<F, Q, N>
 where
     S0: LiveSource + Drop + Send + 'static,
     S1: LiveSource + Drop + Send + 'static,
@@ -199,13 +204,14 @@ where
     D: LiveDecisions + Drop + Send + 'static,
     F: Consumer + Drop + Send + 'static,
     Q: Consumer + Drop + Send + 'static,
+    N: LaneNotes + Drop + Send + 'static,
     C: HeaderCheck + Drop,
     R: Threads + Wait + Copy + Send + 'static,
     requires { (accepted : List ℕ → Bool) × (rule : LossRule)
         × IsOpened C.accepts accepted rule setup.now opened }
     ensures { (accepted : List ℕ → Bool) (rule : LossRule)
         → IsOpened C.accepts accepted rule setup.now opened
-        → HasRun F.after Q.after rule accepted setup.now
+        → HasRun F.after Q.after N.are_of rule accepted setup.now
         (CameFrom (Yields S0.gave S0.is_over sources.s0) (Yields S1.gave S1.is_over sources.s1)
         (Yields S2.gave S2.is_over sources.s2) (Yields S3.gave S3.is_over sources.s3)
         (Yields D.gave D.is_over decisions)) order consumers result }
@@ -226,7 +232,7 @@ where
 
 /// Runs what was opened until all threads have returned. It hands back the consumers, and, unless
 /// an allocation failed or a thread could not be started, what the threads handed on.
-fn run_opened<S0, S1, S2, S3, D, F, Q, C, R>(
+fn run_opened<S0, S1, S2, S3, D, F, Q, N, C, R>(
     alloc: Global,
     rt: &R,
     flow_count: usize,
@@ -235,7 +241,7 @@ fn run_opened<S0, S1, S2, S3, D, F, Q, C, R>(
     sources: Sources<S0, S1, S2, S3>,
     decisions: D,
     consumers: Consumers<F, Q>,
-) -> (Consumers<F, Q>, Option<Ended>)
+) -> (Consumers<F, Q>, Option<Ended<N>>)
 where
     S0: LiveSource + Drop + Send + 'static,
     S1: LiveSource + Drop + Send + 'static,
@@ -244,10 +250,11 @@ where
     D: LiveDecisions + Drop + Send + 'static,
     F: Consumer + Drop + Send + 'static,
     Q: Consumer + Drop + Send + 'static,
+    N: LaneNotes + Drop + Send + 'static,
     C: HeaderCheck + Drop,
     R: Threads + Wait + Copy + Send + 'static,
     requires opened { CanStart C.accepts opened }
-    ensures { RanOpened F.after Q.after C.accepts flow_count
+    ensures { RanOpened F.after Q.after N.are_of C.accepts flow_count
         (CameFrom (Yields S0.gave S0.is_over sources.s0) (Yields S1.gave S1.is_over sources.s1)
         (Yields S2.gave S2.is_over sources.s2) (Yields S3.gave S3.is_over sources.s3)
         (Yields D.gave D.is_over decisions)) opened order consumers result }

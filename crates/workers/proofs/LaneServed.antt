@@ -5,23 +5,20 @@ use Rattle.mailbox.specs.Ports.{address, posted}
 use Rattle.mailbox.specs.declared.port.ClosedPort.{ClosedPort}
 use Rattle.lane.specs.declared.admitted.Request.{Request}
 use Rattle.lane.specs.declared.input.Input.{Input}
-use Rattle.lane.specs.declared.report.LaneReport.{LaneReport}
 use Rattle.workers.specs.declared.item.Item.{Item}
 use Rattle.workers.specs.declared.lane_worker.LaneWork.{LaneWork}
 use Rattle.lane.specs.Inputs.{Answer, AnsweredInput}
 use Rattle.lane.specs.Report.{admitted_in, requests_in, admitted_of, requests_of}
 use Rattle.lane.specs.Report.{event_of_admitted}
-use Rattle.lane.specs.Report.{IsReportOf}
 use Rattle.lane.specs.Stands.{TakesInput}
-use Rattle.lane.specs.Report.{Reports}
 use Rattle.workers.specs.Inside.Carried.{carried}
 use Rattle.workers.specs.Inside.Working.{HasPosted, HasServedAll, DidLane}
 use Rattle.lane.proofs.LaneReports.{admitted_of-append, requests_of-append}
 
-module _ {S : Type 0} where
+module _ {S N : Type 0} (are_of : List AnsweredInput → N → Type 0) where
   -- no input was served yet
-  pub none_served : (work : LaneWork S) (report : LaneReport) → IsReportOf [] report → HasServedAll [] work work report
-  none_served work report of = record {
+  pub none_served : (work : LaneWork S) (notes : N) → are_of [] notes → HasServedAll are_of [] work work notes
+  none_served work notes of = record {
     arrivals_same = refl;
     requests_same = refl;
     serves = λ setup stands. record {
@@ -30,18 +27,19 @@ module _ {S : Type 0} where
       stands = stands;
       arrivals_are = sym (append-nil (carried (posted work.arrivals)));
       requests_are = sym (append-nil (posted work.requests));
-      report_is = of;
+      noted = of;
     };
   }
 
   -- one input more was answered, and what it admits posted
-  pub one_served : (inputs : List Input) (input : Input) (answer : Answer) (work before after : LaneWork S) (report report' : LaneReport)
-      → HasServedAll inputs work before report → TakesInput before.lane input answer after.lane → Reports report answer report'
+  pub one_served : (inputs : List Input) (input : Input) (answer : Answer) (work before after : LaneWork S) (notes notes' : N)
+      → HasServedAll are_of inputs work before notes → TakesInput before.lane input answer after.lane
+      → ((answered : List AnsweredInput) (one : Input) → are_of answered notes → are_of (answered ++ record { input = one; answer = answer } ∷ []) notes')
       → address after.arrivals ≡ address before.arrivals → address after.requests ≡ address before.requests
       → carried (posted after.arrivals) ≡ carried (posted before.arrivals) ++ map event_of_admitted (admitted_in answer)
       → posted after.requests ≡ posted before.requests ++ requests_in answer
-      → HasServedAll (inputs ++ input ∷ []) work after report'
-  one_served inputs input answer work before after report report' has takes reports arrivals_same requests_same arrivals requests = record {
+      → HasServedAll are_of (inputs ++ input ∷ []) work after notes'
+  one_served inputs input answer work before after notes notes' has takes adds arrivals_same requests_same arrivals requests = record {
     arrivals_same = arrivals_same ∙ has.arrivals_same;
     requests_same = requests_same ∙ has.requests_same;
     serves = λ setup stands.
@@ -62,14 +60,14 @@ module _ {S : Type 0} where
               requests ∙ ap (λ t. t ++ requests_in answer) is.requests_are
               ∙ append_assoc (posted work.requests) (requests_of is.answered) (requests_in answer)
               ∙ ap (λ t. posted work.requests ++ t) (sym (requests_of-append is.answered (one ∷ [])));
-          report_is = reports is.answered input is.report_is;
+          noted = adds is.answered input is.noted;
         };
   }
 
   -- the source gives no more
-  pub all_served : (inputs : List Input) (work now : LaneWork S) (source : S) (report : LaneReport) → HasServedAll inputs work now report
-      → HasServedAll inputs work (record { lane = now.lane; arrivals = now.arrivals; requests = now.requests; source = source }) report
-  all_served inputs work now source report has = record {
+  pub all_served : (inputs : List Input) (work now : LaneWork S) (source : S) (notes : N) → HasServedAll are_of inputs work now notes
+      → HasServedAll are_of inputs work (record { lane = now.lane; arrivals = now.arrivals; requests = now.requests; source = source }) notes
+  all_served inputs work now source notes has = record {
     arrivals_same = has.arrivals_same;
     requests_same = has.requests_same;
     serves = λ setup stands.
@@ -80,15 +78,15 @@ module _ {S : Type 0} where
           stands = is.stands;
           arrivals_are = is.arrivals_are;
           requests_are = is.requests_are;
-          report_is = is.report_is;
+          noted = is.noted;
         };
   }
 
   -- all inputs were served, and the ports closed
-  pub did_serve : (inputs : List Input) (work now : LaneWork S) (report : LaneReport) (arrivals : ClosedPort Item) (requests : ClosedPort Request)
-      → HasServedAll inputs work now report → HasPosted now.arrivals [] arrivals → HasPosted now.requests [] requests
-      → DidLane work.lane work.arrivals work.requests inputs (record { arrivals = arrivals; requests = requests; report = report })
-  did_serve inputs work now report arrivals requests has closes closes' = record {
+  pub did_serve : (inputs : List Input) (work now : LaneWork S) (notes : N) (arrivals : ClosedPort Item) (requests : ClosedPort Request)
+      → HasServedAll are_of inputs work now notes → HasPosted now.arrivals [] arrivals → HasPosted now.requests [] requests
+      → DidLane are_of work.lane work.arrivals work.requests inputs (record { arrivals = arrivals; requests = requests; notes = notes })
+  did_serve inputs work now notes arrivals requests has closes closes' = record {
     did = λ setup stands.
         let is = has.serves setup stands in (
           is.answered,
@@ -103,7 +101,7 @@ module _ {S : Type 0} where
               address_is = closes'.address_is ∙ has.requests_same;
               posted_is = closes'.posted_is ∙ append-nil (posted now.requests) ∙ is.requests_are;
             };
-            report_is = is.report_is;
+            noted = is.noted;
           },
         );
   }

@@ -1,6 +1,6 @@
 //! The feeders of all flows, which the assembler of a running receiver drives.
-ghost use Rattle.std.specs.Prelude.{◌≡◌, ◌≤◌, [], length, map};
-ghost use Rattle.delivery.specs.Feeders.{feeder_ring, offered, closed_ring, closed_offered};
+ghost use Rattle.std.specs.Prelude.{◌≡◌, ◌≤◌, false, [], length, map};
+ghost use Rattle.delivery.specs.Feeders.{feeder_ring, offered, backlog, closed_ring, closed_offered};
 
 use crate::signals::Signals;
 use crate::waiting::Waiting;
@@ -22,10 +22,42 @@ pub fn flush_all(feeders: &mut [Feeder], told: &EventCount) -> bool
     are_left
 }
 
-/// Flushes one feeder.
+/// Waits for as long as a frame of this flow stands in the backlog of its feeder.
+pub fn wait_for_room<R: Wait>(rt: &R, signals: &Signals, feeders: &mut [Feeder], flow: usize)
+    ensures rings { map feeder_ring feeders.new ≡ map feeder_ring feeders.old }
+    ensures offered { map offered feeders.new ≡ map offered feeders.old }
+{
+    if flow < feeders.len() {
+        empty_backlog(rt, signals, &mut feeders[flow]);
+    }
+}
+
+/// Waits until all frames of a backlog were moved into the ring.
+fn empty_backlog<R: Wait>(rt: &R, signals: &Signals, feeder: &mut Feeder)
+    ensures ring { feeder_ring feeder.new ≡ feeder_ring feeder.old }
+    ensures offered { offered feeder.new ≡ offered feeder.old }
+    ensures emptied { backlog feeder.new ≡ [] }
+{
+    if !feeder.has_backlog() {
+        return;
+    }
+    let mut waiting = Waiting::on(&signals.arrivals().posted);
+    for _ in rt.forever() {
+        let are_left = flush(feeder, signals.offered());
+        signals.want_room(are_left);
+        if !are_left {
+            return;
+        }
+        waiting.pause(rt);
+    }
+    unreachable!()
+}
+
+/// Flushes one feeder. It says whether frames are left.
 fn flush(feeder: &mut Feeder, told: &EventCount) -> bool
     ensures ring { feeder_ring feeder.new ≡ feeder_ring feeder.old }
     ensures offered { offered feeder.new ≡ offered feeder.old }
+    ensures none_left { result ≡ false → backlog feeder.new ≡ [] }
 {
     if !feeder.has_backlog() {
         return false;

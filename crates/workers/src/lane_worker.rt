@@ -7,11 +7,12 @@ ghost use Rattle.workers.specs.Inside.Carried.{carried};
 ghost use Rattle.workers.specs.Inside.Working.{DidServe, HasServedSource};
 
 use crate::item::Item;
+use crate::lane_notes::LaneNotes;
 use crate::live_source::LiveSource;
 use crate::retry::{close_port, post_item};
 use crate::signals::Signals;
 use flow_records::Event;
-use lane::{Admitted, Answer, Lane, LaneReport, Request, admitted_segment};
+use lane::{Admitted, Answer, Lane, Request, admitted_segment};
 use mailbox::{ClosedPort, Port};
 use std::alloc::{AllocError, Global};
 use std::snapshot::Snapshot;
@@ -45,32 +46,33 @@ impl<S> LaneWork<S> {
 
 /// A channel's closed ports, and what became of its inputs.
 #[derive(Drop)]
-pub struct LaneDone {
+pub struct LaneDone<N> {
     pub arrivals: ClosedPort<Item>,
     pub requests: ClosedPort<Request>,
-    pub report: LaneReport,
+    pub notes: N,
 }
 
 /// The work that a channel's worker was started with.
 #[derive(Drop)]
 pub struct LanePromise<S>(pub Snapshot<LaneWork<S>>);
 
-impl<S: LiveSource> Promise<Option<LaneDone>> for LanePromise<S> {
+impl<S: LiveSource, N: LaneNotes> Promise<Option<LaneDone<N>>> for LanePromise<S> {
     ghost kept_by = { λ promise result. IfSome result
-        (DidServe S.gave S.is_over promise.0.value) };
+        (DidServe N.are_of S.gave S.is_over promise.0.value) };
 }
 
-pub type LaneWorker<S> = PromisedHandle<Option<LaneDone>, LanePromise<S>>;
+pub type LaneWorker<S, N> = PromisedHandle<Option<LaneDone<N>>, LanePromise<S>>;
 
 /// Starts the worker of a channel.
-pub fn start<S, R>(
+pub fn start<S, N, R>(
     alloc: Global,
     rt: &R,
     signals: &Signals,
     work: LaneWork<S>,
-) -> Result<LaneWorker<S>, AllocError>
+) -> Result<LaneWorker<S, N>, AllocError>
 where
     S: LiveSource + Drop + Send + 'static,
+    N: LaneNotes + Drop + Send + 'static,
     R: Threads + Wait + Copy + Send + 'static,
     ensures { IfOk result (λ worker. worker.promise.0.value ≡ work) }
 {
@@ -84,19 +86,22 @@ where
 
 /// Takes all inputs of the source once it is told to go, and then closes both ports. It answers
 /// nothing if it is told to stop, or if an allocation failed; then it takes no more inputs.
-fn serve_channel<S: LiveSource + Drop, R: Wait>(
+fn serve_channel<S: LiveSource + Drop, N: LaneNotes + Drop, R: Wait>(
     alloc: Global,
     rt: &R,
     signals: &Signals,
     work: LaneWork<S>,
-) -> Option<LaneDone>
-    ensures { IfSome result (DidServe S.gave S.is_over work) }
+) -> Option<LaneDone<N>>
+    ensures { IfSome result (DidServe N.are_of S.gave S.is_over work) }
 {
     if !signals.start().is_go(rt) {
         return None;
     }
     let mut work = work;
-    let report = take_inputs(alloc, rt, signals, &mut work);
+    let noted = take_inputs(alloc, rt, signals, &mut work);
+    if noted.is_err() {
+        signals.fail();
+    }
     let LaneWork {
         lane: _,
         arrivals,
@@ -105,31 +110,31 @@ fn serve_channel<S: LiveSource + Drop, R: Wait>(
     } = work;
     let arrivals = close_port(rt, signals.arrivals(), arrivals);
     let requests = close_port(rt, signals.requests(), requests);
-    let report = report.ok()?;
+    let notes = noted.ok()?;
     Some(LaneDone {
         arrivals,
         requests,
-        report,
+        notes,
     })
 }
 
 /// Takes all inputs of the source, and posts what each admits before it takes the next. If an
 /// allocation failed it takes no more.
-fn take_inputs<S: LiveSource, R: Wait>(
+fn take_inputs<S: LiveSource, N: LaneNotes + Drop, R: Wait>(
     alloc: Global,
     rt: &R,
     signals: &Signals,
     work: &mut LaneWork<S>,
-) -> Result<LaneReport, AllocError>
-    ensures { IfOk result (HasServedSource S.gave S.is_over work.old work.new) }
+) -> Result<N, AllocError>
+    ensures { IfOk result (HasServedSource N.are_of S.gave S.is_over work.old work.new) }
 {
-    let mut report = LaneReport::none(alloc);
+    let mut notes = N::blank(alloc);
     for _ in rt.forever() {
         let Some(input) = work.source.next() else {
-            return Ok(report);
+            return Ok(notes);
         };
         let answer = work.lane.answer(alloc, &input)?;
-        report.note(&answer)?;
+        notes.add(&answer)?;
         post_admitted(rt, signals, &mut work.arrivals, &mut work.requests, answer);
     }
     unreachable!()

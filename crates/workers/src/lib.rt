@@ -24,6 +24,7 @@ mod decision_worker;
 mod feeders;
 mod frame_worker;
 mod item;
+mod lane_notes;
 mod lane_worker;
 mod live_source;
 mod mailboxes;
@@ -40,8 +41,9 @@ mod work;
 
 pub use both::{both_done, both_made};
 pub use consumers::Consumers;
-pub use feeders::{close_feeders, flush_all};
+pub use feeders::{close_feeders, flush_all, wait_for_room};
 pub use item::Item;
+pub use lane_notes::LaneNotes;
 pub use lane_worker::LaneDone;
 pub use live_source::{Foreknown, LiveDecisions, LiveSource};
 pub use mailboxes::{OpenMailbox, open_mailbox};

@@ -37,6 +37,7 @@ struct Shared {
     requests: MailboxSignals,
     offered: EventCount,
     wants_room: AtomicCell<bool>,
+    failed: AtomicCell<bool>,
 }
 
 impl Signals {
@@ -48,6 +49,7 @@ impl Signals {
             requests: MailboxSignals::new(),
             offered: EventCount::new(),
             wants_room: AtomicCell::new(false),
+            failed: AtomicCell::new(false),
         };
         let Ok(shared) = Arc::new(alloc, shared) else {
             return Err(AllocError);
@@ -84,6 +86,16 @@ impl Signals {
     /// Whether the assembler waits for room in a ring too, and not for arrivals alone.
     pub fn want_room(&self, wants: bool) {
         self.shared.wants_room.store(wants);
+    }
+
+    /// An allocation of a channel's worker failed.
+    pub fn fail(&self) {
+        self.shared.failed.store(true);
+    }
+
+    /// Whether an allocation of a channel's worker failed.
+    pub fn has_failed(&self) -> bool {
+        self.shared.failed.load()
     }
 
     /// Frames were taken out of rings. The assembler is told as of an arrival, if it wants room.

@@ -9,6 +9,7 @@ use crate::consumers::Consumers;
 use crate::decision_worker::{self, DecisionWorker};
 use crate::frame_worker::{self, Consumed, FrameWork, FrameWorker};
 use crate::item::Item;
+use crate::lane_notes::LaneNotes;
 use crate::lane_worker::{self, LaneDone, LaneWork, LaneWorker};
 use crate::live_source::{LiveDecisions, LiveSource};
 use crate::request_worker::{self, RequestWork, RequestWorker, Scheduled};
@@ -32,26 +33,30 @@ pub struct Team<
     D: LiveDecisions,
     F: Consumer,
     Q: Consumer,
+    N: LaneNotes,
 > {
     pub signals: Signals,
-    pub lanes: (LanePair<S0, S1>, LanePair<S2, S3>),
+    pub lanes: (LanePair<S0, S1, N>, LanePair<S2, S3, N>),
     pub decider: DecisionWorker<D>,
     pub takers: TakerPair<F, Q>,
 }
 
 /// The workers of two channels.
-type LanePair<S0, S1> = (LaneWorker<S0>, LaneWorker<S1>);
+type LanePair<S0, S1, N> = (LaneWorker<S0, N>, LaneWorker<S1, N>);
+
+/// What the workers of two channels have done.
+type TwoDone<N> = (LaneDone<N>, LaneDone<N>);
 
 /// The workers of frames and of requests.
 type TakerPair<F, Q> = (FrameWorker<F>, RequestWorker<Q>);
 
 /// What the workers have done.
 #[derive(Drop)]
-pub struct Done {
-    pub l0: LaneDone,
-    pub l1: LaneDone,
-    pub l2: LaneDone,
-    pub l3: LaneDone,
+pub struct Done<N> {
+    pub l0: LaneDone<N>,
+    pub l1: LaneDone<N>,
+    pub l2: LaneDone<N>,
+    pub l3: LaneDone<N>,
     pub decided: ClosedPort<Item>,
     pub mouth: Mouth<Request>,
     pub takers: Vec<Taker>,
@@ -60,18 +65,18 @@ pub struct Done {
 /// What the workers hand back: the consumers, and, unless an allocation failed in one of them, what
 /// they have done.
 #[derive(Drop)]
-pub struct Joined<F, Q> {
+pub struct Joined<F, Q, N> {
     pub consumers: Consumers<F, Q>,
-    pub done: Option<Done>,
+    pub done: Option<Done<N>>,
 }
 
 /// Starts all workers and tells them to begin. Where one can't be started, those that were return
 /// at once, and the consumers come back.
-pub fn start_team<S0, S1, S2, S3, D, F, Q, R>(
+pub fn start_team<S0, S1, S2, S3, D, F, Q, N, R>(
     alloc: Global,
     rt: &R,
     work: Work<S0, S1, S2, S3, D, F, Q>,
-) -> Result<Team<S0, S1, S2, S3, D, F, Q>, Consumers<F, Q>>
+) -> Result<Team<S0, S1, S2, S3, D, F, Q, N>, Consumers<F, Q>>
 where
     S0: LiveSource + Drop + Send + 'static,
     S1: LiveSource + Drop + Send + 'static,
@@ -80,6 +85,7 @@ where
     D: LiveDecisions + Drop + Send + 'static,
     F: Consumer + Drop + Send + 'static,
     Q: Consumer + Drop + Send + 'static,
+    N: LaneNotes + Drop + Send + 'static,
     R: Threads + Wait + Copy + Send + 'static,
     ensures l0 { IfOk result (λ team. team.lanes.0.0.promise.0.value ≡ work.l0) }
     ensures l1 { IfOk result (λ team. team.lanes.0.1.promise.0.value ≡ work.l1) }
@@ -115,16 +121,17 @@ where
 }
 
 /// Starts the workers of two channels.
-fn start_two<S0, S1, R>(
+fn start_two<S0, S1, N, R>(
     alloc: Global,
     rt: &R,
     signals: &Signals,
     one: LaneWork<S0>,
     other: LaneWork<S1>,
-) -> Result<LanePair<S0, S1>, AllocError>
+) -> Result<LanePair<S0, S1, N>, AllocError>
 where
     S0: LiveSource + Drop + Send + 'static,
     S1: LiveSource + Drop + Send + 'static,
+    N: LaneNotes + Drop + Send + 'static,
     R: Threads + Wait + Copy + Send + 'static,
     ensures one { IfOk result (λ pair. pair.0.promise.0.value ≡ one) }
     ensures other { IfOk result (λ pair. pair.1.promise.0.value ≡ other) }
@@ -233,25 +240,25 @@ fn end_started<W: Workers, R: Threads>(rt: &R, workers: Result<W, AllocError>) {
 
 /// Waits until the workers of two channels have returned. Nothing where an allocation failed in one
 /// of them.
-fn join_two<S0: LiveSource, S1: LiveSource, R: Threads>(
+fn join_two<S0: LiveSource, S1: LiveSource, N: LaneNotes + Drop, R: Threads>(
     rt: &R,
-    pair: LanePair<S0, S1>,
-) -> Option<(LaneDone, LaneDone)>
+    pair: LanePair<S0, S1, N>,
+) -> Option<TwoDone<N>>
     ensures one { IfSome result (λ done.
-        DidServe S0.gave S0.is_over pair.0.promise.0.value done.0) }
+        DidServe N.are_of S0.gave S0.is_over pair.0.promise.0.value done.0) }
     ensures other { IfSome result (λ done.
-        DidServe S1.gave S1.is_over pair.1.promise.0.value done.1) }
+        DidServe N.are_of S1.gave S1.is_over pair.1.promise.0.value done.1) }
 {
     let (one, other) = pair;
     both_done(one.join(rt), other.join(rt))
 }
 
 /// What all workers have done, if each has done its part.
-fn done_of(
-    lanes: Option<((LaneDone, LaneDone), (LaneDone, LaneDone))>,
+fn done_of<N: Drop>(
+    lanes: Option<(TwoDone<N>, TwoDone<N>)>,
     decided: Option<ClosedPort<Item>>,
     taken: Option<(Vec<Taker>, Mouth<Request>)>,
-) -> Option<Done>
+) -> Option<Done<N>>
     ensures lanes { IfSome result (λ done. lanes
         ≡ Some ((done.l0, done.l1), (done.l2, done.l3))) }
     ensures decided { IfSome result (λ done. decided ≡ Some done.decided) }
@@ -271,7 +278,7 @@ fn done_of(
     })
 }
 
-impl<S0, S1, S2, S3, D, F, Q> Team<S0, S1, S2, S3, D, F, Q>
+impl<S0, S1, S2, S3, D, F, Q, N> Team<S0, S1, S2, S3, D, F, Q, N>
 where
     S0: LiveSource,
     S1: LiveSource,
@@ -280,16 +287,17 @@ where
     D: LiveDecisions,
     F: Consumer,
     Q: Consumer,
+    N: LaneNotes + Drop,
 {
     /// Waits until all workers have returned.
-    pub fn join<R: Threads>(self, rt: &R) -> Joined<F, Q>
-        ensures l0 { IfSome result.done (λ done. DidServe S0.gave S0.is_over
+    pub fn join<R: Threads>(self, rt: &R) -> Joined<F, Q, N>
+        ensures l0 { IfSome result.done (λ done. DidServe N.are_of S0.gave S0.is_over
             self.lanes.0.0.promise.0.value done.l0) }
-        ensures l1 { IfSome result.done (λ done. DidServe S1.gave S1.is_over
+        ensures l1 { IfSome result.done (λ done. DidServe N.are_of S1.gave S1.is_over
             self.lanes.0.1.promise.0.value done.l1) }
-        ensures l2 { IfSome result.done (λ done. DidServe S2.gave S2.is_over
+        ensures l2 { IfSome result.done (λ done. DidServe N.are_of S2.gave S2.is_over
             self.lanes.1.0.promise.0.value done.l2) }
-        ensures l3 { IfSome result.done (λ done. DidServe S3.gave S3.is_over
+        ensures l3 { IfSome result.done (λ done. DidServe N.are_of S3.gave S3.is_over
             self.lanes.1.1.promise.0.value done.l3) }
         ensures decided { IfSome result.done (λ done. DidDecideAll D.gave D.is_over
             self.decider.promise.0.value done.decided) }

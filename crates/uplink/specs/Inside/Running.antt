@@ -12,6 +12,7 @@ use Rattle.delivery.specs.declared.feeder.ClosedFeeder.{ClosedFeeder}
 use Rattle.delivery.specs.declared.taker.Taker.{Taker}
 use Rattle.lane.specs.declared.admitted.Request.{Request}
 use Rattle.lane.specs.Limits.{channel_limit, senders}
+use Rattle.lane.specs.Inputs.{AnsweredInput}
 use Rattle.lane.specs.Stands.{StandsFor}
 use Rattle.loss_rule.specs.declared.rule.LossRule.{LossRule}
 use Rattle.consumer.specs.declared.given.Given.{Given}
@@ -60,11 +61,11 @@ pub record CanStart {C : Type 0} (accepts : C → List ℕ → Bool) (opened : O
 
 -- All threads of a receiver have returned: the four lane workers have taken all inputs, the decisions' worker all decisions, the worker of requests
 -- these requests, which are all, and the worker of frames these frames, which are all; and the assembler has taken all items.
-pub record HasEnded {C : Type 0} (accepts : C → List ℕ → Bool) (flow_count : ℕ) (incoming : Incoming) (opened : Opened C) (kept : Option (Vec ℕ Global)) (frames : List Given) (sent : List Sent) (end : Ended) : Type 0 where
-  pub l0 : DidLane opened.lanes.l0 opened.arrivals.ports.p0 opened.requests.ports.p0 (incoming.inputs 0) end.done.l0
-  pub l1 : DidLane opened.lanes.l1 opened.arrivals.ports.p1 opened.requests.ports.p1 (incoming.inputs 1) end.done.l1
-  pub l2 : DidLane opened.lanes.l2 opened.arrivals.ports.p2 opened.requests.ports.p2 (incoming.inputs 2) end.done.l2
-  pub l3 : DidLane opened.lanes.l3 opened.arrivals.ports.p3 opened.requests.ports.p3 (incoming.inputs 3) end.done.l3
+pub record HasEnded {C N : Type 0} (are_of : List AnsweredInput → N → Type 0) (accepts : C → List ℕ → Bool) (flow_count : ℕ) (incoming : Incoming) (opened : Opened C) (kept : Option (Vec ℕ Global)) (frames : List Given) (sent : List Sent) (end : Ended N) : Type 0 where
+  pub l0 : DidLane are_of opened.lanes.l0 opened.arrivals.ports.p0 opened.requests.ports.p0 (incoming.inputs 0) end.done.l0
+  pub l1 : DidLane are_of opened.lanes.l1 opened.arrivals.ports.p1 opened.requests.ports.p1 (incoming.inputs 1) end.done.l1
+  pub l2 : DidLane are_of opened.lanes.l2 opened.arrivals.ports.p2 opened.requests.ports.p2 (incoming.inputs 2) end.done.l2
+  pub l3 : DidLane are_of opened.lanes.l3 opened.arrivals.ports.p3 opened.requests.ports.p3 (incoming.inputs 3) end.done.l3
   pub decided : DidDecide flow_count opened.arrivals.ports.p4 incoming.decisions end.done.decided
   pub unused : HasPosted opened.requests.ports.p4 [] end.unused_port
   pub requests_taken : HasTakenAll opened.requests.mouth sent end.done.mouth
@@ -76,43 +77,43 @@ pub record HasEnded {C : Type 0} (accepts : C → List ℕ → Bool) (flow_count
       (taken opened.arrivals.mouth) (taken end.mouth) end.feeders.items end.assembled
 
 -- All threads have returned, for something that came in so: the requests were given in the order in which they were taken.
-pub record HasEndedOn {C : Type 0} (accepts : C → List ℕ → Bool) (flow_count : ℕ) (came_in : Incoming → Type 0) (opened : Opened C) (kept : Option (Vec ℕ Global)) (frames requests : List Given) (end : Ended) : Type 0 where
+pub record HasEndedOn {C N : Type 0} (are_of : List AnsweredInput → N → Type 0) (accepts : C → List ℕ → Bool) (flow_count : ℕ) (came_in : Incoming → Type 0) (opened : Opened C) (kept : Option (Vec ℕ Global)) (frames requests : List Given) (end : Ended N) : Type 0 where
   pub incoming : Incoming
   pub came : came_in incoming
   pub sent : List Sent
   pub requests_are : requests ≡ given_of sent
-  pub has_ended : HasEnded accepts flow_count incoming opened kept frames sent end
+  pub has_ended : HasEnded are_of accepts flow_count incoming opened kept frames sent end
 
 -- What was concluded is with what was given the one-thread answer for something that came in so, in some order, which was kept if one was to be kept.
-pub record ConcludesAnswer (rule : LossRule) (check : List ℕ → Bool) (setup : Setup) (came_in : Incoming → Type 0) (kept : Option (Vec ℕ Global)) (frames requests : List Given) (concluded : Concluded) : Type 0 where
+pub record ConcludesAnswer {N : Type 0} (are_of : List AnsweredInput → N → Type 0) (rule : LossRule) (check : List ℕ → Bool) (setup : Setup) (came_in : Incoming → Type 0) (kept : Option (Vec ℕ Global)) (frames requests : List Given) (concluded : Concluded N) : Type 0 where
   pub incoming : Incoming
   pub came : came_in incoming
   pub order : List ℕ
   pub ordered : HasOrder kept order concluded.order
-  pub answer : IsAnswerBy rule check setup incoming order frames requests concluded.counts.items concluded.lanes
+  pub answer : IsAnswerBy are_of rule check setup incoming order frames requests concluded.counts.items concluded.lanes
 
-module _ {F Q : Type 0} (takes : F → List Given → F → Type 0) (asks : Q → List Given → Q → Type 0) where
+module _ {F Q N : Type 0} (takes : F → List Given → F → Type 0) (asks : Q → List Given → Q → Type 0) (are_of : List AnsweredInput → N → Type 0) where
   -- What was opened ran: the consumers were given some frames and requests, and if all threads have done their part, these are all.
-  pub record RanOpened {C : Type 0} (accepts : C → List ℕ → Bool) (flow_count : ℕ) (came_in : Incoming → Type 0) (opened : Opened C) (kept : Option (Vec ℕ Global)) (consumers : Consumers F Q) (ran : Consumers F Q × Option Ended) : Type 0 where
+  pub record RanOpened {C : Type 0} (accepts : C → List ℕ → Bool) (flow_count : ℕ) (came_in : Incoming → Type 0) (opened : Opened C) (kept : Option (Vec ℕ Global)) (consumers : Consumers F Q) (ran : Consumers F Q × Option (Ended N)) : Type 0 where
     pub frames : List Given
     pub requests : List Given
     pub were_given : WereGiven takes asks consumers.consumer consumers.scheduler frames requests ran.0.consumer ran.0.scheduler
-    pub has_ended : IfSome ran.1 (HasEndedOn accepts flow_count came_in opened kept frames requests)
+    pub has_ended : IfSome ran.1 (HasEndedOn are_of accepts flow_count came_in opened kept frames requests)
 
   -- The consumers were given some frames and requests, and if all threads have done their part, these are with what was counted the one-thread answer for
   -- some order, which was kept if one was to be kept.
-  pub record HasRun (rule : LossRule) (check : List ℕ → Bool) (setup : Setup) (came_in : Incoming → Type 0) (kept : Option (Vec ℕ Global)) (consumers : Consumers F Q) (ran : Ran F Q) : Type 0 where
+  pub record HasRun (rule : LossRule) (check : List ℕ → Bool) (setup : Setup) (came_in : Incoming → Type 0) (kept : Option (Vec ℕ Global)) (consumers : Consumers F Q) (ran : Ran F Q N) : Type 0 where
     pub frames : List Given
     pub requests : List Given
     pub were_given : WereGiven takes asks consumers.consumer consumers.scheduler frames requests ran.consumers.consumer ran.consumers.scheduler
-    pub answers : IfSome ran.concluded (ConcludesAnswer rule check setup came_in kept frames requests)
+    pub answers : IfSome ran.concluded (ConcludesAnswer are_of rule check setup came_in kept frames requests)
 
 -- the closed ports of the two mailboxes
-abbrev pub closed_arrivals : Ended → ClosedPorts Item
+abbrev pub closed_arrivals : {N : Type 0} → Ended N → ClosedPorts Item
 closed_arrivals end =
     record { p0 = end.done.l0.arrivals; p1 = end.done.l1.arrivals; p2 = end.done.l2.arrivals; p3 = end.done.l3.arrivals; p4 = end.done.decided }
 
-abbrev pub closed_requests : Ended → ClosedPorts Request
+abbrev pub closed_requests : {N : Type 0} → Ended N → ClosedPorts Request
 closed_requests end =
     record { p0 = end.done.l0.requests; p1 = end.done.l1.requests; p2 = end.done.l2.requests; p3 = end.done.l3.requests; p4 = end.unused_port }
 
@@ -122,7 +123,7 @@ all_posted ports sender =
     slice_index_or (closed_posted ports.p0 ∷ closed_posted ports.p1 ∷ closed_posted ports.p2 ∷ closed_posted ports.p3 ∷ closed_posted ports.p4 ∷ []) sender []
 
 -- Both mailboxes and all rings can be settled: the ends of each belong together, and all ends were taken.
-pub record CanSettle (end : Ended) : Type 0 where
+pub record CanSettle {N : Type 0} (end : Ended N) : Type 0 where
   pub arrivals : closed_addresses (closed_arrivals end) ≡ places end.mouth
   pub requests : closed_addresses (closed_requests end) ≡ places end.done.mouth
   pub arrivals_ended : (sender : ℕ) → sender < senders → ended end.mouth sender ≡ true
@@ -131,11 +132,11 @@ pub record CanSettle (end : Ended) : Type 0 where
   pub closed : All (λ taker. is_closed taker ≡ true) end.done.takers.items
 
 -- What is known once all is settled: all that was posted and offered was taken, and what is concluded is what was counted.
-pub record HasConcluded (end : Ended) (concluded : Concluded) : Type 0 where
+pub record HasConcluded {N : Type 0} (end : Ended N) (concluded : Concluded N) : Type 0 where
   pub arrivals : (sender : ℕ) → sender < senders → taken end.mouth sender ≡ all_posted (closed_arrivals end) sender
   pub requests : (sender : ℕ) → sender < senders → taken end.done.mouth sender ≡ all_posted (closed_requests end) sender
   pub frames : (k : ℕ) (feeder : ClosedFeeder) (taker : Taker) → slice_get end.feeders.items k ≡ Some feeder → slice_get end.done.takers.items k ≡ Some taker
       → takers.taken taker ≡ closed_offered feeder
   pub counts_are : concluded.counts ≡ end.assembled.counts
-  pub lanes_are : concluded.lanes ≡ end.done.l0.report ∷ end.done.l1.report ∷ end.done.l2.report ∷ end.done.l3.report ∷ []
+  pub lanes_are : concluded.lanes ≡ end.done.l0.notes ∷ end.done.l1.notes ∷ end.done.l2.notes ∷ end.done.l3.notes ∷ []
   pub order_is : concluded.order ≡ end.assembled.order

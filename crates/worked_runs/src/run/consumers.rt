@@ -2,6 +2,7 @@
 ghost use Rattle.std.specs.Prelude.{◌≡◌};
 
 mod failed_allocations;
+mod slow;
 
 use super::meeting::{Attending, Meeting};
 use super::receivers::{no_decisions, no_inputs, sources_of};

@@ -1,9 +1,9 @@
-//! A source that counts what is asked of it, and a scheduler that is held up.
+//! A source that counts what is asked of it, and a tap that is held up.
 use std::alloc::{AllocError, Global};
 use std::sync::Arc;
 use std::sync::atomic::{AtomicU64, Ordering};
 use std::thread;
-use uplink::{Input, ListSource, Request, Source, Tap};
+use uplink::{Input, ListSource, Source, Tap};
 
 /// How often a source was asked for an input, and how often it had been when a tap looked.
 #[derive(Drop)]
@@ -53,7 +53,7 @@ impl Source for Counting {
     }
 }
 
-/// Is held up by its first request, and then looks how often a source was asked.
+/// Is held up by its first item, and then looks how often a source was asked.
 #[derive(Drop)]
 pub struct HeldUp {
     calls: Option<Arc<Calls, Global>>,
@@ -67,8 +67,8 @@ impl HeldUp {
     }
 }
 
-impl Tap<Request> for HeldUp {
-    fn took(&mut self, _flow: usize, _request: &Request) {
+impl<T> Tap<T> for HeldUp {
+    fn took(&mut self, _flow: usize, _item: &T) {
         if let Some(calls) = self.calls.take() {
             for _ in 0..100_000 {
                 thread::yield_now();

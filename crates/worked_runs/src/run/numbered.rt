@@ -66,7 +66,12 @@ pub fn lists(alloc: Global, all: u16) -> Result<Lists, AllocError> {
 
 /// Whether these are all frames, in the order of their numbers.
 fn are_numbered(frames: &[Bytes], all: u16) -> bool {
-    frames.len() == usize::from(all)
+    frames.len() == usize::from(all) && are_first(frames, all)
+}
+
+/// Whether these are the first of so many frames, in the order of their numbers.
+pub fn are_first(frames: &[Bytes], all: u16) -> bool {
+    frames.len() <= usize::from(all)
         && (0..all).zip(frames).all(|(number, frame)| frame.as_slice()
             == frame_of(number).as_slice())
 }

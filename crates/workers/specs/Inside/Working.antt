@@ -10,7 +10,6 @@ use Rattle.flow_records.specs.declared.decision.Decision.{Decision}
 use Rattle.lane.specs.declared.lane.Lane.{Lane}
 use Rattle.workers.specs.declared.item.Item.{Item}
 use Rattle.workers.specs.declared.lane_worker.LaneDone.{LaneDone}
-use Rattle.lane.specs.declared.report.LaneReport.{LaneReport}
 use Rattle.workers.specs.declared.lane_worker.LaneWork.{LaneWork}
 use Rattle.workers.specs.declared.decision_worker.DecidingWork.{DecidingWork}
 use Rattle.workers.specs.Given.{BecameBy, Yields}
@@ -18,7 +17,6 @@ use Rattle.lane.specs.Inputs.{LaneSetup, AnsweredInput, AreAnswered, inputs_of}
 use Rattle.lane.specs.Report.{admitted_of, requests_of}
 use Rattle.flow_records.specs.Decisions.{names_a_flow, event_of_decision}
 use Rattle.lane.specs.Report.{event_of_admitted}
-use Rattle.lane.specs.Report.{IsReportOf}
 use Rattle.lane.specs.Stands.{StandsFor}
 use Rattle.workers.specs.Inside.Carried.{carried}
 
@@ -32,43 +30,44 @@ pub record HasSent (port : Port Item) (events : List Event) (closed : ClosedPort
   pub address_is : closed_address closed ≡ address port
   pub sent_is : carried (closed_posted closed) ≡ carried (posted port) ++ events
 
--- what the inputs with these answers admitted was posted, and their requests, and this is their report
-pub record HasServed (arrivals : Port Item) (requests : Port Request) (answered : List AnsweredInput) (done : LaneDone) : Type 0 where
-  pub arrivals_are : HasSent arrivals (map event_of_admitted (admitted_of answered)) done.arrivals
-  pub requests_are : HasPosted requests (requests_of answered) done.requests
-  pub report_is : IsReportOf answered done.report
+module _ {N : Type 0} (are_of : List AnsweredInput → N → Type 0) where
+  -- what the inputs with these answers admitted was posted, and their requests, and these are their notes
+  pub record HasServed (arrivals : Port Item) (requests : Port Request) (answered : List AnsweredInput) (done : LaneDone N) : Type 0 where
+    pub arrivals_are : HasSent arrivals (map event_of_admitted (admitted_of answered)) done.arrivals
+    pub requests_are : HasPosted requests (requests_of answered) done.requests
+    pub noted : are_of answered done.notes
 
--- What the inputs with these answers admitted was posted, and their requests, the lane stands for them, and this is their report.
-pub record IsServing {S : Type 0} (setup : LaneSetup) (inputs : List Input) (work now : LaneWork S) (report : LaneReport) : Type 0 where
-  pub answered : List AnsweredInput
-  pub inputs_are : inputs_of answered ≡ inputs
-  pub stands : StandsFor setup now.lane answered
-  pub arrivals_are : carried (posted now.arrivals) ≡ carried (posted work.arrivals) ++ map event_of_admitted (admitted_of answered)
-  pub requests_are : posted now.requests ≡ posted work.requests ++ requests_of answered
-  pub report_is : IsReportOf answered report
+  -- What the inputs with these answers admitted was posted, and their requests, the lane stands for them, and these are their notes.
+  pub record IsServing {S : Type 0} (setup : LaneSetup) (inputs : List Input) (work now : LaneWork S) (notes : N) : Type 0 where
+    pub answered : List AnsweredInput
+    pub inputs_are : inputs_of answered ≡ inputs
+    pub stands : StandsFor setup now.lane answered
+    pub arrivals_are : carried (posted now.arrivals) ≡ carried (posted work.arrivals) ++ map event_of_admitted (admitted_of answered)
+    pub requests_are : posted now.requests ≡ posted work.requests ++ requests_of answered
+    pub noted : are_of answered notes
 
--- A channel's worker has taken these inputs, if its lane stood for no inputs before, and its ports are what they were.
-pub record HasServedAll {S : Type 0} (inputs : List Input) (work now : LaneWork S) (report : LaneReport) : Type 0 where
-  pub arrivals_same : address now.arrivals ≡ address work.arrivals
-  pub requests_same : address now.requests ≡ address work.requests
-  pub serves : (setup : LaneSetup) → StandsFor setup work.lane [] → IsServing setup inputs work now report
+  -- A channel's worker has taken these inputs, if its lane stood for no inputs before, and its ports are what they were.
+  pub record HasServedAll {S : Type 0} (inputs : List Input) (work now : LaneWork S) (notes : N) : Type 0 where
+    pub arrivals_same : address now.arrivals ≡ address work.arrivals
+    pub requests_same : address now.requests ≡ address work.requests
+    pub serves : (setup : LaneSetup) → StandsFor setup work.lane [] → IsServing setup inputs work now notes
 
--- A channel's worker took all these inputs: if its lane stood for no inputs yet, then it posted what these admit, and their requests.
-pub record DidLane (lane : Lane) (arrivals : Port Item) (requests : Port Request) (inputs : List Input) (done : LaneDone) : Type 0 where
-  pub did : (setup : LaneSetup) → StandsFor setup lane []
-      → (answered : List AnsweredInput) × AreAnswered setup answered × (inputs_of answered ≡ inputs) × HasServed arrivals requests answered done
+  -- A channel's worker took all these inputs: if its lane stood for no inputs yet, then it posted what these admit, and their requests.
+  pub record DidLane (lane : Lane) (arrivals : Port Item) (requests : Port Request) (inputs : List Input) (done : LaneDone N) : Type 0 where
+    pub did : (setup : LaneSetup) → StandsFor setup lane []
+        → (answered : List AnsweredInput) × AreAnswered setup answered × (inputs_of answered ≡ inputs) × HasServed arrivals requests answered done
 
--- A channel's worker took all inputs that the source gave until it was over.
-pub record HasServedSource {S : Type 0} (gave : S → List Input → S → Type 0) (is_over : S → Type 0) (work now : LaneWork S) (report : LaneReport) : Type 0 where
-  pub inputs : List Input
-  pub became : BecameBy gave work.source inputs now.source
-  pub over : is_over now.source
-  pub served : HasServedAll inputs work now report
+  -- A channel's worker took all inputs that the source gave until it was over.
+  pub record HasServedSource {S : Type 0} (gave : S → List Input → S → Type 0) (is_over : S → Type 0) (work now : LaneWork S) (notes : N) : Type 0 where
+    pub inputs : List Input
+    pub became : BecameBy gave work.source inputs now.source
+    pub over : is_over now.source
+    pub served : HasServedAll inputs work now notes
 
-pub record DidServe {S : Type 0} (gave : S → List Input → S → Type 0) (is_over : S → Type 0) (work : LaneWork S) (done : LaneDone) : Type 0 where
-  pub inputs : List Input
-  pub yields : Yields gave is_over work.source inputs
-  pub did : DidLane work.lane work.arrivals work.requests inputs done
+  pub record DidServe {S : Type 0} (gave : S → List Input → S → Type 0) (is_over : S → Type 0) (work : LaneWork S) (done : LaneDone N) : Type 0 where
+    pub inputs : List Input
+    pub yields : Yields gave is_over work.source inputs
+    pub did : DidLane work.lane work.arrivals work.requests inputs done
 
 -- the decisions' worker posted those of these decisions that name one of so many flows
 abbrev pub DidDecide : ℕ → Port Item → List Decision → ClosedPort Item → Type 0

@@ -4,6 +4,7 @@ use Rattle.std.proofs.lemmas.List.{append-nil}
 use Rattle.consumer.specs.Collecting.{HasNothing, HasCollected}
 use Rattle.flow_records.specs.declared.decision.Decision.{Decision}
 use Rattle.lane.specs.declared.input.Input.{Input}
+use Rattle.lane.specs.Report.{IsReportOf}
 use Rattle.receiver.specs.Items.{Incoming, incoming_from}
 use Rattle.receiver.specs.Ruled.{IsOutcomeBy}
 use Rattle.workers.specs.declared.live_source.Foreknown.{Foreknown}
@@ -61,7 +62,7 @@ is-incoming g c came from =
 -- it ran, from nothing kept on
 record Ran (g : Over) (c : After-deref g) : Type 0 where
   pub run : HasRun (λ start given now. HasCollected start.collected given now.collected) (λ start given now. HasCollected start.collected given now.collected)
-      c.args.rule (g.C.HeaderCheck.accepts c.args.check) c.args.setup (CameIn g c) (Some c.new.result) c.in_ok-consumers.consumers c.run_prepared-ran.result
+      IsReportOf c.args.rule (g.C.HeaderCheck.accepts c.args.check) c.args.setup (CameIn g c) (Some c.new.result) c.in_ok-consumers.consumers c.run_prepared-ran.result
   pub no_frames : HasNothing (length c.args.setup.flows.items) 0 c.in_ok-consumers.consumers.consumer.collected
 
 ran : (g : Over) (c : After-deref g) → Ran g c

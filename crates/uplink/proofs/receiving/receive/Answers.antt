@@ -1,7 +1,9 @@
 -- What the run came to is what was received, and both come back.
 use Rattle.std.proofs.Common.{[], Option, Some, None, IfSome, refl, sym, subst}
 use Rattle.std.proofs.lemmas.Result.{IfOk-weaker, IfErr-weaker}
+use Rattle.receiver.specs.declared.tally.LaneTally.{LaneTally}
 use Rattle.receiver.specs.Items.{Incoming}
+use Rattle.receiver.specs.Tallies.{IsTallyOf}
 use Rattle.workers.specs.Given.{Yields}
 use Rattle.workers.proofs.GivenInParts.{given-nothing}
 use Rattle.uplink.specs.declared.finish.Concluded.{Concluded}
@@ -34,7 +36,7 @@ CameIn g c =
 
 -- it ran
 ran : (g : Over) (c : After-run_prepared-ran g)
-    → HasRun g.F.Consumer.after g.Q.Consumer.after c.args.rule (g.C.HeaderCheck.accepts c.args.check) c.args.setup (CameIn g c) None
+    → HasRun g.F.Consumer.after g.Q.Consumer.after IsTallyOf c.args.rule (g.C.HeaderCheck.accepts c.args.check) c.args.setup (CameIn g c) None
     (record { consumer = c.args.consumer; scheduler = c.args.scheduler }) c.run_prepared-ran.result
 ran g c = c.run_prepared-ran.ensures (g.C.HeaderCheck.accepts c.args.check) c.args.rule c.in-Ok.ensures.opened
 
@@ -47,7 +49,7 @@ returns-clause-received g c =
     HasReceived g.F.Consumer.after g.Q.Consumer.after c.args.rule check c.args.setup (CameIn g before) c.args.consumer c.args.scheduler in
     IfOk-weaker c.received_of.result _ Receives
     (λ received of.
-    let answers = subst (λ (o : Option Concluded). IfSome o (ConcludesAnswer c.args.rule check c.args.setup (CameIn g before) None has.frames has.requests)) of.1 has.answers in
+    let answers = subst (λ (o : Option (Concluded LaneTally)). IfSome o (ConcludesAnswer IsTallyOf c.args.rule check c.args.setup (CameIn g before) None has.frames has.requests)) of.1 has.answers in
     subst Receives (sym of.2)
     (record {
       incoming = answers.incoming;

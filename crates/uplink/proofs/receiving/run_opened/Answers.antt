@@ -38,30 +38,30 @@ returns-in-Err g c =
 of-done : {X : Type 0} (P : X → Type 0) (ended : Option X) (x : X) → ended ≡ Some x → IfSome ended P → P x
 of-done P ended x is said = subst (λ o. IfSome o P) is said
 
-module _ (g : Over) (c : After-join-consumers g) (done : Done) (is : c.join-consumers.result.done ≡ Some done) where
+module _ (g : Over) (c : After-join-consumers g) (done : Done g.row.N.Denot) (is : c.join-consumers.result.done ≡ Some done) where
   -- what the workers of the channels and of the decisions have done, each with what it was given
-  served0 : DidServe g.S0.LiveSource.gave g.S0.LiveSource.is_over
+  served0 : DidServe g.N.LaneNotes.are_of g.S0.LiveSource.gave g.S0.LiveSource.is_over
       (record { lane = c.args.opened.lanes.l0; arrivals = c.args.opened.arrivals.ports.p0; requests = c.args.opened.requests.ports.p0; source = c.args.sources.s0 }) done.l0
   served0 =
-      subst (λ (work : LaneWork g.row.S0.Denot). DidServe g.S0.LiveSource.gave g.S0.LiveSource.is_over work done.l0)
+      subst (λ (work : LaneWork g.row.S0.Denot). DidServe g.N.LaneNotes.are_of g.S0.LiveSource.gave g.S0.LiveSource.is_over work done.l0)
       (c.in-Ok.ensures.l0 ∙ c.new-work.ensures.l0) (of-done _ c.join-consumers.result.done done is c.join-consumers.ensures.l0)
 
-  served1 : DidServe g.S1.LiveSource.gave g.S1.LiveSource.is_over
+  served1 : DidServe g.N.LaneNotes.are_of g.S1.LiveSource.gave g.S1.LiveSource.is_over
       (record { lane = c.args.opened.lanes.l1; arrivals = c.args.opened.arrivals.ports.p1; requests = c.args.opened.requests.ports.p1; source = c.args.sources.s1 }) done.l1
   served1 =
-      subst (λ (work : LaneWork g.row.S1.Denot). DidServe g.S1.LiveSource.gave g.S1.LiveSource.is_over work done.l1)
+      subst (λ (work : LaneWork g.row.S1.Denot). DidServe g.N.LaneNotes.are_of g.S1.LiveSource.gave g.S1.LiveSource.is_over work done.l1)
       (c.in-Ok.ensures.l1 ∙ c.new-work.ensures.l1) (of-done _ c.join-consumers.result.done done is c.join-consumers.ensures.l1)
 
-  served2 : DidServe g.S2.LiveSource.gave g.S2.LiveSource.is_over
+  served2 : DidServe g.N.LaneNotes.are_of g.S2.LiveSource.gave g.S2.LiveSource.is_over
       (record { lane = c.args.opened.lanes.l2; arrivals = c.args.opened.arrivals.ports.p2; requests = c.args.opened.requests.ports.p2; source = c.args.sources.s2 }) done.l2
   served2 =
-      subst (λ (work : LaneWork g.row.S2.Denot). DidServe g.S2.LiveSource.gave g.S2.LiveSource.is_over work done.l2)
+      subst (λ (work : LaneWork g.row.S2.Denot). DidServe g.N.LaneNotes.are_of g.S2.LiveSource.gave g.S2.LiveSource.is_over work done.l2)
       (c.in-Ok.ensures.l2 ∙ c.new-work.ensures.l2) (of-done _ c.join-consumers.result.done done is c.join-consumers.ensures.l2)
 
-  served3 : DidServe g.S3.LiveSource.gave g.S3.LiveSource.is_over
+  served3 : DidServe g.N.LaneNotes.are_of g.S3.LiveSource.gave g.S3.LiveSource.is_over
       (record { lane = c.args.opened.lanes.l3; arrivals = c.args.opened.arrivals.ports.p3; requests = c.args.opened.requests.ports.p3; source = c.args.sources.s3 }) done.l3
   served3 =
-      subst (λ (work : LaneWork g.row.S3.Denot). DidServe g.S3.LiveSource.gave g.S3.LiveSource.is_over work done.l3)
+      subst (λ (work : LaneWork g.row.S3.Denot). DidServe g.N.LaneNotes.are_of g.S3.LiveSource.gave g.S3.LiveSource.is_over work done.l3)
       (c.in-Ok.ensures.l3 ∙ c.new-work.ensures.l3) (of-done _ c.join-consumers.result.done done is c.join-consumers.ensures.l3)
 
   passed_on : DidDecideAll g.D.LiveDecisions.gave g.D.LiveDecisions.is_over
@@ -102,8 +102,8 @@ returns g c =
     (Yields g.S0.LiveSource.gave g.S0.LiveSource.is_over sources.s0) (Yields g.S1.LiveSource.gave g.S1.LiveSource.is_over sources.s1)
     (Yields g.S2.LiveSource.gave g.S2.LiveSource.is_over sources.s2) (Yields g.S3.LiveSource.gave g.S3.LiveSource.is_over sources.s3)
     (Yields g.D.LiveDecisions.gave g.D.LiveDecisions.is_over c.args.decisions) in
-    let Ends : Option Ended → Type 0 =
-    λ o. IfSome o (HasEndedOn g.C.HeaderCheck.accepts c.args.flow_count CameIn c.args.opened c.args.order taken.given (given_of taken.sent)) in
+    let Ends : Option (Ended g.row.N.Denot) → Type 0 =
+    λ o. IfSome o (HasEndedOn g.N.LaneNotes.are_of g.C.HeaderCheck.accepts c.args.flow_count CameIn c.args.opened c.args.order taken.given (given_of taken.sent)) in
     record {
       frames = taken.given;
       requests = given_of taken.sent;

@@ -1,6 +1,8 @@
 //! Tests to be run with the Nth request for memory or for a thread refused, and the one whose name
 //! ends in `without_memory` with all later ones refused too. Each says `refused` when a call was.
-use super::{Answer, ONE_REQUEST, TWO_FRAMES_COUNTED, receive_on_channel_0};
+use super::{
+    Answer, ONE_REQUEST, TWO_FRAMES_COUNTED, collect, frames_collected, receive_on_channel_0,
+};
 use crate::expect::expect_same;
 use crate::run::receivers::no_inputs;
 use crate::run::{TWO_FRAMES, numbered};
@@ -9,7 +11,7 @@ use std::process::Abort;
 use std::sync::Wait;
 use std::test::Fail;
 use std::thread::Threads;
-use uplink::{Counts, ListSource, RunFault};
+use uplink::{Collected, Counts, ListSource, RunFault};
 use worked_frames::refused::{expect_refused, say_refused, say_whether_refused};
 use worked_traces::traces::*;
 
@@ -68,6 +70,45 @@ fn receive_refused(rt: HostRuntime) -> Result<(), Fail> {
         after(EARLIER, ONE_REQUEST),
     );
     expect_same(&rt, "counted", counted, wanted);
+    Ok(())
+}
+
+/// How many segments come, each with a frame, a fourth of them on each channel.
+const SEGMENTS: u16 = 16;
+
+/// Receives the segments. If memory was refused, the consumer was given the first frames, and no
+/// other: no flow was closed that still waits for what a channel didn't give.
+fn try_to_collect<R>(alloc: Global, rt: R) -> Result<Option<usize>, RunFault>
+where
+    R: Abort + Threads + Wait + Copy + Send + 'static,
+{
+    match collect(alloc, rt, SEGMENTS)? {
+        Ok(received) => Ok(frames_collected(Ok(received))),
+        Err(error) => {
+            assert!(rt; are_first_collected(&error.consumer));
+            Err(error.fault)
+        }
+    }
+}
+
+/// Whether the first frames were collected, if memory for what collects them wasn't refused itself.
+fn are_first_collected(collected: &Collected) -> bool {
+    let Some(frames) = collected.frames.first() else {
+        return false;
+    };
+    !collected.whole || numbered::are_first(frames, SEGMENTS)
+}
+
+#[test]
+fn receive_gives_the_first_frames_refused(rt: HostRuntime) -> Result<(), Fail> {
+    let collected = match try_to_collect(rt.alloc(), rt) {
+        Ok(collected) => collected,
+        Err(fault) => {
+            expect_refused(&rt, fault, RunFault::OutOfMemory)?;
+            try_to_collect(rt.alloc(), rt)?
+        }
+    };
+    expect_same(&rt, "frames", collected, Some(usize::from(SEGMENTS)));
     Ok(())
 }
 

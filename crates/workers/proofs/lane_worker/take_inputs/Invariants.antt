@@ -7,4 +7,4 @@ use Rattle.workers.proofs.lane_worker.take_inputs.Given as goal
 
 abbrev pub invariant-loop : goal.invariant-loop
 invariant-loop g l =
-    (inputs : List Input) × BecameBy g.S.LiveSource.gave l.fn.work.source inputs l.work.source × HasServedAll inputs l.fn.work l.work l.report
+    (inputs : List Input) × BecameBy g.S.LiveSource.gave l.fn.work.source inputs l.work.source × HasServedAll g.N.LaneNotes.are_of inputs l.fn.work l.work l.notes
