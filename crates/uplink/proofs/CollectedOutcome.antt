@@ -27,9 +27,9 @@ use Rattle.uplink.specs.declared.finish.Ran.{Ran}
 use Rattle.uplink.specs.declared.tap.NoTap.{NoTap}
 use Rattle.uplink.specs.declared.tapped.Tapped.{Tapped}
 use Rattle.uplink.specs.Received.{IsAnswerBy}
-use Rattle.uplink.specs.Inside.Collected.{frames_in, requests_in, CanBeMade, IsMadeOf}
+use Rattle.uplink.specs.Inside.Collected.{CanBeMade, IsMadeOf}
 use Rattle.uplink.specs.Inside.Offering.{HasOrder}
-use Rattle.uplink.specs.Inside.Running.{HasRun, ConcludesAnswer}
+use Rattle.uplink.specs.Inside.Running.{in_order, HasRun, ConcludesAnswer}
 
 -- nothing more is collected where nothing is given
 still-nothing : (start : Collected) → HasCollected start [] start
@@ -68,27 +68,34 @@ kept-order first kept order now has empty is =
     let same : has.0 ≡ now = same_Some has.0 now (sym has.1 ∙ is) in
     ap (λ (v : Vec ℕ Global). v.items) (sym same) ∙ has.2 ∙ ap (λ l. l ++ order) empty
 
-module _ {F Q : Type 0} (rule : LossRule) (check : List ℕ → Bool) (setup : Setup) (came_in : Incoming → Type 0) (first : Vec ℕ Global) (empty : first.items ≡ [])
+module _ {F Q : Type 0} (rule : LossRule) (check : List ℕ → Bool) (setup : Setup) (came_in came_first : Incoming → Type 0) (first : Vec ℕ Global) (empty : first.items ≡ [])
     (consumers : Consumers (Tapped F NoTap) (Tapped NoTap Q)) (ran : Ran (Tapped F NoTap) (Tapped NoTap Q) LaneReport)
     (has : HasRun (λ start given now. HasCollected start.collected given now.collected) (λ start given now. HasCollected start.collected given now.collected)
-    IsReportOf rule check setup came_in (Some first) consumers ran)
+    IsReportOf rule check setup came_in came_first (Some first) consumers ran)
     (no_frames : HasNothing (length setup.flows.items) 0 consumers.consumer.collected) (no_requests : HasNothing 0 channel_limit consumers.scheduler.collected) where
+  -- who collected the frames, and the requests
+  abbrev kept_frames : Collected
+  kept_frames = ran.consumers.consumer.collected
+
+  abbrev kept_requests : Collected
+  kept_requests = ran.consumers.scheduler.collected
+
   -- what was collected of the frames, and of the requests
-  frames-collected : IsTrue (frames_in ran).whole → AreCollected (length setup.flows.items) 0 has.frames (frames_in ran)
+  frames-collected : IsTrue kept_frames.whole → AreCollected (length setup.flows.items) 0 has.frames kept_frames
   frames-collected whole =
-      are-collected (length setup.flows.items) 0 consumers.consumer.collected (frames_in ran) has.frames no_frames
+      are-collected (length setup.flows.items) 0 consumers.consumer.collected kept_frames has.frames no_frames
       (has.were_given.consumer_became consumers.consumer [] (still-nothing consumers.consumer.collected)) whole
 
-  requests-collected : IsTrue (requests_in ran).whole → AreCollected 0 channel_limit has.requests (requests_in ran)
+  requests-collected : IsTrue kept_requests.whole → AreCollected 0 channel_limit has.requests kept_requests
   requests-collected whole =
-      are-collected 0 channel_limit consumers.scheduler.collected (requests_in ran) has.requests no_requests
+      are-collected 0 channel_limit consumers.scheduler.collected kept_requests has.requests no_requests
       (has.were_given.scheduler_became consumers.scheduler [] (still-nothing consumers.scheduler.collected)) whole
 
   -- an outcome can be made of it
-  pub can-be-made : CanBeMade (length setup.flows.items) ran
+  pub can-be-made : CanBeMade (length setup.flows.items) kept_frames kept_requests ran.concluded
   can-be-made = record {
-    frames = λ whole. (frames-collected whole).flow_count_is;
-    requests = λ whole. (requests-collected whole).channel_count_is;
+    frame_lists = λ whole. (frames-collected whole).flow_count_is;
+    request_lists = λ whole. (requests-collected whole).channel_count_is;
     counts = counted ran.concluded has.answers;
   }
     where
@@ -97,7 +104,7 @@ module _ {F Q : Type 0} (rule : LossRule) (check : List ℕ → Bool) (setup : S
       counted None answers = tt
       counted (Some c) answers = answers.answer.flow_count
 
-  module _ (outcome : Outcome) (made : IsMadeOf setup.flows.items ran outcome) where
+  module _ (outcome : Outcome) (made : IsMadeOf setup.flows.items kept_frames kept_requests ran.concluded outcome) where
     -- the answer that was concluded
     answers : ConcludesAnswer IsReportOf rule check setup came_in (Some first) has.frames has.requests made.concluded
     answers =
@@ -106,7 +113,7 @@ module _ {F Q : Type 0} (rule : LossRule) (check : List ℕ → Bool) (setup : S
     abbrev order : List ℕ
     order = answers.order
 
-    abbrev answer : IsAnswerBy IsReportOf rule check setup answers.incoming order has.frames has.requests made.concluded.counts.items made.concluded.lanes
+    abbrev answer : IsAnswerBy IsReportOf rule check setup answers.incoming order has.frames has.requests made.concluded.counts.items (in_order made.concluded.lanes)
     answer = answers.answer
 
     -- what flow k gave, as the outcome says
@@ -115,12 +122,12 @@ module _ {F Q : Type 0} (rule : LossRule) (check : List ℕ → Bool) (setup : S
     flow-is k flow_record flow of_flow at =
         let within = slice_get_within setup.flows.items k flow_record of_flow in
         let collected = frames-collected made.frames_whole in
-        let frames = element_at (frames_in ran).frames.items k (let count = collected.flow_count_is in omega arith) in
+        let frames = element_at kept_frames.frames.items k (let count = collected.flow_count_is in omega arith) in
         let count = element_at made.concluded.counts.items k (let count = answer.flow_count in omega arith) in
         let says = made.flows.each k flow flow_record frames.0 count.0 at of_flow frames.1 count.1 in
         let gave = answer.flows k flow_record count.0 of_flow count.1 in
         let same : frames_of k has.frames ≡ flow.frames.items =
-        sym (ap (λ (v : Vec Bytes Global). v.items) says.1 ∙ sym (list-there (frames_in ran).frames.items k frames.0 frames.1) ∙ collected.frames k) in
+        sym (ap (λ (v : Vec Bytes Global). v.items) says.1 ∙ sym (list-there kept_frames.frames.items k frames.0 frames.1) ∙ collected.frames k) in
         record {
           events = gave.events;
           lasts = gave.lasts;

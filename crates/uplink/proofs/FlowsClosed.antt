@@ -15,27 +15,22 @@ use Rattle.bonded_flows.specs.FlowSetup.{FlowSetup}
 use Rattle.bonded_flows.specs.ByRule.{GaveByRule}
 use Rattle.bonded_flows.specs.Parts.{FlowInput, begins_anew, last_part, begun_at}
 use Rattle.bonded_flows.specs.Slots.{SlotStands, PartStands}
-use Rattle.bonded_flows.specs.Table.{TableSetup, TableInput, flow_setup, inputs_at, StandsFor, IsInUse, BeginsAnewAt}
+use Rattle.bonded_flows.specs.Table.{TableSetup, TableInput, flow_setup, inputs_at, StandsFor, IsInUse, TakesMore, BeginsAnewAt}
 use Rattle.bonded_flows.proofs.TableTurns.{frames-own, frames-others}
 use Rattle.receiver.specs.Received.{GaveAllParts, closings}
 use Rattle.receiver.proofs.ClosedFlows.{still-open}
 use Rattle.uplink.specs.declared.feeding.Feeding.{Feeding}
 use Rattle.uplink.specs.Inside.Feeding.{HasOffered}
-use Rattle.uplink.specs.Inside.Offering.{GaveAll, ClosesFlows}
+use Rattle.uplink.specs.Inside.Offering.{GaveAll, ClosesFlows, HaveClosed, ClosesFirst}
 use Rattle.uplink.proofs.FramesOffered.{none-offered}
 
 module _ {C O : Type 0} (accepts : C → List ℕ → Bool) (after : O → List Given → O → Type 0) (flows0 : FlowTable C) (out0 : O) where
-  -- so many of the flows are closed and gave all, and the others are as they were
-  pub record HaveClosed (flows : FlowTable C) (check : List ℕ → Bool) (setup : TableSetup) (history : List TableInput) (given : List Given) (counts : List FlowCounts) : Type 0 where
-    pub stands : StandsFor accepts flows check setup (history ++ closings (length counts)) given
-    pub gave : GaveAll check setup history given counts
-
   -- the flows so far are closed, and what that gave was given to the consumer
   pub record ClosesSoFar (flows : FlowTable C) (out : O) (counts : List FlowCounts) : Type 0 where
     pub more : List Given
     pub was_given : (start : O) (given : List Given) → after start given out0 → after start (given ++ more) out
     pub closed : (check : List ℕ → Bool) (setup : TableSetup) (history : List TableInput) (given : List Given)
-        → StandsFor accepts flows0 check setup history given → HaveClosed flows check setup history (given ++ more) counts
+        → StandsFor accepts flows0 check setup history given → HaveClosed accepts flows check setup history (given ++ more) counts
 
   -- none is closed yet
   pub none-closed : ClosesSoFar flows0 out0 []
@@ -68,7 +63,7 @@ module _ {C O : Type 0} (accepts : C → List ℕ → Bool) (after : O → List 
     gave_more = map (Frame n) anew.more
 
     module _ (check : List ℕ → Bool) (setup : TableSetup) (history : List TableInput) (given : List Given)
-        (have : HaveClosed flows check setup history given counts) where
+        (have : HaveClosed accepts flows check setup history given counts) where
       -- the next flow gave all
       next-gave : (flow_record : FlowRecord) → slice_get setup.records n ≡ Some flow_record
           → GaveAllParts check (flow_setup setup n flow_record) (inputs_at n history) (frames_of n (given ++ gave_more)) count
@@ -108,7 +103,7 @@ module _ {C O : Type 0} (accepts : C → List ℕ → Bool) (after : O → List 
           of_record)
           (from-pushed counts count k one there)
 
-      one-more-closed : HaveClosed flows' check setup history (given ++ gave_more) counts'
+      one-more-closed : HaveClosed accepts flows' check setup history (given ++ gave_more) counts'
       one-more-closed = record {
         stands =
             let many : length counts' ≡ suc n = length_push counts count ∙ omega arith in
@@ -127,7 +122,7 @@ module _ {C O : Type 0} (accepts : C → List ℕ → Bool) (after : O → List 
           subst (λ g. after start g out') (append_assoc given so_far.more gave_more)
           (anew.was_given start (given ++ so_far.more) (so_far.was_given start given was));
       closed = λ check setup history given stands.
-          subst (λ g. HaveClosed flows' check setup history g counts') (append_assoc given so_far.more gave_more)
+          subst (λ g. HaveClosed accepts flows' check setup history g counts') (append_assoc given so_far.more gave_more)
           (one-more-closed check setup history (given ++ so_far.more) (so_far.closed check setup history given stands));
     }
 
@@ -145,3 +140,35 @@ module _ {C : Type 0} (accepts : C → List ℕ → Bool) (flows0 flows : FlowTa
     count = count;
     gave = λ check setup history given stands. (so_far.closed check setup history given stands).gave;
   }
+
+  -- some are, and the others aren't
+  pub some-closed : ClosesFirst accepts flows0 feeding0 feeding
+  some-closed = record { flows' = flows; counts = counts; more = so_far.more; offered = closing-offered; closed = so_far.closed }
+
+  -- and one more gave a part of what it had to give
+  pub closed-in-part : (flows' : FlowTable C) (feeding' : Feeding) → TakesMore HasOffered accepts flows feeding (length counts) [] flows' feeding'
+      → ClosesFirst accepts flows0 feeding0 feeding'
+  closed-in-part flows' feeding' takes =
+      let n = length counts in
+      let more = map (Frame n) takes.more in
+      record {
+        flows' = flows';
+        counts = counts;
+        more = so_far.more ++ more;
+        offered = takes.was_given feeding0 so_far.more closing-offered;
+        closed = λ check setup history given stands.
+            let have = so_far.closed check setup history given stands in
+            let all = append_assoc given so_far.more more in
+            record {
+              stands =
+                  subst (λ g. StandsFor accepts flows' check setup (history ++ closings n) g) all
+                  (subst (λ h. StandsFor accepts flows' check setup h ((given ++ so_far.more) ++ more)) (append-nil (history ++ closings n))
+                  (takes.stands check setup (history ++ closings n) (given ++ so_far.more) have.stands));
+              gave = λ k flow_record count of_record there.
+                  let within = slice_get_within counts k count there in
+                  subst (λ g. GaveAllParts check (flow_setup setup k flow_record) (inputs_at k history) (frames_of k g) count) all
+                  (subst (λ (frames : List (List ℕ)). GaveAllParts check (flow_setup setup k flow_record) (inputs_at k history) frames count)
+                  (sym (frames-others n history [] (given ++ so_far.more) takes.more k (λ same. absurd (omega arith))))
+                  (have.gave k flow_record count of_record there));
+            };
+      }

@@ -1,5 +1,5 @@
 -- What is offered grows by what is given.
-use Rattle.std.proofs.Common.{◌≡◌, ℕ, ◌==◌, ◌<◌, Bool, true, false, IsTrue, Option, Some, None, Result, Ok, Err, OnOk, IfOk, IfErr, is_ok, List, [], ◌∷◌, ◌++◌, length, map, filter_map, slice_get, slice_index_or, if◌then◌else◌, refl, ap, sym, subst, ◌∙◌, append_assoc, get_or, arith}
+use Rattle.std.proofs.Common.{◌≡◌, ℕ, ◌==◌, ◌<◌, Bool, true, false, IsTrue, Option, Some, None, Result, Ok, Err, OnOk, OnErr, IfOk, IfErr, is_ok, List, [], ◌∷◌, ◌++◌, length, map, filter_map, slice_get, slice_index_or, if◌then◌else◌, refl, ap, sym, subst, ◌∙◌, append_assoc, get_or, arith}
 use Rattle.std.proofs.Math.ListN.{set}
 use Rattle.std.proofs.lemmas.Bool.{cases_eq, false≢true}
 use Rattle.std.proofs.lemmas.Bool.Decides.{nat_tests}
@@ -20,6 +20,7 @@ use Rattle.bonded_flows.specs.declared.flow_table.FlowTable.{FlowTable}
 use Rattle.bonded_flows.specs.Slots.{LeavesOf}
 use Rattle.bonded_flows.specs.Table.{TableInput, TakesMore}
 use Rattle.uplink.specs.declared.feeding.Feeding.{Feeding}
+use Rattle.uplink.specs.Fronts.{ComesFirstIn}
 use Rattle.uplink.specs.Inside.Feeding.{offered_to, Offers, rings_of, HasOffered}
 
 -- what is offered to a feeder that is there
@@ -31,6 +32,11 @@ offered-there feeders k feeder there =
 pub on-good : {T E : Type 0} {P : Type 0} (result : Result T E) → is_ok result ≡ true → OnOk result P → P
 on-good (Ok t) is holds = holds
 on-good (Err e) is holds = absurd (false≢true is)
+
+-- and so of a bad one
+pub on-bad : {T E : Type 0} {P : Type 0} (result : Result T E) → is_ok result ≡ false → OnErr result P → P
+on-bad (Ok t) is holds = absurd (false≢true (sym is))
+on-bad (Err e) is holds = holds
 
 -- and so it holds of what is there
 pub of-good : {T E : Type 0} (P : T → Type 0) (result : Result T E) (t : T) → Some t ≡ result_ok result → IfOk result P → P t
@@ -56,13 +62,20 @@ feeders-written feeding after rings =
 
 -- nothing is offered yet
 pub none-offered : (feeding : Feeding) → HasOffered feeding [] feeding
-none-offered feeding = record { rings = refl; offers = λ whole. (whole, λ k. sym (append-nil (offered_to feeding.feeders.items k))) }
+none-offered feeding = record {
+  rings = refl;
+  front = λ k. ([], refl);
+  halted = λ not. (not, λ k. refl);
+  offers = λ whole. (whole, λ k. sym (append-nil (offered_to feeding.feeders.items k)));
+}
 
 -- nothing more is offered to feeders that are flushed
 pub only-flushed : (old new : Feeding) → rings_of new ≡ rings_of old → map offered new.feeders.items ≡ map offered old.feeders.items → new.whole ≡ old.whole
     → HasOffered old [] new
 only-flushed old new rings same whole = record {
   rings = rings;
+  front = λ k. ([], ap (λ lists. slice_index_or lists k [] ++ []) (sym same));
+  halted = λ not. ((λ is. not (sym whole ∙ is)), λ k. ap (λ lists. slice_index_or lists k []) same);
   offers = λ is. (sym whole ∙ is, λ k. ap (λ lists. slice_index_or lists k []) same ∙ sym (append-nil (offered_to old.feeders.items k)));
 }
 
@@ -73,10 +86,36 @@ in-parts k first second before between after grew more =
     more ∙ ap (λ l. l ++ frames_of k second) grew ∙ append_assoc before (frames_of k first) (frames_of k second)
     ∙ ap (λ l. before ++ l) (sym (filter_map-append (frame_of k) first second))
 
+-- What is offered of a flow comes first of what is given of it in two parts: if nothing was left out of the first, the second goes on, and otherwise nothing
+-- more is offered.
+front-on : (start between end : Feeding) (first second : List Given) (k : ℕ) → HasOffered start first between → HasOffered between second end → (whole : Bool) → between.whole ≡ whole
+    → ComesFirstIn (offered_to end.feeders.items k) (offered_to start.feeders.items k ++ frames_of k (first ++ second))
+front-on start between end first second k one other true is =
+    let before = offered_to start.feeders.items k in
+    let rest = other.front k in (
+      rest.0,
+      ap (λ l. before ++ l) (filter_map-append (frame_of k) first second) ∙ sym (append_assoc before (frames_of k first) (frames_of k second))
+          ∙ ap (λ l. l ++ frames_of k second) (sym ((one.offers is).1 k)) ∙ rest.1,
+    )
+front-on start between end first second k one other false is =
+    let before = offered_to start.feeders.items k in
+    let rest = one.front k in
+    let same = (other.halted (λ whole. false≢true (sym is ∙ whole))).1 k in (
+      rest.0 ++ frames_of k second,
+      ap (λ l. before ++ l) (filter_map-append (frame_of k) first second) ∙ sym (append_assoc before (frames_of k first) (frames_of k second))
+          ∙ ap (λ l. l ++ frames_of k second) rest.1 ∙ append_assoc (offered_to between.feeders.items k) rest.0 (frames_of k second)
+          ∙ ap (λ l. l ++ (rest.0 ++ frames_of k second)) (sym same),
+    )
+
 -- two lists are offered, one after the other
 pub offered-on : (start between end : Feeding) (first second : List Given) → HasOffered start first between → HasOffered between second end → HasOffered start (first ++ second) end
 offered-on start between end first second one other = record {
   rings = other.rings ∙ one.rings;
+  front = λ k. front-on start between end first second k one other between.whole refl;
+  halted = λ not.
+      let was = one.halted not in
+      let now = other.halted was.0 in
+      (now.0, λ k. now.1 k ∙ was.1 k);
   offers = λ whole.
       let now = other.offers whole in
       let was = one.offers now.0 in
@@ -89,18 +128,38 @@ one-frame true frame = refl
 one-frame false frame = refl
 
 -- one frame more
-pub frame-offered : (old new : Feeding) (flow : ℕ) (frame : List ℕ) → rings_of new ≡ rings_of old
-    → (IsTrue new.whole → IsTrue old.whole × Offers old.feeders.items flow frame new.feeders.items) → HasOffered old (Frame flow frame ∷ []) new
-frame-offered old new flow frame rings offers = record {
-  rings = rings;
-  offers = λ whole.
-      let was = offers whole in
-      (was.0, λ k. was.1 k ∙ ap (λ l. offered_to old.feeders.items k ++ l) (sym (one-frame (flow == k) frame)));
-}
+pub frame-offered : (old new : Feeding) (flow : ℕ) (frame : List ℕ) → rings_of new ≡ rings_of old → IsTrue old.whole
+    → Offers old.feeders.items flow frame new.feeders.items → HasOffered old (Frame flow frame ∷ []) new
+frame-offered old new flow frame rings whole offers =
+    let Is : ℕ → Type 0 = λ k. offered_to new.feeders.items k ≡ offered_to old.feeders.items k ++ frames_of k (Frame flow frame ∷ []) in
+    let grew : (k : ℕ) → Is k = λ k. offers k ∙ ap (λ l. offered_to old.feeders.items k ++ l) (sym (one-frame (flow == k) frame)) in
+    record {
+      rings = rings;
+      front = λ k. ([], sym (grew k) ∙ sym (append-nil (offered_to new.feeders.items k)));
+      halted = λ not. absurd (not whole);
+      offers = λ is. (whole, grew);
+    }
+
+-- one frame more was given, and it isn't offered
+pub frame-dropped : (old new : Feeding) (flow : ℕ) (frame : List ℕ) → rings_of new ≡ rings_of old → new.whole ≡ false
+    → map offered new.feeders.items ≡ map offered old.feeders.items → HasOffered old (Frame flow frame ∷ []) new
+frame-dropped old new flow frame rings dropped same =
+    let kept : (k : ℕ) → offered_to new.feeders.items k ≡ offered_to old.feeders.items k = λ k. ap (λ lists. slice_index_or lists k []) same in
+    record {
+      rings = rings;
+      front = λ k. (frames_of k (Frame flow frame ∷ []), ap (λ l. l ++ frames_of k (Frame flow frame ∷ [])) (sym (kept k)));
+      halted = λ not. ((λ is. false≢true (sym dropped ∙ is)), kept);
+      offers = λ is. absurd (false≢true (sym dropped ∙ is));
+    }
 
 -- a request is offered to no feeder
 pub request-offered : (feeding : Feeding) (request : Request) → HasOffered feeding (Asked request ∷ []) feeding
-request-offered feeding request = record { rings = refl; offers = λ whole. (whole, λ k. sym (append-nil (offered_to feeding.feeders.items k))) }
+request-offered feeding request = record {
+  rings = refl;
+  front = λ k. ([], refl);
+  halted = λ not. (not, λ k. refl);
+  offers = λ whole. (whole, λ k. sym (append-nil (offered_to feeding.feeders.items k)));
+}
 
 module _ {C : Type 0} (accepts : C → List ℕ → Bool) (flows flows' : FlowTable C) (feeding feeding' : Feeding) where
   -- whatever the flows take, the rings stay

@@ -1,5 +1,5 @@
 -- What the flows take of the items, one after another.
-use Rattle.std.proofs.Common.{◌≡◌, ℕ, ◌≤◌, Bool, List, [], ◌∷◌, ◌++◌, length, map, ap, sym, subst, ◌∙◌, append_assoc, append-nil, arith}
+use Rattle.std.proofs.Common.{◌≡◌, ℕ, ◌≤◌, inl, inr, Bool, Option, Some, None, MatchOption, Result, Ok, Err, IfOk, IfErr, List, [], ◌∷◌, ◌++◌, length, map, refl, ap, sym, subst, ◌∙◌, append_assoc, append-nil, arith}
 use Rattle.std.proofs.lemmas.List.{map-append}
 use Rattle.std.proofs.lemmas.Option.{slice_get_within}
 use Rattle.consumer.specs.declared.given.Given.{Given}
@@ -10,6 +10,14 @@ use Rattle.bonded_flows.specs.Parts.{FlowInput}
 use Rattle.bonded_flows.specs.Slots.{SlotStands}
 use Rattle.bonded_flows.specs.Table.{TableInput, flow_setup, StandsFor, IsInUse, TakesMore}
 use Rattle.bonded_flows.proofs.TableTurns.{of_flow, inputs-others}
+use Rattle.bonded_flows.specs.declared.flow_slot.DecideFault.{DecideFault}
+use Rattle.bonded_flows.specs.declared.flow_slot.DecideFault.TheVariants.{NotTaken, Unfinished}
+use Rattle.bonded_flows.specs.Slots.{LeavesOf}
+use Rattle.uplink.specs.declared.assembler.Taking.{Taking}
+use Rattle.uplink.specs.declared.feeding.Feeding.{Feeding}
+use Rattle.uplink.specs.Inside.Feeding.{HasOffered}
+use Rattle.uplink.specs.Inside.Offering.{TakesAtMost, TakesAtMostOf}
+use Rattle.uplink.proofs.FramesOffered.{none-offered}
 
 module _ {C O : Type 0} (accepts : C → List ℕ → Bool) (after : O → List Given → O → Type 0) where
   -- whatever they take, there are as many flows
@@ -53,3 +61,46 @@ module _ {C O : Type 0} (accepts : C → List ℕ → Bool) (after : O → List 
           others = stands.others;
         });
   }
+
+  -- nothing is handed in
+  pub takes-nothing : (flows : FlowTable C) (out : O) (k : ℕ) → TakesMore after accepts flows out k [] flows out
+  takes-nothing flows out k = record {
+    more = [];
+    was_given = λ start given was. subst (λ g. after start g out) (sym (append-nil given)) was;
+    stands = λ check made history given stands.
+        subst (λ g. StandsFor accepts flows check made (history ++ []) g) (sym (append-nil given))
+        (subst (λ h. StandsFor accepts flows check made h given) (sym (append-nil history)) stands);
+  }
+
+module _ {C : Type 0} (accepts : C → List ℕ → Bool) where
+  -- a part at most was taken: nothing, or all
+  pub none-of : (flows flows' : FlowTable C) (feeding feeding' : Feeding) (input : TableInput) (k : ℕ)
+      → TakesMore HasOffered accepts flows feeding k [] flows' feeding' → TakesAtMost accepts flows feeding input flows' feeding'
+  none-of flows flows' feeding feeding' input k takes = record { flow = k; taken = []; at_most = inl refl; takes = takes }
+
+  pub all-of : (flows flows' : FlowTable C) (feeding feeding' : Feeding) (input : TableInput) (k : ℕ)
+      → TakesMore HasOffered accepts flows feeding k (input ∷ []) flows' feeding' → TakesAtMost accepts flows feeding input flows' feeding'
+  all-of flows flows' feeding feeding' input k takes = record { flow = k; taken = input ∷ []; at_most = inr refl; takes = takes }
+
+  -- so it is whatever is answered to a decision
+  pub decided-of : (flows flows' : FlowTable C) (feeding feeding' : Feeding) (input : TableInput) (k : ℕ) (result : Result Bool DecideFault)
+      → IfOk result (λ _. TakesMore HasOffered accepts flows feeding k (input ∷ []) flows' feeding')
+      → IfErr result (λ fault. LeavesOf fault (TakesMore HasOffered accepts flows feeding k [] flows' feeding')
+      (TakesMore HasOffered accepts flows feeding k (input ∷ []) flows' feeding'))
+      → TakesAtMost accepts flows feeding input flows' feeding'
+  decided-of flows flows' feeding feeding' input k (Ok lost) takes left = all-of flows flows' feeding feeding' input k takes
+  decided-of flows flows' feeding feeding' input k (Err (NotTaken why)) takes left = none-of flows flows' feeding feeding' input k left
+  decided-of flows flows' feeding feeding' input k (Err Unfinished) takes left = all-of flows flows' feeding feeding' input k left
+
+  -- nothing was tried
+  pub untried : (taking : Option (Taking C)) (feeding : Feeding) (input : TableInput)
+      → MatchOption taking (HasOffered feeding [] feeding) (λ was. TakesAtMostOf accepts was.flows feeding input feeding)
+  untried None feeding input = none-offered feeding
+  untried (Some was) feeding input = (was.flows, none-of was.flows was.flows feeding feeding input 0 (takes-nothing accepts HasOffered was.flows feeding 0))
+
+  -- it was tried
+  pub tried : (taking : Option (Taking C)) (was : Taking C) (feeding after : Feeding) (input : TableInput) (flows : FlowTable C) → taking ≡ Some was
+      → TakesAtMost accepts was.flows feeding input flows after
+      → MatchOption taking (HasOffered feeding [] after) (λ was. TakesAtMostOf accepts was.flows feeding input after)
+  tried taking was feeding after input flows is at_most =
+      subst (λ (o : Option (Taking C)). MatchOption o (HasOffered feeding [] after) (λ was. TakesAtMostOf accepts was.flows feeding input after)) (sym is) (flows, at_most)

@@ -3,6 +3,7 @@ pub mod ItemsTaken
 pub mod FlowsClosed
 pub mod ItemsCollected
 pub mod AllAssembled
+pub mod FirstAssembled
 pub mod AllSettled
 pub mod RequestsByChannel
 pub mod RunAnswer

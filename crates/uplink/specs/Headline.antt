@@ -22,6 +22,7 @@ use Rattle.receiver.specs.Ruled.{ruled_flow, comings_at}
 use Rattle.lane.specs.Limits.{channel_limit}
 use Rattle.receiver.specs.Order.{IsLawfulOrder, lengths_of}
 use Rattle.lane.specs.Report.{requests_of}
+use Rattle.uplink.specs.Fronts.{ComesFirstIn}
 
 -- What was taken is the flow's whole delivery sequence: once these events and the flow's close have decided what was kept and what is lost, exactly
 -- the modem's frames whose segments were all kept, in the modem's order.
@@ -33,6 +34,18 @@ pub record TookTheDeliverySequence (frames chunks : List (List ℕ)) (flow_recor
   pub closed : IsClosed fates
   pub sequence : IsDeliverySequence frames chunks fates taken
   pub all_kept : FiltersTo (IsAllKept frames chunks fates) frames taken
+
+-- What was taken comes first in the flow's delivery sequence: in that after the first of these events, or after all and some gaps of the flow's close.
+pub record TookAFront (frames chunks : List (List ℕ)) (flow_record : FlowRecord) (events : List FlowEvent) (taken : List (List ℕ)) : Type 0 where
+  pub gaps : ℕ
+  pub reached : List FlowEvent
+  pub reached_is : ComesFirstIn reached (events ++ replicate gaps gap)
+  pub answers : List Applied
+  pub fates : Fates
+  pub after : IsAfter flow_record.first flow_record.window reached answers fates
+  pub sequence : List (List ℕ)
+  pub sequence_is : IsDeliverySequence frames chunks fates sequence
+  pub front : ComesFirstIn taken sequence
 
 -- The headline, of what a receiver gave for what came in, in this order. The order is a lawful one of all that each channel admits and all decisions that
 -- name a flow. There are as many flows as records. What each flow's consumer took is the flow's whole delivery sequence, if the flow's segments are those of one lawful cut of a modem's frames

@@ -1,4 +1,5 @@
 pub mod Faults
+pub mod Fronts
 pub mod Headline
 pub mod Received
 pub mod Inside

@@ -1,5 +1,5 @@
 -- What a receiver on threads gave to its consumer and its scheduler as it ran, and what it counted.
-use Rattle.std.specs.Prelude.{◌≡◌, ℕ, ◌<◌, ◌≤◌, Bool, Some, List, [], ◌∷◌, length, slice_get}
+use Rattle.std.specs.Prelude.{◌≡◌, ℕ, ◌<◌, ◌≤◌, Bool, All, IsTrue, Some, List, [], ◌∷◌, length, slice_get}
 use Rattle.docsis_wire.specs.declared.segment.Segment.{Segment}
 use Rattle.docsis_wire.specs.Cut.{IsLawfulCut}
 use Rattle.flow_records.specs.declared.record.FlowRecord.{FlowRecord}
@@ -9,7 +9,8 @@ use Rattle.flow_core.specs.Fates.{Fates}
 use Rattle.flow_core.specs.Near.{AreNear}
 use Rattle.lane.specs.declared.input.Input.{Input}
 use Rattle.flow_records.specs.declared.decision.Decision.{Decision}
-use Rattle.lane.specs.Limits.{channel_limit}
+use Rattle.lane.specs.Limits.{channel_limit, senders}
+use Rattle.flow_records.specs.declared.event.Event.{Event}
 use Rattle.lane.specs.Inputs.{AnsweredInput}
 use Rattle.lane.specs.Report.{requests_of}
 use Rattle.loss_rule.specs.declared.rule.LossRule.{LossRule}
@@ -17,9 +18,9 @@ use Rattle.loss_rule.specs.Rule.{Coming, RuledFlow, Lasts, AreRuled}
 use Rattle.consumer.specs.declared.given.Given.{Given}
 use Rattle.consumer.specs.Given.{frames_of, requests_given}
 use Rattle.receiver.specs.declared.setup.Setup.{Setup}
-use Rattle.receiver.specs.Items.{Incoming, incoming_from, items_of}
+use Rattle.receiver.specs.Items.{Incoming, incoming_from, AreLanesOf, items_of}
 use Rattle.receiver.specs.Intake.{IsIntake}
-use Rattle.receiver.specs.Order.{IsLawfulOrder, lengths_of}
+use Rattle.receiver.specs.Order.{IsLawfulOrder, lengths_of, picked}
 use Rattle.receiver.specs.Outcome.{GivesAtItsClose}
 use Rattle.receiver.specs.Ruled.{ruled_flow, comings_at}
 use Rattle.receiver.specs.Tallies.{IsTallyOf}
@@ -27,7 +28,8 @@ use Rattle.workers.specs.Given.{BecameBy}
 use Rattle.uplink.specs.declared.eight_threads.RunFault.TheVariants.{OutOfMemory}
 use Rattle.uplink.specs.declared.receiving.Received.{Received}
 use Rattle.uplink.specs.declared.receiving.ReceiveError.{ReceiveError}
-use Rattle.uplink.specs.Headline.{TookTheDeliverySequence}
+use Rattle.uplink.specs.Fronts.{ComesFirstIn}
+use Rattle.uplink.specs.Headline.{TookTheDeliverySequence, TookAFront}
 
 -- what came in is what the sources of the four channels, and the decisions, gave
 pub record CameFrom (g0 g1 g2 g3 : List Input → Type 0) (decided : List Decision → Type 0) (incoming : Incoming) : Type 0 where
@@ -90,6 +92,28 @@ pub record GivesTheHeadline (rule : LossRule) (check : List ℕ → Bool) (setup
       → TookTheDeliverySequence whole chunks flow_record events (frames_of k frames)
   pub requested : (channel : ℕ) → channel < channel_limit → requests_given channel requests ≡ requests_of (intake.answered channel)
 
+-- What was given where an allocation failed, for this that came in first: of each sender the first of its items were taken, in some order. The frames of each
+-- flow come first in its delivery sequence, if its segments are those of one lawful cut of a modem's frames and its events in that order are near; and the
+-- requests of each channel are those of its admitted segments, each once and in their order. Nothing else was given.
+pub record GivesTheFirst (rule : LossRule) (check : List ℕ → Bool) (setup : Setup) (incoming : Incoming) (frames requests : List Given) : Type 0 where
+  pub answered : ℕ → List AnsweredInput
+  pub lanes : AreLanesOf setup incoming answered
+  pub order : List ℕ
+  pub items : List Event
+  pub named : All (λ tag. tag < senders) order
+  pub paired : length order ≡ length items
+  pub fronts : (sender : ℕ) → sender < senders → ComesFirstIn (picked sender order items) (items_of setup incoming answered sender)
+  pub frames_only : AreFramesOf (length setup.flows.items) frames
+  pub requests_only : AreRequests requests
+  pub delivered : (k fill : ℕ) (flow_record : FlowRecord) (whole chunks : List (List ℕ)) (segments : List Segment)
+      (events : List FlowEvent) (lasts : Lasts) (fates : Fates)
+      → slice_get setup.flows.items k ≡ Some flow_record
+      → AreRuled rule (ruled_flow setup.sids.items k flow_record) (comings_at k order items) events lasts fates
+      → IsLawfulCut check whole flow_record.first fill chunks segments
+      → AreNear flow_record.first flow_record.window segments events
+      → TookAFront whole chunks flow_record events (frames_of k frames)
+  pub requested : (channel : ℕ) → channel < channel_limit → requests_given channel requests ≡ requests_of (answered channel)
+
 module _ {F Q : Type 0} (takes : F → List Given → F → Type 0) (asks : Q → List Given → Q → Type 0) where
   -- the consumer was given these frames, and the scheduler these requests, and nothing else
   pub record WereGiven (consumer : F) (scheduler : Q) (frames requests : List Given) (consumer' : F) (scheduler' : Q) : Type 0 where
@@ -108,9 +132,10 @@ module _ {F Q : Type 0} (takes : F → List Given → F → Type 0) (asks : Q �
     pub headline : GivesTheHeadline rule check setup incoming order frames requests
     pub answer : IsAnswerBy IsTallyOf rule check setup incoming order frames requests received.flows.items received.lanes
 
-  -- Both come back with a fault. Where the setup can't be run they are as they were handed in.
-  pub record GivesBack (consumer : F) (scheduler : Q) (error : ReceiveError F Q) : Type 0 where
+  -- Both come back with a fault. Where the setup can't be run they are as they were handed in. Where the threads began they were given what comes first.
+  pub record GivesBack (rule : LossRule) (check : List ℕ → Bool) (setup : Setup) (came_first : Incoming → Type 0) (consumer : F) (scheduler : Q) (error : ReceiveError F Q) : Type 0 where
     pub frames : List Given
     pub requests : List Given
     pub were_given : WereGiven consumer scheduler frames requests error.consumer error.scheduler
+    pub first : IsTrue error.began → (incoming : Incoming) × came_first incoming × GivesTheFirst rule check setup incoming frames requests
     pub untouched : ¬ (error.fault ≡ OutOfMemory) → (error.consumer ≡ consumer) × (error.scheduler ≡ scheduler)

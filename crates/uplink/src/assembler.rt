@@ -1,5 +1,5 @@
 //! The assembler, which is the caller of a running receiver.
-ghost use Rattle.std.specs.Prelude.{◌≡◌, ◌<◌, ◌≤◌, ◌++◌, ◌∷◌, [], ℕ, List, Some, true, IsTrue, IfSome, IfOk, length, map};
+ghost use Rattle.std.specs.Prelude.{◌≡◌, ◌<◌, ◌≤◌, ◌++◌, ◌∷◌, [], ℕ, List, Some, true, IsTrue, IfSome, IfOk, MatchOption, length, map};
 ghost use Rattle.docsis_wire.specs.Ready.{IsReady};
 ghost use Rattle.mailbox.specs.Mouths.{places, taken, ended};
 ghost use Rattle.delivery.specs.Feeders.{feeder_ring, closed_ring};
@@ -10,8 +10,10 @@ ghost use Rattle.loss_rule.specs.Rule.{on_channel, handed_in};
 ghost use Rattle.bonded_flows.specs.ByRule.{decision_event, IsTakable as IsDecisionTakable};
 ghost use Rattle.bonded_flows.specs.Parts.{comes};
 ghost use Rattle.bonded_flows.specs.Table.{IsInUse};
-ghost use Rattle.uplink.specs.Inside.Feeding.{rings_of};
+ghost use Rattle.receiver.specs.TakenInOrder.{table_input_of};
+ghost use Rattle.uplink.specs.Inside.Feeding.{rings_of, HasOffered, IsClosedAfter};
 ghost use Rattle.uplink.specs.Inside.Offering.{HasOrder, HasAssembledSoFar, Takes, TakesItem, ClosesFlows, HasAssembled};
+ghost use Rattle.uplink.specs.Inside.Offering.{TakesAtMost, TakesAtMostOf, ClosesFirst, HasAssembledFirst};
 
 use crate::feeding::Feeding;
 use bonded_flows::{FlowDecision, FlowTable};
@@ -49,7 +51,8 @@ pub struct AssembledAll {
 /// Takes until all senders have ended, and offers the frames that each flow gives to its feeder.
 /// Then it closes all flows, and the feeders. Once an allocation failed, in whichever thread, it
 /// drops what it takes, and closes no flow: so what was offered is what comes first of what would
-/// have been. No clause says so, since none knows what one thread sees of another; a test does.
+/// have been. A clause (`first`) says so but for the close, since none knows what one thread sees of
+/// another.
 /// `closed` has room for a closed feeder of each flow. The order of the items is appended to
 /// `order`, if there is one.
 pub fn assemble<C: HeaderCheck + Drop, R: Wait>(
@@ -68,19 +71,18 @@ pub fn assemble<C: HeaderCheck + Drop, R: Wait>(
     ensures rings { map closed_ring result.feeders.items ≡ map feeder_ring feeders.items }
     ensures done { IfSome result.done (λ done. HasAssembled C.accepts taking feeders.items
         (taken mouth) (taken result.mouth) result.feeders.items done) }
+    ensures first { HasAssembledFirst C.accepts taking (taken mouth) (taken result.mouth)
+        (IsClosedAfter feeders.items result.feeders.items) }
 {
     let mut mouth = mouth;
     let mut feeding = Feeding {
         feeders,
         whole: true,
         told: signals.offered(),
+        is_bounded: taking.order.is_none(),
     };
     let taking = take_items(alloc, rt, signals, taking, &mut mouth, &mut feeding);
-    let done = if signals.has_failed() {
-        None
-    } else {
-        close_flows(alloc, taking, &mut feeding)
-    };
+    let done = close_flows(alloc, signals, taking, &mut feeding);
     let feeders = close_feeders(rt, signals, feeding.feeders, closed);
     AssembledAll {
         mouth,
@@ -92,8 +94,8 @@ pub fn assemble<C: HeaderCheck + Drop, R: Wait>(
 /// Takes until all senders have ended, and offers the frames that each flow gives to its feeder.
 /// Nothing where an allocation failed; what comes after that is dropped.
 ///
-/// Where the order isn't kept, no item is taken while a frame waits in a backlog: then the mailbox
-/// fills, and sources are asked no more until the consumer has taken.
+/// Where backlogs are bounded, no item is taken while a frame waits in one: then the mailbox fills,
+/// and sources are asked no more until the consumer has taken.
 fn take_items<C: HeaderCheck + Drop, R: Wait>(
     alloc: Global,
     rt: &R,
@@ -108,8 +110,9 @@ fn take_items<C: HeaderCheck + Drop, R: Wait>(
     ensures rings { rings_of feeding.new ≡ rings_of feeding.old }
     ensures so_far { IfSome result (λ made. HasAssembledSoFar C.accepts taking feeding.old
         (taken mouth.old) (taken mouth.new) made feeding.new) }
+    ensures first { HasAssembledFirst C.accepts taking (taken mouth.old) (taken mouth.new)
+        (λ given. HasOffered feeding.old given feeding.new) }
 {
-    let is_bounded = taking.order.is_none();
     let mut taking = Some(taking);
     let mut wait = MouthWait::at(signals.arrivals());
     for _ in rt.forever() {
@@ -121,9 +124,7 @@ fn take_items<C: HeaderCheck + Drop, R: Wait>(
                 wait.took();
                 let flow = item.event.flow();
                 taking = with_item(alloc, signals, taking, feeding, from, item);
-                if is_bounded {
-                    feeding.wait_for_room(rt, signals, flow);
-                }
+                feeding.wait_for_room(rt, signals, flow);
             }
             Taken::End { .. } => wait.took(),
             Taken::Empty => {
@@ -151,6 +152,9 @@ fn with_item<C: HeaderCheck + Drop>(
     ensures takes { IfSome result (λ now. (was : _) × (taking ≡ Some was)
         × HasOrder was.order (from ∷ []) now.order
         × TakesItem C.accepts was.flows feeding.old from item.event now.flows feeding.new) }
+    ensures at_most { MatchOption taking (HasOffered feeding.old [] feeding.new)
+        (λ was. TakesAtMostOf C.accepts was.flows feeding.old
+        (table_input_of from item.event) feeding.new) }
 {
     if signals.has_failed() {
         return None;
@@ -192,6 +196,8 @@ fn take_item<C: HeaderCheck + Drop>(
     ensures rings { rings_of feeding.new ≡ rings_of feeding.old }
     ensures takes { IfSome result (λ _.
         TakesItem C.accepts flows.old feeding.old from item flows.new feeding.new) }
+    ensures at_most { TakesAtMost C.accepts flows.old feeding.old (table_input_of from item)
+        flows.new feeding.new }
 {
     let flow = item.flow();
     if flow >= flows.flow_count() {
@@ -227,6 +233,9 @@ fn take_segment<C: HeaderCheck + Drop>(
     ensures takes { IfSome result (λ _. Takes C.accepts flows.old feeding.old
         (record { flow = flow; input = comes (on_channel channel segment) } ∷ [])
         flows.new feeding.new) }
+    ensures at_most { TakesAtMost C.accepts flows.old feeding.old
+        (record { flow = flow; input = comes (on_channel channel segment) })
+        flows.new feeding.new }
 {
     flows.prepare(alloc, flow, feeding).ok()?;
     flows
@@ -250,6 +259,9 @@ fn decide<C: HeaderCheck + Drop>(
     ensures takes { IfSome result (λ _. Takes C.accepts flows.old feeding.old
         (record { flow = flow; input = comes (handed_in (decision_event decision)) } ∷ [])
         flows.new feeding.new) }
+    ensures at_most { TakesAtMost C.accepts flows.old feeding.old
+        (record { flow = flow; input = comes (handed_in (decision_event decision)) })
+        flows.new feeding.new }
 {
     flows.decide(alloc, flow, decision, feeding).ok()?;
     Some(())
@@ -257,9 +269,10 @@ fn decide<C: HeaderCheck + Drop>(
 
 /// Closes all flows, and offers the frames that this gives. Answers the order of the items, if it
 /// is kept, and what was counted of each flow. Nothing where there was nothing, or where an
-/// allocation failed.
+/// allocation failed, in whichever thread.
 fn close_flows<C: HeaderCheck + Drop>(
     alloc: Global,
+    signals: &Signals,
     taking: Option<Taking<C>>,
     feeding: &mut Feeding<'_>,
 ) -> Option<Assembled>
@@ -269,7 +282,12 @@ fn close_flows<C: HeaderCheck + Drop>(
         × (done.order ≡ was.order)
         × ClosesFlows C.accepts was.flows feeding.old done.counts.items feeding.new) }
     ensures whole { IfSome result (λ _. IsTrue feeding.new.whole) }
+    ensures first { MatchOption taking (HasOffered feeding.old [] feeding.new)
+        (λ was. ClosesFirst C.accepts was.flows feeding.old feeding.new) }
 {
+    if signals.has_failed() {
+        return None;
+    }
     let Taking { mut flows, order } = taking?;
     let counts = close_all(alloc, &mut flows, feeding).ok()?;
     if !feeding.whole {
@@ -289,6 +307,7 @@ fn close_all<C: HeaderCheck + Drop>(
     ensures rings { rings_of feeding.new ≡ rings_of feeding.old }
     ensures closes { IfOk result (λ counts.
         ClosesFlows C.accepts flows.old feeding.old counts.items feeding.new) }
+    ensures first { ClosesFirst C.accepts flows.old feeding.old feeding.new }
 {
     let flow_count = flows.flow_count();
     let mut counts = Vec::with_capacity(alloc, flow_count)?;

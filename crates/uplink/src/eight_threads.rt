@@ -20,7 +20,7 @@ use std::alloc::{AllocError, Global};
 use std::sync::Wait;
 use std::thread::Threads;
 use thiserror::Error;
-use workers::{Decisions, Foreknown, Source, Sources};
+use workers::{Consumers, Decisions, Foreknown, Source, Sources};
 
 /// Why a receiver doesn't run. The first of these is reported.
 #[derive(Clone, Copy, Debug, PartialEq, Eq, Error)]
@@ -189,5 +189,15 @@ where
         Foreknown(decisions),
         consumers,
     );
-    Ok(outcome_of(alloc, &setup.flows, ran)?)
+    let Consumers {
+        consumer,
+        scheduler,
+    } = ran.consumers;
+    Ok(outcome_of(
+        alloc,
+        &setup.flows,
+        consumer.collected,
+        scheduler.collected,
+        ran.concluded,
+    )?)
 }

@@ -1,6 +1,6 @@
 //! The feeders of all flows, as a consumer.
-ghost use Rattle.std.specs.Prelude.{◌≡◌, [], IsTrue, map};
-ghost use Rattle.delivery.specs.Feeders.{feeder_ring};
+ghost use Rattle.std.specs.Prelude.{◌≡◌, [], IsTrue, false, map};
+ghost use Rattle.delivery.specs.Feeders.{feeder_ring, offered};
 ghost use Rattle.uplink.specs.Inside.Feeding.{HasOffered, Offers};
 
 use consumer::Consumer;
@@ -22,6 +22,8 @@ pub struct Feeding<'a> {
     pub feeders: Vec<Feeder>,
     pub whole: bool,
     pub told: &'a EventCount,
+    /// Whether no more is to wait in a backlog than what one item gives.
+    pub is_bounded: bool,
 }
 
 impl Feeding<'_> {
@@ -33,11 +35,14 @@ impl Feeding<'_> {
         flush_all(&mut self.feeders, self.told)
     }
 
-    /// Waits for as long as a frame of this flow stands in the backlog of its feeder.
+    /// Waits for as long as a frame of this flow stands in the backlog of its feeder, if backlogs
+    /// are bounded.
     pub fn wait_for_room<R: Wait>(&mut self, rt: &R, signals: &Signals, flow: usize)
         ensures { HasOffered self.old [] self.new }
     {
-        wait_for_room(rt, signals, &mut self.feeders, flow);
+        if self.is_bounded {
+            wait_for_room(rt, signals, &mut self.feeders, flow);
+        }
     }
 }
 
@@ -67,6 +72,7 @@ fn offer(
 ) -> bool
     ensures rings { map feeder_ring feeders.new ≡ map feeder_ring feeders.old }
     ensures offers { IsTrue result → Offers feeders.old flow frame feeders.new }
+    ensures not { result ≡ false → map offered feeders.new ≡ map offered feeders.old }
 {
     if flow >= feeders.len() {
         return false;

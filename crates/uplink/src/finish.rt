@@ -1,12 +1,11 @@
 //! What a run gave, once all threads have returned.
-ghost use Rattle.std.specs.Prelude.{◌≡◌, IsTrue, IfOk, length};
+ghost use Rattle.std.specs.Prelude.{◌≡◌, IsTrue, IfOk, IfSome, Some, length};
 ghost use Rattle.lane.specs.Limits.{channel_limit};
 ghost use Rattle.uplink.specs.Inside.Running.{CanSettle, HasConcluded};
 ghost use Rattle.uplink.specs.Inside.Collected.{AreFlowsOf, CanBeMade, IsMadeOf};
 
 use crate::assembler::Assembled;
-use crate::tap::NoTap;
-use crate::tapped::Tapped;
+use consumer::Collected;
 use delivery::ClosedFeeder;
 use docsis_wire::Bytes;
 use flow_core::{FlowCounts, FlowRecord};
@@ -15,9 +14,9 @@ use mailbox::{ClosedPort, ClosedPorts, Mouth, settle};
 use receiver::{FlowOutcome, Outcome};
 use std::alloc::{AllocError, Global};
 use std::sync::Wait;
-use workers::{Consumers, Done, Item, settle_rings};
+use workers::{Consumers, Done, Item, both_done, settle_rings};
 
-/// What all threads handed on, in none of which an allocation failed.
+/// What all threads handed on.
 #[derive(Drop)]
 pub struct Ended<N> {
     pub done: Done<N>,
@@ -25,7 +24,8 @@ pub struct Ended<N> {
     pub unused_port: ClosedPort<Request>,
     pub mouth: Mouth<Item>,
     pub feeders: Vec<ClosedFeeder>,
-    pub assembled: Assembled,
+    /// Nothing where an allocation failed.
+    pub assembled: Option<Assembled>,
 }
 
 /// What a run comes to: what was counted of each flow, what was noted of the inputs of the channels,
@@ -33,20 +33,31 @@ pub struct Ended<N> {
 #[derive(Drop)]
 pub struct Concluded<N> {
     pub counts: Vec<FlowCounts>,
-    pub lanes: [N; CHANNELS],
+    pub lanes: FourNotes<N>,
     pub order: Option<Vec<u8>>,
 }
 
-/// Who took what a run gave, and what it came to, unless an allocation failed or a thread could not
-/// be started.
+/// What was noted of the channels 0 to 3.
+#[derive(Drop)]
+pub struct FourNotes<N> {
+    pub n0: N,
+    pub n1: N,
+    pub n2: N,
+    pub n3: N,
+}
+
+/// Who took what a run gave, whether its threads began, and what it came to, unless an allocation
+/// failed.
 #[derive(Drop)]
 pub struct Ran<F, Q, N> {
     pub consumers: Consumers<F, Q>,
+    pub began: bool,
     pub concluded: Option<Concluded<N>>,
 }
 
-/// What a run came to. Both mailboxes and all rings are settled, and nothing is left in them.
-pub fn conclude<N: Drop, R: Wait>(rt: &R, end: Ended<N>) -> Concluded<N>
+/// What a run came to, unless an allocation failed. Both mailboxes and all rings are settled, and
+/// nothing is left in them.
+pub fn conclude<N: Drop, R: Wait>(rt: &R, end: Ended<N>) -> Option<Concluded<N>>
     requires { CanSettle end }
     ensures { HasConcluded end result }
 {
@@ -66,37 +77,58 @@ pub fn conclude<N: Drop, R: Wait>(rt: &R, end: Ended<N>) -> Concluded<N>
         p3: l3.requests,
         p4: end.unused_port,
     };
+    let first = both_done(l0.notes, l1.notes);
+    let second = both_done(l2.notes, l3.notes);
+    let noted = both_done(first, second);
     let mut feeders = end.feeders;
     let mut takers = done.takers;
     settle(rt, arrivals, end.mouth);
     settle(rt, requests, done.mouth);
     settle_rings(&mut feeders, &mut takers);
-    Concluded {
-        counts: end.assembled.counts,
-        lanes: [l0.notes, l1.notes, l2.notes, l3.notes],
-        order: end.assembled.order,
-    }
+    concluded_of(end.assembled, noted)
+}
+
+/// What was counted and noted, if all was.
+fn concluded_of<N: Drop>(
+    assembled: Option<Assembled>,
+    noted: Option<((N, N), (N, N))>,
+) -> Option<Concluded<N>>
+    ensures assembled { IfSome result (λ concluded. (made : _) × (assembled ≡ Some made)
+        × (concluded.counts ≡ made.counts) × (concluded.order ≡ made.order)) }
+    ensures noted { IfSome result (λ concluded. (notes : _) × (noted ≡ Some notes)
+        × (concluded.lanes ≡ record {
+          n0 = notes.0.0;
+          n1 = notes.0.1;
+          n2 = notes.1.0;
+          n3 = notes.1.1;
+        })) }
+{
+    let Some(made) = assembled else {
+        return None;
+    };
+    let Some(notes) = noted else {
+        return None;
+    };
+    let ((n0, n1), (n2, n3)) = notes;
+    Some(Concluded {
+        counts: made.counts,
+        lanes: FourNotes { n0, n1, n2, n3 },
+        order: made.order,
+    })
 }
 
 /// The outcome of a run that collected what it gave, and kept its order. `AllocError`: an
 /// allocation failed on the way, or fails here.
-pub fn outcome_of<F: Drop, Q: Drop>(
+pub fn outcome_of(
     alloc: Global,
     records: &[FlowRecord],
-    ran: Ran<Tapped<F, NoTap>, Tapped<NoTap, Q>, LaneReport>,
+    frames: Collected,
+    requests: Collected,
+    concluded: Option<Concluded<LaneReport>>,
 ) -> Result<Outcome, AllocError>
-    requires { CanBeMade (length records.now) ran }
-    ensures { IfOk result (IsMadeOf records.now ran) }
+    requires { CanBeMade (length records.now) frames requests concluded }
+    ensures { IfOk result (IsMadeOf records.now frames requests concluded) }
 {
-    let Ran {
-        consumers,
-        concluded,
-    } = ran;
-    let Consumers {
-        consumer,
-        scheduler,
-    } = consumers;
-    let (frames, requests) = (consumer.collected, scheduler.collected);
     let Some(concluded) = concluded else {
         return Err(AllocError);
     };
@@ -105,6 +137,7 @@ pub fn outcome_of<F: Drop, Q: Drop>(
         lanes,
         order,
     } = concluded;
+    let FourNotes { n0, n1, n2, n3 } = lanes;
     let Some(order) = order else {
         return Err(AllocError);
     };
@@ -114,7 +147,7 @@ pub fn outcome_of<F: Drop, Q: Drop>(
     Ok(Outcome {
         flows: flows_of(alloc, records, frames.frames, &counts)?,
         requests: four_lists(requests.requests),
-        lanes,
+        lanes: [n0, n1, n2, n3],
         order,
     })
 }

@@ -22,10 +22,15 @@ ghost use Rattle.flow_core.specs.declared.flow.Flow.{Flow};
 ghost use Rattle.flow_core.specs.Outcome.{IsFlowOutcome};
 ghost use Rattle.flow_core.specs.Stands.{StandsFor};
 ghost use Rattle.loss_rule.specs.declared.rule.LossRule.{LossRule};
+ghost use Rattle.loss_rule.specs.Rule.{Coming, Lasts, AreRuled};
+ghost use Rattle.bonded_flows.specs.declared.flow_slot.FlowSlot.{FlowSlot};
+ghost use Rattle.bonded_flows.specs.FlowSetup.{FlowSetup, ruled_flow};
+ghost use Rattle.bonded_flows.specs.ByRule.{GaveByRule};
+ghost use Rattle.bonded_flows.specs.Slots.{PartStands};
 ghost use Rattle.consumer.specs.declared.given.Given.{Given};
 ghost use Rattle.receiver.specs.declared.tally.LaneTally.{LaneTally};
 ghost use Rattle.receiver.specs.Tallies.{IsTallyOf};
-ghost use Rattle.uplink.specs.Headline.{KeepsTheHeadline, KeepsTheHeadlineBy};
+ghost use Rattle.uplink.specs.Headline.{KeepsTheHeadline, KeepsTheHeadlineBy, TookAFront};
 ghost use Rattle.uplink.specs.Received.{IsAnswerBy, GivesTheHeadline};
 ghost use Rattle.receiver.specs.declared.setup.Setup.{Setup};
 ghost use Rattle.receiver.specs.declared.outcome.Outcome.{Outcome};
@@ -105,5 +110,34 @@ pub fn consumers_take_the_delivery_sequence()
     flow_core::laws::outcome_of_near_events_is_the_delivery_sequence();
     flow_core::laws::flow_gives_the_delivery_sequence();
     flow_core::laws::delivery_sequence_only_grows();
+    loss_rule::laws::ruled_events_are_one();
+}
+
+/// **What a flow has given comes first in its delivery sequence,** at any moment, whatever failed:
+/// if the flow's segments are those of one lawful cut of a modem's frames and the events that by
+/// the rule come of all that came to it are near. So it is of a flow that stands for what came to
+/// it since it was begun (`under_way`), and of one that was closed (`closed`).
+pub fn flows_have_given_what_comes_first()
+    ensures under_way { (check : List ℕ → Bool) (setup : FlowSetup) (slot : FlowSlot)
+        (comings : List Coming) (given frames chunks : List (List ℕ)) (fill : ℕ)
+        (segments : List Segment) (events : List FlowEvent) (lasts : Lasts) (fates : Fates)
+        → PartStands check setup slot comings given
+        → AreRuled setup.rule (ruled_flow setup) comings events lasts fates
+        → IsLawfulCut check frames setup.flow_record.first fill chunks segments
+        → AreNear setup.flow_record.first setup.flow_record.window segments events
+        → TookAFront frames chunks setup.flow_record events given }
+    ensures closed { (check : List ℕ → Bool) (setup : FlowSetup) (comings : List Coming)
+        (given frames chunks : List (List ℕ)) (counts : FlowCounts) (fill : ℕ)
+        (segments : List Segment) (events : List FlowEvent) (lasts : Lasts) (fates : Fates)
+        → GaveByRule check setup comings given counts
+        → AreRuled setup.rule (ruled_flow setup) comings events lasts fates
+        → IsLawfulCut check frames setup.flow_record.first fill chunks segments
+        → AreNear setup.flow_record.first setup.flow_record.window segments events
+        → TookAFront frames chunks setup.flow_record events given }
+{
+    flow_core::laws::flow_gives_the_delivery_sequence();
+    flow_core::laws::outcome_of_near_events_is_the_delivery_sequence();
+    flow_core::laws::decisions_about_an_empty_flow_change_nothing();
+    flow_core::laws::gaps_after_keep_events_near();
     loss_rule::laws::ruled_events_are_one();
 }

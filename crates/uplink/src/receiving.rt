@@ -9,13 +9,13 @@ ghost use Rattle.loss_rule.specs.declared.rule.LossRule.{LossRule};
 ghost use Rattle.uplink.specs.declared.finish.Concluded.{Concluded};
 ghost use Rattle.receiver.specs.declared.tally.LaneTally.{LaneTally};
 ghost use Rattle.uplink.specs.Faults.{CanRun, IsRunFault};
-ghost use Rattle.workers.specs.Given.{Yields};
+ghost use Rattle.workers.specs.Given.{Yields, HasGivenFirst};
 ghost use Rattle.uplink.specs.Received.{CameFrom, HasReceived, GivesBack};
-ghost use Rattle.uplink.specs.Inside.Running.{CanStart, RanOpened, HasRun, IsOpened};
+ghost use Rattle.uplink.specs.Inside.Running.{in_order, CanStart, RanOpened, HasRun, IsOpened};
 
 use crate::assembler::{AssembledAll, Taking, assemble};
 use crate::eight_threads::{RunFault, check_setup};
-use crate::finish::{Concluded, Ended, Ran, conclude};
+use crate::finish::{Concluded, Ended, FourNotes, Ran, conclude};
 use crate::open::{Opened, open_all};
 use consumer::Consumer;
 use docsis_wire::HeaderCheck;
@@ -27,8 +27,7 @@ use std::alloc::Global;
 use std::sync::Wait;
 use std::thread::Threads;
 use workers::{
-    Consumers, Joined, LaneNotes, LiveDecisions, LiveSource, Share, Sources, Work, both_done,
-    start_team,
+    Consumers, Joined, LaneNotes, LiveDecisions, LiveSource, Share, Sources, Work, start_team,
 };
 
 /// What was received, apart from what the consumer and the scheduler made of it.
@@ -49,6 +48,8 @@ pub struct Received<F, Q> {
 pub struct ReceiveError<F, Q> {
     /// The fault, the first that there is.
     pub fault: RunFault,
+    /// Whether the threads began. Otherwise no source was asked for anything.
+    pub began: bool,
     /// Who was to take the frames.
     pub consumer: F,
     /// Who was to take the requests.
@@ -107,7 +108,10 @@ where
         (Yields D.gave D.is_over decisions)) consumer scheduler) }
     ensures can_run { IfOk result (λ _. CanRun setup) }
     ensures fault { IfErr result (λ error. IsRunFault setup error.fault) }
-    ensures given_back { IfErr result (GivesBack F.after Q.after consumer scheduler) }
+    ensures given_back { IfErr result (GivesBack F.after Q.after rule (C.accepts check) setup
+        (CameFrom (HasGivenFirst S0.gave sources.s0) (HasGivenFirst S1.gave sources.s1)
+        (HasGivenFirst S2.gave sources.s2) (HasGivenFirst S3.gave sources.s3)
+        (HasGivenFirst D.gave decisions)) consumer scheduler) }
 {
     crate::laws::consumers_take_the_delivery_sequence();
     let opened = match prepare(alloc, rule, &setup, check) {
@@ -115,6 +119,7 @@ where
         Err(fault) => {
             return Err(ReceiveError {
                 fault,
+                began: false,
                 consumer,
                 scheduler,
             });
@@ -138,16 +143,18 @@ fn received_of<F, Q>(ran: Ran<F, Q, LaneTally>) -> Result<Received<F, Q>, Receiv
           consumer = ran.consumers.consumer;
           scheduler = ran.consumers.scheduler;
           flows = concluded.counts;
-          lanes = concluded.lanes;
+          lanes = in_order concluded.lanes;
         })) }
     ensures not { IfErr result (λ error. error ≡ record {
       fault = RunFault.OutOfMemory;
+      began = ran.began;
       consumer = ran.consumers.consumer;
       scheduler = ran.consumers.scheduler;
     }) }
 {
     let Ran {
         consumers,
+        began,
         concluded,
     } = ran;
     let Consumers {
@@ -157,15 +164,22 @@ fn received_of<F, Q>(ran: Ran<F, Q, LaneTally>) -> Result<Received<F, Q>, Receiv
     let Some(concluded) = concluded else {
         return Err(ReceiveError {
             fault: RunFault::OutOfMemory,
+            began,
             consumer,
             scheduler,
         });
     };
+    let Concluded {
+        counts,
+        lanes,
+        order: _,
+    } = concluded;
+    let FourNotes { n0, n1, n2, n3 } = lanes;
     Ok(Received {
         consumer,
         scheduler,
-        flows: concluded.counts,
-        lanes: concluded.lanes,
+        flows: counts,
+        lanes: [n0, n1, n2, n3],
     })
 }
 
@@ -214,24 +228,30 @@ where
         → HasRun F.after Q.after N.are_of rule accepted setup.now
         (CameFrom (Yields S0.gave S0.is_over sources.s0) (Yields S1.gave S1.is_over sources.s1)
         (Yields S2.gave S2.is_over sources.s2) (Yields S3.gave S3.is_over sources.s3)
-        (Yields D.gave D.is_over decisions)) order consumers result }
+        (Yields D.gave D.is_over decisions))
+        (CameFrom (HasGivenFirst S0.gave sources.s0) (HasGivenFirst S1.gave sources.s1)
+        (HasGivenFirst S2.gave sources.s2) (HasGivenFirst S3.gave sources.s3)
+        (HasGivenFirst D.gave decisions)) order consumers result }
 {
+    crate::laws::flows_have_given_what_comes_first();
     let flow_count = setup.flows.len();
     let (consumers, ended) = run_opened(
         alloc, rt, flow_count, opened, order, sources, decisions, consumers,
     );
+    let began = ended.is_some();
     let concluded = match ended {
-        Some(end) => Some(conclude(rt, end)),
+        Some(end) => conclude(rt, end),
         None => None,
     };
     Ran {
         consumers,
+        began,
         concluded,
     }
 }
 
-/// Runs what was opened until all threads have returned. It hands back the consumers, and, unless
-/// an allocation failed or a thread could not be started, what the threads handed on.
+/// Runs what was opened until all threads have returned. It hands back the consumers, and, unless a
+/// thread could not be started, what the threads handed on.
 fn run_opened<S0, S1, S2, S3, D, F, Q, N, C, R>(
     alloc: Global,
     rt: &R,
@@ -257,7 +277,10 @@ where
     ensures { RanOpened F.after Q.after N.are_of C.accepts flow_count
         (CameFrom (Yields S0.gave S0.is_over sources.s0) (Yields S1.gave S1.is_over sources.s1)
         (Yields S2.gave S2.is_over sources.s2) (Yields S3.gave S3.is_over sources.s3)
-        (Yields D.gave D.is_over decisions)) opened order consumers result }
+        (Yields D.gave D.is_over decisions))
+        (CameFrom (HasGivenFirst S0.gave sources.s0) (HasGivenFirst S1.gave sources.s1)
+        (HasGivenFirst S2.gave sources.s2) (HasGivenFirst S3.gave sources.s3)
+        (HasGivenFirst D.gave decisions)) opened order consumers result }
 {
     let Opened {
         signals,
@@ -294,8 +317,8 @@ where
         closed,
     );
     let Joined { consumers, done } = team.join(rt);
-    let ended = match both_done(done, assembled) {
-        Some((done, assembled)) => Some(Ended {
+    let ended = match done {
+        Some(done) => Some(Ended {
             done,
             unused_port,
             mouth,

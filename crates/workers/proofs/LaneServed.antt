@@ -1,5 +1,5 @@
 -- What a channel's worker has posted and reported.
-use Rattle.std.proofs.Common.{◌≡◌, List, [], ◌∷◌, ◌++◌, map, refl, sym, ap, ◌∙◌, append_assoc}
+use Rattle.std.proofs.Common.{◌≡◌, Option, Some, IfSome, List, [], ◌∷◌, ◌++◌, map, refl, sym, ap, ◌∙◌, append_assoc}
 use Rattle.std.proofs.lemmas.List.{map-append, append-nil}
 use Rattle.mailbox.specs.Ports.{address, posted}
 use Rattle.mailbox.specs.declared.port.ClosedPort.{ClosedPort}
@@ -10,9 +10,11 @@ use Rattle.workers.specs.declared.lane_worker.LaneWork.{LaneWork}
 use Rattle.lane.specs.Inputs.{Answer, AnsweredInput}
 use Rattle.lane.specs.Report.{admitted_in, requests_in, admitted_of, requests_of}
 use Rattle.lane.specs.Report.{event_of_admitted}
-use Rattle.lane.specs.Stands.{TakesInput}
+use Rattle.lane.specs.Inputs.{LaneSetup}
+use Rattle.lane.specs.Stands.{StandsFor, TakesInput}
+use Rattle.lane.specs.declared.lane.Lane.{Lane}
 use Rattle.workers.specs.Inside.Carried.{carried}
-use Rattle.workers.specs.Inside.Working.{HasPosted, HasServedAll, DidLane}
+use Rattle.workers.specs.Inside.Working.{HasPosted, HasPassedOnAnswers, HasServedAll, DidLane}
 use Rattle.lane.proofs.LaneReports.{admitted_of-append, requests_of-append}
 
 module _ {S N : Type 0} (are_of : List AnsweredInput → N → Type 0) where
@@ -22,12 +24,15 @@ module _ {S N : Type 0} (are_of : List AnsweredInput → N → Type 0) where
     arrivals_same = refl;
     requests_same = refl;
     serves = λ setup stands. record {
-      answered = [];
-      inputs_are = refl;
+      passed_on = record {
+        answered = [];
+        answers = stands.answered;
+        inputs_are = refl;
+        arrivals_are = sym (append-nil (carried (posted work.arrivals)));
+        requests_are = sym (append-nil (posted work.requests));
+        noted = of;
+      };
       stands = stands;
-      arrivals_are = sym (append-nil (carried (posted work.arrivals)));
-      requests_are = sym (append-nil (posted work.requests));
-      noted = of;
     };
   }
 
@@ -43,62 +48,67 @@ module _ {S N : Type 0} (are_of : List AnsweredInput → N → Type 0) where
     arrivals_same = arrivals_same ∙ has.arrivals_same;
     requests_same = requests_same ∙ has.requests_same;
     serves = λ setup stands.
-        let is = has.serves setup stands in
+        let was = has.serves setup stands in
+        let is = was.passed_on in
         let one : AnsweredInput = record { input = input; answer = answer } in
         let events = map event_of_admitted (admitted_of is.answered) in
+        let now : StandsFor setup after.lane (is.answered ++ one ∷ []) = takes setup is.answered was.stands in
         record {
-          answered = is.answered ++ one ∷ [];
-          inputs_are = map-append (λ (t : AnsweredInput). t.input) is.answered (one ∷ []) ∙ ap (λ t. t ++ input ∷ []) is.inputs_are;
-          stands = takes setup is.answered is.stands;
-          arrivals_are =
-              arrivals ∙ ap (λ t. t ++ map event_of_admitted (admitted_in answer)) is.arrivals_are
-              ∙ append_assoc (carried (posted work.arrivals)) events (map event_of_admitted (admitted_in answer))
-              ∙ ap (λ t. carried (posted work.arrivals) ++ t)
-              (sym (ap (map event_of_admitted) (admitted_of-append is.answered (one ∷ []))
-              ∙ map-append event_of_admitted (admitted_of is.answered) (admitted_in answer)));
-          requests_are =
-              requests ∙ ap (λ t. t ++ requests_in answer) is.requests_are
-              ∙ append_assoc (posted work.requests) (requests_of is.answered) (requests_in answer)
-              ∙ ap (λ t. posted work.requests ++ t) (sym (requests_of-append is.answered (one ∷ [])));
-          noted = adds is.answered input is.noted;
+          passed_on = record {
+            answered = is.answered ++ one ∷ [];
+            answers = now.answered;
+            inputs_are = map-append (λ (t : AnsweredInput). t.input) is.answered (one ∷ []) ∙ ap (λ t. t ++ input ∷ []) is.inputs_are;
+            arrivals_are =
+                arrivals ∙ ap (λ t. t ++ map event_of_admitted (admitted_in answer)) is.arrivals_are
+                ∙ append_assoc (carried (posted work.arrivals)) events (map event_of_admitted (admitted_in answer))
+                ∙ ap (λ t. carried (posted work.arrivals) ++ t)
+                (sym (ap (map event_of_admitted) (admitted_of-append is.answered (one ∷ []))
+                ∙ map-append event_of_admitted (admitted_of is.answered) (admitted_in answer)));
+            requests_are =
+                requests ∙ ap (λ t. t ++ requests_in answer) is.requests_are
+                ∙ append_assoc (posted work.requests) (requests_of is.answered) (requests_in answer)
+                ∙ ap (λ t. posted work.requests ++ t) (sym (requests_of-append is.answered (one ∷ [])));
+            noted = adds is.answered input is.noted;
+          };
+          stands = now;
         };
   }
 
-  -- the source gives no more
-  pub all_served : (inputs : List Input) (work now : LaneWork S) (source : S) (notes : N) → HasServedAll are_of inputs work now notes
-      → HasServedAll are_of inputs work (record { lane = now.lane; arrivals = now.arrivals; requests = now.requests; source = source }) notes
-  all_served inputs work now source notes has = record {
-    arrivals_same = has.arrivals_same;
-    requests_same = has.requests_same;
-    serves = λ setup stands.
-        let is = has.serves setup stands in
-        record {
-          answered = is.answered;
-          inputs_are = is.inputs_are;
-          stands = is.stands;
-          arrivals_are = is.arrivals_are;
-          requests_are = is.requests_are;
-          noted = is.noted;
-        };
-  }
+  -- no more is served: the notes are kept, or given up
+  pub passed_on : (inputs : List Input) (work now : LaneWork S) (lane : Lane) (source : S) (notes : N) (kept : Option N)
+      → ((answered : List AnsweredInput) → are_of answered notes → IfSome kept (are_of answered)) → HasServedAll are_of inputs work now notes
+      → (setup : LaneSetup) → StandsFor setup work.lane []
+      → HasPassedOnAnswers are_of setup inputs work (record { lane = lane; arrivals = now.arrivals; requests = now.requests; source = source }) kept
+  passed_on inputs work now lane source notes kept keeps has setup stands =
+      let is = (has.serves setup stands).passed_on in
+      record {
+        answered = is.answered;
+        answers = is.answers;
+        inputs_are = is.inputs_are;
+        arrivals_are = is.arrivals_are;
+        requests_are = is.requests_are;
+        noted = keeps is.answered is.noted;
+      }
 
-  -- all inputs were served, and the ports closed
-  pub did_serve : (inputs : List Input) (work now : LaneWork S) (notes : N) (arrivals : ClosedPort Item) (requests : ClosedPort Request)
-      → HasServedAll are_of inputs work now notes → HasPosted now.arrivals [] arrivals → HasPosted now.requests [] requests
+  -- the ports are closed
+  pub did_serve : (inputs : List Input) (work now : LaneWork S) (notes : Option N) (arrivals : ClosedPort Item) (requests : ClosedPort Request)
+      → address now.arrivals ≡ address work.arrivals → address now.requests ≡ address work.requests
+      → ((setup : LaneSetup) → StandsFor setup work.lane [] → HasPassedOnAnswers are_of setup inputs work now notes)
+      → HasPosted now.arrivals [] arrivals → HasPosted now.requests [] requests
       → DidLane are_of work.lane work.arrivals work.requests inputs (record { arrivals = arrivals; requests = requests; notes = notes })
-  did_serve inputs work now notes arrivals requests has closes closes' = record {
+  did_serve inputs work now notes arrivals requests arrivals_same requests_same served closes closes' = record {
     did = λ setup stands.
-        let is = has.serves setup stands in (
+        let is = served setup stands in (
           is.answered,
-          is.stands.answered,
+          is.answers,
           is.inputs_are,
           record {
             arrivals_are = record {
-              address_is = closes.address_is ∙ has.arrivals_same;
+              address_is = closes.address_is ∙ arrivals_same;
               sent_is = ap carried (closes.posted_is ∙ append-nil (posted now.arrivals)) ∙ is.arrivals_are;
             };
             requests_are = record {
-              address_is = closes'.address_is ∙ has.requests_same;
+              address_is = closes'.address_is ∙ requests_same;
               posted_is = closes'.posted_is ∙ append-nil (posted now.requests) ∙ is.requests_are;
             };
             noted = is.noted;

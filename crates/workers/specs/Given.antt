@@ -14,6 +14,12 @@ module _ {O X : Type 0} (after : O → List X → O → Type 0) where
     pub became : BecameBy source given end
     pub over : is_over end
 
+  -- this list is what a source gave first, in order
+  pub record HasGivenFirst (source : O) (given : List X) : Type 0 where
+    pub more : List X
+    pub end : O
+    pub became : BecameBy source (given ++ more) end
+
 module _ {O : Type 0} (after : O → List Given → O → Type 0) where
   -- the consumer that was handed in came back, whatever it was given
   abbrev pub CameBack : O → O → Type 0

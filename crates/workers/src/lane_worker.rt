@@ -44,12 +44,12 @@ impl<S> LaneWork<S> {
     }
 }
 
-/// A channel's closed ports, and what became of its inputs.
+/// A channel's closed ports, and what became of its inputs, unless an allocation failed.
 #[derive(Drop)]
 pub struct LaneDone<N> {
     pub arrivals: ClosedPort<Item>,
     pub requests: ClosedPort<Request>,
-    pub notes: N,
+    pub notes: Option<N>,
 }
 
 /// The work that a channel's worker was started with.
@@ -84,8 +84,8 @@ where
     })?)
 }
 
-/// Takes all inputs of the source once it is told to go, and then closes both ports. It answers
-/// nothing if it is told to stop, or if an allocation failed; then it takes no more inputs.
+/// Takes all inputs of the source once it is told to go, and then closes both ports. If an
+/// allocation failed it takes no more inputs. It answers nothing if it is told to stop.
 fn serve_channel<S: LiveSource + Drop, N: LaneNotes + Drop, R: Wait>(
     alloc: Global,
     rt: &R,
@@ -98,8 +98,8 @@ fn serve_channel<S: LiveSource + Drop, N: LaneNotes + Drop, R: Wait>(
         return None;
     }
     let mut work = work;
-    let noted = take_inputs(alloc, rt, signals, &mut work);
-    if noted.is_err() {
+    let notes = take_inputs(alloc, rt, signals, &mut work);
+    if notes.is_none() {
         signals.fail();
     }
     let LaneWork {
@@ -110,7 +110,6 @@ fn serve_channel<S: LiveSource + Drop, N: LaneNotes + Drop, R: Wait>(
     } = work;
     let arrivals = close_port(rt, signals.arrivals(), arrivals);
     let requests = close_port(rt, signals.requests(), requests);
-    let notes = noted.ok()?;
     Some(LaneDone {
         arrivals,
         requests,
@@ -119,22 +118,22 @@ fn serve_channel<S: LiveSource + Drop, N: LaneNotes + Drop, R: Wait>(
 }
 
 /// Takes all inputs of the source, and posts what each admits before it takes the next. If an
-/// allocation failed it takes no more.
+/// allocation failed it takes no more, and answers nothing.
 fn take_inputs<S: LiveSource, N: LaneNotes + Drop, R: Wait>(
     alloc: Global,
     rt: &R,
     signals: &Signals,
     work: &mut LaneWork<S>,
-) -> Result<N, AllocError>
-    ensures { IfOk result (HasServedSource N.are_of S.gave S.is_over work.old work.new) }
+) -> Option<N>
+    ensures { HasServedSource N.are_of S.gave S.is_over work.old work.new result }
 {
     let mut notes = N::blank(alloc);
     for _ in rt.forever() {
         let Some(input) = work.source.next() else {
-            return Ok(notes);
+            return Some(notes);
         };
-        let answer = work.lane.answer(alloc, &input)?;
-        notes.add(&answer)?;
+        let answer = work.lane.answer(alloc, &input).ok()?;
+        notes.add(&answer).ok()?;
         post_admitted(rt, signals, &mut work.arrivals, &mut work.requests, answer);
     }
     unreachable!()

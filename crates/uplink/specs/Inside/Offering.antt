@@ -1,5 +1,5 @@
 -- What the assembler of a running receiver has done with what it took.
-use Rattle.std.specs.Prelude.{◌≡◌, ℕ, ◌<◌, Bool, All, Option, Some, None, List, Vec, [], ◌∷◌, ◌++◌, length, map, slice_get, slice_index_or}
+use Rattle.std.specs.Prelude.{◌≡◌, ℕ, ◌<◌, ◌⊎◌, Bool, All, Option, Some, None, List, Vec, [], ◌∷◌, ◌++◌, length, map, slice_get, slice_index_or}
 use Rattle.std.specs.declared.alloc.Global.{Global}
 use Rattle.delivery.specs.Feeders.{closed_offered}
 use Rattle.delivery.specs.declared.feeder.Feeder.{Feeder}
@@ -13,12 +13,13 @@ use Rattle.consumer.specs.Given.{frames_of}
 use Rattle.bonded_flows.specs.declared.flow_table.FlowTable.{FlowTable}
 use Rattle.bonded_flows.specs.Table.{TableSetup, TableInput, flow_setup, inputs_at, StandsFor, TakesMore}
 use Rattle.receiver.specs.Order.{picked}
-use Rattle.receiver.specs.Received.{GaveAllParts}
+use Rattle.receiver.specs.Received.{GaveAllParts, closings}
 use Rattle.receiver.specs.TakenInOrder.{table_input_of, table_inputs}
 use Rattle.uplink.specs.declared.assembler.Taking.{Taking}
 use Rattle.uplink.specs.declared.assembler.Assembled.{Assembled}
 use Rattle.uplink.specs.declared.feeding.Feeding.{Feeding}
 use Rattle.uplink.specs.Inside.Feeding.{offered_to, HasOffered}
+use Rattle.uplink.specs.Fronts.{ComesFirstIn}
 use Rattle.workers.specs.declared.item.Item.{Item}
 use Rattle.workers.specs.Inside.Carried.{carried}
 
@@ -48,6 +49,17 @@ module _ {C : Type 0} (accepts : C → List ℕ → Bool) where
   abbrev pub TakesItem : FlowTable C → Feeding → ℕ → Event → FlowTable C → Feeding → Type 0
   TakesItem flows feeding from item flows' feeding' = Takes flows feeding (table_input_of from item ∷ []) flows' feeding'
 
+  -- Of what is handed in nothing was taken, or all, and what its flow gave was offered.
+  pub record TakesAtMost (flows : FlowTable C) (feeding : Feeding) (input : TableInput) (flows' : FlowTable C) (feeding' : Feeding) : Type 0 where
+    pub flow : ℕ
+    pub taken : List TableInput
+    pub at_most : (taken ≡ []) ⊎ (taken ≡ input ∷ [])
+    pub takes : TakesMore HasOffered accepts flows feeding flow taken flows' feeding'
+
+  -- the same, whatever the flows are then
+  abbrev pub TakesAtMostOf : FlowTable C → Feeding → TableInput → Feeding → Type 0
+  TakesAtMostOf flows feeding input feeding' = (flows' : FlowTable C) × TakesAtMost flows feeding input flows' feeding'
+
   -- Some items were taken since the beginning, in this order, and what the flows gave for them was offered.
   pub record HasAssembledSoFar (first : Taking C) (feeding0 : Feeding) (before now : ℕ → List Item) (made : Taking C) (feeding : Feeding) : Type 0 where
     pub order : List ℕ
@@ -66,6 +78,33 @@ module _ {C : Type 0} (accepts : C → List ℕ → Bool) where
     pub count : length counts ≡ length flows.slots.items
     pub gave : (check : List ℕ → Bool) (setup : TableSetup) (history : List TableInput) (given : List Given)
         → StandsFor accepts flows check setup history given → GaveAll check setup history (given ++ more) counts
+
+  -- So many of the flows, from the first on, are closed and gave all. The others stand for what was handed in.
+  pub record HaveClosed (flows : FlowTable C) (check : List ℕ → Bool) (setup : TableSetup) (history : List TableInput) (given : List Given) (counts : List FlowCounts) : Type 0 where
+    pub stands : StandsFor accepts flows check setup (history ++ closings (length counts)) given
+    pub gave : GaveAll check setup history given counts
+
+  -- some flows were closed, and what that gave was offered
+  pub record ClosesFirst (flows : FlowTable C) (feeding : Feeding) (feeding' : Feeding) : Type 0 where
+    pub flows' : FlowTable C
+    pub counts : List FlowCounts
+    pub more : List Given
+    pub offered : HasOffered feeding more feeding'
+    pub closed : (check : List ℕ → Bool) (setup : TableSetup) (history : List TableInput) (given : List Given)
+        → StandsFor accepts flows check setup history given → HaveClosed flows' check setup history (given ++ more) counts
+
+  -- The first items of each sender were taken since the beginning, in this order, and some flows closed then; what was given for all that was offered so.
+  pub record HasAssembledFirst (first : Taking C) (before now : ℕ → List Item) (is_offered : List Given → Type 0) : Type 0 where
+    pub order : List ℕ
+    pub items : List Event
+    pub given : List Given
+    pub counts : List FlowCounts
+    pub named : All (λ tag. tag < senders) order
+    pub paired : length order ≡ length items
+    pub fronts : (sender : ℕ) → ComesFirstIn (carried (before sender) ++ picked sender order items) (carried (now sender))
+    pub stands : (check : List ℕ → Bool) (setup : TableSetup) → StandsFor accepts first.flows check setup [] []
+        → (flows : FlowTable C) × HaveClosed flows check setup (table_inputs order items) given counts
+    pub offered : is_offered given
 
   -- The items, in this order, and each flow's close gave what was offered to the flow's feeder, and these counts.
   pub record HasAssembledAll (flows : FlowTable C) (order : List ℕ) (items : List Event) (feeders : List Feeder) (closed : List ClosedFeeder) (counts : List FlowCounts) : Type 0 where

@@ -1,5 +1,5 @@
 -- What a running receiver opens, what its threads have done once they have returned, and what is concluded from it.
-use Rattle.std.specs.Prelude.{◌≡◌, ℕ, ◌<◌, ◌≤◌, Bool, true, Option, Some, List, [], ◌∷◌, All, IfSome, map, length, slice_get, slice_index_or, Vec}
+use Rattle.std.specs.Prelude.{◌≡◌, ℕ, ◌<◌, ◌≤◌, Bool, true, IsTrue, Option, Some, is_some, List, [], ◌∷◌, All, IfSome, map, length, slice_get, slice_index_or, Vec}
 use Rattle.std.specs.declared.alloc.Global.{Global}
 use Rattle.mailbox.specs.Ports.{closed_posted}
 use Rattle.mailbox.specs.Mouths.{places, taken, ended}
@@ -31,9 +31,12 @@ use Rattle.workers.specs.Inside.Scheduling.{Sent, given_of, HasTakenAll}
 use Rattle.uplink.specs.declared.open.Opened.{Opened}
 use Rattle.uplink.specs.declared.finish.Ended.{Ended}
 use Rattle.uplink.specs.declared.finish.Concluded.{Concluded}
+use Rattle.uplink.specs.declared.finish.FourNotes.{FourNotes}
 use Rattle.uplink.specs.declared.finish.Ran.{Ran}
-use Rattle.uplink.specs.Received.{WereGiven, IsAnswerBy}
-use Rattle.uplink.specs.Inside.Offering.{HasOrder, HasAssembled}
+use Rattle.uplink.specs.Received.{WereGiven, IsAnswerBy, GivesTheFirst}
+use Rattle.uplink.specs.declared.assembler.Assembled.{Assembled}
+use Rattle.uplink.specs.Inside.Feeding.{IsClosedAfter}
+use Rattle.uplink.specs.Inside.Offering.{HasOrder, HasAssembled, HasAssembledFirst}
 
 -- the four lanes stand for no inputs
 pub record AreOpenLanes (setup : Setup) (lanes : Lanes) : Type 0 where
@@ -59,8 +62,9 @@ pub record CanStart {C : Type 0} (accepts : C → List ℕ → Bool) (opened : O
   pub none_closed : opened.closed.items ≡ []
   pub room : length opened.rings.feeders.items ≤ opened.closed.cap
 
--- All threads of a receiver have returned: the four lane workers have taken all inputs, the decisions' worker all decisions, the worker of requests
--- these requests, which are all, and the worker of frames these frames, which are all; and the assembler has taken all items.
+-- All threads of a receiver have returned: the four lane workers have taken these inputs, the decisions' worker these decisions, the worker of requests
+-- these requests, which are all, and the worker of frames these frames, which are all; and the assembler has taken all items, or the first ones, if an
+-- allocation failed.
 pub record HasEnded {C N : Type 0} (are_of : List AnsweredInput → N → Type 0) (accepts : C → List ℕ → Bool) (flow_count : ℕ) (incoming : Incoming) (opened : Opened C) (kept : Option (Vec ℕ Global)) (frames : List Given) (sent : List Sent) (end : Ended N) : Type 0 where
   pub l0 : DidLane are_of opened.lanes.l0 opened.arrivals.ports.p0 opened.requests.ports.p0 (incoming.inputs 0) end.done.l0
   pub l1 : DidLane are_of opened.lanes.l1 opened.arrivals.ports.p1 opened.requests.ports.p1 (incoming.inputs 1) end.done.l1
@@ -73,16 +77,31 @@ pub record HasEnded {C N : Type 0} (are_of : List AnsweredInput → N → Type 0
   pub places_same : places end.mouth ≡ places opened.arrivals.mouth
   pub ended_all : (sender : ℕ) → sender < senders → ended end.mouth sender ≡ true
   pub rings : map closed_ring end.feeders.items ≡ map feeder_ring opened.rings.feeders.items
-  pub assembled : HasAssembled accepts (record { flows = opened.flows; order = kept }) opened.rings.feeders.items
-      (taken opened.arrivals.mouth) (taken end.mouth) end.feeders.items end.assembled
+  pub assembled : IfSome end.assembled (HasAssembled accepts (record { flows = opened.flows; order = kept }) opened.rings.feeders.items
+      (taken opened.arrivals.mouth) (taken end.mouth) end.feeders.items)
+  pub first : HasAssembledFirst accepts (record { flows = opened.flows; order = kept }) (taken opened.arrivals.mouth) (taken end.mouth)
+      (IsClosedAfter opened.rings.feeders.items end.feeders.items)
 
--- All threads have returned, for something that came in so: the requests were given in the order in which they were taken.
-pub record HasEndedOn {C N : Type 0} (are_of : List AnsweredInput → N → Type 0) (accepts : C → List ℕ → Bool) (flow_count : ℕ) (came_in : Incoming → Type 0) (opened : Opened C) (kept : Option (Vec ℕ Global)) (frames requests : List Given) (end : Ended N) : Type 0 where
+-- no allocation failed in a channel's worker
+pub record AllNoted {N : Type 0} (end : Ended N) : Type 0 where
+  pub l0 : IsTrue (is_some end.done.l0.notes)
+  pub l1 : IsTrue (is_some end.done.l1.notes)
+  pub l2 : IsTrue (is_some end.done.l2.notes)
+  pub l3 : IsTrue (is_some end.done.l3.notes)
+
+-- All threads have returned, for something that came in so, or came first, if an allocation failed: the requests were given in the order in which they were
+-- taken.
+pub record HasEndedOn {C N : Type 0} (are_of : List AnsweredInput → N → Type 0) (accepts : C → List ℕ → Bool) (flow_count : ℕ) (came_in came_first : Incoming → Type 0) (opened : Opened C) (kept : Option (Vec ℕ Global)) (frames requests : List Given) (end : Ended N) : Type 0 where
   pub incoming : Incoming
-  pub came : came_in incoming
+  pub came : AllNoted end → came_in incoming
+  pub came_so_far : came_first incoming
   pub sent : List Sent
   pub requests_are : requests ≡ given_of sent
   pub has_ended : HasEnded are_of accepts flow_count incoming opened kept frames sent end
+
+-- the notes of the four channels, in the channels' order
+abbrev pub in_order : {N : Type 0} → FourNotes N → List N
+in_order lanes = lanes.n0 ∷ lanes.n1 ∷ lanes.n2 ∷ lanes.n3 ∷ []
 
 -- What was concluded is with what was given the one-thread answer for something that came in so, in some order, which was kept if one was to be kept.
 pub record ConcludesAnswer {N : Type 0} (are_of : List AnsweredInput → N → Type 0) (rule : LossRule) (check : List ℕ → Bool) (setup : Setup) (came_in : Incoming → Type 0) (kept : Option (Vec ℕ Global)) (frames requests : List Given) (concluded : Concluded N) : Type 0 where
@@ -90,22 +109,23 @@ pub record ConcludesAnswer {N : Type 0} (are_of : List AnsweredInput → N → T
   pub came : came_in incoming
   pub order : List ℕ
   pub ordered : HasOrder kept order concluded.order
-  pub answer : IsAnswerBy are_of rule check setup incoming order frames requests concluded.counts.items concluded.lanes
+  pub answer : IsAnswerBy are_of rule check setup incoming order frames requests concluded.counts.items (in_order concluded.lanes)
 
 module _ {F Q N : Type 0} (takes : F → List Given → F → Type 0) (asks : Q → List Given → Q → Type 0) (are_of : List AnsweredInput → N → Type 0) where
   -- What was opened ran: the consumers were given some frames and requests, and if all threads have done their part, these are all.
-  pub record RanOpened {C : Type 0} (accepts : C → List ℕ → Bool) (flow_count : ℕ) (came_in : Incoming → Type 0) (opened : Opened C) (kept : Option (Vec ℕ Global)) (consumers : Consumers F Q) (ran : Consumers F Q × Option (Ended N)) : Type 0 where
+  pub record RanOpened {C : Type 0} (accepts : C → List ℕ → Bool) (flow_count : ℕ) (came_in came_first : Incoming → Type 0) (opened : Opened C) (kept : Option (Vec ℕ Global)) (consumers : Consumers F Q) (ran : Consumers F Q × Option (Ended N)) : Type 0 where
     pub frames : List Given
     pub requests : List Given
     pub were_given : WereGiven takes asks consumers.consumer consumers.scheduler frames requests ran.0.consumer ran.0.scheduler
-    pub has_ended : IfSome ran.1 (HasEndedOn are_of accepts flow_count came_in opened kept frames requests)
+    pub has_ended : IfSome ran.1 (HasEndedOn are_of accepts flow_count came_in came_first opened kept frames requests)
 
-  -- The consumers were given some frames and requests, and if all threads have done their part, these are with what was counted the one-thread answer for
-  -- some order, which was kept if one was to be kept.
-  pub record HasRun (rule : LossRule) (check : List ℕ → Bool) (setup : Setup) (came_in : Incoming → Type 0) (kept : Option (Vec ℕ Global)) (consumers : Consumers F Q) (ran : Ran F Q N) : Type 0 where
+  -- The consumers were given some frames and requests. If all threads began these come first of what there was to give, and if no allocation failed they are
+  -- with what was counted the one-thread answer for some order, which was kept if one was to be kept.
+  pub record HasRun (rule : LossRule) (check : List ℕ → Bool) (setup : Setup) (came_in came_first : Incoming → Type 0) (kept : Option (Vec ℕ Global)) (consumers : Consumers F Q) (ran : Ran F Q N) : Type 0 where
     pub frames : List Given
     pub requests : List Given
     pub were_given : WereGiven takes asks consumers.consumer consumers.scheduler frames requests ran.consumers.consumer ran.consumers.scheduler
+    pub first : IsTrue ran.began → (incoming : Incoming) × came_first incoming × GivesTheFirst rule check setup incoming frames requests
     pub answers : IfSome ran.concluded (ConcludesAnswer are_of rule check setup came_in kept frames requests)
 
 -- the closed ports of the two mailboxes
@@ -131,12 +151,21 @@ pub record CanSettle {N : Type 0} (end : Ended N) : Type 0 where
   pub rings : map closed_ring end.feeders.items ≡ map taker_ring end.done.takers.items
   pub closed : All (λ taker. is_closed taker ≡ true) end.done.takers.items
 
--- What is known once all is settled: all that was posted and offered was taken, and what is concluded is what was counted.
-pub record HasConcluded {N : Type 0} (end : Ended N) (concluded : Concluded N) : Type 0 where
+-- what is concluded is what was counted and noted
+pub record IsConclusionOf {N : Type 0} (end : Ended N) (concluded : Concluded N) : Type 0 where
+  pub assembled : Assembled
+  pub assembled_is : end.assembled ≡ Some assembled
+  pub counts_are : concluded.counts ≡ assembled.counts
+  pub order_is : concluded.order ≡ assembled.order
+  pub noted0 : end.done.l0.notes ≡ Some concluded.lanes.n0
+  pub noted1 : end.done.l1.notes ≡ Some concluded.lanes.n1
+  pub noted2 : end.done.l2.notes ≡ Some concluded.lanes.n2
+  pub noted3 : end.done.l3.notes ≡ Some concluded.lanes.n3
+
+-- What is known once all is settled: all that was posted and offered was taken, and what is concluded is what was counted and noted.
+pub record HasConcluded {N : Type 0} (end : Ended N) (concluded : Option (Concluded N)) : Type 0 where
   pub arrivals : (sender : ℕ) → sender < senders → taken end.mouth sender ≡ all_posted (closed_arrivals end) sender
   pub requests : (sender : ℕ) → sender < senders → taken end.done.mouth sender ≡ all_posted (closed_requests end) sender
   pub frames : (k : ℕ) (feeder : ClosedFeeder) (taker : Taker) → slice_get end.feeders.items k ≡ Some feeder → slice_get end.done.takers.items k ≡ Some taker
       → takers.taken taker ≡ closed_offered feeder
-  pub counts_are : concluded.counts ≡ end.assembled.counts
-  pub lanes_are : concluded.lanes ≡ end.done.l0.notes ∷ end.done.l1.notes ∷ end.done.l2.notes ∷ end.done.l3.notes ∷ []
-  pub order_is : concluded.order ≡ end.assembled.order
+  pub is : IfSome concluded (IsConclusionOf end)

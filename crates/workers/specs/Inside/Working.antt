@@ -1,5 +1,5 @@
 -- What the workers of a running receiver have done.
-use Rattle.std.specs.Prelude.{◌≡◌, ℕ, List, [], ◌++◌, map, filter}
+use Rattle.std.specs.Prelude.{◌≡◌, ℕ, Option, Some, List, [], ◌++◌, IfSome, map, filter}
 use Rattle.mailbox.specs.Ports.{address, posted, closed_address, closed_posted}
 use Rattle.mailbox.specs.declared.port.Port.{Port}
 use Rattle.mailbox.specs.declared.port.ClosedPort.{ClosedPort}
@@ -31,20 +31,25 @@ pub record HasSent (port : Port Item) (events : List Event) (closed : ClosedPort
   pub sent_is : carried (closed_posted closed) ≡ carried (posted port) ++ events
 
 module _ {N : Type 0} (are_of : List AnsweredInput → N → Type 0) where
-  -- what the inputs with these answers admitted was posted, and their requests, and these are their notes
+  -- what the inputs with these answers admitted was posted, and their requests, and if there are notes they are of them
   pub record HasServed (arrivals : Port Item) (requests : Port Request) (answered : List AnsweredInput) (done : LaneDone N) : Type 0 where
     pub arrivals_are : HasSent arrivals (map event_of_admitted (admitted_of answered)) done.arrivals
     pub requests_are : HasPosted requests (requests_of answered) done.requests
-    pub noted : are_of answered done.notes
+    pub noted : IfSome done.notes (are_of answered)
 
-  -- What the inputs with these answers admitted was posted, and their requests, the lane stands for them, and these are their notes.
-  pub record IsServing {S : Type 0} (setup : LaneSetup) (inputs : List Input) (work now : LaneWork S) (notes : N) : Type 0 where
+  -- What the inputs with these answers admitted was posted, and their requests, and these are their notes.
+  pub record HasPassedOnAnswers {S : Type 0} (setup : LaneSetup) (inputs : List Input) (work now : LaneWork S) (notes : Option N) : Type 0 where
     pub answered : List AnsweredInput
+    pub answers : AreAnswered setup answered
     pub inputs_are : inputs_of answered ≡ inputs
-    pub stands : StandsFor setup now.lane answered
     pub arrivals_are : carried (posted now.arrivals) ≡ carried (posted work.arrivals) ++ map event_of_admitted (admitted_of answered)
     pub requests_are : posted now.requests ≡ posted work.requests ++ requests_of answered
-    pub noted : are_of answered notes
+    pub noted : IfSome notes (are_of answered)
+
+  -- so it is, and the lane stands for them
+  pub record IsServing {S : Type 0} (setup : LaneSetup) (inputs : List Input) (work now : LaneWork S) (notes : N) : Type 0 where
+    pub passed_on : HasPassedOnAnswers setup inputs work now (Some notes)
+    pub stands : StandsFor setup now.lane passed_on.answered
 
   -- A channel's worker has taken these inputs, if its lane stood for no inputs before, and its ports are what they were.
   pub record HasServedAll {S : Type 0} (inputs : List Input) (work now : LaneWork S) (notes : N) : Type 0 where
@@ -57,16 +62,22 @@ module _ {N : Type 0} (are_of : List AnsweredInput → N → Type 0) where
     pub did : (setup : LaneSetup) → StandsFor setup lane []
         → (answered : List AnsweredInput) × AreAnswered setup answered × (inputs_of answered ≡ inputs) × HasServed arrivals requests answered done
 
-  -- A channel's worker took all inputs that the source gave until it was over.
-  pub record HasServedSource {S : Type 0} (gave : S → List Input → S → Type 0) (is_over : S → Type 0) (work now : LaneWork S) (notes : N) : Type 0 where
+  -- A channel's worker took inputs that the source gave, all until it was over, or, if an allocation failed, all but the last.
+  pub record HasServedSource {S : Type 0} (gave : S → List Input → S → Type 0) (is_over : S → Type 0) (work now : LaneWork S) (notes : Option N) : Type 0 where
     pub inputs : List Input
-    pub became : BecameBy gave work.source inputs now.source
-    pub over : is_over now.source
-    pub served : HasServedAll inputs work now notes
+    pub unanswered : List Input
+    pub became : BecameBy gave work.source (inputs ++ unanswered) now.source
+    pub over : IfSome notes (λ _. (unanswered ≡ []) × is_over now.source)
+    pub arrivals_same : address now.arrivals ≡ address work.arrivals
+    pub requests_same : address now.requests ≡ address work.requests
+    pub served : (setup : LaneSetup) → StandsFor setup work.lane [] → HasPassedOnAnswers setup inputs work now notes
 
   pub record DidServe {S : Type 0} (gave : S → List Input → S → Type 0) (is_over : S → Type 0) (work : LaneWork S) (done : LaneDone N) : Type 0 where
     pub inputs : List Input
-    pub yields : Yields gave is_over work.source inputs
+    pub unanswered : List Input
+    pub end : S
+    pub became : BecameBy gave work.source (inputs ++ unanswered) end
+    pub over : IfSome done.notes (λ _. (unanswered ≡ []) × is_over end)
     pub did : DidLane work.lane work.arrivals work.requests inputs done
 
 -- the decisions' worker posted those of these decisions that name one of so many flows

@@ -2,10 +2,10 @@
 use Rattle.std.proofs.Common.{◌+◌, ◌<◌, ◌∷◌, [], ◌++◌, List, length, ap, sym, subst, ◌∙◌, arith}
 use Rattle.std.proofs.lemmas.List.{length_push}
 use Rattle.flow_core.specs.declared.counts.FlowCounts.{FlowCounts}
-use Rattle.bonded_flows.specs.Table.{BeginsAnewAt}
+use Rattle.bonded_flows.specs.Table.{TakesMore, BeginsAnewAt}
 use Rattle.uplink.specs.Inside.Feeding.{HasOffered}
 use Rattle.uplink.proofs.FramesOffered.{rings-stay}
-use Rattle.uplink.proofs.FlowsClosed.{ClosesSoFar, none-closed, as-many, next-closed, closing-offered, all-closed}
+use Rattle.uplink.proofs.FlowsClosed.{ClosesSoFar, none-closed, as-many, next-closed, closing-offered, all-closed, some-closed, closed-in-part}
 use Rattle.uplink.proofs.assembler.close_all.Goals as goal
 
 pub loop-flow-init : goal.loop-flow-init
@@ -70,3 +70,23 @@ returns-clause-closes g c =
     let loop = c.loop-flow in
     all-closed g.C.HeaderCheck.accepts c.args.flows.now loop.flows c.args.feeding.now loop.feeding loop.counts.items loop.invariant.so_far
     (omega (arith, loop.invariant.next, loop.invariant.few, c.loop-flow-test.false, c.flow_count-flow_count.ensures))
+
+pub returns-in_err-counts-clause-first : goal.returns-in_err-counts-clause-first
+returns-in_err-counts-clause-first g c =
+    let accepts = g.C.HeaderCheck.accepts in
+    let flows = c.args.flows.now in
+    let feeding = c.args.feeding.now in
+    some-closed accepts flows flows feeding feeding [] (none-closed accepts HasOffered flows feeding)
+
+pub returns-in_err-counted-clause-first : goal.returns-in_err-counted-clause-first
+returns-in_err-counted-clause-first g c =
+    let accepts = g.C.HeaderCheck.accepts in
+    let loop = c.loop-flow in
+    closed-in-part accepts c.args.flows.now loop.flows c.args.feeding.now loop.feeding loop.counts.items loop.invariant.so_far c.restart.new.self c.restart.new.out
+    (subst (λ k. TakesMore HasOffered accepts loop.flows loop.feeding k [] c.restart.new.self c.restart.new.out) (sym loop.invariant.next)
+    c.in_err-counted.ensures.not_taken)
+
+pub returns-clause-first : goal.returns-clause-first
+returns-clause-first g c =
+    let loop = c.loop-flow in
+    some-closed g.C.HeaderCheck.accepts c.args.flows.now loop.flows c.args.feeding.now loop.feeding loop.counts.items loop.invariant.so_far

@@ -2,7 +2,7 @@
 use Rattle.std.proofs.Common.{[], sym, ◌∙◌, arith}
 use Rattle.uplink.specs.Inside.Feeding.{HasOffered}
 use Rattle.uplink.proofs.FramesOffered.{on-good, rings-stay}
-use Rattle.uplink.proofs.ItemsTaken.{same-count, takes-on}
+use Rattle.uplink.proofs.ItemsTaken.{same-count, takes-on, none-of, all-of}
 use Rattle.uplink.proofs.assembler.take_segment.Goals as goal
 
 pub returns-in_err-ok-clause-rings : goal.returns-in_err-ok-clause-rings
@@ -35,3 +35,19 @@ returns-clause-takes g c = (
   takes-on g.C.HeaderCheck.accepts HasOffered c.args.flows.now c.prepare.new.self c.take_segment.new.self c.args.feeding.now c.prepare.new.out c.take_segment.new.out
       c.args.flow _ c.prepare.ensures.takes c.take_segment.ensures.takes,
 )
+
+pub returns-in_err-ok-clause-at_most : goal.returns-in_err-ok-clause-at_most
+returns-in_err-ok-clause-at_most g c =
+    none-of g.C.HeaderCheck.accepts c.args.flows.now c.prepare.new.self c.args.feeding.now c.prepare.new.out _ c.args.flow c.prepare.ensures.takes
+
+pub returns-in_err-ok-2-clause-at_most : goal.returns-in_err-ok-2-clause-at_most
+returns-in_err-ok-2-clause-at_most g c =
+    all-of g.C.HeaderCheck.accepts c.args.flows.now c.take_segment.new.self c.args.feeding.now c.take_segment.new.out _ c.args.flow
+    (takes-on g.C.HeaderCheck.accepts HasOffered c.args.flows.now c.prepare.new.self c.take_segment.new.self c.args.feeding.now c.prepare.new.out c.take_segment.new.out
+    c.args.flow _ c.prepare.ensures.takes c.take_segment.ensures.takes)
+
+pub returns-clause-at_most : goal.returns-clause-at_most
+returns-clause-at_most g c =
+    all-of g.C.HeaderCheck.accepts c.args.flows.now c.take_segment.new.self c.args.feeding.now c.take_segment.new.out _ c.args.flow
+    (takes-on g.C.HeaderCheck.accepts HasOffered c.args.flows.now c.prepare.new.self c.take_segment.new.self c.args.feeding.now c.prepare.new.out c.take_segment.new.out
+    c.args.flow _ c.prepare.ensures.takes c.take_segment.ensures.takes)

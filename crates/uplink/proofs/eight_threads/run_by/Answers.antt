@@ -8,7 +8,7 @@ use Rattle.lane.specs.Report.{IsReportOf}
 use Rattle.receiver.specs.Items.{Incoming, incoming_from}
 use Rattle.receiver.specs.Ruled.{IsOutcomeBy}
 use Rattle.workers.specs.declared.live_source.Foreknown.{Foreknown}
-use Rattle.workers.specs.Given.{Yields}
+use Rattle.workers.specs.Given.{Yields, HasGivenFirst}
 use Rattle.uplink.specs.Inside.Collected.{CanBeMade, IsMadeOf}
 use Rattle.uplink.specs.Inside.Running.{HasRun}
 use Rattle.uplink.specs.Received.{CameFrom}
@@ -21,6 +21,10 @@ use Rattle.uplink.proofs.eight_threads.run_by.Goals.{After-deref}
 abbrev Foretold : {S X : Type 0} → (S → List X) → Foreknown S → List X → Type 0
 Foretold {S} {X} gives source given =
     Yields (λ (start : Foreknown S) (items : List X) (now : Foreknown S). gives start.0 ≡ items ++ gives now.0) (λ (now : Foreknown S). gives now.0 ≡ []) source given
+
+abbrev ForetoldFirst : {S X : Type 0} → (S → List X) → Foreknown S → List X → Type 0
+ForetoldFirst {S} {X} gives source given =
+    HasGivenFirst (λ (start : Foreknown S) (items : List X) (now : Foreknown S). gives start.0 ≡ items ++ gives now.0) source given
 
 -- that is what it gives
 foretold : {S X : Type 0} (gives : S → List X) (source : Foreknown S) (from : S) (given : List X) → source.0 ≡ from → Foretold gives source given → given ≡ gives from
@@ -40,6 +44,13 @@ CameIn g c =
     let sources = c.foreknown.result in
     CameFrom (Foretold g.S0.Source.gives sources.s0) (Foretold g.S1.Source.gives sources.s1) (Foretold g.S2.Source.gives sources.s2) (Foretold g.S3.Source.gives sources.s3)
     (Foretold g.D.Decisions.decides (record { 0 = c.args.decisions }))
+
+-- and this first, if an allocation failed
+abbrev CameFirst : (g : Over) → After-deref g → Incoming → Type 0
+CameFirst g c =
+    let sources = c.foreknown.result in
+    CameFrom (ForetoldFirst g.S0.Source.gives sources.s0) (ForetoldFirst g.S1.Source.gives sources.s1) (ForetoldFirst g.S2.Source.gives sources.s2)
+    (ForetoldFirst g.S3.Source.gives sources.s3) (ForetoldFirst g.D.Decisions.decides (record { 0 = c.args.decisions }))
 
 -- that is what comes in
 is-incoming : (g : Over) (c : After-deref g) (came : Incoming) → CameIn g c came → came ≡ incoming g c
@@ -62,7 +73,7 @@ is-incoming g c came from =
 -- it ran, from nothing kept on
 record Ran (g : Over) (c : After-deref g) : Type 0 where
   pub run : HasRun (λ start given now. HasCollected start.collected given now.collected) (λ start given now. HasCollected start.collected given now.collected)
-      IsReportOf c.args.rule (g.C.HeaderCheck.accepts c.args.check) c.args.setup (CameIn g c) (Some c.new.result) c.in_ok-consumers.consumers c.run_prepared-ran.result
+      IsReportOf c.args.rule (g.C.HeaderCheck.accepts c.args.check) c.args.setup (CameIn g c) (CameFirst g c) (Some c.new.result) c.in_ok-consumers.consumers c.run_prepared-ran.result
   pub no_frames : HasNothing (length c.args.setup.flows.items) 0 c.in_ok-consumers.consumers.consumer.collected
 
 ran : (g : Over) (c : After-deref g) → Ran g c
@@ -75,8 +86,9 @@ ran g c = record {
 pub outcome_of-requires : goal.outcome_of-requires
 outcome_of-requires g c =
     let has = ran g c in
-    subst (λ records. CanBeMade (length records) c.run_prepared-ran.result) (sym c.deref.ensures.value)
-    (can-be-made c.args.rule (g.C.HeaderCheck.accepts c.args.check) c.args.setup (CameIn g c) c.new.result c.new.ensures.items c.in_ok-consumers.consumers
+    subst (λ records. CanBeMade (length records) c.run_prepared-ran.result.consumers.consumer.collected c.run_prepared-ran.result.consumers.scheduler.collected
+    c.run_prepared-ran.result.concluded) (sym c.deref.ensures.value)
+    (can-be-made c.args.rule (g.C.HeaderCheck.accepts c.args.check) c.args.setup (CameIn g c) (CameFirst g c) c.new.result c.new.ensures.items c.in_ok-consumers.consumers
     c.run_prepared-ran.result has.run has.no_frames c.in_ok-consumers.ensures.requests)
 
 pub returns-clause-answer : goal.returns-clause-answer
@@ -85,9 +97,10 @@ returns-clause-answer g c =
     let check = g.C.HeaderCheck.accepts c.args.check in
     let has = ran g before in
     let outcome = c.in_ok-outcome_of.field-0 in
-    let answer = outcome-of-collected c.args.rule check c.args.setup (CameIn g before) c.new.result c.new.ensures.items c.in_ok-consumers.consumers
+    let answer = outcome-of-collected c.args.rule check c.args.setup (CameIn g before) (CameFirst g before) c.new.result c.new.ensures.items c.in_ok-consumers.consumers
     c.run_prepared-ran.result has.run has.no_frames c.in_ok-consumers.ensures.requests outcome
-    (subst (λ records. IsMadeOf records c.run_prepared-ran.result outcome) c.deref.ensures.value c.in_ok-outcome_of.ensures) in
+    (subst (λ records. IsMadeOf records c.run_prepared-ran.result.consumers.consumer.collected c.run_prepared-ran.result.consumers.scheduler.collected
+    c.run_prepared-ran.result.concluded outcome) c.deref.ensures.value c.in_ok-outcome_of.ensures) in
     subst (λ came. IsOutcomeBy c.args.rule check c.args.setup came outcome.order.items outcome) (is-incoming g before answer.0 answer.1) answer.2
 
 pub returns-clause-headline : goal.returns-clause-headline

@@ -1,12 +1,16 @@
 -- Each worker has done what it was given to do, if no allocation failed in any; and both come back, also where the workers could not be started.
-use Rattle.std.proofs.Common.{Option, Some, ◌≡◌, ◌∷◌, [], IfSome, List, refl, sym, subst, ◌∙◌}
+use Rattle.std.proofs.Common.{Option, Some, None, ◌≡◌, ◌∷◌, [], ◌++◌, IfSome, IsTrue, is_some, List, refl, sym, ap, subst, ◌∙◌, append-nil}
+use Rattle.std.proofs.lemmas.Bool.{false≢true}
+use Rattle.lane.specs.declared.input.Input.{Input}
+use Rattle.lane.specs.Inputs.{AnsweredInput}
 use Rattle.receiver.specs.Items.{Incoming, incoming_from}
 use Rattle.workers.specs.declared.team.Done.{Done}
 use Rattle.workers.specs.declared.lane_worker.LaneWork.{LaneWork}
+use Rattle.workers.specs.declared.lane_worker.LaneDone.{LaneDone}
 use Rattle.workers.specs.declared.decision_worker.DecidingWork.{DecidingWork}
 use Rattle.workers.specs.declared.frame_worker.FrameWork.{FrameWork}
 use Rattle.workers.specs.declared.request_worker.RequestWork.{RequestWork}
-use Rattle.workers.specs.Given.{BecameBy, Yields}
+use Rattle.workers.specs.Given.{BecameBy, Yields, HasGivenFirst}
 use Rattle.workers.specs.Inside.Consuming.{HaveTakenAll}
 use Rattle.workers.specs.Inside.Scheduling.{given_of, HasTakenAll}
 use Rattle.workers.specs.Inside.Working.{DidServe, DidDecideAll}
@@ -37,6 +41,20 @@ returns-in-Err g c =
 -- what is said of what is there, where something is
 of-done : {X : Type 0} (P : X → Type 0) (ended : Option X) (x : X) → ended ≡ Some x → IfSome ended P → P x
 of-done P ended x is said = subst (λ o. IfSome o P) is said
+
+-- a source whose worker noted all has given all
+all-given : {S N : Type 0} (are_of : List AnsweredInput → N → Type 0) (gave : S → List Input → S → Type 0) (is_over : S → Type 0) (work : LaneWork S) (done : LaneDone N)
+    → (serves : DidServe are_of gave is_over work done) → (notes : Option N) → done.notes ≡ notes → IsTrue (is_some notes)
+    → Yields gave is_over work.source serves.inputs
+all-given are_of gave is_over work done serves None is noted = absurd (false≢true noted)
+all-given are_of gave is_over work done serves (Some n) is noted =
+    let over = of-done (λ _. (serves.unanswered ≡ []) × is_over serves.end) done.notes n is serves.over in
+    record {
+      end = serves.end;
+      became =
+          subst (λ given. BecameBy gave work.source given serves.end) (ap (λ l. serves.inputs ++ l) over.0 ∙ append-nil serves.inputs) serves.became;
+      over = over.1;
+    }
 
 module _ (g : Over) (c : After-join-consumers g) (done : Done g.row.N.Denot) (is : c.join-consumers.result.done ≡ Some done) where
   -- what the workers of the channels and of the decisions have done, each with what it was given
@@ -70,24 +88,50 @@ module _ (g : Over) (c : After-join-consumers g) (done : Done g.row.N.Denot) (is
       subst (λ (work : DecidingWork g.row.D.Denot). DidDecideAll g.D.LiveDecisions.gave g.D.LiveDecisions.is_over work done.decided)
       (c.in-Ok.ensures.decider ∙ c.new-work.ensures.decisions) (of-done _ c.join-consumers.result.done done is c.join-consumers.ensures.decided)
 
-  -- what came in
-  came : CameFrom
+  -- what came in, if no allocation failed in a channel's worker
+  came : IsTrue (is_some done.l0.notes) → IsTrue (is_some done.l1.notes) → IsTrue (is_some done.l2.notes) → IsTrue (is_some done.l3.notes)
+      → CameFrom
       (Yields g.S0.LiveSource.gave g.S0.LiveSource.is_over c.args.sources.s0) (Yields g.S1.LiveSource.gave g.S1.LiveSource.is_over c.args.sources.s1)
       (Yields g.S2.LiveSource.gave g.S2.LiveSource.is_over c.args.sources.s2) (Yields g.S3.LiveSource.gave g.S3.LiveSource.is_over c.args.sources.s3)
       (Yields g.D.LiveDecisions.gave g.D.LiveDecisions.is_over c.args.decisions)
       (incoming_from (served0.inputs ∷ served1.inputs ∷ served2.inputs ∷ served3.inputs ∷ []) passed_on.decisions)
-  came = record {
+  came noted0 noted1 noted2 noted3 = record {
     i0 = served0.inputs;
     i1 = served1.inputs;
     i2 = served2.inputs;
     i3 = served3.inputs;
     decisions = passed_on.decisions;
     incoming_is = refl;
-    gave0 = served0.yields;
-    gave1 = served1.yields;
-    gave2 = served2.yields;
-    gave3 = served3.yields;
+    gave0 = all-given g.N.LaneNotes.are_of g.S0.LiveSource.gave g.S0.LiveSource.is_over _ done.l0 served0 done.l0.notes refl noted0;
+    gave1 = all-given g.N.LaneNotes.are_of g.S1.LiveSource.gave g.S1.LiveSource.is_over _ done.l1 served1 done.l1.notes refl noted1;
+    gave2 = all-given g.N.LaneNotes.are_of g.S2.LiveSource.gave g.S2.LiveSource.is_over _ done.l2 served2 done.l2.notes refl noted2;
+    gave3 = all-given g.N.LaneNotes.are_of g.S3.LiveSource.gave g.S3.LiveSource.is_over _ done.l3 served3 done.l3.notes refl noted3;
     gave_decisions = passed_on.yields;
+  }
+
+  -- what came in first, in any case
+  came-first : CameFrom
+      (HasGivenFirst g.S0.LiveSource.gave c.args.sources.s0) (HasGivenFirst g.S1.LiveSource.gave c.args.sources.s1)
+      (HasGivenFirst g.S2.LiveSource.gave c.args.sources.s2) (HasGivenFirst g.S3.LiveSource.gave c.args.sources.s3)
+      (HasGivenFirst g.D.LiveDecisions.gave c.args.decisions)
+      (incoming_from (served0.inputs ∷ served1.inputs ∷ served2.inputs ∷ served3.inputs ∷ []) passed_on.decisions)
+  came-first = record {
+    i0 = served0.inputs;
+    i1 = served1.inputs;
+    i2 = served2.inputs;
+    i3 = served3.inputs;
+    decisions = passed_on.decisions;
+    incoming_is = refl;
+    gave0 = record { more = served0.unanswered; end = served0.end; became = served0.became };
+    gave1 = record { more = served1.unanswered; end = served1.end; became = served1.became };
+    gave2 = record { more = served2.unanswered; end = served2.end; became = served2.became };
+    gave3 = record { more = served3.unanswered; end = served3.end; became = served3.became };
+    gave_decisions = record {
+      more = [];
+      end = passed_on.yields.end;
+      became =
+          subst (λ given. BecameBy g.D.LiveDecisions.gave c.args.decisions given passed_on.yields.end) (sym (append-nil passed_on.decisions)) passed_on.yields.became;
+    };
   }
 
 pub returns : goal.returns
@@ -102,8 +146,12 @@ returns g c =
     (Yields g.S0.LiveSource.gave g.S0.LiveSource.is_over sources.s0) (Yields g.S1.LiveSource.gave g.S1.LiveSource.is_over sources.s1)
     (Yields g.S2.LiveSource.gave g.S2.LiveSource.is_over sources.s2) (Yields g.S3.LiveSource.gave g.S3.LiveSource.is_over sources.s3)
     (Yields g.D.LiveDecisions.gave g.D.LiveDecisions.is_over c.args.decisions) in
+    let CameFirst : Incoming → Type 0 = CameFrom
+    (HasGivenFirst g.S0.LiveSource.gave sources.s0) (HasGivenFirst g.S1.LiveSource.gave sources.s1)
+    (HasGivenFirst g.S2.LiveSource.gave sources.s2) (HasGivenFirst g.S3.LiveSource.gave sources.s3)
+    (HasGivenFirst g.D.LiveDecisions.gave c.args.decisions) in
     let Ends : Option (Ended g.row.N.Denot) → Type 0 =
-    λ o. IfSome o (HasEndedOn g.N.LaneNotes.are_of g.C.HeaderCheck.accepts c.args.flow_count CameIn c.args.opened c.args.order taken.given (given_of taken.sent)) in
+    λ o. IfSome o (HasEndedOn g.N.LaneNotes.are_of g.C.HeaderCheck.accepts c.args.flow_count CameIn CameFirst c.args.opened c.args.order taken.given (given_of taken.sent)) in
     record {
       frames = taken.given;
       requests = given_of taken.sent;
@@ -115,14 +163,15 @@ returns g c =
             subst (λ (work : RequestWork g.row.Q.Denot). BecameBy g.Q.Consumer.after work.scheduler (given_of taken.sent) joined.result.consumers.scheduler)
             (started.requests ∙ given.requests) taken.scheduler_became;
       };
-      has_ended = elim c.match-both_done.branch [
+      has_ended = elim c.match-done.branch [
         | in-Some w ↦
             let done = w.in-Some.done in
-            let is = w.in-Some.ensures.0 in
+            let is = w.in-Some.is in
             subst Ends (sym w.ended-is) (record {
               incoming = incoming_from ((served0 g before done is).inputs ∷ (served1 g before done is).inputs ∷ (served2 g before done is).inputs ∷ (served3 g before done is).inputs ∷ [])
                   (passed_on g before done is).decisions;
-              came = came g before done is;
+              came = λ noted. came g before done is noted.l0 noted.l1 noted.l2 noted.l3;
+              came_so_far = came-first g before done is;
               sent = taken.sent;
               requests_are = refl;
               has_ended = record {
@@ -141,7 +190,8 @@ returns g c =
                 places_same = c.assemble-mouth.ensures.places;
                 ended_all = c.assemble-mouth.ensures.ended;
                 rings = c.assemble-mouth.ensures.rings;
-                assembled = of-done _ c.assemble-mouth.result.done w.in-Some.assembled w.in-Some.ensures.1 c.assemble-mouth.ensures.done;
+                assembled = c.assemble-mouth.ensures.done;
+                first = c.assemble-mouth.ensures.first;
               };
             })
         | in-None w ↦ subst Ends (sym w.ended-is) tt
