@@ -48,4 +48,5 @@ pub use receiving::{ReceiveError, Received, receive};
 pub use tap::{NoTap, Tap, Taps};
 pub use workers::{
     Decisions, Foreknown, ListDecisions, ListSource, LiveDecisions, LiveSource, Source, Sources,
+    Stoppable, Stopper,
 };
