@@ -13,7 +13,7 @@ ghost use Rattle.uplink.specs.Received.{CameFrom, HasReceived, GivesBack};
 ghost use Rattle.uplink.specs.Inside.Running.{CanStart, RanOpened, HasRun, IsOpened};
 
 use crate::assembler::{AssembledAll, Taking, assemble};
-use crate::eight_threads::{RunFault, check_setup};
+use crate::faults::{RunFault, check_setup};
 use crate::finish::{Concluded, Ended, Ran, conclude};
 use crate::open::{Opened, open_all};
 use consumer::Consumer;
@@ -25,6 +25,7 @@ use receiver::Setup;
 use std::alloc::Global;
 use std::sync::Wait;
 use std::thread::Threads;
+use thiserror::Error;
 use workers::{
     Consumers, Joined, LiveDecisions, LiveSource, Share, Sources, Work, both_done, start_team,
 };
@@ -42,8 +43,10 @@ pub struct Received<F, Q> {
     pub lanes: [LaneReport; CHANNELS],
 }
 
-/// Why a receiver doesn't run, or doesn't run to its end, with the two that it was to serve.
-#[derive(Debug, Drop)]
+/// Why a receiver doesn't run, or doesn't run to its end, with the two that it was to serve. Its
+/// message is that of its fault.
+#[derive(Debug, Drop, Error)]
+#[error("{fault}")]
 pub struct ReceiveError<F, Q> {
     /// The fault, the first that there is.
     pub fault: RunFault,
