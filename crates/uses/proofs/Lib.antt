@@ -4,3 +4,4 @@ pub mod WindowLemmas
 pub mod InputByInput
 pub mod TableTakes
 pub mod MidstreamOutcomes
+pub mod CountedByFlow
