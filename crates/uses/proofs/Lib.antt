@@ -5,3 +5,5 @@ pub mod InputByInput
 pub mod TableTakes
 pub mod MidstreamOutcomes
 pub mod CountedByFlow
+pub mod BytesRead
+pub mod HandingOn
