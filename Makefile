@@ -95,7 +95,7 @@ test: # the whole gate: every proof from nothing, planted mistakes, tests, runs
 	@scripts/test
 
 bench: # all benches, one after the other, for times that mean something on a machine that does nothing else
-	@for bench in beside_plain c capture core eight_threads engines follow losses mailbox receiver replay ring window; do echo "== $$bench"; bench/$$bench/run || exit 1; done
+	@for bench in beside_plain c capture core eight_threads engines follow losses mailbox receiver replay ring shards window; do echo "== $$bench"; bench/$$bench/run || exit 1; done
 
 mutants: # tries all planted mistakes of mutants/ on copies of the work tree
 	@scripts/mutants && scripts/refused-by-tests
