@@ -126,7 +126,7 @@ class Slurm:
         self.said("scontrol", "update", f"JobId={task}", "StartTime=now")
 
     def has_ended(self, job):
-        return self.said("squeue", "--noheader", f"--jobs={job}") in [("", 0), ("", 1)]
+        return self.said("squeue", "--noheader", f"--jobs={job}") == ("", 0)
 
 
 def end(child):
