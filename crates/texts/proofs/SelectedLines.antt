@@ -28,12 +28,12 @@ pub report_of-flows : (selected : Selection) (outcome : Outcome)
     ++ flat_map (λ requests. flat_map request_line requests.items) outcome.requests
     ++ numbered_texts lane_line outcome.lanes
 report_of-flows selected outcome =
-    text_left-append selected of_flows (of_requests ++ of_lanes)
-    ∙ ap (λ more. text_left selected of_flows ++ more) (text_left-append selected of_requests of_lanes)
-    ∙ ap (λ first. first ++ (text_left selected of_requests ++ text_left selected of_lanes)) flows_left
-    ∙ ap (λ more. numbered_texts (selected_flow_lines selected) outcome.flows.items ++ more)
-    (ap (λ first. first ++ text_left selected of_lanes) requests_left
-    ∙ ap (λ more. flat_map (λ requests. flat_map request_line requests.items) outcome.requests ++ more) lanes_left)
+    text_left-append selected (of_flows ++ of_requests) of_lanes
+    ∙ ap (λ first. first ++ text_left selected of_lanes) (text_left-append selected of_flows of_requests)
+    ∙ ap (λ first. first ++ text_left selected of_requests ++ text_left selected of_lanes) flows_left
+    ∙ ap (λ second. numbered_texts (selected_flow_lines selected) outcome.flows.items ++ second ++ text_left selected of_lanes) requests_left
+    ∙ ap (λ third. numbered_texts (selected_flow_lines selected) outcome.flows.items
+    ++ flat_map (λ requests. flat_map request_line requests.items) outcome.requests ++ third) lanes_left
   where
     of_flows : List FlowLine
     of_flows = flat_map (λ one. lines_of_flow one.0 one.1) (enumerate_from 0 outcome.flows.items)

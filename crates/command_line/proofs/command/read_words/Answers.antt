@@ -14,7 +14,7 @@ use Rattle.command_line.proofs.AskedWithoutHelp.{replays_without_help, runs_with
 use Rattle.command_line.proofs.CommandsApart.{commands_apart, replay_is_not_run, follow_is_not_replay, follow_is_not_run}
 use Rattle.command_line.proofs.AskedWords.{AsksForAnEngine-with_options}
 use Rattle.command_line.proofs.command.read_words.Goals as goal
-use Rattle.command_line.proofs.command.read_words.Goals.{then-not-asks_alone+in_ok-read_with_options+in-Help-1, then-not-asks_alone+in_ok-read_with_options+in-Join-1, else-not-asks_alone}
+use Rattle.command_line.proofs.command.read_words.Goals.{then-not-asks_alone+in_ok-read_with_options+in-Help-1, then-not-asks_alone+in_ok-read_with_options+in-Join-1, then-not-asks_alone+in_ok-read_with_options+in-Replay+in-Listed-1, then-not-asks_alone+in_ok-read_with_options+in-Replay+in-All-1, else-not-asks_alone}
 
 pub returns-in-Some-clause-asked : goal.returns-in-Some-clause-asked
 returns-in-Some-clause-asked g c =
@@ -68,6 +68,10 @@ returns-clause-asked g c =
       | then-not-asks_alone+in_ok-read_with_options+in-Help-1 w ↦
           (before, c.in-Some-before_help.ensures, AsksForAnEngine-with_options before w.in_ok-read_with_options.field-0 w.in_ok-read_with_options.ensures)
       | then-not-asks_alone+in_ok-read_with_options+in-Join-1 w ↦
+          (before, c.in-Some-before_help.ensures, AsksForAnEngine-with_options before w.in_ok-read_with_options.field-0 w.in_ok-read_with_options.ensures)
+      | then-not-asks_alone+in_ok-read_with_options+in-Replay+in-Listed-1 w ↦
+          (before, c.in-Some-before_help.ensures, AsksForAnEngine-with_options before w.in_ok-read_with_options.field-0 w.in_ok-read_with_options.ensures)
+      | then-not-asks_alone+in_ok-read_with_options+in-Replay+in-All-1 w ↦
           (before, c.in-Some-before_help.ensures, AsksForAnEngine-with_options before w.in_ok-read_with_options.field-0 w.in_ok-read_with_options.ensures)
       | else-not-asks_alone w ↦
           (before, c.in-Some-before_help.ensures, c.asks_alone.ensures w.if-not-asks_alone.false)
