@@ -38,6 +38,7 @@ pub is_replayed_of : {Lines : Type 0} (selected : Selection) (Has : TraceState (
     (lines : Lines) (outcome : Outcome) → start.said ≡ nothing_said default_capacity → (read : HasReadLines taking_format start Has known lines)
     → ((given : TraceState (Unit {0})) → Has given lines → IsPlayedBy given.rule given.said outcome)
     → IsReplayedOf selected start.rule read.input (report_of selected outcome)
+unfolding is_replayed
 is_replayed_of selected Has start known lines outcome none read played =
     record { whole = report_text outcome; replayed = is_replayed Has start known lines outcome none read played; printed = refl }
 
