@@ -23,10 +23,9 @@ enum Asked {
 /// Which of the first 64 flows are selected.
 fn first_flows(selected: &Selection) -> u64 {
     let mut flows = 0u64;
-    for flow in 0..64usize {
-        if selected.has(flow) {
-            flows |= 1u64 << flow;
-        }
+    for place in 1..=64usize {
+        let has = selected.has(64usize.saturating_sub(place));
+        flows = flows.rotate_left(1) | if has { 1 } else { 0 };
     }
     flows
 }

@@ -6,17 +6,21 @@ use std::test::Fail;
 #[test]
 fn each_flow_is_of_one_shard(rt: HostRuntime) {
     for count in 1..=40u16 {
+        // What the index leaves when divided by the count.
+        let mut left = 0u16;
         for flow in 0..100usize {
-            let mut shards = 0;
             for remainder in 0..=count {
                 let selected = Selection::Shard(Shard { remainder, count });
-                if selected.has(flow) {
-                    shards += 1;
-                    let whole = flow / usize::from(count) * usize::from(count);
-                    assert_eq!(rt; usize::from(remainder), flow - whole);
-                }
+                assert_eq!(rt;
+                    selected.has(flow),
+                    remainder == left,
+                    "{flow}: {remainder}/{count}"
+                );
             }
-            assert_eq!(rt; shards, 1, "flow {flow} of {count} shards");
+            left = left.saturating_add(1);
+            if left == count {
+                left = 0;
+            }
         }
     }
 }
