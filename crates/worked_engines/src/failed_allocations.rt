@@ -238,7 +238,7 @@ fn read_words_is_refused(rt: HostRuntime) -> Result<(), Fail> {
         println!(rt; "refused")?;
         read = read_words(rt.alloc(), &words);
     }
-    match read {
+    match &read {
         Ok(Command::Help(text)) => assert!(rt; text.contains("Usage: segrx")),
         _ => assert!(rt; false, "no help"),
     }
