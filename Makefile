@@ -95,13 +95,13 @@ test: # the whole gate: every proof from nothing, planted mistakes, tests, runs
 	@scripts/test
 
 bench: # all benches, one after the other, for times that mean something on a machine that does nothing else
-	@for bench in beside_plain c capture core eight_threads engines follow losses mailbox receiver replay ring window; do echo "== $$bench"; bench/$$bench/run || exit 1; done
+	@for bench in beside_plain c capture core eight_threads engines follow losses mailbox receive receiver replay ring shards window; do echo "== $$bench"; bench/$$bench/run || exit 1; done
 
 mutants: # tries all planted mistakes of mutants/ on copies of the work tree
 	@scripts/mutants && scripts/refused-by-tests
 
 soak: # runs of the program, of a receiver and of a mailbox again and again, some while other work keeps all cores busy; whole comparisons of captures
-	@scripts/soak && bench/run_soak/run && bench/mailbox_soak/run && scripts/plain-capture --count 1000 && scripts/hostile-captures --count 100000
+	@scripts/soak && bench/run_soak/run && bench/receive_soak/run && bench/mailbox_soak/run && scripts/plain-capture --count 1000 && scripts/hostile-captures --count 100000
 
 help: # lists these targets
 	@sed -n 's/^\([a-z]*\): # \(.*\)/make \1	\2/p' Makefile | sed 's/^make run/make/' | expand -t 16

@@ -4,7 +4,7 @@
 _segrx_options() {
     case $1 in
         cut) echo --first --fill ;;
-        replay) echo --losses ;;
+        replay) echo --losses --flows --shard ;;
         run) echo --losses --mailbox --ring ;;
         follow) echo --losses --channels --events ;;
         capture) echo --losses --wait --reorder --link --no-check --report --json --requests --picture ;;
@@ -47,7 +47,7 @@ _segrx() {
         --losses) words="decided passed slid" ;;
         --fill) words="zero ones" ;;
         --link) words="docsis xra" ;;
-        --first | --mailbox | --ring | --channels | --wait | --reorder) return ;;
+        --first | --mailbox | --ring | --channels | --wait | --reorder | --flows | --shard) return ;;
         --report | --json | --requests | --picture | *[\<\>]*)
             compopt -o default
             return

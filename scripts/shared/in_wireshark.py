@@ -1,14 +1,11 @@
 """Runs tshark with segrx in its menu and with a home of its own, so that nothing of the machine's
-is changed; and looks for processes that are left behind.
+is changed.
 """
 
 import concurrent.futures
-import contextlib
-import ctypes
 import os
 import re
 import shutil
-import signal
 import subprocess
 import time
 
@@ -19,7 +16,6 @@ from shared.tree import path
 # As root tshark takes interfaces from the system's folder alone, so somebody else runs it then.
 NOBODY = 65534
 SECONDS = 60
-PR_SET_CHILD_SUBREAPER = 36
 # The names of the sample in the folder in which tshark runs.
 CAPTURE, MAP = "bonded.pcapng", "bonded.map"
 
@@ -121,41 +117,3 @@ def found_by(looks, jobs):
             except subprocess.TimeoutExpired as late:
                 wrong.append(f"{late.cmd} doesn't end within {late.timeout} s")
     return wrong
-
-
-def adopt():
-    """Has what outlives the programs that are run here become children of this process."""
-    ctypes.CDLL(None).prctl(PR_SET_CHILD_SUBREAPER, 1)
-
-
-def adopted():
-    """The children of this process, each with its arguments."""
-    with open(f"/proc/{os.getpid()}/task/{os.getpid()}/children") as listed:
-        for number in listed.read().split():
-            with contextlib.suppress(OSError), open(f"/proc/{number}/cmdline") as words:
-                yield int(number), words.read().replace("\0", " ").strip()
-
-
-def all_end_within(seconds):
-    """Whether each child of this process ends within so many seconds."""
-    until = time.monotonic() + seconds
-    while time.monotonic() < until:
-        try:
-            if os.waitpid(-1, os.WNOHANG)[0] == 0:
-                time.sleep(0.05)
-        except ChildProcessError:
-            return True
-    return False
-
-
-def left_processes(seconds):
-    """What runs on for so many seconds of all that was started here. Then it is killed."""
-    left = []
-    while not all_end_within(seconds):
-        found = list(adopted())
-        left += [words for _, words in found]
-        for number, _ in found:
-            with contextlib.suppress(ProcessLookupError):
-                os.kill(number, signal.SIGKILL)
-        seconds = 1
-    return left

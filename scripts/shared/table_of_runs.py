@@ -8,12 +8,14 @@ import subprocess
 import sys
 
 from shared.plain_reading import DECIDED, RULES
+from shared.selected_flows import selected_by
 from shared.tree import path
 
 # A command whose report is known: what makes its input, the program's command, the rule, and what takes its output.
 ASKED = re.compile(
     r"(?:(?P<maker>.*) \| )?(?:taskset -c \d+ )?segrx (?P<command>\w+)"
-    r"(?: --(?:mailbox|ring)[ =]\d+| --losses[ =](?P<rule>\w+))*(?: \| (?P<taker>.*))?"
+    r"(?: --(?:mailbox|ring)[ =]\d+| --losses[ =](?P<rule>\w+)| --flows[ =](?P<flows>\S+)| --shard[ =](?P<shard>\S+))*"
+    r"(?: \| (?P<taker>.*))?"
 )
 
 
@@ -90,12 +92,13 @@ def taken_by(taker, answer):
 
 def reports_of(command):
     """The runs of one of the program's commands that have an answer to their input: each with the rule that it asks for, its
-    input, and what is to be made of the program's standard output before it is compared."""
+    input, and what is to be made of the program's standard output before it is compared. Of a report of some flows alone
+    that is the lines that are left."""
     for run in read_table():
         asked = ASKED.fullmatch(run.command)
         if asked and asked["command"] == command and not run.parts and run.status in (0, 1):
             given = printed_by(asked["maker"], run.input) if asked["maker"] else run.input
-            yield run, asked["rule"] or DECIDED, given, asked["taker"]
+            yield run, asked["rule"] or DECIDED, given, selected_by(asked["flows"], asked["shard"]), asked["taker"]
 
 
 def read_examples():

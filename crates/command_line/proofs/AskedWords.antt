@@ -124,17 +124,11 @@ StandsBeforeHelp-at text words place word shown within is text_is help later non
 pub AsksForAnEngine-with_options : (words : List (List ℕ)) (command : Command) → AsksWithOptions words command → AsksForAnEngine words
 AsksForAnEngine-with_options words Join asks = absurd asks
 AsksForAnEngine-with_options words (Cut first fill) asks = inr (inl asks.0)
-AsksForAnEngine-with_options words (Replay rule) asks = absurd asks
+AsksForAnEngine-with_options words (Replay rule selected) asks = inr (inr (inl (rule, selected, asks)))
 AsksForAnEngine-with_options words (Run rule mailbox ring) asks = inr (inr (inr (inl (rule, asks.0))))
 AsksForAnEngine-with_options words (Follow rule channels events) asks = inr (inr (inr (inr (inl (rule, channels, asks.0)))))
 AsksForAnEngine-with_options words Map asks = absurd asks
 AsksForAnEngine-with_options words (Help text) asks = absurd asks
-
--- so do words that ask to replay by some rule
-pub AsksForAnEngine-replay : (words : List (List ℕ)) (result : Option LossRule) → ((rule : LossRule) → (result ≡ Some rule) ↔ AsksToReplayBy rule words)
-    → is_some result ≡ true → AsksForAnEngine words
-AsksForAnEngine-replay words None asked some = absurd cc
-AsksForAnEngine-replay words (Some rule) asked some = inr (inr (inl (rule, (asked rule).0 refl)))
 
 -- what some options are told to ask for, words are told to ask for that have them behind a command
 pub of_command : {A : Type 0} (command : List ℕ) (words options : List (List ℕ)) (Asks : List (List ℕ) → Type 0)

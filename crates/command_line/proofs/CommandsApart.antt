@@ -54,6 +54,9 @@ join_is_not_cut e = let long : 4 ≡ 3 = ap length e in omega (arith, long)
 pub join_is_not_run : codes "join" ≢ codes "run"
 join_is_not_run e = let long : 4 ≡ 3 = ap length e in omega (arith, long)
 
+pub join_is_not_replay : codes "join" ≢ codes "replay"
+join_is_not_replay e = let long : 4 ≡ 6 = ap length e in omega (arith, long)
+
 pub join_is_not_map : codes "join" ≢ codes "map"
 join_is_not_map e = let long : 4 ≡ 3 = ap length e in omega (arith, long)
 

@@ -4,4 +4,6 @@ pub mod AskedRules
 pub mod AskedWithoutHelp
 pub mod AskedEvents
 pub mod AskedChannels
+pub mod AskedFlows
+pub mod SaidFlows
 pub mod CommandsApart

@@ -4,6 +4,8 @@ use Rattle.docsis_wire.specs.Limits.{sequence_modulus}
 use Rattle.loss_rule.specs.declared.rule.LossRule.{LossRule}
 use Rattle.command_line.specs.Losses.{HasNoLossesWord, AskForRule, AskForRuleAlone}
 use Rattle.command_line.specs.Channels.{AskForChannels}
+use Rattle.command_line.specs.Flows.{AskForFlows}
+use Rattle.flow_selection.specs.declared.selection.Selection.{Selection}
 use Rattle.command_line.specs.declared.command.Command.{Command}
 use Rattle.command_line.specs.declared.command.Command.TheVariants.{Join, Cut, Replay, Run, Follow, Map, Help}
 
@@ -52,6 +54,15 @@ AsksToReplay words = IsCommandAlone (codes "replay") words
 
 abbrev pub AsksToReplayBy : LossRule → List (List ℕ) → Type 0
 AsksToReplayBy rule words = IsCommand (codes "replay") words × AskForRuleAlone rule (options_in words)
+
+-- the greatest index of a flow of a trace that is replayed
+abbrev pub last_replayed : ℕ
+last_replayed = 63
+
+-- and in any order of the options, where some flows are asked for
+abbrev pub AsksToReplayFlows : LossRule → Selection → List (List ℕ) → Type 0
+AsksToReplayFlows rule selected words =
+    IsCommand (codes "replay") words × AskForRule rule (options_in words) × AskForFlows last_replayed selected (options_in words)
 
 -- to follow has options too, for a loss rule as to run, and for how many channels the trace may have
 abbrev pub AsksToFollow : LossRule → ℕ → List (List ℕ) → Type 0
@@ -106,7 +117,7 @@ pub record StandsBeforeHelp (before words : List (List ℕ)) : Type 0 where
 -- the words ask for an engine, to run, to replay or to follow by some loss rule, which is `Decided` where none is asked for; or for a map
 abbrev pub AsksForAnEngine : List (List ℕ) → Type 0
 AsksForAnEngine words =
-    AsksToJoin words ⊎ AsksToCut words ⊎ ((rule : LossRule) × AsksToReplayBy rule words) ⊎ ((rule : LossRule) × AsksToRunBy rule words)
+    AsksToJoin words ⊎ AsksToCut words ⊎ ((rule : LossRule) × (selected : Selection) × AsksToReplayFlows rule selected words) ⊎ ((rule : LossRule) × AsksToRunBy rule words)
     ⊎ ((rule : LossRule) × (channels : ℕ) × AsksToFollow rule channels words) ⊎ AsksToMap words
 
 -- a word asks for help, and the words before it ask for an engine
@@ -118,7 +129,7 @@ AsksForHelp words = (before : List (List ℕ)) × StandsBeforeHelp before words 
 abbrev pub Asks : List (List ℕ) → Command → Type 0
 Asks words Join = AsksToJoin words
 Asks words (Cut first fill) = AsksToCut words × HasNoHelpWord words × (first < sequence_modulus)
-Asks words (Replay rule) = AsksToReplayBy rule words
+Asks words (Replay rule selected) = AsksToReplayFlows rule selected words × HasNoHelpWord words
 Asks words (Run rule mailbox ring) = AsksToRunBy rule words × HasNoHelpWord words × (1 ≤ mailbox) × (1 ≤ ring)
 Asks words (Follow rule channels events) = AsksToFollow rule channels words × HasNoHelpWord words × AskForEvents events (options_in words)
 Asks words Map = AsksToMap words

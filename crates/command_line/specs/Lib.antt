@@ -1,5 +1,6 @@
 pub mod OptionWords
 pub mod Losses
 pub mod Channels
+pub mod Flows
 pub mod Command
 pub mod Inside

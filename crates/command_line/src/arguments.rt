@@ -93,11 +93,26 @@ fn cut_command<'a>(alloc: Global) -> Result<Command<'a>, AllocError> {
         .arg(option(alloc, "fill", "zero|ones", fill))
 }
 
-/// The command `replay` with its option.
+/// The option of `replay` that lists flows.
+fn flows_option<'a>(alloc: Global) -> Arg<'a> {
+    let help = "Only these flows, as 0,3,8-15 [default: all]";
+    option(alloc, "flows", "LIST", help)
+}
+
+/// The option of `replay` that names a shard.
+fn shard_option<'a>(alloc: Global) -> Arg<'a> {
+    let help = "Only flows whose index modulo N is K [default: all]";
+    option(alloc, "shard", "K/N", help)
+}
+
+/// The command `replay` with its options.
 fn replay_command<'a>(alloc: Global) -> Result<Command<'a>, AllocError> {
     let about = "Replays a trace, and prints what each flow gave";
-    let usage = "segrx replay [--losses RULE] < TRACE > REPORT";
-    command(alloc, "replay", about, usage).arg(losses_option(alloc))
+    let usage = "segrx replay [--losses RULE] [--flows LIST|--shard K/N] < TRACE > REPORT";
+    command(alloc, "replay", about, usage)
+        .arg(losses_option(alloc))?
+        .arg(flows_option(alloc))?
+        .arg(shard_option(alloc))
 }
 
 /// The command `run` with its options.
@@ -148,7 +163,7 @@ fn capture_command<'a>(alloc: Global) -> Command<'a> {
 /// The program's own usage: that of each command.
 const USAGE: &str = "segrx [join] < SEGMENTS > FRAMES
        segrx cut [--first N] [--fill zero|ones] < FRAMES_AND_PIECES > SEGMENTS
-       segrx replay [--losses RULE] < TRACE > REPORT
+       segrx replay [--losses RULE] [--flows LIST|--shard K/N] < TRACE > REPORT
        segrx run [--losses RULE] [--mailbox N] [--ring N] < TRACE > REPORT
        segrx follow [--losses RULE] [--channels N] [--events] < TRACE > FRAMES
        segrx map < CAPTURE > MAP

@@ -10,6 +10,8 @@ ghost use Rattle.command_line.specs.Command.{AsksToReplayBy, AsksToRunByAlone};
 ghost use Rattle.command_line.specs.Losses.{AskForRule, AskForRuleAlone};
 ghost use Rattle.command_line.specs.Command.{AreWithEvents, AsksToFollowAlone};
 ghost use Rattle.command_line.specs.Channels.{channels_max, AskForChannels};
+ghost use Rattle.command_line.specs.Flows.{AskForFlows};
+ghost use Rattle.flow_selection.specs.declared.selection.Selection.{Selection};
 ghost use Rattle.command_line.specs.Command.{HasWord, AskForEvents, Asks};
 ghost use Rattle.command_line.specs.Command.{IsHelpWord, HasNoHelpWord, StandsBeforeHelp};
 ghost use Rattle.command_line.specs.Inside.Command.{AsksWithOptions};
@@ -18,10 +20,12 @@ ghost use Rattle.clap.specs.Matches.{found_of, first_value};
 
 use crate::arguments::command_line;
 use crate::channels::{CHANNELS_MAX, asked_channels};
+use crate::flows::asked_flows;
 use crate::losses::{asked_rule, asked_rule_alone};
 use clap::ArgMatches;
 use clap::error::ErrorKind;
 use docsis_wire::FillByte;
+use flow_selection::Selection;
 use loss_rule::LossRule;
 use std::alloc::{AllocError, Global};
 use std::convert::AsStr;
@@ -45,6 +49,8 @@ pub enum Command {
     Replay {
         /// By what losses are decided.
         rule: LossRule,
+        /// Which flows are reported, with indexes up to 63.
+        flows: Selection,
     },
     /// To receive a trace on threads, and report what that gave.
     Run {
@@ -113,6 +119,9 @@ const FIRST_MAX: u32 = 8191;
 
 /// The greatest capacity of a mailbox or a ring.
 const CAPACITY_MAX: u16 = 65_535;
+
+/// The greatest index of a flow of a trace that is replayed.
+const LAST_REPLAYED: u16 = 63;
 
 /// Whether the words are the program's name and this command's word.
 fn is_command_alone<S: AsStr>(words: &[S], command: &str) -> bool
@@ -188,6 +197,23 @@ fn asked_channels_of<S: AsStr>(words: &[S]) -> Option<u8>
         × AskForChannels channels (options_in (map S.text words.now))) }
 {
     asked_channels(options_of(words, "follow")?)
+}
+
+/// The flows for which the words, the program's name first, ask of this command, with indexes up to
+/// the last one.
+fn asked_flows_of<S: AsStr>(
+    alloc: Global,
+    words: &[S],
+    command: &str,
+    last: u16,
+) -> Result<Selection, UsageFault>
+    ensures { IfOk result (λ selected. AskForFlows last selected
+        (options_in (map S.text words.now))) }
+{
+    match options_of(words, command) {
+        Some(options) => asked_flows(alloc, options, last),
+        None => Err(UsageFault::Usage),
+    }
 }
 
 /// The options beside `--events`, if that stands before or behind all others.
@@ -317,8 +343,9 @@ fn read_with_options<'a, S: AsStr>(alloc: Global, words: &'a [S]) -> Result<Comm
     let cuts = is_command(words, "cut");
     let run_rule = asked_rule_of(words, "run");
     let follow_rule = asked_rule_of(words, "follow");
-    let asked = cuts || run_rule.is_some() || follow_rule.is_some();
-    if !asked || has_word(words, "--") {
+    let replay_rule = asked_rule_of(words, "replay");
+    let by_rule = run_rule.is_some() || follow_rule.is_some() || replay_rule.is_some();
+    if !(cuts || by_rule) || has_word(words, "--") {
         return Err(UsageFault::Usage);
     }
     let matches = command_line(alloc)?.try_get_matches_from(words)?;
@@ -346,6 +373,12 @@ fn read_with_options<'a, S: AsStr>(alloc: Global, words: &'a [S]) -> Result<Comm
             channels,
             events,
         });
+    }
+    if let Some(rule) = replay_rule
+        && matches.subcommand_matches("replay").is_some()
+    {
+        let flows = asked_flows_of(alloc, words, "replay", LAST_REPLAYED)?;
+        return Ok(Command::Replay { rule, flows });
     }
     Err(UsageFault::Usage)
 }
@@ -380,7 +413,8 @@ pub fn read_words<'a, S: AsStr>(alloc: Global, words: &'a [S]) -> Result<Command
     ensures join { AsksToJoin (map S.text words.now) → result ≡ Ok Command.Join }
     ensures map { AsksToMap (map S.text words.now) → result ≡ Ok Command.Map }
     ensures replay { (rule : LossRule)
-        → AsksToReplayBy rule (map S.text words.now) → result ≡ Ok (Command.Replay rule) }
+        → AsksToReplayBy rule (map S.text words.now)
+        → result ≡ Ok (Command.Replay rule Selection.All) }
     ensures run { (rule : LossRule) → AsksToRunByAlone rule (map S.text words.now)
         → result ≡ Ok (Command.Run rule default_capacity default_capacity) }
     ensures follow { (rule : LossRule) (events : Bool)
@@ -394,7 +428,10 @@ pub fn read_words<'a, S: AsStr>(alloc: Global, words: &'a [S]) -> Result<Command
         return Ok(Command::Map);
     }
     if let Some(rule) = asked_rule_alone_of(words, "replay") {
-        return Ok(Command::Replay { rule });
+        return Ok(Command::Replay {
+            rule,
+            flows: Selection::All,
+        });
     }
     if let Some(rule) = asked_rule_alone_of(words, "run") {
         return Ok(Command::Run {

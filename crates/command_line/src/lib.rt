@@ -15,6 +15,7 @@
 mod arguments;
 mod channels;
 mod command;
+mod flows;
 mod losses;
 mod option_words;
 

@@ -20,7 +20,8 @@ use Rattle.loss_rule.specs.declared.rule.LossRule.{LossRule}
 use Rattle.command_line.specs.Command.{AsksToJoin, AsksToReplay, AsksToReplayBy, AsksToRunByAlone, AsksToFollowAlone, AsksToMap}
 use Rattle.engines.specs.Engine.{engine_fault, WritesText, IsFaultOfKnown, HasCause, RunsEngine}
 use Rattle.capture_engines.specs.Mapping.{IsMapText, HasMapCause, MapsCapture}
-use Rattle.commands.specs.Program.{AsksToCutOnly, AsksToRunOnly, AsksToRunByOnly, AsksToFollowOnly, AsksForNothing, IsRefused, Obeys, RunsWords, IsStatus, HasJoinedText, HasCutText, HasReport, HasReportBy, HasRunReport, HasRunReportBy, HasRunFault, IsWidthOf, RunsFollowBy, HasFollowed, HasFollowFault, SaysOf, SaysOfMap}
+use Rattle.texts.specs.Selected.{IsReplayedOf}
+use Rattle.commands.specs.Program.{AsksToReplayOnly, AsksToCutOnly, AsksToRunOnly, AsksToRunByOnly, AsksToFollowOnly, AsksForNothing, IsRefused, Obeys, RunsWords, IsStatus, HasJoinedText, HasCutText, HasReport, HasReportBy, HasRunReport, HasRunReportBy, HasRunFault, IsWidthOf, RunsFollowBy, HasFollowed, HasFollowFault, SaysOf, SaysOfMap}
 
 -- a status other than 0 and 1 says nothing
 says_nothing : (HasText : List ℕ → Type 0) (IsFault : List ℕ → TextFault → Type 0) (status : ℕ) (input : List ℕ) → 1 < status → SaysOf HasText IsFault status input
@@ -200,6 +201,7 @@ pub record SaysOfWords {R : Type 0} (remaining : R → Option (List ℕ)) (words
   pub run : AsksToRunOnly words → IfSome (remaining reader) (SaysOf HasRunReport HasRunFault n)
   pub replay_by : (rule : LossRule) → AsksToReplayBy rule words → IfSome (remaining reader) (SaysOf (HasReportBy rule) IsReplayFault n)
   pub replay_by_is_known : (rule : LossRule) → AsksToReplayBy rule words → n ≢ 2
+  pub replay_flows : (rule : LossRule) → AsksToReplayOnly rule words → IfSome (remaining reader) (SaysOf (HasReportBy rule) IsReplayFault n)
   pub run_by : (rule : LossRule) → AsksToRunByOnly rule words → IfSome (remaining reader) (SaysOf (HasRunReportBy rule) HasRunFault n)
   pub run_by_is_known : (rule : LossRule) → AsksToRunByAlone rule words → n ≢ 2
   pub follow : (rule : LossRule) (channels : ℕ) → AsksToFollowOnly rule channels words
@@ -240,6 +242,13 @@ SaysOfWords-outcome remaining contents words reader reader' writer writer' resul
       SaysOf-engine remaining contents (HasReportBy rule) (IsReplayedBy rule) IsReplayFault reader reader' writer writer' result (λ input text is. (text, is))
       (obeyed.replay_by rule asks);
   replay_by_is_known = λ rule asks. known_status remaining contents (IsReplayedBy rule) IsReplayFault reader reader' writer writer' result (obeyed.replay_by rule asks);
+  replay_flows = λ rule asks.
+      elim (obeyed.replay_flows rule asks) [
+        | inl ran ↦
+            SaysOf-engine remaining contents (HasReportBy rule) (IsReplayedOf ran.0 rule) IsReplayFault reader reader' writer writer' result
+            (λ input text is. (is.whole, is.replayed)) ran.2
+        | inr refused ↦ SaysOf-above (HasReportBy rule) IsReplayFault (remaining (inner_of reader)) (exit_status_of result) (refused_status reader reader' writer writer' result refused)
+      ];
   run_by = λ rule asks.
       elim (obeyed.run_by rule asks) [
         | inl ran ↦

@@ -4,6 +4,9 @@ use Rattle.std.specs.Prelude.{string_bytes, codes, slice_get, IsErrAnd}
 use Rattle.docsis_wire.proofs.StreamPlaces.{slice_get-at}
 use Rattle.loss_rule.specs.declared.rule.LossRule.{LossRule}
 use Rattle.loss_rule.specs.declared.rule.LossRule.TheVariants.{Decided}
+use Rattle.flow_selection.specs.declared.selection.Selection.{Selection}
+use Rattle.flow_selection.specs.declared.selection.Selection.TheVariants.{All}
+use Rattle.texts.specs.Selected.{IsReplayedOf}
 use Rattle.engines.specs.declared.device.Device.{Device}
 use Rattle.command_line.specs.declared.command.Command.{Command}
 use Rattle.command_line.specs.declared.command.Command.TheVariants.{Join, Cut, Replay, Run, Follow, Map, Help}
@@ -26,13 +29,13 @@ use Rattle.command_line.specs.Command.{options_in, AsksToJoin, AsksToReplay, Ask
 use Rattle.command_line.specs.Channels.{channels_max}
 use Rattle.command_line.proofs.AskedChannels.{AskForChannels-one}
 use Rattle.command_line.proofs.AskedRules.{AskForRule-one}
-use Rattle.command_line.proofs.AskedWithoutHelp.{replays_without_help, map_without_help}
-use Rattle.command_line.proofs.CommandsApart.{commands_apart, cut_is_not_run, cut_is_not_replay, replay_is_not_run, follow_is_not_cut, follow_is_not_run, follow_is_not_replay, cut_is_not_map, replay_is_not_map, run_is_not_map, follow_is_not_map, maps_alone, join_is_another, join_is_not_cut, join_is_not_run, join_is_not_follow, join_is_not_map}
+use Rattle.command_line.proofs.AskedWithoutHelp.{map_without_help}
+use Rattle.command_line.proofs.CommandsApart.{commands_apart, cut_is_not_run, cut_is_not_replay, replay_is_not_run, follow_is_not_cut, follow_is_not_run, follow_is_not_replay, cut_is_not_map, replay_is_not_map, run_is_not_map, follow_is_not_map, maps_alone, join_is_another, join_is_not_cut, join_is_not_replay, join_is_not_run, join_is_not_follow, join_is_not_map}
 use Rattle.engines.proofs.WeakerTexts.{RunsEngine-weaker}
 use Rattle.engines.specs.Following.{HasFollowCause}
 use Rattle.receiver.specs.declared.width.Width.{Width}
 use Rattle.capture_engines.specs.Mapping.{HasMapCause, MapsCapture}
-use Rattle.commands.specs.Program.{AsksToCutOnly, AsksToRunOnly, AsksToRunByOnly, AsksToFollowOnly, AsksForNothing, RunsCut, RunsRun, RunsRunBy, RunsRunAlone, RunsFollowBy, RunsFollow, WritesHelp, Obeys}
+use Rattle.commands.specs.Program.{AsksToReplayOnly, RunsReplay, AsksToCutOnly, AsksToRunOnly, AsksToRunByOnly, AsksToFollowOnly, AsksForNothing, RunsCut, RunsRun, RunsRunBy, RunsRunAlone, RunsFollowBy, RunsFollow, WritesHelp, Obeys}
 use Rattle.commands.specs.Inside.Program.{Performs}
 
 -- where no rule is asked for, `Decided` is
@@ -48,6 +51,10 @@ runs_by_decisions words asks = (asks.0, inl (asks.1, refl))
 -- by decisions alone the texts by the rule are those without one
 abbrev pub ReplaysByDecisions : Type 0
 ReplaysByDecisions = (input text : List ℕ) → IsReplayedBy Decided input text → IsReplayed input text
+
+-- and a report of all flows is the whole one
+abbrev pub ReplaysAll : Type 0
+ReplaysAll = (rule : LossRule) (input text : List ℕ) → IsReplayedOf All rule input text → IsReplayedBy rule input text
 
 abbrev pub RunsByDecisions : Type 0
 RunsByDecisions = (ring mailbox : ℕ) (input text : List ℕ) → IsRunTextBy Decided ring mailbox input text → IsRunText ring mailbox input text
@@ -82,18 +89,20 @@ module _ {R W : Type 0} (remaining : R → Option (List ℕ)) (contents : W → 
       → (AsksToJoin words → RunsEngine remaining contents IsJoined IsJoinFault reader reader' writer writer' result)
       → (AsksToCutOnly words → RunsCut remaining contents reader reader' writer writer' result)
       → ((rule : LossRule) → AsksToReplayBy rule words → RunsEngine remaining contents (IsReplayedBy rule) IsReplayFault reader reader' writer writer' result)
+      → ((rule : LossRule) → AsksToReplayOnly rule words → RunsReplay rule words remaining contents reader reader' writer writer' result)
       → ((rule : LossRule) → AsksToRunByOnly rule words → RunsRunBy rule remaining contents reader reader' writer writer' result)
       → ((rule : LossRule) → AsksToRunByAlone rule words → RunsRunAlone rule remaining contents reader reader' writer writer' result)
       → ((rule : LossRule) (channels : ℕ) → ¬ AsksToFollow rule channels words)
       → ((rule : LossRule) (events : Bool) → AsksToFollowAlone rule events words → RunsFollowBy rule channels_max events remaining contents reader reader' writer writer' result)
       → ¬ AsksToMap words
       → ¬ AsksForNothing words → (¬ AsksToJoin words → HasNoHelpWord words) → Obeys remaining contents words reader reader' writer writer' result
-  Obeys-engine IsText IsFault (Ok done) replay_same run_same ran joins cuts replays runs alone no_follow followed no_map something no_help = record {
+  Obeys-engine IsText IsFault (Ok done) replay_same run_same ran joins cuts replays for_flows runs alone no_follow followed no_map something no_help = record {
     join = joins;
     cut = λ asks. inl (cuts asks);
     replay = replayed_by_decisions (Ok done) replay_same replays;
     run = λ asks. inl (received_by_decisions (Ok done) run_same runs asks);
     replay_by = replays;
+    replay_flows = λ rule asks. inl (for_flows rule asks);
     run_by = λ rule asks. inl (runs rule asks);
     run_alone = alone;
     follow = λ rule channels asks. absurd (no_follow rule channels asks.0);
@@ -107,7 +116,7 @@ module _ {R W : Type 0} (remaining : R → Option (List ℕ)) (contents : W → 
     write_fault = λ is. absurd cc;
     read_first = λ _ _. tt;
   }
-  Obeys-engine IsText IsFault (Err fault) replay_same run_same ran joins cuts replays runs alone no_follow followed no_map something no_help =
+  Obeys-engine IsText IsFault (Err fault) replay_same run_same ran joins cuts replays for_flows runs alone no_follow followed no_map something no_help =
       let P : EngineFault → Type 0 = HasCause IsFault (remaining (inner_of reader)) reader' writer' in
       record {
         join = joins;
@@ -115,6 +124,7 @@ module _ {R W : Type 0} (remaining : R → Option (List ℕ)) (contents : W → 
         replay = replayed_by_decisions (Err fault) replay_same replays;
         run = λ asks. inl (received_by_decisions (Err fault) run_same runs asks);
         replay_by = replays;
+        replay_flows = λ rule asks. inl (for_flows rule asks);
         run_by = λ rule asks. inl (runs rule asks);
         run_alone = alone;
         follow = λ rule channels asks. absurd (no_follow rule channels asks.0);
@@ -131,17 +141,19 @@ module _ {R W : Type 0} (remaining : R → Option (List ℕ)) (contents : W → 
 
   -- so have those that ask for help, where its text is written
   Obeys-help : (text : List ℕ) (result : Result (Unit {0}) EngineFault) → IsFresh reader → IsFresh writer
-      → ¬ AsksToJoin words → ¬ AsksToCutOnly words → ((rule : LossRule) → ¬ AsksToReplayBy rule words) → ((rule : LossRule) → ¬ AsksToRunByOnly rule words)
+      → ¬ AsksToJoin words → ¬ AsksToCutOnly words → ((rule : LossRule) → ¬ AsksToReplayBy rule words) → ((rule : LossRule) → ¬ AsksToReplayOnly rule words)
+      → ((rule : LossRule) → ¬ AsksToRunByOnly rule words)
       → ((rule : LossRule) → ¬ AsksToRunByAlone rule words) → ((rule : LossRule) (channels : ℕ) → ¬ AsksToFollowOnly rule channels words)
       → ((rule : LossRule) (events : Bool) → ¬ AsksToFollowAlone rule events words) → ¬ AsksToMap words → ¬ AsksForNothing words
       → WritesHelp contents text reader reader' writer writer' result
       → Obeys remaining contents words reader reader' writer writer' result
-  Obeys-help text (Ok done) unread unwritten other no_cut no_replay no_run no_alone no_follow no_follow_alone no_map something wrote = record {
+  Obeys-help text (Ok done) unread unwritten other no_cut no_replay no_flows no_run no_alone no_follow no_follow_alone no_map something wrote = record {
     join = λ asks. absurd (other asks);
     cut = λ asks. absurd (no_cut asks);
     replay = λ asks. absurd (no_replay Decided (replays_by_decisions words asks));
     run = λ asks. absurd (no_run Decided (runs_by_decisions words asks.0, asks.1));
     replay_by = λ rule asks. absurd (no_replay rule asks);
+    replay_flows = λ rule asks. absurd (no_flows rule asks);
     run_by = λ rule asks. absurd (no_run rule asks);
     run_alone = λ rule asks. absurd (no_alone rule asks);
     follow = λ rule channels asks. absurd (no_follow rule channels asks);
@@ -155,12 +167,13 @@ module _ {R W : Type 0} (remaining : R → Option (List ℕ)) (contents : W → 
     write_fault = λ is. absurd cc;
     read_first = λ _ _. tt;
   }
-  Obeys-help text (Err fault) unread unwritten other no_cut no_replay no_run no_alone no_follow no_follow_alone no_map something wrote = record {
+  Obeys-help text (Err fault) unread unwritten other no_cut no_replay no_flows no_run no_alone no_follow no_follow_alone no_map something wrote = record {
     join = λ asks. absurd (other asks);
     cut = λ asks. absurd (no_cut asks);
     replay = λ asks. absurd (no_replay Decided (replays_by_decisions words asks));
     run = λ asks. absurd (no_run Decided (runs_by_decisions words asks.0, asks.1));
     replay_by = λ rule asks. absurd (no_replay rule asks);
+    replay_flows = λ rule asks. absurd (no_flows rule asks);
     run_by = λ rule asks. absurd (no_run rule asks);
     run_alone = λ rule asks. absurd (no_alone rule asks);
     follow = λ rule channels asks. absurd (no_follow rule channels asks);
@@ -193,6 +206,7 @@ module _ {R W : Type 0} (remaining : R → Option (List ℕ)) (contents : W → 
     replay = λ asks. absurd (commands_apart (codes "follow") (codes "replay") follow_is_not_replay words asked.0 (replays_by_decisions words asks).0);
     run = λ asks. absurd (commands_apart (codes "follow") (codes "run") follow_is_not_run words asked.0 asks.0.0);
     replay_by = λ other asks. absurd (commands_apart (codes "follow") (codes "replay") follow_is_not_replay words asked.0 asks.0);
+    replay_flows = λ other asks. absurd (commands_apart (codes "follow") (codes "replay") follow_is_not_replay words asked.0 asks.0);
     run_by = λ other asks. absurd (commands_apart (codes "follow") (codes "run") follow_is_not_run words asked.0 asks.0.0);
     run_alone = λ other asks. absurd (commands_apart (codes "follow") (codes "run") follow_is_not_run words asked.0 asks.0);
     follow = λ other wide asks.
@@ -243,6 +257,7 @@ module _ {R W : Type 0} (remaining : R → Option (List ℕ)) (contents : W → 
     replay = λ asks. absurd (commands_apart (codes "replay") (codes "map") replay_is_not_map words (replays_by_decisions words asks).0 maps);
     run = λ asks. absurd (commands_apart (codes "run") (codes "map") run_is_not_map words asks.0.0 maps);
     replay_by = λ rule asks. absurd (commands_apart (codes "replay") (codes "map") replay_is_not_map words asks.0 maps);
+    replay_flows = λ rule asks. absurd (commands_apart (codes "replay") (codes "map") replay_is_not_map words asks.0 maps);
     run_by = λ rule asks. absurd (commands_apart (codes "run") (codes "map") run_is_not_map words asks.0.0 maps);
     run_alone = λ rule asks. absurd (commands_apart (codes "run") (codes "map") run_is_not_map words asks.0 maps);
     follow = λ rule channels asks. absurd (commands_apart (codes "follow") (codes "map") follow_is_not_map words asks.0.0 maps);
@@ -294,46 +309,57 @@ module _ {R W : Type 0} (remaining : R → Option (List ℕ)) (contents : W → 
   performed_follow command result ran follows rule events asks =
       subst (λ is. Performs remaining contents is reader reader' writer writer' result) (follows rule events asks) ran
 
+  -- a replay of all flows is a replay
+  performed_whole : (rule : LossRule) (result : Result (Unit {0}) EngineFault) → ReplaysAll
+      → Performs remaining contents (Replay rule All) reader reader' writer writer' result
+      → RunsEngine remaining contents (IsReplayedBy rule) IsReplayFault reader reader' writer writer' result
+  performed_whole rule result all_same ran =
+      RunsEngine-weaker remaining contents (IsReplayedOf All rule) (IsReplayedBy rule) IsReplayFault reader reader' writer writer' result (all_same rule) ran
+
   -- each command, where the words ask for it and for nothing else
-  pub Obeys-performed : (command : Command) (result : Result (Unit {0}) EngineFault) → ReplaysByDecisions → RunsByDecisions
+  pub Obeys-performed : (command : Command) (result : Result (Unit {0}) EngineFault) → ReplaysByDecisions → RunsByDecisions → ReplaysAll
       → IsFresh reader → IsFresh writer → Asks words command → (AsksToJoin words → command ≡ Join) → (AsksToMap words → command ≡ Map)
-      → ((rule : LossRule) → AsksToReplayBy rule words → command ≡ Replay rule)
+      → ((rule : LossRule) → AsksToReplayBy rule words → command ≡ Replay rule All)
       → ((rule : LossRule) → AsksToRunByAlone rule words → command ≡ Run rule default_capacity default_capacity)
       → ((rule : LossRule) (events : Bool) → AsksToFollowAlone rule events words → command ≡ Follow rule channels_max events)
       → Performs remaining contents command reader reader' writer writer' result
       → Obeys remaining contents words reader reader' writer writer' result
-  Obeys-performed Join result replay_same run_same unread unwritten asked joins maps replays runs follows ran =
+  Obeys-performed Join result replay_same run_same all_same unread unwritten asked joins maps replays runs follows ran =
       Obeys-engine IsJoined IsJoinFault result replay_same run_same ran (λ _. ran)
       (λ asks. absurd (join_is_another (codes "cut") join_is_not_cut words asked asks.0)) (λ rule asks. let e = replays rule asks in absurd cc)
+      (λ rule asks. absurd (join_is_another (codes "replay") join_is_not_replay words asked asks.0))
       (λ rule asks. absurd (join_is_another (codes "run") join_is_not_run words asked asks.0.0)) (performed_alone Join result ran runs)
       (λ rule channels asks. absurd (join_is_another (codes "follow") join_is_not_follow words asked asks.0)) (performed_follow Join result ran follows)
       (λ asks. let e = maps asks in absurd cc)
       (λ nothing. nothing.0 (inl asked))
       (λ other. absurd (other asked))
-  Obeys-performed (Cut first fill) result replay_same run_same unread unwritten asked joins maps replays runs follows ran =
+  Obeys-performed (Cut first fill) result replay_same run_same all_same unread unwritten asked joins maps replays runs follows ran =
       Obeys-engine (IsCutText first fill) IsCutFault result replay_same run_same ran
       (λ asks. absurd (join_is_another (codes "cut") join_is_not_cut words asks asked.0)) (λ _. (first, fill, asked.2, ran))
       (λ rule asks. let e = replays rule asks in absurd cc)
+      (λ rule asks. absurd (commands_apart (codes "cut") (codes "replay") cut_is_not_replay words asked.0 asks.0))
       (λ rule asks. absurd (commands_apart (codes "cut") (codes "run") cut_is_not_run words asked.0 asks.0.0)) (performed_alone (Cut first fill) result ran runs)
       (λ rule channels asks. absurd (commands_apart (codes "follow") (codes "cut") follow_is_not_cut words asks.0 asked.0)) (performed_follow (Cut first fill) result ran follows)
       (λ asks. let e = maps asks in absurd cc)
       (λ nothing. nothing.0 (inr (inl asked.0))) (λ _. asked.1)
-  Obeys-performed (Replay rule) result replay_same run_same unread unwritten asked joins maps replays runs follows ran =
-      Obeys-engine (IsReplayedBy rule) IsReplayFault result replay_same run_same ran (λ asks. let e = joins asks in absurd cc)
-      (λ asks. absurd (commands_apart (codes "cut") (codes "replay") cut_is_not_replay words asks.0 asked.0))
+  Obeys-performed (Replay rule selected) result replay_same run_same all_same unread unwritten asked joins maps replays runs follows ran =
+      Obeys-engine (IsReplayedOf selected rule) IsReplayFault result replay_same run_same ran (λ asks. let e = joins asks in absurd cc)
+      (λ asks. absurd (commands_apart (codes "cut") (codes "replay") cut_is_not_replay words asks.0 asked.0.0))
+      (λ other asks. performed_whole other result all_same (subst (λ is. Performs remaining contents is reader reader' writer writer' result) (replays other asks) ran))
       (λ other asks.
-      let e = replays other asks in
-      let same : rule ≡ other = cc in
-      subst (λ by. RunsEngine remaining contents (IsReplayedBy by) IsReplayFault reader reader' writer writer' result) same ran)
-      (λ other asks. absurd (commands_apart (codes "replay") (codes "run") replay_is_not_run words asked.0 asks.0.0))
-      (performed_alone (Replay rule) result ran runs)
-      (λ other channels asks. absurd (commands_apart (codes "follow") (codes "replay") follow_is_not_replay words asks.0 asked.0)) (performed_follow (Replay rule) result ran follows)
-      (λ asks. let e = maps asks in absurd cc) (λ nothing. nothing.0 (inr (inr (inl (rule, asked))))) (λ _. replays_without_help rule words asked)
-  Obeys-performed (Run rule mailbox ring) result replay_same run_same unread unwritten asked joins maps replays runs follows ran =
+      let same : rule ≡ other = AskForRule-one (options_in words) rule other asked.0.1 asks.1 in
+      subst (λ by. RunsReplay by words remaining contents reader reader' writer writer' result) same (selected, asked.0.2, ran))
+      (λ other asks. absurd (commands_apart (codes "replay") (codes "run") replay_is_not_run words asked.0.0 asks.0.0))
+      (performed_alone (Replay rule selected) result ran runs)
+      (λ other channels asks. absurd (commands_apart (codes "follow") (codes "replay") follow_is_not_replay words asks.0 asked.0.0))
+      (performed_follow (Replay rule selected) result ran follows)
+      (λ asks. let e = maps asks in absurd cc) (λ nothing. nothing.0 (inr (inr (inl (rule, selected, asked.0))))) (λ _. asked.1)
+  Obeys-performed (Run rule mailbox ring) result replay_same run_same all_same unread unwritten asked joins maps replays runs follows ran =
       Obeys-engine (IsRunTextBy rule ring mailbox) (IsReportFault ring) result replay_same run_same ran
       (λ asks. absurd (join_is_another (codes "run") join_is_not_run words asks asked.0.0))
       (λ asks. absurd (commands_apart (codes "cut") (codes "run") cut_is_not_run words asks.0 asked.0.0))
       (λ other asks. let e = replays other asks in absurd cc)
+      (λ other asks. absurd (commands_apart (codes "replay") (codes "run") replay_is_not_run words asks.0 asked.0.0))
       (λ other asks.
       let same : rule ≡ other = AskForRule-one (options_in words) rule other asked.0.1 asks.0.1 in
       subst (λ by. RunsRunBy by remaining contents reader reader' writer writer' result) same (mailbox, ring, asked.2, asked.3, ran))
@@ -341,14 +367,14 @@ module _ {R W : Type 0} (remaining : R → Option (List ℕ)) (contents : W → 
       (λ other channels asks. absurd (commands_apart (codes "follow") (codes "run") follow_is_not_run words asks.0 asked.0.0)) (performed_follow (Run rule mailbox ring) result ran follows)
       (λ asks. let e = maps asks in absurd cc)
       (λ nothing. nothing.0 (inr (inr (inr (inl (rule, asked.0)))))) (λ _. asked.1)
-  Obeys-performed (Follow rule channels events) result replay_same run_same unread unwritten asked joins maps replays runs follows ran =
+  Obeys-performed (Follow rule channels events) result replay_same run_same all_same unread unwritten asked joins maps replays runs follows ran =
       Obeys-follow rule channels result asked.0 asked.1 (events, asked.2, ran) (performed_follow (Follow rule channels events) result ran follows)
       (λ nothing. nothing.0 (inr (inr (inr (inr (inl (rule, channels, asked.0)))))))
-  Obeys-performed Map result replay_same run_same unread unwritten asked joins maps replays runs follows ran =
+  Obeys-performed Map result replay_same run_same all_same unread unwritten asked joins maps replays runs follows ran =
       Obeys-map result asked ran (λ nothing. nothing.0 (inr (inr (inr (inr (inr asked))))))
-  Obeys-performed (Help text) result replay_same run_same unread unwritten asked joins maps replays runs follows ran =
+  Obeys-performed (Help text) result replay_same run_same all_same unread unwritten asked joins maps replays runs follows ran =
       Obeys-help (string_bytes text) result unread unwritten (λ asks. let e = joins asks in absurd cc) (λ asks. asks.1 asked)
-      (λ rule asks. let e = replays rule asks in absurd cc) (λ rule asks. asks.1 asked) (λ rule asks. let e = runs rule asks in absurd cc)
+      (λ rule asks. let e = replays rule asks in absurd cc) (λ rule asks. asks.2 asked) (λ rule asks. asks.1 asked) (λ rule asks. let e = runs rule asks in absurd cc)
       (λ rule channels asks. asks.1 asked) (λ rule events asks. let e = follows rule events asks in absurd cc) (λ asks. let e = maps asks in absurd cc)
       (λ nothing. nothing.1 asked) ran
 
@@ -363,6 +389,7 @@ Obeys-refused remaining contents words reader writer usage.Usage unread other no
   replay = λ asks. absurd (no_replay Decided (replays_by_decisions words asks));
   run = λ _. inr (record { fault = inl refl; unread = refl; unwritten = refl });
   replay_by = λ rule asks. absurd (no_replay rule asks);
+  replay_flows = λ rule _. inr (record { fault = inl refl; unread = refl; unwritten = refl });
   run_by = λ rule _. inr (record { fault = inl refl; unread = refl; unwritten = refl });
   run_alone = λ rule asks. absurd (no_alone rule asks);
   follow = λ rule channels _. inr (record { fault = inl refl; unread = refl; unwritten = refl });
@@ -382,6 +409,7 @@ Obeys-refused remaining contents words reader writer usage.OutOfMemory unread ot
   replay = λ asks. absurd (no_replay Decided (replays_by_decisions words asks));
   run = λ _. inr (record { fault = inr refl; unread = refl; unwritten = refl });
   replay_by = λ rule asks. absurd (no_replay rule asks);
+  replay_flows = λ rule _. inr (record { fault = inr refl; unread = refl; unwritten = refl });
   run_by = λ rule _. inr (record { fault = inr refl; unread = refl; unwritten = refl });
   run_alone = λ rule asks. absurd (no_alone rule asks);
   follow = λ rule channels _. inr (record { fault = inr refl; unread = refl; unwritten = refl });

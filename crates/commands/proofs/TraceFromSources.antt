@@ -3,8 +3,8 @@ use Rattle.std.proofs.Common.{◌≡◌, ℕ, zero, suc, ◌<◌, Bool, List, []
 use Rattle.std.specs.Prelude.{IfOk, IfErr, slice_index_or}
 use Rattle.lane.specs.declared.input.Input.{Input}
 use Rattle.receiver.specs.declared.outcome.Outcome.{Outcome}
-use Rattle.uplink.specs.declared.eight_threads.RunFault.{RunFault}
-use Rattle.uplink.specs.declared.eight_threads.RunFault.TheVariants as run_fault
+use Rattle.uplink.specs.declared.faults.RunFault.{RunFault}
+use Rattle.uplink.specs.declared.faults.RunFault.TheVariants as run_fault
 use Rattle.flow_records.specs.declared.decision.Decision.{Decision}
 use Rattle.flow_records.specs.declared.record.FlowRecord.{FlowRecord}
 use Rattle.flow_records.specs.declared.record.SetupFault.{SetupFault}

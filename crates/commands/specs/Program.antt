@@ -1,5 +1,5 @@
 -- What the program does with its arguments, and what its exit status says of its input.
-use Rattle.std.specs.Prelude.{◌≡◌, ◌≢◌, ◌⊎◌, ◌<◌, ◌≤◌, ◌^◌, ℕ, Bool, List, [], Option, Result, Ok, Err, true, false, IfErr, OnOk, OnErr, length}
+use Rattle.std.specs.Prelude.{◌≡◌, ◌≢◌, ◌⊎◌, ◌<◌, ◌≤◌, ◌^◌, ℕ, Bool, List, [], Option, Result, Ok, Err, true, false, codes, IfErr, OnOk, OnErr, length}
 use Rattle.std.specs.Io.KnownBytes.{Appends}
 use Rattle.docsis_wire.specs.declared.pieces.FillByte.{FillByte}
 use Rattle.docsis_wire.specs.Limits.{sequence_modulus}
@@ -14,8 +14,11 @@ use Rattle.engines.specs.Device.{inner_of, has_failed, is_flushed, IsFresh}
 use Rattle.engines.specs.Transfer.{AppendsFront, IsLeftFlushed, IsReadFault, IsRead}
 use Rattle.engines.specs.Fault.{status_of, exit_status_of, fault_line}
 use Rattle.engines.specs.Engine.{engine_fault, RunsEngine}
-use Rattle.command_line.specs.Command.{AsksToJoin, AsksToCut, AsksToReplay, AsksToReplayBy, AsksToRun, AsksToRunBy, AsksToRunByAlone, AsksToFollow, AsksToFollowAlone, AsksToMap, AskForEvents, options_in, AsksForAnEngine, AsksForHelp, HasNoHelpWord}
+use Rattle.command_line.specs.Command.{IsCommand, last_replayed, AsksToJoin, AsksToCut, AsksToReplay, AsksToReplayBy, AsksToRun, AsksToRunBy, AsksToRunByAlone, AsksToFollow, AsksToFollowAlone, AsksToMap, AskForEvents, options_in, AsksForAnEngine, AsksForHelp, HasNoHelpWord}
 use Rattle.command_line.specs.Channels.{channels_max}
+use Rattle.command_line.specs.Flows.{AskForFlows}
+use Rattle.command_line.specs.Losses.{AskForRule}
+use Rattle.flow_selection.specs.declared.selection.Selection.{Selection}
 use Rattle.flow_records.specs.Limits.{most_flows}
 use Rattle.receiver.specs.declared.width.Width.{Width}
 use Rattle.text_lines.specs.declared.fault.TextFault.TheVariants as text_fault
@@ -31,6 +34,7 @@ use Rattle.texts.specs.Join.{IsJoined, IsJoinFault}
 use Rattle.texts.specs.Cut.{IsCutText, IsCutFault}
 use Rattle.texts.specs.Replay.{IsReplayed, IsReplayedBy, IsReplayFault, IsReportFault}
 use Rattle.texts.specs.Run.{IsRunText, IsRunTextBy}
+use Rattle.texts.specs.Selected.{IsReplayedOf}
 
 -- the words ask to cut and not for help
 abbrev pub AsksToCutOnly : List (List ℕ) → Type 0
@@ -43,6 +47,10 @@ AsksToRunOnly words = AsksToRun words × ¬ AsksForHelp words
 -- so by a loss rule
 abbrev pub AsksToRunByOnly : LossRule → List (List ℕ) → Type 0
 AsksToRunByOnly rule words = AsksToRunBy rule words × ¬ AsksForHelp words
+
+-- the words ask to replay by a loss rule, in any order of the options, and not for help
+abbrev pub AsksToReplayOnly : LossRule → List (List ℕ) → Type 0
+AsksToReplayOnly rule words = IsCommand (codes "replay") words × AskForRule rule (options_in words) × ¬ AsksForHelp words
 
 -- the words ask to follow a trace of so many channels by a loss rule, and not for help
 abbrev pub AsksToFollowOnly : LossRule → ℕ → List (List ℕ) → Type 0
@@ -99,6 +107,12 @@ abbrev pub RunsRunAlone : {R W : Type 0} → LossRule → (R → Option (List �
 RunsRunAlone rule remaining contents reader reader' writer writer' result =
     RunsEngine remaining contents (IsRunTextBy rule default_capacity default_capacity) (IsReportFault default_capacity) reader reader' writer writer' result
 
+-- the engine of `replay` ran for just the flows that the words ask for
+abbrev pub RunsReplay : {R W : Type 0} → LossRule → List (List ℕ) → (R → Option (List ℕ)) → (W → Option (List ℕ)) → Device R → Device R → Device W → Device W → Result (Unit {0}) EngineFault → Type 0
+RunsReplay rule words remaining contents reader reader' writer writer' result =
+    (selected : Selection) × AskForFlows last_replayed selected (options_in words)
+    × RunsEngine remaining contents (IsReplayedOf selected rule) IsReplayFault reader reader' writer writer' result
+
 -- a receiver of this width follows a trace of so many channels: it has as many flows as one can have
 abbrev pub IsWidthOf : ℕ → Width → Type 0
 IsWidthOf channels width = (width.channels ≡ channels) × (width.flows ≡ most_flows)
@@ -125,6 +139,9 @@ pub record Obeys {R W : Type 0} (remaining : R → Option (List ℕ)) (contents 
   -- and just the loss rule decides that the words ask for
   pub replay_by : (rule : LossRule) → AsksToReplayBy rule words
       → RunsEngine remaining contents (IsReplayedBy rule) IsReplayFault reader reader' writer writer' result
+  -- what is reported of some flows is the whole report but for the lines of the others
+  pub replay_flows : (rule : LossRule) → AsksToReplayOnly rule words
+      → RunsReplay rule words remaining contents reader reader' writer writer' result ⊎ IsRefused reader reader' writer writer' result
   pub run_by : (rule : LossRule) → AsksToRunByOnly rule words
       → RunsRunBy rule remaining contents reader reader' writer writer' result ⊎ IsRefused reader reader' writer writer' result
   -- a run by a rule alone is never refused

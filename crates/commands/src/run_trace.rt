@@ -1,7 +1,7 @@
 //! A trace that is received on threads.
 ghost use Rattle.std.specs.Prelude.{◌≡◌, Ok, IfOk, IfErr};
 ghost use Rattle.uplink.specs.Faults.{CanRun};
-ghost use Rattle.uplink.specs.declared.eight_threads.RunFault.TheVariants as run_fault;
+ghost use Rattle.uplink.specs.declared.faults.RunFault.TheVariants as run_fault;
 ghost use Rattle.receiver.specs.Items.{inputs_on};
 ghost use Rattle.texts.specs.Run.{IsReceivedBy};
 

@@ -9,6 +9,7 @@ ghost use Rattle.command_line.specs.Command.{AsksToFollowAlone, AsksToMap};
 ghost use Rattle.texts.specs.Join.{IsJoinFault};
 ghost use Rattle.texts.specs.Cut.{IsCutFault};
 ghost use Rattle.texts.specs.Replay.{IsReplayFault};
+ghost use Rattle.commands.specs.Program.{AsksToReplayOnly};
 ghost use Rattle.commands.specs.Program.{AsksToCutOnly, AsksToRunOnly, AsksToRunByOnly, AsksToFollowOnly, AsksForNothing, Obeys, IsReported, RunsWords, ComesOf};
 ghost use Rattle.commands.specs.Inside.Program.{Performs, IsInRange};
 ghost use Rattle.commands.specs.Program.{IsStatus, HasJoinedText, HasCutText, HasReport, HasReportBy, HasRunReport, HasRunReportBy, HasRunFault, HasFollowed, HasFollowFault, SaysOf, SaysOfMap};
@@ -17,7 +18,7 @@ use crate::run::run_text_by;
 use capture_engines::map_capture;
 use engines::{
     Command, Device, EngineFault, cut_text, exit_status, follow_text, join_text, read_words,
-    replay_text_by, write_fault, write_text,
+    replay_text_of, write_fault, write_text,
 };
 use receiver::{MOST_FLOWS, Width};
 use std::alloc::Global;
@@ -46,7 +47,7 @@ fn perform<T: Threads + Wait + Copy + Send + 'static, R: Read, W: Write>(
     match command {
         Command::Join => join_text(alloc, reader, out),
         Command::Cut { first, fill } => cut_text(alloc, first, fill, reader, out),
-        Command::Replay { rule } => replay_text_by(rule, alloc, reader, out),
+        Command::Replay { rule, flows } => replay_text_of(&flows, rule, alloc, reader, out),
         Command::Run {
             rule,
             mailbox,
@@ -88,6 +89,7 @@ fn obey<S: AsStr, T: Threads + Wait + Copy + Send + 'static, R: Read, W: Write>(
 {
     laws::replay_by_decisions_alone_is_a_replay();
     laws::run_by_decisions_alone_is_a_run();
+    laws::report_of_all_flows_is_the_report();
     let command = read_words(alloc, words)?;
     perform(alloc, rt, command, reader, out)
 }
@@ -159,6 +161,8 @@ where
         → IfSome (R.remaining reader) (SaysOf (HasReportBy rule) IsReplayFault result) }
     ensures replay_by_is_known { (rule : LossRule) → AsksToReplayBy rule (map S.text words.now)
         → result ≢ 2 }
+    ensures replay_flows { (rule : LossRule) → AsksToReplayOnly rule (map S.text words.now)
+        → IfSome (R.remaining reader) (SaysOf (HasReportBy rule) IsReplayFault result) }
     ensures run_by { (rule : LossRule) → AsksToRunByOnly rule (map S.text words.now)
         → IfSome (R.remaining reader) (SaysOf (HasRunReportBy rule) HasRunFault result) }
     ensures run_by_is_known { (rule : LossRule) → AsksToRunByAlone rule (map S.text words.now)

@@ -10,7 +10,9 @@ use Rattle.text_lines.specs.declared.fault.TextFault.{TextFault}
 use Rattle.text_lines.specs.declared.fault.TextFault.TheVariants.{Trace, Cut, OutOfMemory}
 use Rattle.texts.specs.Inside.TraceInput.{TraceState, taking_format}
 use Rattle.texts.specs.Replay.{IsPlayedBy, IsReplayedBy, IsReplayFault}
+use Rattle.flow_selection.specs.declared.selection.Selection.{Selection}
 use Rattle.texts.specs.Report.{report_text}
+use Rattle.texts.specs.Selected.{report_of, IsReplayedOf}
 use Rattle.texts.specs.Trace.Place.{Said, nothing_said, trace_format}
 use Rattle.texts.proofs.HandedLines.{read_alone}
 use Rattle.texts.proofs.OneReplay.{replay_fault}
@@ -30,6 +32,15 @@ is_replayed Has start known lines outcome none read played =
       played = subst (λ (by : LossRule). IsPlayedBy by read.state.said outcome) all.1 (played read.state read.stands);
       printed = refl;
     }
+
+-- so where some flows are asked for
+pub is_replayed_of : {Lines : Type 0} (selected : Selection) (Has : TraceState (Unit {0}) → Lines → Type 0) (start : TraceState (Unit {0})) (known : Option (List ℕ))
+    (lines : Lines) (outcome : Outcome) → start.said ≡ nothing_said default_capacity → (read : HasReadLines taking_format start Has known lines)
+    → ((given : TraceState (Unit {0})) → Has given lines → IsPlayedBy given.rule given.said outcome)
+    → IsReplayedOf selected start.rule read.input (report_of selected outcome)
+unfolding is_replayed
+is_replayed_of selected Has start known lines outcome none read played =
+    record { whole = report_text outcome; replayed = is_replayed Has start known lines outcome none read played; printed = refl }
 
 -- and why they give nothing
 pub lines_fault : (start : TraceState (Unit {0})) → start.said ≡ nothing_said default_capacity → (input : List ℕ) (fault : TextFault)

@@ -7,7 +7,7 @@
 //! - [`read_words`] reads what the arguments of the program ask for.
 //! - [`join_text`], [`cut_text`] and [`replay_text`] are the engines. Each reads its input to the
 //!   end, piece by piece, and only then writes its text, as its lines are made. [`replay_text_by`]
-//!   decides besides by a rule which segments are lost.
+//!   decides besides by a rule which segments are lost, and [`replay_text_of`] reports some flows.
 //! - [`follow_text`] is the engine of `follow`, which writes what a line brings before it reads on.
 //! - [`read_lines`] reads an input piece by piece, and [`write_report`] writes a report in the room
 //!   that [`held_room`] gives, for the engine of `run`; [`write_text`] writes a whole text.
@@ -43,6 +43,6 @@ pub use fault_line::write_fault;
 pub use follow::follow_text;
 pub use join::join_text;
 pub use lines_read::read_lines;
-pub use replay::{replay_text, replay_text_by, write_report};
+pub use replay::{replay_text, replay_text_by, replay_text_of, write_report};
 pub use text_writer::{TextWriter, held_room};
 pub use transfer::{INPUT_MAX, read_some, write_text, zeros};

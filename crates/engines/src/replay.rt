@@ -4,17 +4,19 @@ ghost use Rattle.engines.specs.Device.{IsFresh};
 ghost use Rattle.engines.specs.Engine.{RunsEngine};
 ghost use Rattle.engines.specs.Writing.{IsWritten};
 ghost use Rattle.texts.specs.Report.{report_text};
+ghost use Rattle.texts.specs.Selected.{report_of, IsReplayedOf};
 ghost use Rattle.texts.specs.Replay.{IsReplayed, IsReplayedBy, IsReplayFault};
 
 use crate::device::Device;
 use crate::fault::{EngineFault, WriteFault};
 use crate::lines_read::read_lines;
 use crate::text_writer::{TextWriter, held_room};
+use flow_selection::Selection;
 use loss_rule::LossRule;
 use receiver::{Outcome, Width};
 use std::alloc::Global;
 use std::io::{Read, Write};
-use texts::{ReplayInput, finish_replay, laws, put_report};
+use texts::{ReplayInput, finish_replay, laws, put_report, put_report_of};
 
 /// Writes the report of an outcome as it makes it. The room is empty, and no other memory is taken.
 /// What it held last is left in it.
@@ -28,6 +30,23 @@ pub fn write_report<W: Write>(
 {
     let mut text = TextWriter::new(writer, room);
     put_report(&mut text, outcome);
+    text.finish()
+}
+
+/// Writes the report of an outcome as [`write_report`] does, but for the lines of the flows that
+/// aren't selected and of their frames.
+fn write_report_of<W: Write>(
+    outcome: &Outcome,
+    selected: &Selection,
+    room: &mut Vec<u8>,
+    writer: &mut Device<W>,
+) -> Result<(), WriteFault>
+    requires { room.old.items ≡ [] }
+    ensures { IsWritten W.contents (report_of selected.now outcome.now)
+        writer.old writer.new result }
+{
+    let mut text = TextWriter::new(writer, room);
+    put_report_of(&mut text, selected, outcome);
     text.finish()
 }
 
@@ -65,10 +84,29 @@ pub fn replay_text_by<R: Read, W: Write>(
     ensures { RunsEngine R.remaining W.contents (IsReplayedBy rule) IsReplayFault
         reader.old reader.new writer.old writer.new result }
 {
+    laws::report_of_all_flows_is_the_report();
+    replay_text_of(&Selection::All, rule, alloc, reader, writer)
+}
+
+/// Replays as [`replay_text_by`] does, and writes the report of the flows that are selected: the
+/// whole one but for the lines of the other flows and of their frames. All lines of the trace are
+/// read and played, so that a fault of the whole is a fault here, too.
+pub fn replay_text_of<R: Read, W: Write>(
+    selected: &Selection,
+    rule: LossRule,
+    alloc: Global,
+    reader: &mut Device<R>,
+    writer: &mut Device<W>,
+) -> Result<(), EngineFault>
+    requires reader { IsFresh reader.old }
+    requires writer { IsFresh writer.old }
+    ensures { RunsEngine R.remaining W.contents (IsReplayedOf selected.now rule) IsReplayFault
+        reader.old reader.new writer.old writer.new result }
+{
     let input = ReplayInput::new(alloc, Width::PROFILE, rule)?;
     let lines = read_lines(alloc, input, reader)?;
     let outcome = finish_replay(alloc, lines)?;
     let mut room = held_room(alloc)?;
-    write_report(&outcome, &mut room, writer)?;
+    write_report_of(&outcome, selected, &mut room, writer)?;
     Ok(())
 }

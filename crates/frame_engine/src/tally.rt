@@ -1,5 +1,5 @@
 //! What is counted of a capture, and what its requests are, beside its frames.
-ghost use Rattle.std.specs.Prelude.{◌≡◌, ◌≢◌, None, true, OnOk, OnErr, IfOk, IfSome};
+ghost use Rattle.std.specs.Prelude.{◌≡◌, ◌≢◌, None, true, OnOk, OnErr, IfOk, IfSome, is_some};
 
 use crate::drawing::Drawing;
 use capture_map::{CaptureMap, MapChannel};
@@ -89,6 +89,7 @@ impl CaptureTally {
         ensures none_lost { IfOk result (λ tally. tally.lost_requests ≡ None) }
         ensures undrawn { IfOk result (λ tally. tally.drawing ≡ None) }
         ensures records { IfOk result (λ tally. tally.summary.records ≡ 0) }
+        ensures asked { IfOk result (λ tally. is_some tally.requests ≡ with_requests) }
     {
         let mut requests = None;
         if with_requests {

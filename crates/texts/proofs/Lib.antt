@@ -28,3 +28,4 @@ pub mod Profile
 pub mod OneReport
 pub mod OneReplay
 pub mod PutLines
+pub mod SelectedLines

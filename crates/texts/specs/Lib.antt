@@ -4,6 +4,7 @@ pub mod Cut
 pub mod Trace
 pub mod Report
 pub mod Replay
+pub mod Selected
 pub mod Run
 pub mod Happening
 pub mod Happened

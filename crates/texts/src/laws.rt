@@ -13,6 +13,8 @@ ghost use Rattle.docsis_wire.specs.declared.pieces.FillByte.{FillByte};
 ghost use Rattle.docsis_wire.specs.declared.pieces.Piece.{Piece};
 ghost use Rattle.docsis_wire.specs.declared.segment.Segment.{Segment};
 ghost use Rattle.flow_records.specs.Limits.{flows_max};
+ghost use Rattle.flow_selection.specs.declared.selection.Selection.{Selection};
+ghost use Rattle.flow_selection.specs.Lines.{text_of_lines};
 ghost use Rattle.flow_records.specs.declared.record.FlowRecord.{FlowRecord};
 ghost use Rattle.lane.specs.Limits.{channel_limit};
 ghost use Rattle.loss_rule.specs.declared.rule.LossRule.{LossRule};
@@ -35,6 +37,8 @@ ghost use Rattle.texts.specs.FollowedReport.{given_in, followed_flow, came_of_tr
 ghost use Rattle.texts.specs.FollowedReport.{IsGivenAsReported};
 ghost use Rattle.texts.specs.Happened.{happening_of};
 ghost use Rattle.texts.specs.Report.{report_text};
+ghost use Rattle.texts.specs.Selected.{IsReplayedOf};
+ghost use Rattle.texts.specs.Selected.{report_of, report_lines};
 ghost use Rattle.texts.specs.Join.{IsJoined, IsJoinFault};
 ghost use Rattle.texts.specs.Cut.{IsCutInto, IsCutText, IsCutFault, segment_line, cut_text_length};
 ghost use Rattle.texts.specs.Replay.{IsReplayed, IsReplayedBy, IsReplayFault, IsReportFault};
@@ -158,6 +162,17 @@ pub fn replay_of_a_trace_is_the_text()
         → IsAdmittedOrder trace.setup (incoming_of trace.lists) trace.tags.items order
         → IsOutcomeBy rule any_header trace.setup (incoming_of trace.lists) order outcome
         → IsReplayedBy rule input (report_text outcome) }
+{}
+
+/// **The report of some flows has just the lines of the whole one that stay**: that one is the text
+/// of all the lines of which the report of some flows has those that stay. Of all flows it is the
+/// whole one, and so is the text of `replay`.
+pub fn report_of_all_flows_is_the_report()
+    ensures whole { (outcome : Outcome)
+        → report_text outcome ≡ text_of_lines (report_lines outcome) }
+    ensures all { (outcome : Outcome) → report_of Selection.All outcome ≡ report_text outcome }
+    ensures replay { (rule : LossRule) (input text : List ℕ)
+        → IsReplayedOf Selection.All rule input text → IsReplayedBy rule input text }
 {}
 
 /// **What `follow` gives of a trace is what its report says**, where `replay` takes the trace too:

@@ -1,10 +1,13 @@
 //! The report of an outcome.
 ghost use Rattle.std.specs.Prelude.{◌≡◌, flat_map, IfOk};
 ghost use Rattle.text_lines.specs.Putting.{Puts, numbered_texts};
-ghost use Rattle.texts.specs.Report.{frame_line, flow_lines, request_line, lane_line, report_text};
+ghost use Rattle.texts.specs.Report.{frame_line, request_line, lane_line, report_text};
+ghost use Rattle.texts.specs.Selected.{report_of};
+ghost use Rattle.texts.specs.Inside.Selected.{selected_flow_lines};
 
 use crate::report_lines::{put_flow_line, put_frame_line, put_lane_line, put_request_line};
 use docsis_wire::Bytes;
+use flow_selection::Selection;
 use lane::{LaneReport, Request};
 use receiver::{FlowOutcome, Outcome};
 use std::alloc::{AllocError, Global};
@@ -22,13 +25,23 @@ fn put_frames<O: PutText>(out: &mut O, k: usize, frames: &[Bytes])
     }
 }
 
-/// Puts the lines of flows and of their frames.
-fn put_flows<O: PutText>(out: &mut O, flows: &[FlowOutcome])
-    ensures { Puts O.after out.old (numbered_texts flow_lines flows.now) out.new }
+/// Puts the line of the flow with this index and those of its frames, if it is selected.
+fn put_flow<O: PutText>(out: &mut O, selected: &Selection, k: usize, flow: &FlowOutcome)
+    ensures { Puts O.after out.old (selected_flow_lines selected.now k flow.now) out.new }
 {
-    for (k, flow) in flows.iter().enumerate() {
+    if selected.has(k) {
         put_flow_line(out, k, flow.sfid, &flow.counts);
         put_frames(out, k, &flow.frames);
+    }
+}
+
+/// Puts the lines of the flows that are selected, and of their frames.
+fn put_flows<O: PutText>(out: &mut O, selected: &Selection, flows: &[FlowOutcome])
+    ensures { Puts O.after out.old
+        (numbered_texts (selected_flow_lines selected.now) flows.now) out.new }
+{
+    for (k, flow) in flows.iter().enumerate() {
+        put_flow(out, selected, k, flow);
     }
 }
 
@@ -65,7 +78,15 @@ fn put_lanes<O: PutText>(out: &mut O, lanes: &[LaneReport])
 pub fn put_report<O: PutText>(out: &mut O, outcome: &Outcome)
     ensures { Puts O.after out.old (report_text outcome.now) out.new }
 {
-    put_flows(out, &outcome.flows);
+    put_report_of(out, &Selection::All, outcome);
+}
+
+/// Puts the report of an outcome but for the lines of the flows that aren't selected and of their
+/// frames.
+pub fn put_report_of<O: PutText>(out: &mut O, selected: &Selection, outcome: &Outcome)
+    ensures { Puts O.after out.old (report_of selected.now outcome.now) out.new }
+{
+    put_flows(out, selected, &outcome.flows);
     put_channels(out, &outcome.requests);
     put_lanes(out, &outcome.lanes);
 }

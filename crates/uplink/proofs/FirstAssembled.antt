@@ -1,17 +1,16 @@
 -- What the assembler has made of the first that it took, whatever failed then.
-use Rattle.std.proofs.Common.{◌≡◌, ℕ, ◌<◌, ◌==◌, ⊎_elim, Bool, true, false, Option, Some, None, IfSome, MatchOption, All, List, [], ◌∷◌, ◌++◌, length, map, slice_index_or, if◌then◌else◌, refl, ap, sym, subst, ◌∙◌, append_assoc, append-nil, arith}
+use Rattle.std.proofs.Common.{◌≡◌, ℕ, ◌<◌, ◌==◌, ⊎_elim, Bool, true, false, Option, Some, None, IfSome, MatchOption, List, [], ◌∷◌, ◌++◌, map, slice_index_or, if◌then◌else◌, refl, ap, sym, subst, ◌∙◌, append_assoc, append-nil, arith}
 use Rattle.std.proofs.lemmas.List.{map-append}
 use Rattle.std.proofs.lemmas.List.Elements.{All-nil}
 use Rattle.std.proofs.lemmas.Option.{slice_get_within}
 use Rattle.delivery.specs.Feeders.{closed_offered, offered}
 use Rattle.delivery.specs.declared.feeder.ClosedFeeder.{ClosedFeeder}
 use Rattle.flow_records.specs.declared.event.Event.{Event}
-use Rattle.flow_core.specs.declared.counts.FlowCounts.{FlowCounts}
 use Rattle.lane.specs.Limits.{senders}
 use Rattle.consumer.specs.declared.given.Given.{Given}
 use Rattle.consumer.specs.declared.given.Given.TheVariants.{Frame}
 use Rattle.bonded_flows.specs.declared.flow_table.FlowTable.{FlowTable}
-use Rattle.bonded_flows.specs.Table.{TableSetup, TableInput, StandsFor, TakesMore}
+use Rattle.bonded_flows.specs.Table.{TableSetup, TableInput, StandsFor}
 use Rattle.receiver.specs.Order.{picked}
 use Rattle.receiver.specs.TakenInOrder.{table_input_of, table_inputs}
 use Rattle.receiver.proofs.TakenInOrder.{inputs-more}
@@ -20,10 +19,10 @@ use Rattle.workers.specs.Inside.Carried.{carried}
 use Rattle.uplink.specs.declared.assembler.Taking.{Taking}
 use Rattle.uplink.specs.declared.feeding.Feeding.{Feeding}
 use Rattle.uplink.specs.Fronts.{ComesFirstIn}
-use Rattle.uplink.specs.Inside.Feeding.{offered_to, HasOffered, IsClosedAfter}
-use Rattle.uplink.specs.Inside.Offering.{GaveAll, HasCollected, TakesAtMost, TakesAtMostOf, HasAssembledSoFar, HaveClosed, ClosesFirst, HasAssembledFirst}
+use Rattle.uplink.specs.Inside.Feeding.{HasOffered, IsClosedAfter}
+use Rattle.uplink.specs.Inside.Offering.{HasCollected, TakesAtMost, TakesAtMostOf, HasAssembledSoFar, HaveClosed, ClosesFirst, HasAssembledFirst}
 use Rattle.uplink.proofs.FramesOffered.{none-offered, offered-on}
-use Rattle.uplink.proofs.ItemsCollected.{none_collected, one_collected}
+use Rattle.uplink.proofs.ItemsCollected.{one_collected}
 
 -- one more is at the end, or none
 pub grown : {T : Type 0} (own : Bool) (old new : List T) (item : T) → new ≡ (if own then old ++ item ∷ [] else old) → ComesFirstIn old new

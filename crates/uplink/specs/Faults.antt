@@ -6,8 +6,8 @@ use Rattle.receiver.specs.declared.setup.Setup.{Setup}
 use Rattle.receiver.specs.declared.setup.BadSetup.{BadSetup}
 use Rattle.receiver.specs.declared.setup.BadSetup.TheVariants.{Flows, Rows}
 use Rattle.receiver.specs.Faults.{CanReceive}
-use Rattle.uplink.specs.declared.eight_threads.RunFault.{RunFault}
-use Rattle.uplink.specs.declared.eight_threads.RunFault.TheVariants as run_fault
+use Rattle.uplink.specs.declared.faults.RunFault.{RunFault}
+use Rattle.uplink.specs.declared.faults.RunFault.TheVariants as run_fault
 
 -- a setup that can be run: it has no fault, and its mailboxes have room for an entry
 pub record CanRun (setup : Setup) : Type 0 where

@@ -25,7 +25,7 @@ use Rattle.receiver.specs.Outcome.{GivesAtItsClose}
 use Rattle.receiver.specs.Ruled.{ruled_flow, comings_at}
 use Rattle.receiver.specs.Tallies.{IsTallyOf}
 use Rattle.workers.specs.Given.{BecameBy}
-use Rattle.uplink.specs.declared.eight_threads.RunFault.TheVariants.{OutOfMemory}
+use Rattle.uplink.specs.declared.faults.RunFault.TheVariants.{OutOfMemory}
 use Rattle.uplink.specs.declared.receiving.Received.{Received}
 use Rattle.uplink.specs.declared.receiving.ReceiveError.{ReceiveError}
 use Rattle.uplink.specs.Fronts.{ComesFirstIn}

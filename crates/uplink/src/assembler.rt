@@ -51,8 +51,8 @@ pub struct AssembledAll {
 /// Takes until all senders have ended, and offers the frames that each flow gives to its feeder.
 /// Then it closes all flows, and the feeders. Once an allocation failed, in whichever thread, it
 /// drops what it takes, and closes no flow: so what was offered is what comes first of what would
-/// have been. A clause (`first`) says so but for the close, since none knows what one thread sees of
-/// another.
+/// have been. A clause (`first`) says so but for the close, since none knows what one thread sees
+/// of another.
 /// `closed` has room for a closed feeder of each flow. The order of the items is appended to
 /// `order`, if there is one.
 pub fn assemble<C: HeaderCheck + Drop, R: Wait>(

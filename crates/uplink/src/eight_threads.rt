@@ -1,80 +1,25 @@
 //! A receiver on threads that collects what it gives: it runs as [`receive`](crate::receive) does,
 //! with consumers that keep everything, and keeps the order too.
-ghost use Rattle.std.specs.Prelude.{◌≡◌, ◌↔◌, ◌∷◌, [], IfOk, IfErr, Ok};
+ghost use Rattle.std.specs.Prelude.{◌∷◌, [], IfOk, IfErr};
 ghost use Rattle.uplink.specs.Faults.{CanRun, IsRunFault};
 ghost use Rattle.uplink.specs.Headline.{KeepsTheHeadline, KeepsTheHeadlineBy};
 ghost use Rattle.receiver.specs.Items.{incoming_from};
 ghost use Rattle.receiver.specs.Outcome.{IsOutcome};
 ghost use Rattle.receiver.specs.Ruled.{IsOutcomeBy};
 
+use crate::faults::RunFault;
 use crate::finish::outcome_of;
 use crate::receiving::{prepare, run_prepared};
 use crate::tap::{Tap, Taps};
 use crate::tapped::tapping;
 use docsis_wire::{Bytes, HeaderCheck};
-use flow_core::SetupFault;
-use lane::{LaneFault, Request};
+use lane::Request;
 use loss_rule::LossRule;
-use receiver::{BadSetup, Outcome, Setup};
-use std::alloc::{AllocError, Global};
+use receiver::{Outcome, Setup};
+use std::alloc::Global;
 use std::sync::Wait;
 use std::thread::Threads;
-use thiserror::Error;
 use workers::{Consumers, Decisions, Foreknown, Source, Sources};
-
-/// Why a receiver doesn't run. The first of these is reported.
-#[derive(Clone, Copy, Debug, PartialEq, Eq, Error)]
-pub enum RunFault {
-    /// The flows can't be set up. It is never `SetupFault::OutOfMemory`.
-    #[error(transparent)]
-    Setup(SetupFault),
-    /// The lanes can't be opened. It is never `LaneFault::OutOfMemory`.
-    #[error(transparent)]
-    Lane(LaneFault),
-    /// The mailboxes have no room: their capacity is 0.
-    #[error("a mailbox needs room for an entry")]
-    NoCapacity,
-    /// An allocation failed, or a thread could not be started.
-    #[error("out of memory")]
-    OutOfMemory,
-}
-
-impl From<AllocError> for RunFault {
-    ghost use Rattle.std.specs.Prelude.{◌≡◌};
-    ghost use Rattle.uplink.specs.declared.eight_threads.RunFault.TheVariants.{OutOfMemory};
-
-    ghost from_gives = { λ _ fault. fault ≡ OutOfMemory };
-
-    fn from(_: AllocError) -> RunFault {
-        RunFault::OutOfMemory
-    }
-}
-
-impl From<BadSetup> for RunFault {
-    ghost use Rattle.std.specs.Prelude.{◌≡◌};
-    ghost use Rattle.uplink.specs.Faults.{run_fault_of};
-
-    ghost from_gives = { λ bad fault. fault ≡ run_fault_of bad };
-
-    fn from(bad: BadSetup) -> RunFault {
-        match bad {
-            BadSetup::Flows(fault) => RunFault::Setup(fault),
-            BadSetup::Rows(fault) => RunFault::Lane(fault),
-        }
-    }
-}
-
-/// Looks for the first fault of a setup that is to be run. It takes no memory.
-pub fn check_setup(setup: &Setup) -> Result<(), RunFault>
-    ensures ok { (result ≡ Ok tt) ↔ CanRun setup.now }
-    ensures fault { IfErr result (IsRunFault setup.now) }
-{
-    setup.check()?;
-    if setup.mailbox == 0 {
-        return Err(RunFault::NoCapacity);
-    }
-    Ok(())
-}
 
 /// Runs a receiver on seven threads beside the caller's, until all sources and decisions are used
 /// up, and then closes each flow. It takes the items of the four channels and the decisions that

@@ -28,8 +28,8 @@ pub struct Ended<N> {
     pub assembled: Option<Assembled>,
 }
 
-/// What a run comes to: what was counted of each flow, what was noted of the inputs of the channels,
-/// and the order of the items, if it was kept.
+/// What a run comes to: what was counted of each flow, what was noted of the inputs of the
+/// channels, and the order of the items, if it was kept.
 #[derive(Drop)]
 pub struct Concluded<N> {
     pub counts: Vec<FlowCounts>,

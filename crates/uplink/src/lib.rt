@@ -25,6 +25,7 @@
 
 mod assembler;
 mod eight_threads;
+mod faults;
 mod feeding;
 mod finish;
 pub mod laws;
@@ -34,7 +35,8 @@ mod tap;
 mod tapped;
 
 pub use consumer::{Collected, Consumer, Counts, Forgets, Given};
-pub use eight_threads::{RunFault, run, run_by};
+pub use eight_threads::{run, run_by};
+pub use faults::RunFault;
 pub use lane::{
     Admitted, Answer, CHANNELS, Input, Lane, LaneFault, LaneReport, Refusal, Request, SidRow,
     SidTable,
@@ -48,4 +50,5 @@ pub use receiving::{ReceiveError, Received, receive};
 pub use tap::{NoTap, Tap, Taps};
 pub use workers::{
     Decisions, Foreknown, ListDecisions, ListSource, LiveDecisions, LiveSource, Source, Sources,
+    Stoppable, Stopper,
 };

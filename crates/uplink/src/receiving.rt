@@ -14,7 +14,7 @@ ghost use Rattle.uplink.specs.Received.{CameFrom, HasReceived, GivesBack};
 ghost use Rattle.uplink.specs.Inside.Running.{in_order, CanStart, RanOpened, HasRun, IsOpened};
 
 use crate::assembler::{AssembledAll, Taking, assemble};
-use crate::eight_threads::{RunFault, check_setup};
+use crate::faults::{RunFault, check_setup};
 use crate::finish::{Concluded, Ended, FourNotes, Ran, conclude};
 use crate::open::{Opened, open_all};
 use consumer::Consumer;
@@ -26,6 +26,7 @@ use receiver::{LaneTally, Setup};
 use std::alloc::Global;
 use std::sync::Wait;
 use std::thread::Threads;
+use thiserror::Error;
 use workers::{
     Consumers, Joined, LaneNotes, LiveDecisions, LiveSource, Share, Sources, Work, start_team,
 };
@@ -39,12 +40,14 @@ pub struct Received<F, Q> {
     pub scheduler: Q,
     /// What was counted of each flow, in the order of the records.
     pub flows: Vec<FlowCounts>,
-    /// How many inputs of the channels 0 to 3 were admitted, and how many refused.
+    /// How many bursts of the channels 0 to 3 were admitted, and how many inputs refused.
     pub lanes: [LaneTally; CHANNELS],
 }
 
-/// Why a receiver doesn't run, or doesn't run to its end, with the two that it was to serve.
-#[derive(Debug, Drop)]
+/// Why a receiver doesn't run, or doesn't run to its end, with the two that it was to serve. Its
+/// message is that of its fault.
+#[derive(Debug, Drop, Error)]
+#[error("{fault}")]
 pub struct ReceiveError<F, Q> {
     /// The fault, the first that there is.
     pub fault: RunFault,
@@ -72,15 +75,17 @@ pub struct ReceiveError<F, Q> {
 /// the mailboxes is 0. Then nothing was given. `OutOfMemory`: an allocation failed, in whichever
 /// thread, or a thread could not be started. Before all threads are started no source is asked.
 /// Later the worker of a channel whose allocation failed asks its source for nothing more, all
-/// others go on to their end, and no frame is made of what is taken then: so what the two were given
-/// is what comes first of what they would have been given. The two come back on every answer. The
+/// others go on to their end, and no frame is made of what is taken then: so what the two were
+/// given is what comes first of what they would have been given (`given_back`, which allows for a
+/// flow that is being closed when an allocation fails). The two come back on every answer. The
 /// check is used by the caller's thread alone. The call waits for its threads, and they for the
 /// sources: it returns only if these end.
 ///
 /// **A slow consumer is waited for.** While a frame finds no room in its flow's ring, no item is
 /// taken, so the mailboxes fill, and sources are asked for nothing more. What waits is bounded by
-/// the rings, the mailboxes and the frames of one segment, and at the close by what the windows
-/// held; no frame is dropped. Nothing grows with what was received.
+/// the rings, the mailboxes and the frames of one item, which may be those of a whole window where
+/// it fills a hole, and at the close by what the windows held; no frame is dropped. Nothing grows
+/// with what was received. So neither of the two may wait for what only later inputs bring.
 pub fn receive<S0, S1, S2, S3, D, F, Q, C, R>(
     alloc: Global,
     rt: R,

@@ -4,3 +4,6 @@ pub mod WindowLemmas
 pub mod InputByInput
 pub mod TableTakes
 pub mod MidstreamOutcomes
+pub mod CountedByFlow
+pub mod BytesRead
+pub mod HandingOn

@@ -11,3 +11,6 @@ pub mod RunCaller
 pub mod CountedRun
 pub mod LossesByRule
 pub mod Midstream
+pub mod InputForms
+pub mod ByteSource
+pub mod HandedOn

@@ -11,7 +11,7 @@ use docsis_wire::HeaderCheck;
 use std::alloc::Global;
 use std::sync::Wait;
 use std::thread::Threads;
-use uplink::{LiveDecisions, LiveSource, LossRule, RunFault, Setup, Sources, receive};
+use uplink::{LiveDecisions, LiveSource, LossRule, Received, RunFault, Setup, Sources, receive};
 
 /// Nothing was counted yet.
 const NOTHING: Counts = Counts {
@@ -21,8 +21,9 @@ const NOTHING: Counts = Counts {
 };
 
 /// Receives on four channels until all sources and decisions are used up, and counts the frames and
-/// their bytes, and the requests; or answers the first fault of the setup (`Setup`, `Lane`,
-/// `NoCapacity`), or `OutOfMemory`: an allocation failed, or a thread could not be started.
+/// their bytes, and the requests, beside what was counted of each flow and channel; or answers the
+/// first fault of the setup (`Setup`, `Lane`, `NoCapacity`), or `OutOfMemory`: an allocation
+/// failed, or a thread could not be started.
 pub fn count_received<S0, S1, S2, S3, D, C, R>(
     alloc: Global,
     rt: R,
@@ -31,7 +32,7 @@ pub fn count_received<S0, S1, S2, S3, D, C, R>(
     sources: Sources<S0, S1, S2, S3>,
     decisions: D,
     check: C,
-) -> Result<(Counts, Counts), RunFault>
+) -> Result<Received<Counts, Counts>, RunFault>
 where
     S0: LiveSource + Drop + Send + 'static,
     S1: LiveSource + Drop + Send + 'static,
@@ -40,17 +41,17 @@ where
     D: LiveDecisions + Drop + Send + 'static,
     C: HeaderCheck + Drop,
     R: Threads + Wait + Copy + Send + 'static,
-    ensures counted { IfOk result (λ counts. AreCounts rule (C.accepts check) setup
+    ensures counted { IfOk result (AreCounts rule (C.accepts check) setup
         (CameFrom (Yields S0.gave S0.is_over sources.s0) (Yields S1.gave S1.is_over sources.s1)
         (Yields S2.gave S2.is_over sources.s2) (Yields S3.gave S3.is_over sources.s3)
-        (Yields D.gave D.is_over decisions)) counts.0 counts.1) }
+        (Yields D.gave D.is_over decisions))) }
     ensures fault { IfErr result (IsRunFault setup) }
 {
     consumers_begin_with_nothing_given();
     match receive(
         alloc, rt, setup, rule, sources, decisions, NOTHING, NOTHING, check,
     ) {
-        Ok(received) => Ok((received.consumer, received.scheduler)),
+        Ok(received) => Ok(received),
         Err(error) => Err(error.fault),
     }
 }

@@ -21,7 +21,7 @@ pub struct Served {
 
 /// The taker that a consumer's thread is started with.
 #[derive(Drop)]
-struct ConsumerPromise(Snapshot<Taker>);
+pub(crate) struct ConsumerPromise(Snapshot<Taker>);
 
 impl Promise<Option<Served>> for ConsumerPromise {
     ghost kept_by = { λ promise result. IfSome result (IsServed promise.0.value) };
@@ -58,7 +58,7 @@ where
 }
 
 /// Starts a thread that takes all frames.
-fn start_consumer<R>(
+pub(crate) fn start_consumer<R>(
     rt: &R,
     alloc: Global,
     taker: Taker,
@@ -113,7 +113,7 @@ fn offer_all(feeder: &mut Feeder, frames: Vec<Vec<u8>>) -> Result<(), Refused>
 }
 
 /// Closes a feeder, and tries again until it is closed.
-fn close<R: Wait>(rt: &R, feeder: Feeder) -> ClosedFeeder
+pub(crate) fn close<R: Wait>(rt: &R, feeder: Feeder) -> ClosedFeeder
     ensures ring { closed_ring result ≡ feeder_ring feeder }
     ensures offered { closed_offered result ≡ offered feeder }
 {

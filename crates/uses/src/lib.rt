@@ -3,12 +3,14 @@
 #![tactic(auto)]
 
 pub mod burst;
+pub mod byte_source;
 pub mod counted_run;
 pub mod cut_joined_again;
 pub mod delivery_flows;
 pub mod delivery_run;
 pub mod five_senders;
 pub mod flow;
+pub mod handed_on;
 pub mod header_check;
 pub mod losses_by_rule;
 pub mod midstream;

@@ -120,6 +120,26 @@ fn replay_text_by_is_refused(rt: HostRuntime) -> Result<(), Fail> {
     Ok(())
 }
 
+#[test]
+fn replaying_program_for_some_flows_is_refused(rt: HostRuntime) -> Result<(), Fail> {
+    let words = ["segrx", "replay", "--flows", "0,3,8-15"];
+    run_program(rt, &words, TRACE.as_bytes(), REPORT, &mut [0u8; 233])
+}
+
+/// What all shards but the first have of the trace.
+const LANES: &str = "\
+lane 0 admitted 2 refused -
+lane 1 admitted 1 refused -
+lane 2 admitted 0 refused -
+lane 3 admitted 0 refused -
+";
+
+#[test]
+fn replaying_program_for_a_shard_is_refused(rt: HostRuntime) -> Result<(), Fail> {
+    let words = ["segrx", "replay", "--shard=1/2"];
+    run_program(rt, &words, TRACE.as_bytes(), LANES, &mut [0u8; 112])
+}
+
 /// Follows the trace into an array that is just large enough for what is printed of it.
 fn follow_into(alloc: Global, text: &mut [u8]) -> Result<(), EngineFault> {
     let mut reader = Device::new(TRACE.as_bytes());
@@ -218,7 +238,7 @@ fn read_words_is_refused(rt: HostRuntime) -> Result<(), Fail> {
         println!(rt; "refused")?;
         read = read_words(rt.alloc(), &words);
     }
-    match read {
+    match &read {
         Ok(Command::Help(text)) => assert!(rt; text.contains("Usage: segrx")),
         _ => assert!(rt; false, "no help"),
     }

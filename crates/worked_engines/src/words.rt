@@ -1,6 +1,7 @@
 //! What `read_words` answers. Runs of the program show which words it understands.
 use docsis_wire::FillByte;
 use engines::{Command, UsageFault, read_words};
+use flow_selection::Selection;
 use loss_rule::LossRule;
 use std::alloc::Global;
 
@@ -10,6 +11,8 @@ enum Asked {
     Join,
     Cut(u16, FillByte),
     Replay(LossRule),
+    /// Which of the flows 0 to 63 are asked for, flow 0 by the lowest bit.
+    ReplayFlows(LossRule, u64),
     Run(LossRule, u16, u16),
     Follow(LossRule, u8, bool),
     Map,
@@ -17,11 +20,27 @@ enum Asked {
     Fault(UsageFault),
 }
 
+/// Which of the first 64 flows are selected.
+fn first_flows(selected: &Selection) -> u64 {
+    let mut flows = 0u64;
+    for place in 1..=64usize {
+        let has = selected.has(64usize.saturating_sub(place));
+        flows = flows.rotate_left(1) | if has { 1 } else { 0 };
+    }
+    flows
+}
+
 fn what_is_asked(alloc: Global, words: &[&str]) -> Asked {
     match read_words(alloc, words) {
         Ok(Command::Join) => Asked::Join,
         Ok(Command::Cut { first, fill }) => Asked::Cut(first, fill),
-        Ok(Command::Replay { rule }) => Asked::Replay(rule),
+        Ok(
+            Command::Replay {
+                rule,
+                flows: Selection::All,
+            },
+        ) => Asked::Replay(rule),
+        Ok(Command::Replay { rule, flows }) => Asked::ReplayFlows(rule, first_flows(&flows)),
         Ok(
             Command::Run {
                 rule,
@@ -250,9 +269,150 @@ const WORDS: [(&str, &[&str], Asked); 56] = [
     ("a name like an option", &["-h", "join"], Asked::Join),
 ];
 
+/// Words that ask for some flows, and the first that ask for none.
+const FLOW_WORDS: [(&str, &[&str], Asked); 15] = [
+    (
+        "a shard of replay",
+        &["segrx", "replay", "--shard", "1/4"],
+        Asked::ReplayFlows(LossRule::Decided, 0x2222_2222_2222_2222),
+    ),
+    (
+        "the last shard, behind a rule",
+        &["segrx", "replay", "--losses=slid", "--shard=3/4"],
+        Asked::ReplayFlows(LossRule::PassedOrSlid, 0x8888_8888_8888_8888),
+    ),
+    (
+        "the only shard",
+        &["segrx", "replay", "--shard=0/1"],
+        Asked::ReplayFlows(LossRule::Decided, u64::MAX),
+    ),
+    (
+        "a shard of as many as there may be",
+        &["segrx", "replay", "--shard", "16383/16384"],
+        Asked::ReplayFlows(LossRule::Decided, 0),
+    ),
+    (
+        "a list of flows",
+        &["segrx", "replay", "--flows", "0,3,8-15"],
+        Asked::ReplayFlows(LossRule::Decided, 0xff09),
+    ),
+    (
+        "a list of flows that overlap, up to the last one, before a rule",
+        &[
+            "segrx",
+            "replay",
+            "--flows=62-63,060-62",
+            "--losses",
+            "passed",
+        ],
+        Asked::ReplayFlows(LossRule::Passed, 0xf000_0000_0000_0000),
+    ),
+    ("shard 4 of 4", &["segrx", "replay", "--shard=4/4"], USAGE),
+    ("shard 0 of 0", &["segrx", "replay", "--shard=0/0"], USAGE),
+    (
+        "one of too many shards",
+        &["segrx", "replay", "--shard=0/16385"],
+        USAGE,
+    ),
+    ("half a shard", &["segrx", "replay", "--shard=1"], USAGE),
+    ("a shard of none", &["segrx", "replay", "--shard=1/"], USAGE),
+    ("no shard of two", &["segrx", "replay", "--shard=/2"], USAGE),
+    (
+        "a shard with a sign",
+        &["segrx", "replay", "--shard=+1/2"],
+        USAGE,
+    ),
+    (
+        "a shard of a shard",
+        &["segrx", "replay", "--shard=0/2/3"],
+        USAGE,
+    ),
+    (
+        "a range that goes backwards",
+        &["segrx", "replay", "--flows=3-1"],
+        USAGE,
+    ),
+];
+
+/// More words that ask for no flows.
+const WORDS_WITHOUT_FLOWS: [(&str, &[&str], Asked); 14] = [
+    ("flow 64", &["segrx", "replay", "--flows=0,64"], USAGE),
+    (
+        "a range up to flow 64",
+        &["segrx", "replay", "--flows=8-64"],
+        USAGE,
+    ),
+    ("no flows", &["segrx", "replay", "--flows="], USAGE),
+    (
+        "a comma behind the flows",
+        &["segrx", "replay", "--flows=1,"],
+        USAGE,
+    ),
+    (
+        "a comma before the flows",
+        &["segrx", "replay", "--flows=,1"],
+        USAGE,
+    ),
+    (
+        "a range with no last flow",
+        &["segrx", "replay", "--flows=1-"],
+        USAGE,
+    ),
+    (
+        "a range of three flows",
+        &["segrx", "replay", "--flows=1-2-3"],
+        USAGE,
+    ),
+    (
+        "a list with a space",
+        &["segrx", "replay", "--flows", "1, 2"],
+        USAGE,
+    ),
+    (
+        "a shard and a list",
+        &["segrx", "replay", "--shard=0/2", "--flows=0"],
+        USAGE,
+    ),
+    (
+        "two shards",
+        &["segrx", "replay", "--shard=0/2", "--shard=1/2"],
+        USAGE,
+    ),
+    (
+        "two lists",
+        &["segrx", "replay", "--flows=0", "--flows=0"],
+        USAGE,
+    ),
+    ("a shard of run", &["segrx", "run", "--shard=0/2"], USAGE),
+    (
+        "help behind a shard",
+        &["segrx", "replay", "--shard=0/2", "--help"],
+        Asked::Help,
+    ),
+    (
+        "help behind a shard that isn't there",
+        &["segrx", "replay", "--shard=2/2", "--help"],
+        USAGE,
+    ),
+];
+
 #[test]
 fn reads_words(rt: HostRuntime) {
     for (case, words, want) in &WORDS {
+        assert_eq!(rt; what_is_asked(rt.alloc(), words), *want, "{case}");
+    }
+}
+
+#[test]
+fn reads_which_flows_are_asked_for(rt: HostRuntime) {
+    for (case, words, want) in &FLOW_WORDS {
+        assert_eq!(rt; what_is_asked(rt.alloc(), words), *want, "{case}");
+    }
+}
+
+#[test]
+fn refuses_what_asks_for_no_flows(rt: HostRuntime) {
+    for (case, words, want) in &WORDS_WITHOUT_FLOWS {
         assert_eq!(rt; what_is_asked(rt.alloc(), words), *want, "{case}");
     }
 }
@@ -284,7 +444,12 @@ const HELPS: [(&[&str], &[&str]); 6] = [
     (&["segrx", "join", "-h"], &["Usage: segrx join < "]),
     (
         &["segrx", "replay", "-h"],
-        &["Usage: segrx replay [", "--losses <RULE>"],
+        &[
+            "Usage: segrx replay [",
+            "--losses <RULE>",
+            "--flows <LIST>",
+            "--shard <K/N>",
+        ],
     ),
     (
         &["segrx", "run", "-h"],

@@ -12,6 +12,7 @@ mod numbered;
 mod receivers;
 mod repeated;
 mod request_first;
+mod stopped;
 mod told_flows;
 
 use crate::expect::expect_same;

@@ -38,6 +38,8 @@ mod number_fields;
 mod ruled_texts;
 pub mod samples;
 #[cfg(test)]
+mod selected_flows;
+#[cfg(test)]
 mod taken_lines;
 #[cfg(test)]
 mod trace_lines;

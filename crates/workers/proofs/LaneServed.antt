@@ -1,5 +1,5 @@
 -- What a channel's worker has posted and reported.
-use Rattle.std.proofs.Common.{◌≡◌, Option, Some, IfSome, List, [], ◌∷◌, ◌++◌, map, refl, sym, ap, ◌∙◌, append_assoc}
+use Rattle.std.proofs.Common.{◌≡◌, Option, IfSome, List, [], ◌∷◌, ◌++◌, map, refl, sym, ap, ◌∙◌, append_assoc}
 use Rattle.std.proofs.lemmas.List.{map-append, append-nil}
 use Rattle.mailbox.specs.Ports.{address, posted}
 use Rattle.mailbox.specs.declared.port.ClosedPort.{ClosedPort}

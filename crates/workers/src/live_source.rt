@@ -8,7 +8,8 @@ use flow_records::Decision;
 use lane::Input;
 
 /// The inputs of one channel, of which nothing need be known before they are given: what a file, a
-/// pipe or a socket has. Once it has answered `None` it isn't asked again.
+/// pipe or a socket has. Once it has answered `None` it isn't asked again. For what is said of a
+/// receiver to say something of it, `gave` has to hold of a source as it is and of no inputs.
 pub trait LiveSource {
     // The first became the second by giving these inputs, in order.
     ghost gave: { Self → List Input → Self → Type 0 };

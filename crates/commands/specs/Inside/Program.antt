@@ -11,15 +11,16 @@ use Rattle.capture_engines.specs.Mapping.{MapsCapture}
 use Rattle.commands.specs.Program.{WritesHelp, RunsFollowBy}
 use Rattle.texts.specs.Join.{IsJoined, IsJoinFault}
 use Rattle.texts.specs.Cut.{IsCutText, IsCutFault}
-use Rattle.texts.specs.Replay.{IsReplayedBy, IsReplayFault, IsReportFault}
+use Rattle.texts.specs.Replay.{IsReplayFault, IsReportFault}
 use Rattle.texts.specs.Run.{IsRunTextBy}
+use Rattle.texts.specs.Selected.{IsReplayedOf}
 
 -- what a command does: its engine runs, or the text of help is written
 abbrev pub Performs : {R W : Type 0} → (R → Option (List ℕ)) → (W → Option (List ℕ)) → Command → Device R → Device R → Device W → Device W → Result (Unit {0}) EngineFault → Type 0
 Performs remaining contents Join reader reader' writer writer' result = RunsEngine remaining contents IsJoined IsJoinFault reader reader' writer writer' result
 Performs remaining contents (Cut first fill) reader reader' writer writer' result = RunsEngine remaining contents (IsCutText first fill) IsCutFault reader reader' writer writer' result
-Performs remaining contents (Replay rule) reader reader' writer writer' result =
-    RunsEngine remaining contents (IsReplayedBy rule) IsReplayFault reader reader' writer writer' result
+Performs remaining contents (Replay rule selected) reader reader' writer writer' result =
+    RunsEngine remaining contents (IsReplayedOf selected rule) IsReplayFault reader reader' writer writer' result
 Performs remaining contents (Run rule mailbox ring) reader reader' writer writer' result =
     RunsEngine remaining contents (IsRunTextBy rule ring mailbox) (IsReportFault ring) reader reader' writer writer' result
 Performs remaining contents (Follow rule channels events) reader reader' writer writer' result =
@@ -31,7 +32,7 @@ Performs remaining contents (Help text) reader reader' writer writer' result = W
 abbrev pub IsInRange : Command → Type 0
 IsInRange Join = Unit {0}
 IsInRange (Cut first fill) = first < sequence_modulus
-IsInRange (Replay rule) = Unit {0}
+IsInRange (Replay rule selected) = Unit {0}
 IsInRange (Run rule mailbox ring) = (1 ≤ mailbox) × (1 ≤ ring)
 IsInRange (Follow rule channels events) = (1 ≤ channels) × (channels ≤ channels_max)
 IsInRange Map = Unit {0}

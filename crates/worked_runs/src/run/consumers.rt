@@ -11,6 +11,7 @@ use crate::expect::expect_same;
 use docsis_wire::{Bytes, NoCheck};
 use flow_core::FlowCounts;
 use std::alloc::{AllocError, Global};
+use std::error::Error;
 use std::sync::{Arc, Wait};
 use std::test::Fail;
 use std::thread::Threads;
@@ -204,5 +205,21 @@ fn requests_counted(answer: Answer<Forgets, Counts>) -> Option<u64> {
 fn goes_on_with_what_it_is_handed(rt: HostRuntime) -> Result<(), Fail> {
     let answer = count_on(rt.alloc(), rt)?;
     expect_same(&rt, "requests", requests_counted(answer), Some(9));
+    Ok(())
+}
+
+/// What an error says.
+fn message<E: Error>(alloc: Global, error: &E) -> Result<String, AllocError> {
+    error.to_string(alloc)
+}
+
+#[test]
+fn error_says_what_its_fault_says(rt: HostRuntime) -> Result<(), Fail> {
+    let alloc = rt.alloc();
+    let mut setup = numbered::narrow(alloc, 16)?;
+    setup.mailbox = 0;
+    let answer = receive_on_channel_0(alloc, rt, setup, no_inputs(alloc), Forgets, Forgets);
+    let said = message(alloc, &answer.err().ok_or("an error")?)?;
+    assert_eq!(rt; said.as_str(), "a mailbox needs room for an entry");
     Ok(())
 }

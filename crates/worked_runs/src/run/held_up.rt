@@ -24,6 +24,11 @@ impl Calls {
         }
     }
 
+    /// How often the source was asked.
+    pub fn made(&self) -> u64 {
+        self.made.load(Ordering::SeqCst)
+    }
+
     /// How often the source had been asked when the tap looked, and 0 before that.
     pub fn seen(&self) -> u64 {
         self.seen.load(Ordering::SeqCst)

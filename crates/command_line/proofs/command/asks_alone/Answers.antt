@@ -1,6 +1,6 @@
 use Rattle.std.proofs.Common.{sym, ◌∙◌}
 use Rattle.std.specs.Prelude.{map}
-use Rattle.command_line.proofs.AskedWords.{AsksForAnEngine-replay}
+use Rattle.command_line.proofs.AskedFlows.{AsksForAnEngine-replay}
 use Rattle.command_line.proofs.command.asks_alone.Goals as goal
 
 pub returns-else-asks_to_map : goal.returns-else-asks_to_map

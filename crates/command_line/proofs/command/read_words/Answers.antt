@@ -9,14 +9,18 @@ use Rattle.command_line.specs.Command.{options_in}
 use Rattle.command_line.proofs.AskedRules.{AskForRule-alone}
 use Rattle.command_line.proofs.AskedEvents.{AskForRule-follow, AskForEvents-alone}
 use Rattle.command_line.proofs.AskedChannels.{AskForChannels-alone}
-use Rattle.command_line.proofs.AskedWithoutHelp.{runs_without_help, follows_without_help}
+use Rattle.command_line.proofs.AskedFlows.{AsksToReplayFlows-alone}
+use Rattle.command_line.proofs.AskedWithoutHelp.{replays_without_help, runs_without_help, follows_without_help}
 use Rattle.command_line.proofs.CommandsApart.{commands_apart, replay_is_not_run, follow_is_not_replay, follow_is_not_run}
 use Rattle.command_line.proofs.AskedWords.{AsksForAnEngine-with_options}
 use Rattle.command_line.proofs.command.read_words.Goals as goal
-use Rattle.command_line.proofs.command.read_words.Goals.{then-not-asks_alone+in_ok-read_with_options+in-Help-1, then-not-asks_alone+in_ok-read_with_options+in-Join-1, else-not-asks_alone}
+use Rattle.command_line.proofs.command.read_words.Goals.{then-not-asks_alone+in_ok-read_with_options+in-Help-1, then-not-asks_alone+in_ok-read_with_options+in-Join-1, then-not-asks_alone+in_ok-read_with_options+in-Replay+in-Listed-1, then-not-asks_alone+in_ok-read_with_options+in-Replay+in-All-1, else-not-asks_alone}
 
 pub returns-in-Some-clause-asked : goal.returns-in-Some-clause-asked
-returns-in-Some-clause-asked g c = (c.asked_rule_alone_of.ensures c.in-Some.rule).0 c.in-Some.is
+returns-in-Some-clause-asked g c =
+    let words = map g.S.AsStr.text c.args.words.now in
+    let replays = (c.asked_rule_alone_of.ensures c.in-Some.rule).0 c.in-Some.is in
+    (AsksToReplayFlows-alone c.in-Some.rule words replays, replays_without_help c.in-Some.rule words replays)
 
 pub returns-in-Some-clause-replay : goal.returns-in-Some-clause-replay
 returns-in-Some-clause-replay g c = λ rule asks. cc ((c.asked_rule_alone_of.ensures rule).1 asks, c.in-Some.is)
@@ -64,6 +68,10 @@ returns-clause-asked g c =
       | then-not-asks_alone+in_ok-read_with_options+in-Help-1 w ↦
           (before, c.in-Some-before_help.ensures, AsksForAnEngine-with_options before w.in_ok-read_with_options.field-0 w.in_ok-read_with_options.ensures)
       | then-not-asks_alone+in_ok-read_with_options+in-Join-1 w ↦
+          (before, c.in-Some-before_help.ensures, AsksForAnEngine-with_options before w.in_ok-read_with_options.field-0 w.in_ok-read_with_options.ensures)
+      | then-not-asks_alone+in_ok-read_with_options+in-Replay+in-Listed-1 w ↦
+          (before, c.in-Some-before_help.ensures, AsksForAnEngine-with_options before w.in_ok-read_with_options.field-0 w.in_ok-read_with_options.ensures)
+      | then-not-asks_alone+in_ok-read_with_options+in-Replay+in-All-1 w ↦
           (before, c.in-Some-before_help.ensures, AsksForAnEngine-with_options before w.in_ok-read_with_options.field-0 w.in_ok-read_with_options.ensures)
       | else-not-asks_alone w ↦
           (before, c.in-Some-before_help.ensures, c.asks_alone.ensures w.if-not-asks_alone.false)

@@ -1,5 +1,6 @@
 use Rattle.std.proofs.Common.{◌≡◌, Bool}
 use Rattle.std.specs.Prelude.{map}
+use Rattle.flow_selection.specs.declared.selection.Selection.TheVariants.{All}
 use Rattle.loss_rule.specs.declared.rule.LossRule.{LossRule}
 use Rattle.command_line.specs.declared.command.Command.TheVariants.{Join, Replay, Run, Follow, Map}
 use Rattle.engines.specs.Fault.{usage_fault}
@@ -14,7 +15,7 @@ returns g c =
     let words = map g.S.AsStr.text c.args.words.now in
     let joins : AsksToJoin words → c.in_ok-command.command ≡ Join = λ asks. cc (c.in_ok-command.was, c.read_words.ensures.join asks) in
     let maps : AsksToMap words → c.in_ok-command.command ≡ Map = λ asks. cc (c.in_ok-command.was, c.read_words.ensures.map asks) in
-    let replays : (rule : LossRule) → AsksToReplayBy rule words → c.in_ok-command.command ≡ Replay rule =
+    let replays : (rule : LossRule) → AsksToReplayBy rule words → c.in_ok-command.command ≡ Replay rule All =
     λ rule asks. cc (c.in_ok-command.was, c.read_words.ensures.replay rule asks)
     in
     let runs : (rule : LossRule) → AsksToRunByAlone rule words → c.in_ok-command.command ≡ Run rule default_capacity default_capacity =
@@ -25,7 +26,7 @@ returns g c =
     in
     Obeys-performed g.R.Read.remaining g.W.Write.contents words c.args.reader.now c.perform.new.reader c.args.out.now c.perform.new.out
     c.in_ok-command.command c.perform.result c.replay_by_decisions_alone_is_a_replay.ensures.replay c.run_by_decisions_alone_is_a_run.ensures.run
-    c.requires.reader c.requires.out c.in_ok-command.ensures.asked joins maps replays runs follows c.perform.ensures
+    c.report_of_all_flows_is_the_report.ensures.replay c.requires.reader c.requires.out c.in_ok-command.ensures.asked joins maps replays runs follows c.perform.ensures
 
 pub returns-in_err-command : goal.returns-in_err-command
 returns-in_err-command g c =

@@ -69,3 +69,6 @@ returns-clause-map g c = (SaysOfWords-run c.new-reader.ensures.inner c.run_words
 
 pub returns-clause-map_is_known : goal.returns-clause-map_is_known
 returns-clause-map_is_known g c = (SaysOfWords-run c.new-reader.ensures.inner c.run_words-status.ensures).map_is_known
+
+pub returns-clause-replay_flows : goal.returns-clause-replay_flows
+returns-clause-replay_flows g c = (SaysOfWords-run c.new-reader.ensures.inner c.run_words-status.ensures).replay_flows

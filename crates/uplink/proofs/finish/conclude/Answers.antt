@@ -1,5 +1,5 @@
 -- All that was posted and offered was taken, and what is concluded is what was counted and noted.
-use Rattle.std.proofs.Common.{◌≡◌, Option, Some, None, IfSome, ◌∷◌, [], slice_get, subst, sym, ap, ◌∙◌}
+use Rattle.std.proofs.Common.{◌≡◌, Option, Some, None, IfSome, slice_get, subst, sym, ap, ◌∙◌}
 use Rattle.uplink.specs.declared.assembler.Assembled.{Assembled}
 use Rattle.uplink.specs.declared.finish.Concluded.{Concluded}
 use Rattle.uplink.specs.declared.finish.Ended.{Ended}

@@ -1,5 +1,5 @@
 -- What a flow has given comes first in the delivery sequence after the events that it has taken.
-use Rattle.std.proofs.Common.{◌≡◌, ℕ, Bool, Option, Some, None, List, [], ◌∷◌, ◌++◌, replicate, refl, sym, ap, subst, ◌∙◌, append_assoc, append-nil}
+use Rattle.std.proofs.Common.{◌≡◌, ℕ, Bool, Option, Some, None, List, [], ◌∷◌, ◌++◌, replicate, sym, ap, subst, ◌∙◌, append_assoc, append-nil}
 use Rattle.docsis_wire.specs.declared.segment.Segment.{Segment}
 use Rattle.docsis_wire.specs.Cut.{IsLawfulCut}
 use Rattle.flow_core.specs.declared.counts.FlowCounts.{FlowCounts}
@@ -8,7 +8,6 @@ use Rattle.flow_core.specs.Fates.{Fates}
 use Rattle.flow_core.specs.Near.{AreNear}
 use Rattle.flow_core.specs.Outcome.{IsFlowOutcome}
 use Rattle.loss_rule.specs.Rule.{Coming, Lasts, AreRuled}
-use Rattle.bonded_flows.specs.declared.bonded_flow.BondedFlow.{BondedFlow}
 use Rattle.bonded_flows.specs.declared.pending.Pending.{Pending}
 use Rattle.bonded_flows.specs.declared.pending.Pending.TheVariants.{Nothing, Slide, Arrive, Close}
 use Rattle.bonded_flows.specs.FlowSetup.{FlowSetup, ruled_flow}

@@ -1,5 +1,5 @@
 -- What the run came to is what was received, and both come back.
-use Rattle.std.proofs.Common.{[], Option, Some, None, IfSome, refl, sym, subst}
+use Rattle.std.proofs.Common.{[], Option, None, IfSome, refl, sym, subst}
 use Rattle.std.proofs.lemmas.Bool.{false≢true}
 use Rattle.std.proofs.lemmas.Result.{IfOk-weaker, IfErr-weaker}
 use Rattle.receiver.specs.declared.tally.LaneTally.{LaneTally}

@@ -4,6 +4,7 @@ use super::{
     Answer, ONE_REQUEST, TWO_FRAMES_COUNTED, collect, frames_collected, receive_on_channel_0,
 };
 use crate::expect::expect_same;
+use crate::run::held_up::{Calls, Counting};
 use crate::run::receivers::no_inputs;
 use crate::run::{TWO_FRAMES, numbered};
 use std::alloc::{AllocError, Global};
@@ -31,16 +32,19 @@ fn after(earlier: Counts, given: Counts) -> Counts {
 }
 
 /// Receives two frames and a request. What comes back has counted them besides what it had, or, if
-/// memory was refused, a part of them.
+/// memory was refused, a part of them; and it says whether the source was asked for anything.
 fn try_to_count<R>(alloc: Global, rt: R) -> Result<(Counts, Counts), RunFault>
 where
     R: Abort + Threads + Wait + Copy + Send + 'static,
 {
-    let source = ListSource::new(inputs_of(alloc, &TWO_FRAMES, 0)?);
+    let calls = Calls::none(alloc)?;
+    let list = ListSource::new(inputs_of(alloc, &TWO_FRAMES, 0)?);
+    let source = Counting::new(list, &calls)?;
     let setup = numbered::narrow(alloc, 16)?;
     match receive_on_channel_0(alloc, rt, setup, source, EARLIER, EARLIER) {
         Ok(received) => Ok((received.consumer, received.scheduler)),
         Err(error) => {
+            assert!(rt; error.began == (calls.made() > 0));
             expect_part(&rt, error.consumer, TWO_FRAMES_COUNTED);
             expect_part(&rt, error.scheduler, ONE_REQUEST);
             Err(error.fault)

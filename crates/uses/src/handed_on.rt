@@ -1,0 +1,284 @@
+//! A running receiver whose consumer hands the frames of a flow on to another thread.
+ghost use Rattle.std.specs.Prelude.{◌≡◌, ◌++◌, ◌∷◌, [], IsTrue, IfOk, IfSome};
+ghost use Rattle.delivery.specs.Frames.{frames_in};
+ghost use Rattle.delivery.specs.Feeders.{feeder_ring, offered, closed_ring, closed_offered};
+ghost use Rattle.delivery.specs.Takers.{taker_ring, taken};
+ghost use Rattle.uplink.specs.Received.{CameFrom};
+ghost use Rattle.workers.specs.Given.{Yields};
+ghost use Rattle.uses.specs.DeliveryRun.{IsServed};
+ghost use Rattle.uses.specs.HandedOn.{TookOfFlow};
+
+use crate::delivery_run::{ConsumerPromise, Served, close, start_consumer};
+use consumer::{Consumer, Forgets};
+use delivery::{ClosedFeeder, Feeder, OpenFault, ring, settle};
+use docsis_wire::{Bytes, HeaderCheck};
+use lane::Request;
+use std::alloc::Global;
+use std::sync::Wait;
+use std::thread;
+use std::thread::{PromisedHandle, Threads};
+use thiserror::Error;
+use uplink::{LiveDecisions, LiveSource, LossRule, RunFault, Setup, Sources, receive};
+
+/// Hands the frames of one flow on into a ring, and waits where that is full, so that a receiver
+/// waits for whoever takes them. Frames of other flows, and requests, it lets go.
+#[derive(Drop)]
+pub struct HandsOn<R> {
+    rt: R,
+    flow: usize,
+    feeder: Feeder,
+    /// Whether every frame went on: one for which an allocation failed did not.
+    is_whole: bool,
+}
+
+#[tactic(auto, using(crate::proofs::HandingOn::handing))]
+impl<R: Wait> Consumer for HandsOn<R> {
+    ghost use Rattle.uses.specs.HandedOn.{HasHandedOn};
+
+    ghost after = { HasHandedOn };
+
+    fn frame(&mut self, flow: usize, frame: Bytes) {
+        if flow != self.flow {
+            return;
+        }
+        if !hand_on(&self.rt, &mut self.feeder, frame.into_vec()) {
+            self.is_whole = false;
+        }
+    }
+
+    fn request(&mut self, _request: Request) {}
+}
+
+/// Offers a frame, and waits until it is in the ring. Answers false where an allocation failed.
+fn hand_on<R: Wait>(rt: &R, feeder: &mut Feeder, frame: Vec<u8>) -> bool
+    ensures ring { feeder_ring feeder.new ≡ feeder_ring feeder.old }
+    ensures offered { IsTrue result → offered feeder.new ≡ offered feeder.old ++ frame.items ∷ [] }
+{
+    if feeder.offer(frame).is_err() {
+        return false;
+    }
+    for _ in rt.forever() {
+        if feeder.flush() == 0 {
+            break;
+        }
+        thread::yield_now();
+    }
+    true
+}
+
+/// Why no frames are handed on, or not all.
+#[derive(Clone, Copy, Debug, PartialEq, Eq, Error)]
+pub enum HandingFault {
+    /// The ring can't be made.
+    #[error(transparent)]
+    Ring(OpenFault),
+    /// The receiver doesn't run, or not to its end.
+    #[error(transparent)]
+    Run(RunFault),
+}
+
+/// Receives on four channels until all sources and decisions are used up. The frames of the flow
+/// with this index go through a ring of this capacity to a thread of their own, as they come. The
+/// answer is what that thread took.
+pub fn take_elsewhere<S0, S1, S2, S3, D, C, R>(
+    alloc: Global,
+    rt: R,
+    setup: Setup,
+    rule: LossRule,
+    sources: Sources<S0, S1, S2, S3>,
+    decisions: D,
+    check: C,
+    flow: usize,
+    capacity: u16,
+) -> Result<Vec<Vec<u8>>, HandingFault>
+where
+    S0: LiveSource + Drop + Send + 'static,
+    S1: LiveSource + Drop + Send + 'static,
+    S2: LiveSource + Drop + Send + 'static,
+    S3: LiveSource + Drop + Send + 'static,
+    D: LiveDecisions + Drop + Send + 'static,
+    C: HeaderCheck + Drop,
+    R: Threads + Wait + Copy + Send + 'static,
+    ensures { IfOk result (TookOfFlow rule (C.accepts check) setup
+        (CameFrom (Yields S0.gave S0.is_over sources.s0) (Yields S1.gave S1.is_over sources.s1)
+        (Yields S2.gave S2.is_over sources.s2) (Yields S3.gave S3.is_over sources.s3)
+        (Yields D.gave D.is_over decisions)) flow) }
+{
+    let (feeder, taker) = match ring(alloc, capacity) {
+        Ok(ends) => ends,
+        Err(fault) => return Err(HandingFault::Ring(fault)),
+    };
+    let Ok(handle) = start_consumer(&rt, alloc, taker) else {
+        return Err(HandingFault::Run(RunFault::OutOfMemory));
+    };
+    let consumer = HandsOn {
+        rt,
+        flow,
+        feeder,
+        is_whole: true,
+    };
+    match receive(
+        alloc, rt, setup, rule, sources, decisions, consumer, Forgets, check,
+    ) {
+        Ok(received) => match take_rest(&rt, received.consumer, handle) {
+            Some(frames) => Ok(frames),
+            None => Err(HandingFault::Run(RunFault::OutOfMemory)),
+        },
+        Err(error) => {
+            let HandsOn { feeder, .. } = error.consumer;
+            close_and_join(&rt, feeder, handle);
+            Err(HandingFault::Run(error.fault))
+        }
+    }
+}
+
+/// Closes the ring, and waits for the thread at its other end.
+fn close_and_join<R: Threads + Wait>(
+    rt: &R,
+    feeder: Feeder,
+    handle: PromisedHandle<Option<Served>, ConsumerPromise>,
+) -> (ClosedFeeder, Option<Served>)
+    ensures ring { closed_ring result.0 ≡ feeder_ring feeder }
+    ensures offered { closed_offered result.0 ≡ offered feeder }
+    ensures served { IfSome result.1 (IsServed handle.promise.0.value) }
+{
+    let closed = close(rt, feeder);
+    (closed, handle.join(rt))
+}
+
+/// Closes the ring, waits for the thread at its other end, and answers what that took, or nothing
+/// where an allocation failed.
+fn take_rest<R: Threads + Wait + Copy>(
+    rt: &R,
+    consumer: HandsOn<R>,
+    handle: PromisedHandle<Option<Served>, ConsumerPromise>,
+) -> Option<Vec<Vec<u8>>>
+    requires { feeder_ring consumer.feeder ≡ taker_ring handle.promise.0.value }
+    ensures whole { IfSome result (λ _. IsTrue consumer.is_whole) }
+    ensures taken { IfSome result (λ frames. taken handle.promise.0.value
+        ++ frames_in frames.items ≡ offered consumer.feeder) }
+{
+    let HandsOn {
+        feeder,
+        is_whole,
+        ..
+    } = consumer;
+    let (mut closed, served) = close_and_join(rt, feeder, handle);
+    let Served { mut taker, frames } = served?;
+    if !is_whole {
+        return None;
+    }
+    settle(&mut closed, &mut taker);
+    Some(frames)
+}
+
+#[cfg(test)]
+mod tests {
+    use super::*;
+    use crate::byte_source::{ByteSource, EndOfSource};
+    use docsis_wire::NoCheck;
+    use flow_core::FlowRecord;
+    use std::alloc::AllocError;
+    use std::io::Cursor;
+    use std::test::Fail;
+    use uplink::{Foreknown, ListDecisions, SidRow};
+
+    /// How many segments come, each with a frame.
+    const SEGMENTS: u8 = 200;
+
+    /// A segment that holds a frame of seven bytes, which ends with its number.
+    fn segment(number: u8) -> [u8; 15] {
+        let [high, low] = (u16::from(number) << 3).to_be_bytes();
+        [
+            0x80, 0, high, low, 0, 0, 0, 0, 0, 0, 0, 1, 0x11, 0x11, number,
+        ]
+    }
+
+    /// The segments as a source reads them, each behind a grant of its size.
+    fn forms(alloc: Global) -> Result<Vec<u8>, AllocError> {
+        let mut bytes = Vec::new(alloc);
+        for number in 0..SEGMENTS {
+            bytes.extend_from_slice(&[0, 0, 0, 0, number, 0, 1, 0, 0, 0, 15])?;
+            bytes.extend_from_slice(&[1, 0, 0, 0, number, 1, 0, 0, 0, 15])?;
+            bytes.extend_from_slice(&segment(number))?;
+        }
+        Ok(bytes)
+    }
+
+    fn setup(alloc: Global) -> Result<Setup, AllocError> {
+        let flow_record = FlowRecord {
+            sfid: 1,
+            first: 0,
+            window: 16,
+            clusters: 2,
+            ring: 1,
+        };
+        let row = SidRow {
+            channel: 0,
+            sid: 1,
+            flow: 0,
+        };
+        Ok(Setup {
+            flows: Vec::from_slice(alloc, &[flow_record])?,
+            sids: Vec::from_slice(alloc, &[row])?,
+            mailbox: 1,
+        })
+    }
+
+    type Bytewise = ByteSource<Cursor<Vec<u8>>>;
+
+    fn source(alloc: Global, bytes: Vec<u8>) -> Result<(Bytewise, EndOfSource), AllocError> {
+        ByteSource::new(alloc, Cursor::new(bytes))
+    }
+
+    /// Receives what is read on channel 0, and answers what the other thread took, with what says
+    /// how the source ended; or nothing where that failed.
+    fn receive_bytes<R>(
+        alloc: Global,
+        rt: R,
+        capacity: u16,
+    ) -> Result<Option<(Vec<Vec<u8>>, EndOfSource)>, AllocError>
+    where
+        R: Threads + Wait + Copy + Send + 'static,
+    {
+        let (s0, end) = source(alloc, forms(alloc)?)?;
+        let (s1, _) = source(alloc, Vec::new(alloc))?;
+        let (s2, _) = source(alloc, Vec::new(alloc))?;
+        let (s3, _) = source(alloc, Vec::new(alloc))?;
+        let frames = take_elsewhere(
+            alloc,
+            rt,
+            setup(alloc)?,
+            LossRule::Decided,
+            Sources { s0, s1, s2, s3 },
+            Foreknown(ListDecisions::new(Vec::new(alloc))),
+            NoCheck,
+            0,
+            capacity,
+        );
+        Ok(frames.ok().map(|frames| (frames, end)))
+    }
+
+    /// Whether these are all frames, in order.
+    fn are_all(frames: &[Vec<u8>]) -> bool {
+        frames.len() == usize::from(SEGMENTS)
+            && (0..SEGMENTS).zip(frames).all(|(number, frame)| frame.as_slice()
+                == [0, 0, 0, 1, 0x11, 0x11, number].as_slice())
+    }
+
+    #[test]
+    fn frames_of_read_inputs_are_taken_elsewhere(rt: HostRuntime) -> Result<(), Fail> {
+        for capacity in [1, 16] {
+            let (frames, end) = receive_bytes(rt.alloc(), rt, capacity)?.ok_or("frames")?;
+            assert!(rt; are_all(&frames));
+            assert_eq!(rt; end.get(), Some(Ok(())));
+        }
+        Ok(())
+    }
+
+    #[test]
+    fn ring_needs_room(rt: HostRuntime) -> Result<(), Fail> {
+        assert!(rt; receive_bytes(rt.alloc(), rt, 0)?.is_none());
+        Ok(())
+    }
+}
