@@ -81,12 +81,14 @@ fn receive_refused(rt: HostRuntime) -> Result<(), Fail> {
 const SEGMENTS: u16 = 16;
 
 /// Receives the segments. If memory was refused, the consumer was given the first frames, and no
-/// other: no flow was closed that still waits for what a channel didn't give.
+/// other: no flow was closed that still waits for what a channel didn't give. The consumer may be
+/// refused memory itself.
 fn try_to_collect<R>(alloc: Global, rt: R) -> Result<Option<usize>, RunFault>
 where
     R: Abort + Threads + Wait + Copy + Send + 'static,
 {
     match collect(alloc, rt, SEGMENTS)? {
+        Ok(received) if !received.consumer.whole => Err(RunFault::OutOfMemory),
         Ok(received) => Ok(frames_collected(Ok(received))),
         Err(error) => {
             assert!(rt; are_first_collected(&error.consumer));
