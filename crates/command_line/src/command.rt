@@ -172,7 +172,8 @@ fn is_command<S: AsStr>(words: &[S], command: &str) -> bool
     options_of(words, command).is_some()
 }
 
-/// The rule by which the words, the program's name first, ask for this command and for nothing else.
+/// The rule by which the words, the program's name first, ask for this command and for nothing
+/// else.
 fn asked_rule_alone_of<S: AsStr>(words: &[S], command: &str) -> Option<LossRule>
     ensures { (rule : LossRule) → (result ≡ Some rule)
         ↔ (IsCommand command.now (map S.text words.now)

@@ -31,8 +31,8 @@ fn read_shard(value: &str) -> Option<Shard>
     })
 }
 
-/// The flows of one index, as `3`, or of some that follow each other, as `8-15`. No index is greater
-/// than the last one.
+/// The flows of one index, as `3`, or of some that follow each other, as `8-15`. No index is
+/// greater than the last one.
 fn read_range(text: &str, last: u16) -> Option<FlowRange>
     ensures { IfSome result (SaysRange last text.now) }
 {
@@ -81,7 +81,8 @@ fn read_ranges(alloc: Global, value: &str, last: u16) -> Result<Vec<FlowRange>, 
     Ok(ranges)
 }
 
-/// The flows that options ask for, whose indexes go up to the last one: all where they ask for none.
+/// The flows that options ask for, whose indexes go up to the last one: all where they ask for
+/// none.
 ///
 /// `Usage`: both options are there, or one twice, or its value says no flows: the remainder of a
 /// shard isn't below its count, a range goes backwards, an index is greater than the last one, or

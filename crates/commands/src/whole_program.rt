@@ -132,8 +132,9 @@ where
 }
 
 /// The whole program: it does what the words ask for, its name first, and answers the exit status:
-/// 0 where it was done, also for help, which goes to `out`; 1 for a fault of a line, of the cut or of a capture,
-/// 2 for usage, 3 for out of memory, 4 for a failed read or write. A fault's line goes to `err`.
+/// 0 where it was done, also for help, which goes to `out`; 1 for a fault of a line, of the cut or
+/// of a capture, 2 for usage, 3 for out of memory, 4 for a failed read or write. A fault's line
+/// goes to `err`.
 pub fn program<S, T, R, O, E>(alloc: Global, rt: T, words: &[S], reader: R, out: O, err: E) -> u8
 where
     S: AsStr,

@@ -11,8 +11,8 @@
 //! - [`follow_text`] is the engine of `follow`, which writes what a line brings before it reads on.
 //! - [`read_lines`] reads an input piece by piece, and [`write_report`] writes a report in the room
 //!   that [`held_room`] gives, for the engine of `run`; [`write_text`] writes a whole text.
-//! - [`TextWriter`] writes a text as it is put, and [`read_some`] makes one read without a limit into
-//!   the room that [`zeros`] gives, for the engines of other crates.
+//! - [`TextWriter`] writes a text as it is put, and [`read_some`] makes one read without a limit
+//!   into the room that [`zeros`] gives, for the engines of other crates.
 //! - [`write_fault`] writes the line of a fault, and [`status`] is its exit status.
 //!
 //! What matters most: they write exactly the text that stands for the lines they read; or they

@@ -71,8 +71,8 @@ pub fn replay_text<R: Read, W: Write>(
     replay_text_by(LossRule::Decided, alloc, reader, writer)
 }
 
-/// Replays as [`replay_text`] does, where besides the decisions of the trace this rule decides which
-/// segments are lost.
+/// Replays as [`replay_text`] does, where besides the decisions of the trace this rule decides
+/// which segments are lost.
 pub fn replay_text_by<R: Read, W: Write>(
     rule: LossRule,
     alloc: Global,

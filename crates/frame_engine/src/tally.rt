@@ -25,8 +25,8 @@ const CHANNELS: u8 = 16;
 /// What is counted of a capture, and its requests as CSV.
 #[derive(Drop)]
 pub struct CaptureTally {
-    /// What was counted so far. What was counted of a flow since it was begun or began anew is in it
-    /// once the flow was closed, or a fault ended the capture.
+    /// What was counted so far. What was counted of a flow since it was begun or began anew is in
+    /// it once the flow was closed, or a fault ended the capture.
     pub summary: CaptureSummary,
     /// The time of the last record.
     last_time: u64,
@@ -68,8 +68,8 @@ fn new_channels(alloc: Global, channels: &[MapChannel]) -> Result<Vec<ChannelSum
     Ok(summaries)
 }
 
-/// The refusals that a lane's reply to a burst tells of the burst and of its grant: no grant is there
-/// only where it was out of range.
+/// The refusals that a lane's reply to a burst tells of the burst and of its grant: no grant is
+/// there only where it was out of range.
 fn refusals_of(reply: Reply) -> (Option<Refusal>, Option<Refusal>) {
     match reply {
         Reply::Refused(Refusal::NoGrant) => (Some(Refusal::GrantRange), Some(Refusal::NoGrant)),
@@ -79,8 +79,8 @@ fn refusals_of(reply: Reply) -> (Option<Refusal>, Option<Refusal>) {
 }
 
 impl CaptureTally {
-    /// Nothing was counted, of a capture with this map. Lines of requests are kept, the line of their
-    /// names first, where they are asked for.
+    /// Nothing was counted, of a capture with this map. Lines of requests are kept, the line of
+    /// their names first, where they are asked for.
     pub fn new(
         alloc: Global,
         capture_map: &CaptureMap,

@@ -1,8 +1,8 @@
 //! The definitions of `join`, of `cut`, of `replay` and of traces determine their answers: an input
 //! has at most one text, or is at most one trace, has at most one first fault, and never both. So
 //! do those of `run`, but for the text, which may be one of several. A trace passes the checks of a
-//! receiver. Where decisions alone decide, the texts by the loss rule are those without one. What is
-//! given of a trace that is followed is what its report says.
+//! receiver. Where decisions alone decide, the texts by the loss rule are those without one. What
+//! is given of a trace that is followed is what its report says.
 //!
 //! Each function states a law in its contract; its body is empty or only calls other laws.
 ghost use Rattle.std.specs.Prelude.{◌≡◌, ◌≢◌, ◌≤◌, ◌++◌, ℕ, Bool, Some, List};

@@ -19,8 +19,8 @@
 //!   puts the lines of a cut, [`put_report`] a report, and [`put_report_of`] that of some flows
 //!   alone.
 //! - [`FollowInput`] follows a trace of up to 16 channels and 16,384 flows: what a receiver gives
-//!   for its lines is put as they are taken, and with events also what became of each input and each
-//!   decision; [`put_end`] puts what is left at its end. It and `ReplayInput` are each a
+//!   for its lines is put as they are taken, and with events also what became of each input and
+//!   each decision; [`put_end`] puts what is left at its end. It and `ReplayInput` are each a
 //!   [`TraceInput`].
 //!
 //! The lines and fields of all these formats, and the faults of a line, are those of `text_lines`;
