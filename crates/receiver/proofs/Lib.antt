@@ -23,3 +23,6 @@ pub mod ReplayedOrder
 pub mod ReplayedEntries
 pub mod OtherFlows
 pub mod PartsInTurn
+pub mod CountedKeys
+pub mod KeptSegments
+pub mod HeldSegments

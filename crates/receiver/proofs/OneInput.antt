@@ -1,4 +1,5 @@
--- What a receiver takes of one input of a channel: its flow is made ready, its lane answers it, and what is admitted comes to its flow.
+-- What a receiver takes of one input of a channel: its flow is made ready, its lane answers it, and
+-- what is admitted comes to its flow.
 use Rattle.std.proofs.Common.{◌≡◌, ℕ, ◌<◌, inl, inr, Bool, Option, Some, None, Ok, List, [], ◌∷◌, ◌++◌, length, map, filter_map, slice_get, slice_set, slice_index_or, refl, ap, sym, subst, ◌∙◌, append-nil, append_assoc, arith}
 use Rattle.std.specs.Option.{option_map}
 use Rattle.std.proofs.lemmas.Bool.{cases_eq}

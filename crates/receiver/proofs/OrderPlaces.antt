@@ -16,7 +16,8 @@ pub record IsLeftOver (lengths order : List ℕ) (k : ℕ) (left : List ℕ) : T
   pub counted : (sender : ℕ) → sender < senders → slice_index_or left sender 0 + times_of sender (take k order) ≡ slice_index_or lengths sender 0
   pub good : (j : ℕ) → j < k → ¬ (IsBadPlace lengths order j)
 
--- a sender stands once more in an order after a place that names it, and no more often after any other
+-- a sender stands once more in an order after a place that names it, and no more often after any
+-- other
 pub times-same : (order : List ℕ) (k tag : ℕ) → k < length order → get_or order k tag ≡ tag → times_of tag (take (k + 1) order) ≡ times_of tag (take k order) + 1
 times-same order k tag within here = count_by_more_yes (λ t. t == tag) order k tag within (eq-eqb (get_or order k tag) tag here)
 

@@ -26,7 +26,8 @@ pub one-changes : {C : Type 0} (flows flows' : FlowTable C) (flow : Option ℕ) 
 one-changes flows flows' None same = (0, λ other apart. ap (λ (t : FlowTable _). slice_get t.slots.items other) same)
 one-changes flows flows' (Some k) stay = (k, stay)
 
--- what is said of the lane that was looked at is said of the one that answers: they stand at one place
+-- what is said of the lane that was looked at is said of the one that answers: they stand at one
+-- place
 pub changes-of : {C : Type 0} (flows flows' : FlowTable C) (ready : Result (Unit {0}) NotReady) (lanes : List TalliedLane) (channel : ℕ) (looked here : TalliedLane)
     → slice_get lanes channel ≡ Some looked → slice_get lanes channel ≡ Some here → (input : Input)
     → ChangesItsFlow looked.lane input flows ready flows' → ChangesItsFlow here.lane input flows ready flows'

@@ -1,4 +1,5 @@
--- A replay whose lists were handed in whole: its order is lawful, or at fault where an item was missing or left over.
+-- A replay whose lists were handed in whole: its order is lawful, or at fault where an item was
+-- missing or left over.
 use Rattle.std.proofs.Common.{◌≡◌, ℕ, ◌<◌, ◌≤◌, inl, inr, ⊎_elim, Bool, true, false, ◌==◌, nat_lt, cond, Some, None, All, List, [], ◌∷◌, ◌++◌, is_some, length, map, filter, take, slice_index_or, refl, sym, ap, subst, ◌∙◌, arith, length-append, append-nil}
 use Rattle.std.proofs.lemmas.Bool.{cases_lt, lt-ltb, ltb-true, true≢false}
 use Rattle.std.proofs.lemmas.List.{length-map, take_all, nil_from_length}

@@ -1,4 +1,5 @@
--- Where each segment was kept, as many are counted as kept as came, and nothing as late, as a repeat or as beyond the window.
+-- Where each segment was kept, as many are counted as kept as came, and nothing as late, as a
+-- repeat or as beyond the window.
 use Rattle.std.proofs.Common.{◌≡◌, ℕ, zero, suc, ◌+◌, inl, inr, Bool, true, false, cond, Some, List, [], ◌∷◌, ◌++◌, replicate, count_by, slice_get, refl, sym, ap, subst, ◌∙◌, arith}
 use Rattle.std.proofs.lemmas.List.Sums.{sum_by-append}
 use Rattle.std.proofs.lemmas.Option.{same_Some}

@@ -5,7 +5,8 @@ use Rattle.receiver.specs.declared.setup.Setup.{Setup}
 use Rattle.receiver.specs.Items.{Incoming, AreLanesOf, are_items}
 use Rattle.receiver.specs.Order.{IsMergeOf, kept_places}
 
--- The admitted order: of tags that name the sender of each input and decision, those of admitted bursts and of decisions that name a flow.
+-- The admitted order: of tags that name the sender of each input and decision, those of admitted
+-- bursts and of decisions that name a flow.
 pub record IsAdmittedOrder (setup : Setup) (incoming : Incoming) (tags order : List ℕ) : Type 0 where
   pub answered : ℕ → List AnsweredInput
   pub lanes : AreLanesOf setup incoming answered

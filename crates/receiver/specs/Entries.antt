@@ -1,4 +1,5 @@
--- What was recorded of a receiver's channels as one list: inputs and decisions, in the order in which they came.
+-- What was recorded of a receiver's channels as one list: inputs and decisions, in the order in
+-- which they came.
 use Rattle.std.specs.Prelude.{ℕ, ◌==◌, Option, Some, None, List, filter_map, if◌then◌else◌}
 use Rattle.lane.specs.declared.input.Input.{Input}
 use Rattle.lane.specs.Limits.{channel_limit}

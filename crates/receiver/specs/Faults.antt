@@ -33,8 +33,8 @@ abbrev pub replay_fault_of : BadSetup → ReplayFault
 replay_fault_of (Flows fault) = replay_fault.Setup fault
 replay_fault_of (Rows fault) = replay_fault.Lane fault
 
--- The fault of a setup, or, where it has none, of an order. Each comes only where those before it don't apply; that an allocation failed comes in
--- place of any fault of an order.
+-- The fault of a setup, or, where it has none, of an order. Each comes only where those before it
+-- don't apply; that an allocation failed comes in place of any fault of an order.
 abbrev pub IsFirstFault : Setup → (ℕ → Type 0) → ReplayFault → Type 0
 IsFirstFault setup IsBadOrder (replay_fault.Setup fault) = IsSetupFault setup.flows.items fault
 IsFirstFault setup IsBadOrder (replay_fault.Lane fault) = CanBeSetUp setup.flows.items × IsLaneFault setup.sids.items (length setup.flows.items) fault

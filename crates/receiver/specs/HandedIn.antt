@@ -14,8 +14,9 @@ use Rattle.bonded_flows.specs.Parts.{comes, begins_anew, last_part, begun_at}
 use Rattle.bonded_flows.specs.Table.{TableSetup, TableInput, flow_setup, inputs_at}
 use Rattle.receiver.specs.declared.setup.Setup.{Setup}
 
--- One thing that is handed in: an input on a channel, with the answer of the channel's lane; a decision about the flow with this index; or that the flow
--- with this index begins anew at a number.
+-- One thing that is handed in: an input on a channel, with the answer of the channel's lane; a
+-- decision about the flow with this index; or that the flow with this index begins anew at a
+-- number.
 pub data HandedIn : Type 0 where
   came : ℕ → AnsweredInput → HandedIn
   decided : ℕ → FlowDecision → HandedIn
@@ -38,8 +39,8 @@ arrives_on channel admitted = record { flow = admitted.flow; input = comes (on_c
 abbrev pub decides_of : ℕ → FlowDecision → TableInput
 decides_of flow decision = record { flow = flow; input = comes (handed_in (decision_event decision)) }
 
--- What it is to the flows, where there are so many: of an input the segment that is admitted; a decision that names a flow, and no number above 8191; a
--- flow that begins anew.
+-- What it is to the flows, where there are so many: of an input the segment that is admitted; a
+-- decision that names a flow, and no number above 8191; a flow that begins anew.
 abbrev pub flow_input_of : ℕ → HandedIn → Option TableInput
 flow_input_of flow_count (came channel one) = option_map (arrives_on channel) (admitted_by one.answer)
 flow_input_of flow_count (decided flow decision) =
@@ -57,7 +58,8 @@ made_of rule channels setup = record { rule = rule; records = setup.flows.items;
 abbrev pub lane_of : TableSetup → ℕ → LaneSetup
 lane_of made channel = record { channel = channel; rows = made.rows; records = made.records }
 
--- what flow k, which has this record, is made with since it was begun or began anew, and all that came to it since
+-- what flow k, which has this record, is made with since it was begun or began anew, and all that
+-- came to it since
 abbrev pub begun_with : TableSetup → ℕ → FlowRecord → List TableInput → FlowSetup
 begun_with made k flow_record history = begun_at (flow_setup made k flow_record) (last_part (flow_setup made k flow_record) (inputs_at k history)).first
 

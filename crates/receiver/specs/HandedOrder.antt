@@ -1,4 +1,5 @@
--- In what order things come from five senders that are handed in: those of the channels 0 to 3, and decisions.
+-- In what order things come from five senders that are handed in: those of the channels 0 to 3, and
+-- decisions.
 use Rattle.std.specs.Prelude.{◌≡◌, ℕ, ◌<◌, ◌≤◌, ◌==◌, ◌&&◌, nat_lt, Bool, All, Option, Some, None, List, length, map, take, filter, filter_map, is_some, slice_index_or, if◌then◌else◌}
 use Rattle.flow_records.specs.declared.decision.Decision.{Decision}
 use Rattle.flow_records.specs.declared.event.Event.{Event}
@@ -31,7 +32,8 @@ event_decided flow Gap = event.Gap flow
 event_decided flow (GapTo number) = event.GapTo flow number
 event_decided flow (SkipTo number) = event.SkipTo flow number
 
--- the item that it gives where there are so many flows: the segment that is admitted, or a decision that names a flow and no number above 8191
+-- the item that it gives where there are so many flows: the segment that is admitted, or a decision
+-- that names a flow and no number above 8191
 abbrev pub item_in : ℕ → HandedIn → Option Event
 item_in flow_count (came channel one) = option_map event_of_admitted (admitted_by one.answer)
 item_in flow_count (decided flow decision) = if nat_lt flow flow_count && is_in_range decision then Some (event_decided flow decision) else None

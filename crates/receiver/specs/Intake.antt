@@ -6,8 +6,9 @@ use Rattle.receiver.specs.declared.setup.Setup.{Setup}
 use Rattle.receiver.specs.Items.{Incoming, AreLanesOf, items_of}
 use Rattle.receiver.specs.Order.{IsMergeOf}
 
--- What is taken of what comes in, in this order: each input has its answer, and the items of the five senders, which are the segments that each channel
--- admits and the decisions that name a flow, are taken in this order.
+-- What is taken of what comes in, in this order: each input has its answer, and the items of the
+-- five senders, which are the segments that each channel admits and the decisions that name a flow,
+-- are taken in this order.
 pub record IsIntake (setup : Setup) (incoming : Incoming) (order : List ℕ) : Type 0 where
   pub answered : ℕ → List AnsweredInput
   pub lanes : AreLanesOf setup incoming answered

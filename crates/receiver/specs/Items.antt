@@ -43,7 +43,8 @@ pub record IsLaneOf (setup : Setup) (incoming : Incoming) (channel : ℕ) (answe
 abbrev pub AreLanesOf : Setup → Incoming → (ℕ → List AnsweredInput) → Type 0
 AreLanesOf setup incoming answered = (channel : ℕ) → channel < channel_limit → IsLaneOf setup incoming channel (answered channel)
 
--- the items of a sender, in order: what was admitted on a channel, 0 to 3, or the decisions that name a flow, 4
+-- the items of a sender, in order: what was admitted on a channel, 0 to 3, or the decisions that
+-- name a flow, 4
 abbrev pub items_of : Setup → Incoming → (ℕ → List AnsweredInput) → ℕ → List Event
 items_of setup incoming answered sender =
     if nat_lt sender channel_limit then map event_of_admitted (admitted_of (answered sender))

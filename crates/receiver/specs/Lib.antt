@@ -12,6 +12,7 @@ pub mod TakenInOrder
 pub mod Channels
 pub mod Modem
 pub mod HandedIn
+pub mod Held
 pub mod Receiving
 pub mod Received
 pub mod SentParts

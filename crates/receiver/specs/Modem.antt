@@ -9,8 +9,8 @@ use Rattle.loss_rule.specs.declared.rule.LossRule.{LossRule}
 use Rattle.loss_rule.specs.Rule.{Coming, RuledFlow}
 use Rattle.loss_rule.specs.InOrder.{AreInChannelOrder, FallIntoTheWindow}
 
--- What comes to a flow is of a modem that sends these frames: of one lawful cut of them, none twice, on each channel in the modem's order, and each
--- segment falls into the window.
+-- What comes to a flow is of a modem that sends these frames: of one lawful cut of them, none
+-- twice, on each channel in the modem's order, and each segment falls into the window.
 pub record ComeFromAModem (rule : LossRule) (check : List ℕ → Bool) (flow : RuledFlow) (frames : List (List ℕ)) (comings : List Coming) : Type 0 where
   pub chunks : List (List ℕ)
   pub fill : ℕ

@@ -7,7 +7,8 @@ use Rattle.lane.specs.Limits.{senders}
 abbrev pub times_of : ℕ → List ℕ → ℕ
 times_of sender order = count_by (λ tag. tag == sender) order
 
--- A lawful order of lists of these lengths: each place names a sender, and each sender stands in it as often as its list has items.
+-- A lawful order of lists of these lengths: each place names a sender, and each sender stands in it
+-- as often as its list has items.
 pub record IsLawfulOrder (lengths order : List ℕ) : Type 0 where
   pub named : All (λ tag. tag < senders) order
   pub whole : (sender : ℕ) → sender < senders → times_of sender order ≡ slice_index_or lengths sender 0
@@ -18,7 +19,8 @@ IsBadPlace lengths order k =
     (tag : ℕ) × (slice_get order k ≡ Some tag)
     × ((senders ≤ tag) ⊎ (slice_index_or lengths tag 0 ≤ times_of tag (take k order)))
 
--- The fault of an order: its first bad place; or its length, where no place is bad and items are left over.
+-- The fault of an order: its first bad place; or its length, where no place is bad and items are
+-- left over.
 abbrev pub IsOrderFault : List ℕ → List ℕ → ℕ → Type 0
 IsOrderFault lengths order k =
     IsLeast (IsBadPlace lengths order) k
@@ -36,7 +38,8 @@ module _ {T : Type 0} where
   picked sender (tag ∷ order) [] = []
   picked sender (tag ∷ order) (item ∷ items) = if sender == tag then item ∷ picked sender order items else picked sender order items
 
-  -- The lists of five senders in one order: each place has a sender and an item, and the items of each sender are its list, in its order.
+  -- The lists of five senders in one order: each place has a sender and an item, and the items of
+  -- each sender are its list, in its order.
   pub record IsMergeOf (lists : ℕ → List T) (order : List ℕ) (items : List T) : Type 0 where
     pub named : All (λ tag. tag < senders) order
     pub paired : length order ≡ length items

@@ -1,4 +1,5 @@
--- The one-thread answer: what a receiver gives, by the definitions alone, for the inputs of four channels, the decisions and an order.
+-- The one-thread answer: what a receiver gives, by the definitions alone, for the inputs of four
+-- channels, the decisions and an order.
 use Rattle.std.specs.Prelude.{◌≡◌, ℕ, ◌<◌, Bool, Some, List, [], ◌++◌, map, length, replicate, slice_get, slice_index_or}
 use Rattle.flow_records.specs.declared.record.FlowRecord.{FlowRecord}
 use Rattle.flow_records.specs.declared.event.Event.{Event}
@@ -16,7 +17,8 @@ use Rattle.receiver.specs.declared.setup.Setup.{Setup}
 use Rattle.receiver.specs.Items.{Incoming, events_at}
 use Rattle.receiver.specs.Intake.{IsIntake}
 
--- What a flow with this record gives after these events and its close: as many gaps as still change anything.
+-- What a flow with this record gives after these events and its close: as many gaps as still change
+-- anything.
 pub record GivesAtItsClose (check : List ℕ → Bool) (flow_record : FlowRecord) (events : List FlowEvent) (frames : List (List ℕ)) (counts : FlowCounts) : Type 0 where
   pub n : ℕ
   pub outcome : IsFlowOutcome check flow_record (events ++ replicate n gap) frames counts
@@ -37,8 +39,8 @@ pub record AreOutcomesOfFlows (check : List ℕ → Bool) (records : List FlowRe
 abbrev pub requests_on : Outcome → ℕ → List Request
 requests_on outcome channel = slice_index_or (map (λ requests. requests.items) outcome.requests) channel []
 
--- The one-thread answer for what comes in, in this order: each flow takes its events among the items of the intake and is closed. Requests and reports
--- are those of the four lanes.
+-- The one-thread answer for what comes in, in this order: each flow takes its events among the
+-- items of the intake and is closed. Requests and reports are those of the four lanes.
 pub record IsOutcome (check : List ℕ → Bool) (setup : Setup) (incoming : Incoming) (order : List ℕ) (outcome : Outcome) : Type 0 where
   pub intake : IsIntake setup incoming order
   pub flows : AreOutcomesOfFlows check setup.flows.items intake.items outcome.flows.items

@@ -1,4 +1,5 @@
--- A replay under way: a receiver to which inputs and decisions of some lists were handed in, and what it gave.
+-- A replay under way: a receiver to which inputs and decisions of some lists were handed in, and
+-- what it gave.
 use Rattle.std.specs.Prelude.{◌≡◌, ℕ, ◌<◌, ◌≤◌, ◌⊎◌, Bool, Some, List, Vec, [], ◌∷◌, ◌++◌, is_some, length, map, slice_get}
 use Rattle.std.specs.declared.alloc.Global.{Global}
 use Rattle.flow_records.specs.declared.record.FlowRecord.{FlowRecord}
@@ -25,7 +26,8 @@ use Rattle.receiver.specs.HandedOrder.{sender_of, gives_item, order_of, items_in
 use Rattle.receiver.specs.Receiving.{StandsFor}
 
 module _ {C : Type 0} (accepts : C → List ℕ → Bool) where
-  -- It stands for all that was handed in, what it gave was collected, and each refusal's number was kept.
+  -- It stands for all that was handed in, what it gave was collected, and each refusal's number was
+  -- kept.
   pub record Plays (rule : LossRule) (check : List ℕ → Bool) (setup : Setup) (playing : Playing C) (handed : List HandedIn) : Type 0 where
     pub given : List Given
     pub stands : StandsFor accepts playing.receiver check (made_of rule channel_limit setup) handed given
@@ -57,7 +59,8 @@ module _ {C : Type 0} (accepts : C → List ℕ → Bool) where
     pub plays : PlaysOne playing (came channel (record { input = input; answer = answer })) after
     pub places : after.places ≡ playing.places
 
-  -- Whatever was handed in of these lists, what comes next from this sender was handed in besides, and it is told whether it gave an item.
+  -- Whatever was handed in of these lists, what comes next from this sender was handed in besides,
+  -- and it is told whether it gave an item.
   abbrev pub PlaysNext : Incoming → Playing C → ℕ → Bool → Playing C → Type 0
   PlaysNext incoming playing sender is_item after =
       (rule : LossRule) (check : List ℕ → Bool) (setup : Setup) (handed : List HandedIn)
@@ -65,7 +68,8 @@ module _ {C : Type 0} (accepts : C → List ℕ → Bool) where
       → (one : HandedIn) × Plays rule check setup after (handed ++ one ∷ []) × IsHandedFrom incoming after.places (handed ++ one ∷ [])
       × (sender_of one ≡ sender) × (is_item ≡ gives_item (length setup.flows.items) one)
 
-  -- Whatever was handed in of these lists, all of these senders was handed in besides, in this order, and these gave items.
+  -- Whatever was handed in of these lists, all of these senders was handed in besides, in this
+  -- order, and these gave items.
   abbrev pub PlaysTags : Incoming → Playing C → List ℕ → List ℕ → Playing C → Type 0
   PlaysTags incoming playing tags order after =
       (rule : LossRule) (check : List ℕ → Bool) (setup : Setup) (handed : List HandedIn)
@@ -73,7 +77,8 @@ module _ {C : Type 0} (accepts : C → List ℕ → Bool) where
       → (more : List HandedIn) × Plays rule check setup after (handed ++ more) × IsHandedFrom incoming after.places (handed ++ more)
       × (map sender_of more ≡ tags) × (order_of (length setup.flows.items) more ≡ order)
 
-  -- whatever was handed in of these lists, more of them was handed in besides, and gave items of these senders in this order
+  -- whatever was handed in of these lists, more of them was handed in besides, and gave items of
+  -- these senders in this order
   abbrev pub PlaysMore : Incoming → Playing C → List ℕ → Playing C → Type 0
   PlaysMore incoming playing order after =
       (rule : LossRule) (check : List ℕ → Bool) (setup : Setup) (handed : List HandedIn)
@@ -100,7 +105,8 @@ pub record IsReportWith (refused : List (Vec ℕ Global)) (tallies : List LaneTa
   pub admitted : report.admitted ≡ tally.admitted
   pub refused_are : report.refused.items ≡ list_at refused channel
 
--- What was given for all that was handed in: of each flow what comes of the items, of each channel the requests and the report of its inputs.
+-- What was given for all that was handed in: of each flow what comes of the items, of each channel
+-- the requests and the report of its inputs.
 pub record IsGiven (rule : LossRule) (check : List ℕ → Bool) (setup : Setup) (handed : List HandedIn) (outcome : Outcome) : Type 0 where
   pub answers : (channel : ℕ) → channel < channel_limit → AreAnswered (lane_setup setup channel) (answered_on channel handed)
   pub flows : AreRuledOutcomes rule check setup (order_of (length setup.flows.items) handed) (items_in (length setup.flows.items) handed) outcome.flows.items

@@ -1,4 +1,5 @@
--- What a receiver has given once it is closed: by the definitions alone, for all that was handed in.
+-- What a receiver has given once it is closed: by the definitions alone, for all that was handed
+-- in.
 use Rattle.std.specs.Prelude.{◌≡◌, ℕ, zero, suc, ◌<◌, ◌≤◌, Bool, Some, List, [], ◌∷◌, ◌++◌, length, slice_get}
 use Rattle.flow_records.specs.declared.record.FlowRecord.{FlowRecord}
 use Rattle.flow_core.specs.declared.counts.FlowCounts.{FlowCounts}
@@ -20,8 +21,9 @@ use Rattle.receiver.specs.Tallies.{IsTallyOf}
 use Rattle.receiver.specs.HandedIn.{HandedIn, answered_on, flow_inputs, lane_of}
 use Rattle.receiver.specs.Receiving.{HaveAnswered, StandsFor}
 
--- What a flow gave of which all this was handed in, and which is closed: what its parts gave, one after another, each what by the rule comes of all that
--- came to it and of its close. The counts are those of the last part.
+-- What a flow gave of which all this was handed in, and which is closed: what its parts gave, one
+-- after another, each what by the rule comes of all that came to it and of its close. The counts
+-- are those of the last part.
 pub record GaveAllParts (check : List ℕ → Bool) (setup : FlowSetup) (inputs : List FlowInput) (frames : List (List ℕ)) (counts : FlowCounts) : Type 0 where
   pub earlier : List (List ℕ)
   pub own : List (List ℕ)
@@ -29,8 +31,9 @@ pub record GaveAllParts (check : List ℕ → Bool) (setup : FlowSetup) (inputs 
   pub last : GaveByRule check (begun_at setup (last_part setup inputs).first) (last_part setup inputs).comings own counts
   pub all : frames ≡ earlier ++ own
 
--- **The answer for all that was handed in, in this order.** Each input was answered as its lane answers it. Each flow gave what comes of all that came to
--- it. The requests are those of what was admitted, in each channel's order. Counts and tallies are of all that.
+-- **The answer for all that was handed in, in this order.** Each input was answered as its lane
+-- answers it. Each flow gave what comes of all that came to it. The requests are those of what was
+-- admitted, in each channel's order. Counts and tallies are of all that.
 pub record IsReceived (check : List ℕ → Bool) (made : TableSetup) (handed : List HandedIn) (given : List Given) (closed : Closed) : Type 0 where
   pub answered : (channel : ℕ) → channel < made.channels → AreAnswered (lane_of made channel) (answered_on channel handed)
   pub flow_count : length closed.flows.items ≡ length made.records
@@ -52,7 +55,8 @@ closings zero = []
 closings (suc k) = closings k ++ record { flow = k; input = begins_anew 0 } ∷ []
 
 module _ {C : Type 0} where
-  -- A receiver that is being closed: some flows are closed and gave what they had to give, the others are as they were.
+  -- A receiver that is being closed: some flows are closed and gave what they had to give, the
+  -- others are as they were.
   pub record ClosingStandsFor (accepts : C → List ℕ → Bool) (closing : Closing C) (check : List ℕ → Bool) (made : TableSetup) (handed : List HandedIn) (given : List Given) : Type 0 where
     pub lanes : HaveAnswered made closing.lanes.items handed given
     pub few : length closing.counts.items ≤ length made.records
@@ -69,7 +73,8 @@ module _ {C : Type 0} where
     pub stands : ClosingStandsFor accepts closing check made handed given
 
   module _ {O : Type 0} (after : O → List Given → O → Type 0) (accepts : C → List ℕ → Bool) where
-    -- whatever it stood for, it still does, and what was given more was given to the consumer, in order
+    -- whatever it stood for, it still does, and what was given more was given to the consumer, in
+    -- order
     pub record ClosesMore (closing : Closing C) (out : O) (closing' : Closing C) (out' : O) : Type 0 where
       pub given_more : List Given
       pub was_given : (start : O) (given : List Given) → after start given out → after start (given ++ given_more) out'
@@ -83,7 +88,8 @@ module _ {C : Type 0} where
       pub received : (check : List ℕ → Bool) (made : TableSetup) (handed : List HandedIn) (given : List Given)
           → ClosingStandsFor accepts closing check made handed given → IsReceived check made handed (given ++ given_more) closed
 
-    -- **A receiver is closed**: whatever was handed in, what was given of it is the answer for that.
+    -- **A receiver is closed**: whatever was handed in, what was given of it is the answer for
+    -- that.
     pub record Closes (receiver : Receiver C) (out : O) (closed : Closed) (out' : O) : Type 0 where
       pub given_more : List Given
       pub was_given : (start : O) (given : List Given) → after start given out → after start (given ++ given_more) out'

@@ -1,4 +1,5 @@
--- What a receiver stands for that takes one input at a time: all that was handed in, in order, and all that was given for it.
+-- What a receiver stands for that takes one input at a time: all that was handed in, in order, and
+-- all that was given for it.
 use Rattle.std.specs.Prelude.{◌≡◌, ℕ, ◌<◌, ◌≤◌, Bool, Option, Some, None, Result, Ok, Err, MatchOption, IfSome, List, [], ◌∷◌, ◌++◌, length, map, slice_get}
 use Rattle.flow_records.specs.declared.record.FlowRecord.{FlowRecord}
 use Rattle.flow_core.specs.declared.counts.FlowCounts.{FlowCounts}
@@ -42,7 +43,8 @@ pub record HasAnswered (setup : LaneSetup) (tallied : TalliedLane) (answered : L
   pub stands : LaneStandsFor setup tallied.lane answered
   pub tally : IsTallyOf answered tallied.tally
 
--- the lanes of all channels have answered what came on them, and each request that was admitted was given, in its channel's order
+-- the lanes of all channels have answered what came on them, and each request that was admitted was
+-- given, in its channel's order
 pub record HaveAnswered (made : TableSetup) (lanes : List TalliedLane) (handed : List HandedIn) (given : List Given) : Type 0 where
   pub rows_fit : CanBeOpenedWithin made.channels made.rows (length made.records)
   pub count : length lanes ≡ made.channels
@@ -50,8 +52,9 @@ pub record HaveAnswered (made : TableSetup) (lanes : List TalliedLane) (handed :
   pub requests : (channel : ℕ) → requests_given channel given ≡ requests_of (answered_on channel handed)
 
 module _ {C : Type 0} where
-  -- **A receiver stands for** all that was handed in, in this order, and has given this: each input was answered by its lane, each admitted segment and
-  -- each decision came to its flow, and what they give was given.
+  -- **A receiver stands for** all that was handed in, in this order, and has given this: each input
+  -- was answered by its lane, each admitted segment and each decision came to its flow, and what
+  -- they give was given.
   pub record StandsFor (accepts : C → List ℕ → Bool) (receiver : Receiver C) (check : List ℕ → Bool) (made : TableSetup) (handed : List HandedIn) (given : List Given) : Type 0 where
     pub lanes : HaveAnswered made receiver.lanes.items handed given
     pub flows : TableStandsFor accepts receiver.flows check made (flow_inputs (length made.records) handed) given
@@ -64,7 +67,8 @@ module _ {C : Type 0} where
     pub given : List Given
     pub stands : StandsFor accepts receiver check made handed given
 
-  -- **Whatever was handed in, this was handed in besides**, and what was given more was given to the consumer, in order.
+  -- **Whatever was handed in, this was handed in besides**, and what was given more was given to
+  -- the consumer, in order.
   pub record TakesMore {O : Type 0} (after : O → List Given → O → Type 0) (accepts : C → List ℕ → Bool) (receiver : Receiver C) (out : O) (more : List HandedIn) (receiver' : Receiver C) (out' : O) : Type 0 where
     pub given_more : List Given
     pub was_given : (start : O) (given : List Given) → after start given out → after start (given ++ given_more) out'
@@ -120,8 +124,9 @@ module _ {C O : Type 0} (after : O → List Given → O → Type 0) (accepts : C
     pub of_flow : flow ≡ admitted.flow
     pub takes : TakesMore after accepts receiver out (came channel (record { input = input; answer = Ok (Some admitted) }) ∷ []) receiver' out'
 
-  -- Why an input isn't taken, or not to the end: there is no such channel, and nothing changed; or it is given back, and no more stands handed in, where
-  -- that a flow is being closed is said only if one is; or it is taken, and an allocation failed before its flow had given all.
+  -- Why an input isn't taken, or not to the end: there is no such channel, and nothing changed; or
+  -- it is given back, and no more stands handed in, where that a flow is being closed is said only
+  -- if one is; or it is taken, and an allocation failed before its flow had given all.
   abbrev pub Fails : Receiver C → O → ℕ → Input → TakeError → Receiver C → O → Type 0
   Fails receiver out channel input (take_error.NoChannel back) receiver' out' =
       (back ≡ input) × (length receiver.lanes.items ≤ channel) × (receiver' ≡ receiver) × (out' ≡ out)
@@ -130,7 +135,8 @@ module _ {C O : Type 0} (after : O → List Given → O → Type 0) (accepts : C
       × TakesMore after accepts receiver out [] receiver' out'
   Fails receiver out channel input (take_error.Unfinished flow) receiver' out' = IsLeftUnfinished receiver out channel input flow receiver' out'
 
--- **An input changes one flow at most**: the one of which a segment is admitted, and none where a grant is taken or the input is refused.
+-- **An input changes one flow at most**: the one of which a segment is admitted, and none where a
+-- grant is taken or the input is refused.
 abbrev pub ChangesOneFlow : {C : Type 0} → FlowTable C → Result Reply TakeError → FlowTable C → Type 0
 ChangesOneFlow flows (Ok reply.Granted) flows' = flows' ≡ flows
 ChangesOneFlow flows (Ok (reply.Refused refusal)) flows' = flows' ≡ flows
@@ -139,8 +145,9 @@ ChangesOneFlow flows (Err (take_error.NoChannel back)) flows' = flows' ≡ flows
 ChangesOneFlow flows (Err (take_error.NotTaken back why)) flows' = (flow : ℕ) × OthersStay flows flow flows'
 ChangesOneFlow flows (Err (take_error.Unfinished flow)) flows' = OthersStay flows flow flows'
 
--- **Of an input one flow alone counts**: that of which its lane would admit a segment. Where that one is being closed, the input is refused as that, and
--- only then. Where an input isn't taken no other flow changes.
+-- **Of an input one flow alone counts**: that of which its lane would admit a segment. Where that
+-- one is being closed, the input is refused as that, and only then. Where an input isn't taken no
+-- other flow changes.
 pub record KeepsToItsFlow {C : Type 0} (receiver : Receiver C) (channel : ℕ) (input : Input) (result : Result Reply TakeError) (receiver' : Receiver C) : Type 0 where
   pub flow : Option ℕ
   pub would : (one : TalliedLane) → slice_get receiver.lanes.items channel ≡ Some one → WouldAdmit one.lane input flow
@@ -151,7 +158,8 @@ pub record KeepsToItsFlow {C : Type 0} (receiver : Receiver C) (channel : ℕ) (
 
 -- ============ What is answered to the rest ============
 
--- whether a segment is lost by a decision that was taken is told rightly, after all that came to its flow
+-- whether a segment is lost by a decision that was taken is told rightly, after all that came to
+-- its flow
 abbrev pub IsLossToldRightly : TableSetup → List HandedIn → ℕ → FlowDecision → DecisionReply → Type 0
 IsLossToldRightly made handed flow decision decision_reply.PassedOver = Unit {0}
 IsLossToldRightly made handed flow decision (decision_reply.Taken lost) =
@@ -171,8 +179,9 @@ pub record GaveSince (is : List (List ℕ) → Type 0) (frames : List (List ℕ)
   pub all : frames ≡ earlier ++ own
   pub is_so : is own
 
--- **The flow is closed and begins anew** at this number. What there was left to give of it was given; of all that came to it since it was begun, it gave
--- what by the rule comes of that, and these are its counts.
+-- **The flow is closed and begins anew** at this number. What there was left to give of it was
+-- given; of all that came to it since it was begun, it gave what by the rule comes of that, and
+-- these are its counts.
 pub record Restarts {C O : Type 0} (after : O → List Given → O → Type 0) (accepts : C → List ℕ → Bool) (receiver : Receiver C) (out : O) (flow first : ℕ) (counts : FlowCounts) (receiver' : Receiver C) (out' : O) : Type 0 where
   pub more : List (List ℕ)
   pub was_given : WasGiven after flow out more out'
@@ -184,7 +193,8 @@ pub record Restarts {C O : Type 0} (after : O → List Given → O → Type 0) (
       → GaveSince (λ own. GaveByRule check (begun_with made flow flow_record (flow_inputs (length made.records) handed))
       (came_since made flow flow_record (flow_inputs (length made.records) handed)) (own ++ more) counts) (frames_of flow given)
 
--- this is the number of the index that the flow expects, after all that came to it since it was begun or began anew
+-- this is the number of the index that the flow expects, after all that came to it since it was
+-- begun or began anew
 abbrev pub IsNumberExpected : TableSetup → ℕ → FlowRecord → List HandedIn → ℕ → Type 0
 IsNumberExpected made k flow_record handed number =
     (events : List FlowEvent) (lasts : Lasts) (fates : Fates) (x : ℕ)
@@ -221,7 +231,8 @@ IsReadyFor lane input flows =
     → admitted_by answer ≡ Some admitted
     → IsPreparedAt flows admitted.flow
 
--- Before the lane answers this input, nothing changes but the flow of which it would admit a segment, and it is told exactly of that one if it is being closed.
+-- Before the lane answers this input, nothing changes but the flow of which it would admit a
+-- segment, and it is told exactly of that one if it is being closed.
 pub record ChangesItsFlow {C : Type 0} (lane : Lane) (input : Input) (flows : FlowTable C) (ready : Result (Unit {0}) NotReady) (flows' : FlowTable C) : Type 0 where
   pub flow : Option ℕ
   pub would : WouldAdmit lane input flow

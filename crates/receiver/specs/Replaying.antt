@@ -36,7 +36,8 @@ IsRecorded (handed_in.decided flow decision) = IsGapDecision decision
 IsRecorded (handed_in.restarted flow first) = ⊥
 
 module _ {C : Type 0} (accepts : C → List ℕ → Bool) where
-  -- **These entries were handed in**, in this order, and nothing else; what it gave was kept, and the sender of each item.
+  -- **These entries were handed in**, in this order, and nothing else; what it gave was kept, and
+  -- the sender of each item.
   pub record HasReplayed (rule : LossRule) (check : List ℕ → Bool) (setup : Setup) (replaying : Replaying C) (entries : List Entry) : Type 0 where
     pub handed : List HandedIn
     pub plays : Plays accepts rule check setup replaying.playing handed

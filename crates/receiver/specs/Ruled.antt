@@ -57,8 +57,8 @@ pub record AreRuledOutcomes (rule : LossRule) (check : List ℕ → Bool) (setup
       → (flow : FlowOutcome) × (slice_get flows k ≡ Some flow)
       × IsRuledOutcome rule check (ruled_flow setup.sids.items k flow_record) flow_record (comings_at k order items) flow
 
--- The one-thread answer by a rule for what comes in, in this order: as without one, but that each flow takes the events which by the rule come of the
--- items of the intake.
+-- The one-thread answer by a rule for what comes in, in this order: as without one, but that each
+-- flow takes the events which by the rule come of the items of the intake.
 pub record IsOutcomeBy (rule : LossRule) (check : List ℕ → Bool) (setup : Setup) (incoming : Incoming) (order : List ℕ) (outcome : Outcome) : Type 0 where
   pub intake : IsIntake setup incoming order
   pub flows : AreRuledOutcomes rule check setup order intake.items outcome.flows.items

@@ -17,7 +17,8 @@ pub record ReportTheSame (report other : LaneReport) : Type 0 where
   pub admitted : report.admitted ≡ other.admitted
   pub refused : report.refused.items ≡ other.refused.items
 
--- As many flows gave the same, and on each channel the same was asked for and reported, in the same order of items.
+-- As many flows gave the same, and on each channel the same was asked for and reported, in the same
+-- order of items.
 pub record IsSameOutcome (outcome other : Outcome) : Type 0 where
   pub count : length outcome.flows.items ≡ length other.flows.items
   pub flows : (k : ℕ) (flow another : FlowOutcome)

@@ -25,7 +25,8 @@ GiveInTurn Gives [] frames = frames ≡ []
 GiveInTurn Gives (one ∷ others) frames = (own rest : List (List ℕ)) × Gives one own × GiveInTurn Gives others rest × (frames ≡ own ++ rest)
 
 module _ (check : List ℕ → Bool) (setup : FlowSetup) where
-  -- A part that is of a modem which sends these frames, in channel order, where all falls into the window, and decisions lose nothing that still comes.
+  -- A part that is of a modem which sends these frames, in channel order, where all falls into the
+  -- window, and decisions lose nothing that still comes.
   pub record SentPart : Type 0 where
     pub part : Part
     pub frames : List (List ℕ)

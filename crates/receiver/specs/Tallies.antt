@@ -11,7 +11,8 @@ pub record IsTallyOf (answered : List AnsweredInput) (tally : LaneTally) : Type 
   pub admitted : tally.admitted ≡ admitted_count answered
   pub refused : tally.refused ≡ counted (length (refusal_numbers answered))
 
--- Whatever inputs a tally was of, with one more at the end that has this answer they have the tally after it.
+-- Whatever inputs a tally was of, with one more at the end that has this answer they have the tally
+-- after it.
 abbrev pub TalliesAnswer : LaneTally → Answer → LaneTally → Type 0
 TalliesAnswer tally answer after =
     (answered : List AnsweredInput) (input : Input)

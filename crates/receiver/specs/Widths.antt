@@ -14,20 +14,22 @@ use Rattle.lane.specs.declared.sids.LaneFault.TheVariants as lane_fault
 use Rattle.receiver.specs.declared.width.WidthFault.{WidthFault}
 use Rattle.receiver.specs.declared.width.WidthFault.TheVariants.{NoChannel, TooManyChannels, NoFlow, TooManyFlows}
 
--- Why no receiver is made for so many channels and flows: of its flows only where its channels are not at fault.
+-- Why no receiver is made for so many channels and flows: of its flows only where its channels are
+-- not at fault.
 abbrev pub IsWidthFault : ℕ → ℕ → WidthFault → Type 0
 IsWidthFault channels flows NoChannel = channels ≡ 0
 IsWidthFault channels flows TooManyChannels = most_channels < channels
 IsWidthFault channels flows NoFlow = (0 < channels) × (channels ≤ most_channels) × (flows ≡ 0)
 IsWidthFault channels flows TooManyFlows = (0 < channels) × (channels ≤ most_channels) × (most_flows < flows)
 
--- neither the flows nor the rows of a setup have a fault, for a receiver of so many channels and flows
+-- neither the flows nor the rows of a setup have a fault, for a receiver of so many channels and
+-- flows
 pub record CanReceiveWithin (channels flows : ℕ) (setup : Setup) : Type 0 where
   pub flows_fit : CanBeSetUpWithin flows setup.flows.items
   pub rows_fit : CanBeOpenedWithin channels setup.sids.items (length setup.flows.items)
 
--- Why a receiver of so many channels and flows can't use a setup: that of its rows only where its flows have none. No memory is asked for where there
--- are too many flows or one is out of range.
+-- Why a receiver of so many channels and flows can't use a setup: that of its rows only where its
+-- flows have none. No memory is asked for where there are too many flows or one is out of range.
 abbrev pub IsSetupErrorWithin : ℕ → ℕ → Setup → SetupError → Type 0
 IsSetupErrorWithin channels flows setup (Flows fault) = IsSetupFaultWithin flows setup.flows.items fault
 IsSetupErrorWithin channels flows setup (Rows fault) =

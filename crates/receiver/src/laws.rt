@@ -1,10 +1,12 @@
 //! Laws about the definitions: what is admitted are items of the flows, lists have at most one
 //! merge in an order, the admitted order is lawful, a replay has at most one outcome and one fault,
-//! and what a flow gives by a loss rule are the modem's frames all of whose segments came in.
+//! what a flow gives by a loss rule are the modem's frames all of whose segments came in, and what
+//! it holds was kept and isn't joined yet.
 //!
 //! Each function states a law in its contract; its body is empty or only calls other laws.
 ghost use Rattle.std.specs.Prelude.{◌≡◌, ◌≢◌, ◌↔◌, ℕ, ◌+◌, ◌<◌, ◌≤◌, Bool, Some};
 ghost use Rattle.std.specs.Prelude.{List, [], length, map, filter, slice_get, All};
+ghost use Rattle.std.specs.Prelude.{count_by, is_some};
 ghost use Rattle.docsis_wire.specs.declared.segment.Segment.{Segment};
 ghost use Rattle.docsis_wire.specs.Cut.{IsLawfulCut};
 ghost use Rattle.ccf.specs.Filter.{FiltersTo};
@@ -30,13 +32,16 @@ ghost use Rattle.receiver.specs.Channels.{segment_count, events_handed_in};
 ghost use Rattle.receiver.specs.Modem.{ComeFromAModem, turns_from, all_arrive};
 ghost use Rattle.reorder.specs.Limits.{width_max};
 ghost use Rattle.flow_core.specs.declared.counts.FlowCounts.{FlowCounts};
+ghost use Rattle.flow_core.specs.Counts.{says_kept};
+ghost use Rattle.bonded_flows.specs.ByRule.{HasGivenByRule};
 ghost use Rattle.bonded_flows.specs.FlowSetup.{FlowSetup};
 ghost use Rattle.bonded_flows.specs.Parts.{FlowInput};
+ghost use Rattle.receiver.specs.Held.{HoldsByRule};
 ghost use Rattle.receiver.specs.Received.{GaveAllParts};
 ghost use Rattle.receiver.specs.SentParts.{SentPart, NearPart, all_parts, GiveInTurn};
 ghost use Rattle.receiver.specs.SentParts.{GivesAllThatCame, GivesItsSequence};
 ghost use Rattle.loss_rule.specs.declared.rule.LossRule.{LossRule};
-ghost use Rattle.loss_rule.specs.Rule.{HasChannel};
+ghost use Rattle.loss_rule.specs.Rule.{Coming, HasChannel};
 ghost use Rattle.loss_rule.specs.InOrder.{Comes, HaveNoDecision, HandInDecisions, DecideSafely};
 ghost use Rattle.loss_rule.specs.InOrder.{IsAllCome};
 ghost use Rattle.loss_rule.specs.Dealing.{dealt, dealt_out, AreDealtOut, AreSpreadOut};
@@ -126,8 +131,8 @@ pub fn segments_come_on_channels_of_their_flow()
         → incoming.decisions ≡ [] → HaveNoDecision (comings_at k order intake.items) }
 {}
 
-/// A replay in one order has at most one outcome, also by a loss rule. An order that has an outcome,
-/// by a rule or without one, has no fault.
+/// A replay in one order has at most one outcome, also by a loss rule. An order that has an
+/// outcome, by a rule or without one, has no fault.
 pub fn replay_has_one_outcome()
     ensures one { (check : List ℕ → Bool) (setup : Setup) (incoming : Incoming) (order : List ℕ)
         (outcome other : Outcome)
@@ -274,3 +279,16 @@ pub fn segments_in_turn_come_from_a_modem()
 {
     loss_rule::laws::spread_segments_fit_the_window();
 }
+
+/// **What a flow holds was kept and isn't joined yet**: of the segments that were kept, those that
+/// are settled are joined, and as many as are left are held. One number of them is held.
+pub fn held_segments_were_kept_and_are_not_joined()
+    ensures unjoined { (check : List ℕ → Bool) (setup : FlowSetup) (comings : List Coming)
+        (frames : List (List ℕ)) (counts : FlowCounts) (held : ℕ)
+        → (given : HasGivenByRule check setup comings frames counts)
+        → HoldsByRule setup comings held
+        → count_by says_kept given.outcome.answers
+        ≡ count_by is_some given.outcome.settled + held }
+    ensures one { (setup : FlowSetup) (comings : List Coming) (held other : ℕ)
+        → HoldsByRule setup comings held → HoldsByRule setup comings other → held ≡ other }
+{}

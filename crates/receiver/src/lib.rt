@@ -1,5 +1,5 @@
-//! A receiver on one thread: grants and bursts of up to 16 channels, and decisions, become what each
-//! of up to 16,384 flows gave.
+//! A receiver on one thread: grants and bursts of up to 16 channels, and decisions, become what
+//! each of up to 16,384 flows gave.
 //!
 //! What a receiver is set up with is a [`Setup`]: the flows' records and the rows of service
 //! identifiers. How wide it is says a [`Width`].
@@ -8,12 +8,12 @@
 //!
 //! 1. [`Receiver::new`] checks the setup and makes the lanes. A flow's own memory is asked for when
 //!    its first segment comes.
-//! 2. [`Receiver::take`] takes a grant or a burst of a channel, and gives each frame and each request
-//!    that comes of it to a consumer; its [`Reply`] says what became of the input.
-//!    [`Receiver::decide`] takes a decision that segments are lost, [`Receiver::restart`] has a flow
-//!    begin anew. [`Receiver::go_on`] does what a failed allocation left to be done of a flow.
-//! 3. [`Receiver::expected`], `held`, `counts`, `outstanding` and `tally` say at any time how far it
-//!    has come.
+//! 2. [`Receiver::take`] takes a grant or a burst of a channel, and gives each frame and each
+//!    request that comes of it to a consumer; its [`Reply`] says what became of the input.
+//!    [`Receiver::decide`] takes a decision that segments are lost, [`Receiver::restart`] has a
+//!    flow begin anew. [`Receiver::go_on`] does what a failed allocation left to be done of a flow.
+//! 3. [`Receiver::expected`], `held`, `counts`, `outstanding` and `tally` say at any time how far
+//!    it has come.
 //! 4. [`Receiver::close`] closes each flow; [`Closing`] goes on where memory was refused.
 //!
 //! `uses::one_at_a_time` of this repository is a caller that is proved.
@@ -29,8 +29,8 @@
 //! 3. [`Replaying`] takes what was recorded one entry after another, and holds none of it.
 //!
 //! [`laws`] says what follows from the definitions: a replay has one outcome; by a loss rule a flow
-//! gives exactly the modem's frames all of whose segments came in; and a flow that begins anew gives
-//! what its parts give, one after another.
+//! gives exactly the modem's frames all of whose segments came in; and a flow that begins anew
+//! gives what its parts give, one after another.
 #![tactic(auto)]
 
 mod closing;

@@ -18,6 +18,7 @@ ghost use Rattle.receiver.specs.declared.reply.DecisionReply.{DecisionReply};
 ghost use Rattle.receiver.specs.declared.reply.RestartError.{RestartError};
 ghost use Rattle.receiver.specs.Tallies.{IsTallyOf};
 ghost use Rattle.receiver.specs.HandedIn.{HandedIn, decided, made_of, answered_on};
+ghost use Rattle.receiver.specs.Held.{HoldsSince};
 ghost use Rattle.receiver.specs.Receiving.{StandsFor, IsReceiving, TakesMore, IsSettledAt};
 ghost use Rattle.receiver.specs.Receiving.{Replies, Fails, FlowIsSettled, Restarts, HasGivenSince};
 ghost use Rattle.receiver.specs.Receiving.{ChangesOneFlow, ChangesItsFlow, KeepsToItsFlow};
@@ -41,9 +42,9 @@ use loss_rule::LossRule;
 use std::alloc::{AllocError, Global};
 
 /// A receiver for the channels and flows of a setup. It takes inputs and decisions one after
-/// another, and gives each frame and each request to a [`Consumer`] at once. Its memory doesn't grow
-/// with what went through it: a flow holds what lies in its window and what isn't whole yet, and
-/// takes memory of its own once its first segment comes, or a skip is decided.
+/// another, and gives each frame and each request to a [`Consumer`] at once. Its memory doesn't
+/// grow with what went through it: a flow holds what lies in its window and what isn't whole yet,
+/// and takes memory of its own once its first segment comes, or a skip is decided.
 #[derive(Drop)]
 pub struct Receiver<C> {
     lanes: Vec<TalliedLane>,
@@ -238,8 +239,8 @@ impl<C: HeaderCheck + Drop> Receiver<C> {
         Closing::begin(alloc, self.lanes, self.flows).go_on(alloc, out)
     }
 
-    /// The number that a flow expects, 0 to 8191, or none if there is no such flow. Where nothing of
-    /// the flow is left to be done it is that of its expected index.
+    /// The number that a flow expects, 0 to 8191, or none if there is no such flow. Where nothing
+    /// of the flow is left to be done it is that of its expected index.
     pub fn expected(&self, flow: usize) -> Option<u16>
         requires receiving { IsReceiving C.accepts self.now }
         ensures none { result ≡ None ↔ (length self.now.flows.slots.items ≤ flow) }
@@ -256,12 +257,18 @@ impl<C: HeaderCheck + Drop> Receiver<C> {
         Some(self.flows.expected(flow))
     }
 
-    /// How many segments of a flow are held, which were kept and are not joined yet; or none if there
-    /// is no such flow.
+    /// How many segments of a flow are held, which were kept since it last began and aren't joined
+    /// yet; or none if there is no such flow. By what came to it this is said where nothing of the
+    /// flow is left to be done.
     pub fn held(&self, flow: usize) -> Option<usize>
         ensures none { result ≡ None ↔ (length self.now.flows.slots.items ≤ flow) }
         ensures held { IfSome result (λ held. (slot : FlowSlot)
             → slice_get self.now.flows.slots.items flow ≡ Some slot → held ≡ held_in slot) }
+        ensures count { IfSome result (λ held. (check : List ℕ → Bool) (made : TableSetup)
+            (handed : List HandedIn) (given : List Given) (flow_record : FlowRecord)
+            → StandsFor C.accepts self.now check made handed given
+            → slice_get made.records flow ≡ Some flow_record → IsSettledAt self.now flow
+            → HoldsSince made flow flow_record handed held) }
     {
         if flow >= self.flows.flow_count() {
             return None;
@@ -269,8 +276,8 @@ impl<C: HeaderCheck + Drop> Receiver<C> {
         Some(self.flows.held(flow))
     }
 
-    /// What was counted of a flow since it was begun or began anew, or none if there is no such flow.
-    /// Where something of the flow is left to be done that isn't counted yet.
+    /// What was counted of a flow since it was begun or began anew, or none if there is no such
+    /// flow. Where something of the flow is left to be done that isn't counted yet.
     pub fn counts(&self, flow: usize) -> Option<FlowCounts>
         ensures none { result ≡ None ↔ (length self.now.flows.slots.items ≤ flow) }
         ensures counts { IfSome result (λ counts. (check : List ℕ → Bool) (made : TableSetup)

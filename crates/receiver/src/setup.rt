@@ -9,8 +9,8 @@ use thiserror::Error;
 /// What a receiver is set up with.
 #[derive(Debug, Drop)]
 pub struct Setup {
-    /// The flows: at most 64 of recorded inputs and of a run, and as many as its [`Width`] says of a
-    /// [`Receiver`](crate::Receiver). A flow's index is the place of its record.
+    /// The flows: at most 64 of recorded inputs and of a run, and as many as its [`Width`] says of
+    /// a [`Receiver`](crate::Receiver). A flow's index is the place of its record.
     pub flows: Vec<FlowRecord>,
     /// The service identifiers of all channels.
     pub sids: Vec<SidRow>,

@@ -55,8 +55,8 @@ module _ {T : Type 0} (w : WindowView T) where
   pub declared_count-gap : (number : ℕ) → 0 < offset_in w number → offset_in w number < 4096 → 0 < map.len w.held → declared_count w number ≡ open_before w number
   declared_count-gap number some near held = ap (λ t. cond t (open_before w number) 0) (gap (offset_in w number) (map.len w.held) some near held)
 
-  -- So many numbers from the expected one on may be declared lost: they are open, and if there are any,
-  -- something is held.
+  -- So many numbers from the expected one on may be declared lost: they are open, and if there are
+  -- any, something is held.
   pub record AreLost (count : ℕ) : Type 0 where
     pub free : AreOpen w count
     pub some_held : 0 < count → 0 < map.len w.held

@@ -46,12 +46,3 @@ module _ {T : Type 0} where
       (λ same. ap (get (remove (insert m k v) k)) same ∙ get-remove_same (insert m k v) k ∙ sym (none (get m k) free) ∙ ap (get m) (sym same))
       (λ differ. get-remove_other (insert m k v) k q differ ∙ get-insert_other m k v q differ)
       (cases_eq q k))
-
-  -- to take out what is not there changes nothing
-  pub remove_free : (m : FinMap nat_cmp T) (k : ℕ) → ¬ (is_some (get m k) ≡ true) → remove m k ≡ m
-  remove_free m k free =
-      same_map nat_cmp_total nat_cmp-IsAntisymmetric _ _ (λ q.
-      ⊎_elim
-      (λ same. ap (get (remove m k)) same ∙ get-remove_same m k ∙ sym (none (get m k) free) ∙ ap (get m) (sym same))
-      (λ differ. get-remove_other m k q differ)
-      (cases_eq q k))

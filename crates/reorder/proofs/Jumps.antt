@@ -1,19 +1,18 @@
 -- A window moves on over empty places at once.
-use Rattle.std.proofs.Common.{◌≡◌, ℕ, suc, ◌+◌, ◌-◌, ◌<◌, ◌≤◌, ⊎_elim, List, [], ◌∷◌, ◌++◌, length, Option, None, Some, is_some, refl, ap, sym, subst, ◌∙◌, arith}
+use Rattle.std.proofs.Common.{◌≡◌, ℕ, suc, ◌+◌, ◌<◌, ◌≤◌, ⊎_elim, List, [], ◌∷◌, length, Option, None, Some, is_some, refl, ap, sym, subst, ◌∙◌, arith}
 use Rattle.std.specs.Ordering.{nat_cmp}
 use Rattle.std.specs.FinMap as map
 use Rattle.std.proofs.lemmas.Bool.{cases_lt}
-use Rattle.std.proofs.lemmas.List.{length-append, get_or_append_left, get_or-append_right, get_or_past}
+use Rattle.std.proofs.lemmas.List.{get_or_past}
 use Rattle.reorder.specs.Number.{offset, following, number_ahead}
 use Rattle.reorder.specs.View.{WindowView, held_at, IsHeld, IsLawful, moved_on_by}
-use Rattle.circular_buffer.specs.Buffer.{Buffer, buffer}
 use Rattle.reorder.specs.Inside.Places.{item_at, IsLaidOut, items_from, seen, IsKept}
 use Rattle.reorder.specs.Inside.Ring.{turned, IsEmptyFront}
 use Rattle.reorder.proofs.Offsets.{offset-number_ahead, number_ahead-offset, offset-nearer, offset-behind}
 use Rattle.reorder.proofs.Items.{none}
 use Rattle.reorder.proofs.LaidOut.{seen-is}
 use Rattle.reorder.proofs.OpenNumbers.{AreOpen}
-use Rattle.reorder.proofs.Rings.{length-turned, item_at-turned}
+use Rattle.reorder.proofs.Rings.{length-turned, item_at-turned_empty}
 use Rattle.reorder.proofs.WindowFields.{laid}
 
 module _ {T : Type 0} where
@@ -23,37 +22,6 @@ module _ {T : Type 0} where
   items_from-empty [] n empty = map.len-empty nat_cmp T
   items_from-empty (None ∷ ps) n empty = items_from-empty ps (following n) (λ k below. empty (suc k) (omega arith))
   items_from-empty (Some item ∷ ps) n empty = let first : Some item ≡ None = empty 0 (omega arith) in absurd (cc)
-
-  -- an item among the first places comes first among all
-  pub IsEmptyFront-first : (ps qs : List (Option T)) (most count : ℕ) → IsEmptyFront ps most count → count < length ps → IsEmptyFront (ps ++ qs) most count
-  IsEmptyFront-first ps qs most count front stops =
-      let few = front.at_most in
-      record {
-        at_most = few;
-        within = omega (arith, length-append ps qs);
-        empty = λ k below. get_or_append_left ps qs None k (omega arith) ∙ front.empty k below;
-        next = λ more there. ap is_some (get_or_append_left ps qs None count stops) ∙ front.next more stops;
-      }
-
-  -- where the first places are empty the others are looked at
-  pub IsEmptyFront-both : (ps qs : List (Option T)) (most all count : ℕ) → IsEmptyFront ps most all → all ≡ length ps → IsEmptyFront qs (most - all) count → IsEmptyFront (ps ++ qs) most (all + count)
-  IsEmptyFront-both ps qs most all count front whole rest =
-      let few = front.at_most in
-      let few' = rest.at_most in
-      let fits = rest.within in
-      record {
-        at_most = omega arith;
-        within = omega (arith, length-append ps qs);
-        empty = λ k below.
-            ⊎_elim
-            (λ (early : k < all). get_or_append_left ps qs None k (omega arith) ∙ front.empty k early)
-            (λ (late : all ≤ k). get_or-append_right ps qs all k None (sym whole) late ∙ rest.empty (k - all) (omega arith))
-            (cases_lt k all);
-        next = λ more there.
-            let is : all + count - all ≡ count = omega arith in
-            ap is_some (get_or-append_right ps qs all (all + count) None (sym whole) (omega arith) ∙ ap (item_at qs) is)
-            ∙ rest.next (omega arith) (omega (arith, length-append ps qs));
-      }
 
   -- places that come past empty ones stand for the window that passed as many numbers
   moved_on_by-laid_out : (ps qs : List (Option T)) (w : WindowView T) (k : ℕ) → w.expected < 8192 → k + length ps ≤ 8192 → length qs ≡ length ps → ((i : ℕ) → item_at qs i ≡ item_at ps (i + k)) → ((i : ℕ) → i < k → item_at ps i ≡ None) → IsLaidOut ps w → IsLaidOut qs (moved_on_by w k)
@@ -97,36 +65,36 @@ module _ {T : Type 0} where
     pub next_is_held : count < most → IsHeld w (number_ahead w.expected count)
     pub within : count < w.width
 
-  module _ (e count : ℕ) (b : Buffer (Option T)) (kept : IsKept e count b) where
+  module _ (e count : ℕ) (ps : List (Option T)) (kept : IsKept e count ps) where
     abbrev window : WindowView T
-    window = seen e b.items
+    window = seen e ps
 
     -- what is held at an offset
-    held-ahead : (k : ℕ) → k < 8192 → held_at window (number_ahead e k) ≡ item_at b.items k
+    held-ahead : (k : ℕ) → k < 8192 → held_at window (number_ahead e k) ≡ item_at ps k
     held-ahead k few =
-        let out = laid e count b kept in
-        out.items (number_ahead e k) (omega arith) ∙ ap (item_at b.items) (offset-number_ahead e k kept.lawful.expected_in_range few)
+        let out = laid e count ps kept in
+        out.items (number_ahead e k) (omega arith) ∙ ap (item_at ps) (offset-number_ahead e k kept.lawful.expected_in_range few)
 
     -- numbers are open where places are empty
-    AreOpen-empty : (k : ℕ) → k ≤ 8192 → ((i : ℕ) → i < k → item_at b.items i ≡ None) → AreOpen window k
+    AreOpen-empty : (k : ℕ) → k ≤ 8192 → ((i : ℕ) → i < k → item_at ps i ≡ None) → AreOpen window k
     AreOpen-empty k few empty i below held =
         let nothing = held-ahead i (omega arith) ∙ empty i below in
         let found = sym (ap is_some nothing) ∙ held in
         cc
 
     -- and places are empty where numbers are open
-    empty-AreOpen : (k : ℕ) → k ≤ 8192 → AreOpen window k → (i : ℕ) → i < k → item_at b.items i ≡ None
+    empty-AreOpen : (k : ℕ) → k ≤ 8192 → AreOpen window k → (i : ℕ) → i < k → item_at ps i ≡ None
     empty-AreOpen k few free i below = sym (held-ahead i (omega arith)) ∙ none (held_at window (number_ahead e i)) (free i below)
 
     -- where something is held, an empty front of the places says how many numbers are open
-    pub IsOpen-front : (most k : ℕ) → 0 < map.len window.held → IsEmptyFront b.items most k → IsOpen window most k
+    pub IsOpen-front : (most k : ℕ) → 0 < map.len window.held → IsEmptyFront ps most k → IsOpen window most k
     IsOpen-front most k some front =
         let widest = kept.lawful.width_in_range in
-        let stops : k < length b.items =
+        let stops : k < length ps =
         ⊎_elim
-        (λ (stops : k < length b.items). stops)
-        (λ (all : length b.items ≤ k). let nothing = items_from-empty b.items e (λ i below. front.empty i (omega arith)) in absurd (omega arith))
-        (cases_lt k (length b.items)) in
+        (λ (stops : k < length ps). stops)
+        (λ (all : length ps ≤ k). let nothing = items_from-empty ps e (λ i below. front.empty i (omega arith)) in absurd (omega arith))
+        (cases_lt k (length ps)) in
         record {
           none_held = AreOpen-empty k (omega arith) front.empty;
           next_is_held = λ more. ap is_some (held-ahead k (omega arith)) ∙ front.next more stops;
@@ -134,35 +102,35 @@ module _ {T : Type 0} where
         }
 
     -- so many open numbers are passed as the ring is turned
-    module _ (k : ℕ) (few : k ≤ length b.items) (free : AreOpen window k) where
-      seen-turned : seen (number_ahead e k) (turned k b.items) ≡ moved_on_by window k
+    module _ (k : ℕ) (few : k ≤ length ps) (free : AreOpen window k) where
+      seen-turned : seen (number_ahead e k) (turned k ps) ≡ moved_on_by window k
       seen-turned =
           let widest = kept.lawful.width_in_range in
-          let as_many = length-turned b.items k few in
+          let as_many = length-turned ps k few in
           let empty = empty-AreOpen k (omega arith) free in
-          seen-is (number_ahead e k) (turned k b.items) (moved_on_by window k) (omega arith) (omega arith) refl (moved_on_by-laid_out b.items (turned k b.items) window k kept.lawful.expected_in_range (omega arith) as_many (λ i. item_at-turned b.items k i few empty) empty (laid e count b kept))
+          seen-is (number_ahead e k) (turned k ps) (moved_on_by window k) (omega arith) (omega arith) refl (moved_on_by-laid_out ps (turned k ps) window k kept.lawful.expected_in_range (omega arith) as_many (λ i. item_at-turned_empty ps k i few empty) empty (laid e count ps kept))
 
-      kept-turned : IsKept (number_ahead e k) count (buffer (turned k b.items) b.capacity)
+      kept-turned : IsKept (number_ahead e k) count (turned k ps)
       kept-turned =
           record {
             lawful = subst (λ (v : WindowView T). IsLawful v) (sym seen-turned) (moved_on_by-lawful window k kept.lawful free);
-            full = length-turned b.items k few ∙ kept.full;
             counted = kept.counted ∙ ap (λ (v : WindowView T). map.len v.held) (sym seen-turned);
           }
 
-    -- the places `c` are those of the ring that was turned by `n`
-    module _ (w : WindowView T) (is : window ≡ w) (k n : ℕ) (c : Buffer (Option T)) (same : n ≡ k) (is_turned : c ≡ buffer (turned n b.items) b.capacity) (within : k < w.width) (free : AreOpen w k) where
-      few : k ≤ length b.items
-      few = let same_width = ap (λ (v : WindowView T). v.width) is in omega arith
+    -- and the fields are those of the window that passed as many numbers
+    module _ (w : WindowView T) (is : window ≡ w) (k : ℕ) (within : k ≤ w.width) where
+      pub few-passed : k ≤ length ps
+      few-passed = let same_width = ap (λ (v : WindowView T). v.width) is in omega arith
 
-      free_before : AreOpen window k
-      free_before = subst (λ (v : WindowView T). AreOpen v k) (sym is) free
+      module _ (free : AreOpen w k) (e' count' : ℕ) (qs : List (Option T)) (same_e : e' ≡ e) (same_count : count' ≡ count) (is_turned : qs ≡ turned k ps) where
+        free_before : AreOpen window k
+        free_before = subst (λ (v : WindowView T). AreOpen v k) (sym is) free
 
-      turned_by : c ≡ buffer (turned k b.items) b.capacity
-      turned_by = is_turned ∙ ap (λ m. buffer (turned m b.items) b.capacity) same
+        pub seen-passed : seen (number_ahead e' k) qs ≡ moved_on_by w k
+        seen-passed = (λ i. seen (number_ahead (same_e i) k) (is_turned i)) ∙ seen-turned k few-passed free_before ∙ ap (λ (v : WindowView T). moved_on_by v k) is
 
-      pub seen-passed : seen (number_ahead e k) c.items ≡ moved_on_by w k
-      seen-passed = ap (λ (d : Buffer (Option T)). seen (number_ahead e k) d.items) turned_by ∙ seen-turned k few free_before ∙ ap (λ (v : WindowView T). moved_on_by v k) is
-
-      pub kept-passed : IsKept (number_ahead e k) count c
-      kept-passed = subst (λ (d : Buffer (Option T)). IsKept (number_ahead e k) count d) (sym turned_by) (kept-turned k few free_before)
+        pub kept-passed : IsKept (number_ahead e' k) count' qs
+        kept-passed =
+            subst (λ n. IsKept (number_ahead n k) count' qs) (sym same_e)
+            (subst (λ n. IsKept (number_ahead e k) n qs) (sym same_count)
+            (subst (λ (rs : List (Option T)). IsKept (number_ahead e k) count rs) (sym is_turned) (kept-turned k few-passed free_before)))

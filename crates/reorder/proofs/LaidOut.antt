@@ -1,12 +1,12 @@
 -- A ring of places stands for one window, and how it changes with the window.
-use Rattle.std.proofs.Common.{◌≡◌, ◌≢◌, ℕ, zero, suc, ◌+◌, ◌<◌, ◌≤◌, ⊎_elim, List, [], ◌∷◌, ◌++◌, length, replicate, slice_set, Option, None, Some, is_some, cond, Bool, true, false, refl, ap, sym, subst, ◌∙◌, arith, add-one}
+use Rattle.std.proofs.Common.{◌≡◌, ◌≢◌, ℕ, zero, suc, ◌+◌, ◌<◌, ◌≤◌, ⊎_elim, List, [], ◌∷◌, length, replicate, slice_set, Option, None, Some, is_some, cond, Bool, true, false, refl, ap, sym, subst, ◌∙◌, arith, add-one}
 use Rattle.std.specs.Ordering.{nat_cmp}
 use Rattle.std.specs.Cmp.{nat_cmp_total}
 use Rattle.std.specs.FinMap as map
 use Rattle.std.proofs.lemmas.Bool.{cases_eq, cases_lt}
 use Rattle.std.proofs.lemmas.List.{get_or_past, length-replicate, length-set, get_or-set_same, get_or-set_other}
 use Rattle.reorder.specs.Number.{offset, following}
-use Rattle.reorder.specs.View.{WindowView, held_at, empty_window, with_item, next_taken}
+use Rattle.reorder.specs.View.{WindowView, held_at, empty_window, with_item}
 use Rattle.reorder.specs.Inside.Places.{item_at, IsLaidOut, items_from, seen}
 use Rattle.reorder.proofs.Offsets.{following-in_range, offset-expected, offset-following, offset-injective, offset-passed}
 use Rattle.reorder.proofs.Items.{none, get-insert_same, get-insert_other, get-remove_same, get-remove_other}
@@ -21,13 +21,6 @@ module _ {T : Type 0} where
   -- the first place
   item_at-first : (p : Option T) (ps : List (Option T)) (i : ℕ) → i ≡ 0 → item_at (p ∷ ps) i ≡ p
   item_at-first p ps i first = ap (item_at (p ∷ ps)) first
-
-  -- an empty place more at the end changes no item
-  pub item_at-append_empty : (ps : List (Option T)) (i : ℕ) → item_at (ps ++ None ∷ []) i ≡ item_at ps i
-  item_at-append_empty [] zero = refl
-  item_at-append_empty [] (suc i) = refl
-  item_at-append_empty (p ∷ ps) zero = refl
-  item_at-append_empty (p ∷ ps) (suc i) = item_at-append_empty ps i
 
   -- there is no item at empty places
   item_at-replicate : (n i : ℕ) → item_at (replicate {A = Option T} n None) i ≡ None
@@ -147,22 +140,6 @@ module _ {T : Type 0} where
             (λ (differ : q ≢ e).
             let apart : offset e q ≢ 0 = λ same. differ (offset-injective e q e e_in q_in e_in (same ∙ sym itself)) in
             get-remove_other w.held e q differ ∙ laid.items q q_in ∙ sym (get_or-set_other ps 0 (offset e q) None None apart))
-            (cases_eq q e);
-        in_range = λ q h. laid.in_range q (held_before w e q h).1;
-      }
-
-  -- places of which each has moved one to the front stand for the window that gave out its next item
-  pub next_taken-laid_out : (ps qs : List (Option T)) (w : WindowView T) → w.expected < 8192 → length ps ≤ 8191 → length qs ≡ length ps → ((i : ℕ) → item_at qs i ≡ item_at ps (i + 1)) → IsLaidOut ps w → IsLaidOut qs (next_taken w)
-  next_taken-laid_out ps qs w e_in fits as_many moved laid =
-      let e : ℕ = w.expected in
-      record {
-        wide = as_many ∙ laid.wide;
-        items = λ q q_in.
-            ⊎_elim
-            (λ (same : q ≡ e).
-            let far : offset (following e) q ≡ 8191 = ap (offset (following e)) same ∙ offset-passed e e_in in
-            ap (map.get (map.remove w.held e)) same ∙ get-remove_same w.held e ∙ sym (get_or_past ps (offset (following e) q + 1) None (omega arith)) ∙ sym (moved (offset (following e) q)))
-            (λ (differ : q ≢ e). get-remove_other w.held e q differ ∙ laid.items q q_in ∙ ap (item_at ps) (sym (offset-following e q e_in q_in differ)) ∙ sym (moved (offset (following e) q)))
             (cases_eq q e);
         in_range = λ q h. laid.in_range q (held_before w e q h).1;
       }

@@ -1,12 +1,11 @@
 -- Each change that a call makes keeps a window lawful.
-use Rattle.std.proofs.Common.{◌≡◌, ◌≢◌, ℕ, ◌<◌, ◌≤◌, true, None, is_some, ⊎_elim, refl, ap, sym, subst, ◌∙◌, arith}
+use Rattle.std.proofs.Common.{◌≡◌, ◌≢◌, ℕ, ◌<◌, ◌≤◌, true, is_some, ⊎_elim, ap, sym, subst, ◌∙◌}
 use Rattle.std.specs.Ordering.{nat_cmp}
 use Rattle.std.specs.FinMap as map
 use Rattle.std.proofs.lemmas.Bool.{cases_eq}
 use Rattle.reorder.specs.Number.{offset}
-use Rattle.reorder.specs.View.{WindowView, held_at, IsHeld, IsLawful, empty_window, with_item, moved_on, next_taken}
-use Rattle.reorder.proofs.Offsets.{following-in_range, offset-following}
-use Rattle.reorder.proofs.Items.{get-insert_other, get-remove_same, get-remove_other, remove_free}
+use Rattle.reorder.specs.View.{WindowView, IsHeld, IsLawful, empty_window, with_item}
+use Rattle.reorder.proofs.Items.{get-insert_other, get-remove_same, get-remove_other}
 
 module _ {T : Type 0} where
   -- nothing is held, so that only the two numbers are asked about
@@ -25,10 +24,6 @@ module _ {T : Type 0} where
   held_before w k q h =
       let differ : q ≢ k = λ same. let none = get-remove_same w.held k in absurd (let at_k = subst (λ n. is_some (map.get (map.remove w.held k) n) ≡ true) same h in cc) in
       (differ, ap is_some (sym (get-remove_other w.held k q differ)) ∙ h)
-
-  -- where the expected number is not held, to take the next item is to move on
-  pub next_taken-none : (w : WindowView T) → None ≡ held_at w w.expected → next_taken w ≡ moved_on w
-  next_taken-none w nothing = ap (λ held. record (moved_on w) { held = held }) (remove_free w.held w.expected (λ there. let found = ap is_some nothing ∙ there in cc))
 
   module _ (w : WindowView T) (lawful : IsLawful w) where
     -- an item is put in less than the width ahead
@@ -50,31 +45,13 @@ module _ {T : Type 0} where
               (cases_eq q number);
         }
 
-    -- a held number is not the expected one, and so it comes one nearer
-    pub moved_on-lawful : ¬ (IsHeld w w.expected) → IsLawful (moved_on w)
-    moved_on-lawful free =
+    -- the next item is taken out
+    pub without_next-lawful : IsLawful (record w { held = map.remove w.held w.expected })
+    without_next-lawful =
         record {
-          expected_in_range = following-in_range w.expected;
-          width_positive = lawful.width_positive;
-          width_in_range = lawful.width_in_range;
-          held_in_range = lawful.held_in_range;
-          held_within = λ q h.
-              let differ : q ≢ w.expected = λ same. free (subst (λ n. IsHeld w n) same h) in
-              let nearer = offset-following w.expected q lawful.expected_in_range (lawful.held_in_range q h) differ in
-              let within = lawful.held_within q h in
-              omega arith;
-        }
-
-  module _ (w : WindowView T) (lawful : IsLawful w) where
-    -- the expected number is not held once its item is taken out, and so the window may move on
-    pub next_taken-lawful : IsLawful (next_taken w)
-    next_taken-lawful =
-        let rest : WindowView T = record w { held = map.remove w.held w.expected } in
-        let rest_lawful : IsLawful rest = record {
           expected_in_range = lawful.expected_in_range;
           width_positive = lawful.width_positive;
           width_in_range = lawful.width_in_range;
           held_in_range = λ q h. lawful.held_in_range q (held_before w w.expected q h).1;
           held_within = λ q h. lawful.held_within q (held_before w w.expected q h).1;
-        } in
-        moved_on-lawful rest rest_lawful (λ h. (held_before w w.expected w.expected h).0 refl)
+        }

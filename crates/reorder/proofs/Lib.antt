@@ -3,6 +3,7 @@ pub mod Items
 pub mod LawfulWindow
 pub mod AgreeingWindows
 pub mod Rings
+pub mod RingFields
 pub mod LaidOut
 pub mod WindowFields
 pub mod OpenNumbers

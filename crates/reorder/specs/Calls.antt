@@ -55,7 +55,8 @@ module _ {T : Type 0} where
   LosesInTurn w (suc count) after =
       IsDeclared w (Lost w.expected) × LosesInTurn (after_declare w (Lost w.expected)) count after
 
-  -- the window moved on so many times, its expected number not held each time, and became this window
+  -- the window moved on so many times, its expected number not held each time, and became this
+  -- window
   abbrev pub PassesInTurn : WindowView T → ℕ → WindowView T → Type 0
   PassesInTurn w zero after = after ≡ w
   PassesInTurn w (suc count) after = ¬ (IsHeld w w.expected) × PassesInTurn (moved_on w) count after

@@ -5,7 +5,8 @@ use Rattle.std.specs.Prelude.{ℕ}
 abbrev pub modulus : ℕ
 modulus = 8192
 
--- how many of them lie ahead of an expected one, itself included: half of them all; the others lie behind it
+-- how many of them lie ahead of an expected one, itself included: half of them all; the others lie
+-- behind it
 abbrev pub numbers_ahead : ℕ
 numbers_ahead = 4096
 

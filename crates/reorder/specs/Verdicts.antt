@@ -1,4 +1,5 @@
--- When a window gives each verdict on an item, and each answer to a declared loss, and what the window is after it.
+-- When a window gives each verdict on an item, and each answer to a declared loss, and what the
+-- window is after it.
 use Rattle.std.specs.Prelude.{◌≡◌, ℕ, ◌<◌, ◌≤◌, List, [], ◌∷◌, Option, None, Some, Bool, ◌&&◌, nat_lt, min, if◌then◌else◌}
 use Rattle.std.specs.FinMap as map
 use Rattle.reorder.specs.View.{WindowView, offset_in, IsHeld, with_item, moved_on, next_taken}

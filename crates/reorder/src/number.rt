@@ -1,7 +1,7 @@
 //! Sequence numbers, which run from 0 to 8191 and then begin again.
 ghost use Rattle.std.specs.Prelude.{◌≡◌, ◌<◌};
 ghost use Rattle.reorder.specs.Limits.{modulus};
-ghost use Rattle.reorder.specs.Number.{offset, following};
+ghost use Rattle.reorder.specs.Number.{offset};
 
 use crate::MODULUS;
 
@@ -13,12 +13,4 @@ pub fn offset(expected: u16, number: u16) -> u16
     ensures { result ≡ offset expected number }
 {
     (number + MODULUS - expected) % MODULUS
-}
-
-/// The number after this one.
-pub fn number_after(number: u16) -> u16
-    requires { number < modulus }
-    ensures { result ≡ following number }
-{
-    (number + 1) % MODULUS
 }

@@ -5,15 +5,14 @@ ghost use Rattle.std.specs.FinMap as map;
 ghost use Rattle.reorder.specs.Limits.{modulus, width_max};
 ghost use Rattle.reorder.specs.Number.{number_ahead};
 ghost use Rattle.reorder.specs.View.{IsHeld, IsLawful, held_at};
-ghost use Rattle.reorder.specs.View.{empty_window, next_taken, moved_on_by};
+ghost use Rattle.reorder.specs.View.{empty_window, moved_on_by};
 ghost use Rattle.reorder.specs.Verdicts.{IsVerdict, after_offer, after_take_next};
 ghost use Rattle.reorder.specs.Verdicts.{IsDeclared, after_declare, declared_count, skipped_count};
 
-use crate::number::{number_after, offset};
-use crate::ring::{empty_before_held, turn};
+use crate::number::offset;
+use crate::ring::Ring;
 use crate::verdict::{Declared, Verdict};
 use crate::{MODULUS, NUMBERS_AHEAD};
-use circular_buffer::HeapCircularBuffer;
 use std::alloc::{AllocError, Global};
 use std::marker::Model;
 
@@ -29,7 +28,7 @@ pub struct Window<T> {
     expected: u16,
     held: usize,
     /// The places of the expected number and of those after it, in order, as many as the width.
-    places: HeapCircularBuffer<Option<T>>,
+    places: Ring<T>,
 }
 
 impl<T> Model for Window<T> {
@@ -41,14 +40,15 @@ impl<T> Model for Window<T> {
 
     ghost coded = { view_code T.code };
 
-    ghost view = { λ w. seen w.expected w.places.items };
+    ghost view = { λ w. seen w.expected w.places };
 
     ghost invariant = { λ w. IsKept w.expected w.held w.places };
 }
 
 impl<T> Window<T> {
     /// A window that holds nothing and waits for the number `first`, 0 to 8191. Its `width` is 1 to
-    /// 4096. All memory that it will use is reserved here. `Err` comes only where memory ran out.
+    /// 4096. All memory that it will use is reserved here, and none of it is written before numbers
+    /// come. `Err` comes only where memory ran out.
     pub fn new(alloc: Global, first: u16, width: u16) -> Result<Window<T>, AllocError>
         requires first_in_range { first < modulus }
         requires width_positive { 1 ≤ width }
@@ -56,13 +56,7 @@ impl<T> Window<T> {
         ensures empty { IfOk result (λ window. window ≡ empty_window first width) }
         ensures lawful { IfOk result IsLawful }
     {
-        let mut places = HeapCircularBuffer::with_capacity(alloc, usize::from(width))?;
-        for _count in 0..width {
-            match places.try_push_back(None) {
-                Ok(()) => {}
-                Err(_place) => unreachable!(),
-            }
-        }
+        let places = Ring::new(alloc, width)?;
         Ok(Window {
             expected: first,
             held: 0,
@@ -83,16 +77,13 @@ impl<T> Window<T> {
         if offset >= NUMBERS_AHEAD {
             return Verdict::Late(item);
         }
-        match self.places.get_mut(usize::from(offset)) {
-            None => Verdict::Beyond(item),
-            Some(place) => {
-                if place.is_some() {
-                    return Verdict::Repeat(item);
-                }
-                match place.replace(item) {
-                    None => {}
-                    Some(_replaced) => unreachable!(),
-                }
+        let place = usize::from(offset);
+        if place >= self.places.width() {
+            return Verdict::Beyond(item);
+        }
+        match self.places.put(place, item) {
+            Err(item) => Verdict::Repeat(item),
+            Ok(()) => {
                 self.held += 1;
                 Verdict::Kept
             }
@@ -104,8 +95,7 @@ impl<T> Window<T> {
         ensures item { option_copied result ≡ held_at self.now self.now.expected }
         ensures lawful { IsLawful self.now }
     {
-        let front = self.places.front()?;
-        front.as_ref()
+        self.places.get(0)
     }
 
     /// Takes out the item that is held under the expected number, and then expects the next number.
@@ -115,13 +105,10 @@ impl<T> Window<T> {
         ensures after { self.new ≡ after_take_next self.old result }
         ensures lawful { IsLawful self.new }
     {
-        if self.held() == 1 {
-            return self.take_the_only_one();
-        }
-        if self.next().is_none() {
-            return None;
-        }
-        self.advance()
+        let item = self.places.take_first()?;
+        self.held -= 1;
+        self.pass_numbers(1);
+        Some(item)
     }
 
     /// Gives the expected number up as lost, if it is not held and something else is, and then
@@ -139,10 +126,8 @@ impl<T> Window<T> {
             return Declared::NothingHeld;
         }
         let lost = self.expected;
-        match self.advance() {
-            None => Declared::Lost(lost),
-            Some(_taken) => unreachable!(),
-        }
+        self.pass_numbers(1);
+        Declared::Lost(lost)
     }
 
     /// Gives up as lost, one after another, the expected number and those after it, up to but not
@@ -200,38 +185,6 @@ impl<T> Window<T> {
         self.held
     }
 
-    /// Takes out the item of the expected number, if it is held, and then expects the next number.
-    fn advance(&mut self) -> Option<T>
-        ensures item { result ≡ held_at self.old self.old.expected }
-        ensures after { self.new ≡ next_taken self.old }
-        ensures lawful { IsLawful self.new }
-    {
-        let item = self.places.pop_front().flatten();
-        match self.places.try_push_back(None) {
-            Ok(()) => {}
-            Err(_place) => unreachable!(),
-        }
-        self.held -= usize::from(item.is_some());
-        self.expected = number_after(self.expected);
-        item
-    }
-
-    /// Takes out the one item that is held, if its number is expected, and then expects the next
-    /// number. No place has to move for this, since all of them are empty then: an item that comes
-    /// in its order stays in the processor's caches, whatever the width.
-    fn take_the_only_one(&mut self) -> Option<T>
-        requires one_held { map.len self.old.held ≡ 1 }
-        ensures item { result ≡ held_at self.old self.old.expected }
-        ensures after { self.new ≡ after_take_next self.old result }
-        ensures lawful { IsLawful self.new }
-    {
-        let taken = self.expected;
-        let item = self.places.get_mut(0)?.take()?;
-        self.held = 0;
-        self.expected = number_after(taken);
-        Some(item)
-    }
-
     /// How many numbers from the expected one on aren't held, where something is: as many as come
     /// before the nearest that is held, or `distance`, below 4096, if those are fewer.
     fn open_numbers(&self, distance: u16) -> u16
@@ -243,20 +196,23 @@ impl<T> Window<T> {
             → IsHeld self.now (number_ahead self.now.expected result) }
         ensures within { result < self.now.width }
     {
-        let (first, others) = self.places.as_slices();
-        empty_before_held(first, others, usize::from(distance)) as u16
+        self.places.empty_before_held(usize::from(distance)) as u16
     }
 
     /// Expects the number so many after the expected one. None of those that it passes is held, and
-    /// they are fewer than the window is wide.
+    /// they are no more than the window is wide.
     fn pass_numbers(&mut self, count: u16)
         requires none_held { (k : ℕ) → k < count
             → ¬ (IsHeld self.old (number_ahead self.old.expected k)) }
-        requires within { count < self.old.width }
+        requires within { count ≤ self.old.width }
         ensures after { self.new ≡ moved_on_by self.old count }
         ensures lawful { IsLawful self.new }
     {
-        turn(&mut self.places, usize::from(count));
+        if self.held > 0 {
+            self.places.turn(usize::from(count));
+        } else {
+            self.places.begin_anew();
+        }
         self.expected = (self.expected + count) % MODULUS;
     }
 }

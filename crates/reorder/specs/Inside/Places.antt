@@ -2,7 +2,6 @@
 use Rattle.std.specs.Prelude.{◌≡◌, ℕ, ◌<◌, List, [], ◌∷◌, length, slice_index_or, Option, None, Some}
 use Rattle.std.specs.Ordering.{nat_cmp}
 use Rattle.std.specs.FinMap as map
-use Rattle.circular_buffer.specs.Buffer.{Buffer}
 use Rattle.reorder.specs.Limits.{modulus}
 use Rattle.reorder.specs.Number.{following}
 use Rattle.reorder.specs.View.{WindowView, offset_in, held_at, IsHeld, IsLawful}
@@ -32,8 +31,7 @@ module _ {T : Type 0} where
   seen expected places =
       record { expected = expected; width = length places; held = items_from expected places }
 
-  -- what the fields of a window keep: its ranges, that every place stands there, and the count
-  pub record IsKept (expected count : ℕ) (places : Buffer (Option T)) : Type 0 where
-    pub lawful : IsLawful (seen expected places.items)
-    pub full : length places.items ≡ places.capacity
-    pub counted : count ≡ map.len (seen expected places.items).held
+  -- what the fields of a window keep: its ranges, and the count
+  pub record IsKept (expected count : ℕ) (places : List (Option T)) : Type 0 where
+    pub lawful : IsLawful (seen expected places)
+    pub counted : count ≡ map.len (seen expected places).held
