@@ -1,6 +1,7 @@
 -- What the assembler of a running receiver has made of all that it took.
 use Rattle.std.proofs.Common.{◌≡◌, ℕ, ◌<◌, ◌==◌, Bool, IsTrue, Option, Some, None, IfSome, List, [], ◌∷◌, ◌++◌, map, slice_index_or, if◌then◌else◌, Vec, refl, ap, sym, subst, ◌∙◌, append_assoc, append-nil}
 use Rattle.std.specs.Global.{Global}
+use Rattle.std.proofs.lemmas.List.{map-append, length-map}
 use Rattle.delivery.specs.Feeders.{closed_offered, offered}
 use Rattle.delivery.specs.declared.feeder.ClosedFeeder.{ClosedFeeder}
 use Rattle.flow_core.specs.declared.counts.FlowCounts.{FlowCounts}
@@ -15,9 +16,10 @@ use Rattle.uplink.specs.declared.feeding.Feeding.{Feeding}
 use Rattle.uplink.specs.Inside.Feeding.{HasOffered}
 use Rattle.uplink.specs.Inside.Offering.{HasOrder, TakesItem, HasAssembledSoFar, ClosesFlows, HasAssembledAll, HasAssembled}
 use Rattle.uplink.proofs.FramesOffered.{none-offered, offered-on}
-use Rattle.uplink.proofs.ItemsCollected.{none_collected, one_collected, same_collected}
+use Rattle.uplink.proofs.ItemsCollected.{sent_item, none_collected, one_collected, same_collected}
 use Rattle.receiver.proofs.TakenInOrder.{inputs-more}
 use Rattle.workers.specs.declared.item.Item.{Item}
+use Rattle.workers.specs.Inside.Carried.{SentEvent, senders_of, events_of}
 
 -- no sender is appended
 none-ordered : (kept : Option (Vec ℕ Global)) → HasOrder kept [] kept
@@ -33,6 +35,16 @@ ordered-on (Some was) now after first second is next =
     let more = subst P is.1 next in
     (more.0, more.1, more.2 ∙ ap (λ l. l ++ second) is.2 ∙ append_assoc was.items first second)
 
+-- one item more that is sent
+pub sent-more : (items : List SentEvent) (item : Item)
+    → table_inputs (senders_of (items ++ sent_item item ∷ [])) (events_of (items ++ sent_item item ∷ []))
+    ≡ table_inputs (senders_of items) (events_of items) ++ table_input_of item.sender item.event ∷ []
+sent-more items item =
+    ap (λ l. table_inputs l (events_of (items ++ sent_item item ∷ []))) (map-append (λ (one : SentEvent). one.sender) items (sent_item item ∷ []))
+    ∙ ap (table_inputs (senders_of items ++ item.sender ∷ [])) (map-append (λ (one : SentEvent). one.event) items (sent_item item ∷ []))
+    ∙ inputs-more (senders_of items) (events_of items) item.sender item.event
+    (length-map items (λ (one : SentEvent). one.sender) ∙ sym (length-map items (λ (one : SentEvent). one.event)))
+
 module _ {C : Type 0} (accepts : C → List ℕ → Bool) (first : Taking C) (feeding0 : Feeding) (before : ℕ → List Item) where
   abbrev SoFar : (ℕ → List Item) → Taking C → Feeding → Type 0
   SoFar = HasAssembledSoFar accepts first feeding0 before
@@ -45,7 +57,7 @@ module _ {C : Type 0} (accepts : C → List ℕ → Bool) (first : Taking C) (fe
   -- nothing at first
   pub begins : SoFar before first feeding0
   begins = record {
-    order = [];
+    ports = [];
     items = [];
     given = [];
     ordered = none-ordered first.order;
@@ -60,8 +72,8 @@ module _ {C : Type 0} (accepts : C → List ℕ → Bool) (first : Taking C) (fe
     -- one item was taken
     pub item-made : (from : ℕ) (item : Item) (was now : Option (Taking C)) → from < senders
         → ((sender : ℕ) → new sender ≡ (if sender == from then old sender ++ item ∷ [] else old sender))
-        → IfSome now (λ n. (w : Taking C) × (was ≡ Some w) × HasOrder w.order (from ∷ []) n.order
-        × TakesItem accepts w.flows feeding from item.event n.flows after)
+        → IfSome now (λ n. (w : Taking C) × (was ≡ Some w) × HasOrder w.order (item.sender ∷ []) n.order
+        × TakesItem accepts w.flows feeding item.sender item.event n.flows after)
         → IfSome was (λ w. SoFar old w feeding) → IfSome now (λ n. SoFar new n after)
     item-made from item was None named takes taken so_far = tt
     item-made from item was (Some n) named takes taken so_far =
@@ -69,17 +81,19 @@ module _ {C : Type 0} (accepts : C → List ℕ → Bool) (first : Taking C) (fe
         let made : SoFar old w feeding = made-of old feeding was w taken.1 so_far in
         let more : List Given = map (Frame taken.3.0) taken.3.1.more in
         record {
-          order = made.order ++ from ∷ [];
-          items = made.items ++ item.event ∷ [];
+          ports = made.ports ++ from ∷ [];
+          items = made.items ++ sent_item item ∷ [];
           given = made.given ++ more;
-          ordered = ordered-on first.order w.order n.order made.order (from ∷ []) made.ordered taken.2;
-          has_collected = one_collected before old new made.order made.items made.has_collected from item named takes;
+          ordered =
+              subst (λ senders. HasOrder first.order senders n.order) (sym (map-append (λ (one : SentEvent). one.sender) made.items (sent_item item ∷ [])))
+              (ordered-on first.order w.order n.order (senders_of made.items) (item.sender ∷ []) made.ordered taken.2);
+          has_collected = one_collected before old new made.ports made.items made.has_collected from item named takes;
           stands = λ check setup history given stands.
-              let inputs = table_inputs made.order made.items in
+              let inputs = table_inputs (senders_of made.items) (events_of made.items) in
               subst (λ (all : List TableInput). StandsFor accepts n.flows check setup (history ++ all) (given ++ (made.given ++ more)))
-              (sym (inputs-more made.order made.items from item.event made.has_collected.paired))
-              (subst (λ h. StandsFor accepts n.flows check setup h (given ++ (made.given ++ more))) (append_assoc history inputs (table_input_of from item.event ∷ []))
-              (subst (λ g. StandsFor accepts n.flows check setup ((history ++ inputs) ++ table_input_of from item.event ∷ []) g) (append_assoc given made.given more)
+              (sym (sent-more made.items item))
+              (subst (λ h. StandsFor accepts n.flows check setup h (given ++ (made.given ++ more))) (append_assoc history inputs (table_input_of item.sender item.event ∷ []))
+              (subst (λ g. StandsFor accepts n.flows check setup ((history ++ inputs) ++ table_input_of item.sender item.event ∷ []) g) (append_assoc given made.given more)
               (taken.3.1.stands check setup (history ++ inputs) (given ++ made.given) (made.stands check setup history given stands))));
           offered = taken.3.1.was_given feeding0 made.given made.offered;
         }
@@ -89,11 +103,11 @@ module _ {C : Type 0} (accepts : C → List ℕ → Bool) (first : Taking C) (fe
         → IfSome taking (λ t. SoFar old t feeding) → IfSome taking (λ t. SoFar new t after)
     nothing-made None same offered so_far = tt
     nothing-made (Some t) same offered so_far = record {
-      order = so_far.order;
+      ports = so_far.ports;
       items = so_far.items;
       given = so_far.given;
       ordered = so_far.ordered;
-      has_collected = same_collected before old new so_far.order so_far.items so_far.has_collected same;
+      has_collected = same_collected before old new so_far.ports so_far.items so_far.has_collected same;
       stands = so_far.stands;
       offered =
           subst (λ given. HasOffered feeding0 given after) (append-nil so_far.given)
@@ -103,7 +117,7 @@ module _ {C : Type 0} (accepts : C → List ℕ → Bool) (first : Taking C) (fe
   module _ (now : ℕ → List Item) (feeding : Feeding) (in_use : IsInUse accepts first.flows) where
     -- what stands for all that was taken besides
     stands-now : (made : Taking C) → (so_far : SoFar now made feeding)
-        → StandsFor accepts made.flows in_use.check in_use.made (in_use.history ++ table_inputs so_far.order so_far.items) (in_use.given ++ so_far.given)
+        → StandsFor accepts made.flows in_use.check in_use.made (in_use.history ++ table_inputs (senders_of so_far.items) (events_of so_far.items)) (in_use.given ++ so_far.given)
     stands-now made so_far = so_far.stands in_use.check in_use.made in_use.history in_use.given in_use.stands
 
     -- the flows are in use
@@ -112,7 +126,7 @@ module _ {C : Type 0} (accepts : C → List ℕ → Bool) (first : Taking C) (fe
     in-use (Some t) so_far = record {
       check = in_use.check;
       made = in_use.made;
-      history = in_use.history ++ table_inputs so_far.order so_far.items;
+      history = in_use.history ++ table_inputs (senders_of so_far.items) (events_of so_far.items);
       given = in_use.given ++ so_far.given;
       stands = stands-now t so_far;
     }
@@ -120,7 +134,7 @@ module _ {C : Type 0} (accepts : C → List ℕ → Bool) (first : Taking C) (fe
     -- where nothing failed, what was assembled is what the flows give at last
     module _ (after : Feeding) (closed : List ClosedFeeder) (same : map closed_offered closed ≡ map offered after.feeders.items) where
       all-made : (w : Taking C) (counts : List FlowCounts) → (made : SoFar now w feeding) → IsTrue after.whole → ClosesFlows accepts w.flows feeding counts after
-          → HasAssembledAll accepts first.flows made.order made.items feeding0.feeders.items closed counts
+          → HasAssembledAll accepts first.flows (senders_of made.items) (events_of made.items) feeding0.feeders.items closed counts
       all-made w counts made whole closes =
           let all : HasOffered feeding0 (made.given ++ closes.more) after =
           offered-on feeding0 feeding after made.given closes.more made.offered closes.offered in
@@ -128,7 +142,7 @@ module _ {C : Type 0} (accepts : C → List ℕ → Bool) (first : Taking C) (fe
             given = made.given ++ closes.more;
             count = closes.count ∙ (stands-now w made).flow_count ∙ sym in_use.stands.flow_count;
             offered = λ k. ap (λ lists. slice_index_or lists k []) same ∙ (all.offers whole).1 k;
-            gave = λ check setup stands. closes.gave check setup (table_inputs made.order made.items) made.given (made.stands check setup [] [] stands);
+            gave = λ check setup stands. closes.gave check setup (table_inputs (senders_of made.items) (events_of made.items)) made.given (made.stands check setup [] [] stands);
           }
 
       pub assembled : (taking : Option (Taking C)) (done : Option Assembled) → IfSome taking (λ t. SoFar now t feeding)
@@ -140,9 +154,9 @@ module _ {C : Type 0} (accepts : C → List ℕ → Bool) (first : Taking C) (fe
           let w = closes.0 in
           let made : SoFar now w feeding = made-of now feeding taking w closes.1 so_far in
           record {
-            order = made.order;
+            ports = made.ports;
             items = made.items;
-            ordered = subst (λ (kept : Option (Vec ℕ Global)). HasOrder first.order made.order kept) (sym closes.2) made.ordered;
+            ordered = subst (λ (kept : Option (Vec ℕ Global)). HasOrder first.order (senders_of made.items) kept) (sym closes.2) made.ordered;
             has_collected = made.has_collected;
             has_assembled = all-made w d.counts.items made whole closes.3;
           }

@@ -1,14 +1,16 @@
 -- What is known of a run that collected what it gave, and of its outcome.
-use Rattle.std.proofs.Common.{◌≡◌, ℕ, ◌<◌, Bool, IsTrue, Option, Some, None, IfSome, List, [], ◌++◌, length, slice_get, Vec, Global, refl, sym, ap, subst, ◌∙◌, append-nil, arith}
+use Rattle.std.proofs.Common.{◌≡◌, ℕ, ◌<◌, nat_lt, Bool, IsTrue, Option, Some, None, IfSome, List, [], ◌++◌, map, filter, if◌then◌else◌, length, slice_get, Vec, Global, refl, sym, ap, subst, ◌∙◌, append-nil, arith}
 use Rattle.std.proofs.lemmas.Option.{slice_get_within, same_Some}
 use Rattle.docsis_wire.proofs.StreamPlaces.{element_at}
 use Rattle.docsis_wire.specs.declared.buffer.Bytes.{Bytes}
 use Rattle.flow_core.specs.declared.counts.FlowCounts.{FlowCounts}
+use Rattle.flow_records.specs.declared.decision.Decision.{Decision}
 use Rattle.flow_records.specs.declared.record.FlowRecord.{FlowRecord}
+use Rattle.flow_records.specs.Decisions.{names_a_flow, event_of_decision}
 use Rattle.lane.specs.declared.admitted.Request.{Request}
 use Rattle.lane.specs.declared.report.LaneReport.{LaneReport}
 use Rattle.lane.specs.Limits.{channel_limit}
-use Rattle.lane.specs.Report.{IsReportOf}
+use Rattle.lane.specs.Report.{IsReportOf, admitted_of, event_of_admitted}
 use Rattle.loss_rule.specs.declared.rule.LossRule.{LossRule}
 use Rattle.consumer.specs.declared.given.Given.{Given}
 use Rattle.consumer.specs.declared.collected.Collected.{Collected}
@@ -17,10 +19,12 @@ use Rattle.consumer.specs.Collecting.{HasNothing, HasCollected, list_at}
 use Rattle.receiver.specs.declared.setup.Setup.{Setup}
 use Rattle.receiver.specs.declared.outcome.FlowOutcome.{FlowOutcome}
 use Rattle.receiver.specs.declared.outcome.Outcome.{Outcome}
-use Rattle.receiver.specs.Items.{Incoming}
+use Rattle.receiver.specs.Items.{Incoming, AreLanesOf, items_of}
+use Rattle.receiver.specs.Intake.{IsIntake}
 use Rattle.receiver.specs.Outcome.{GivesAtItsClose}
 use Rattle.receiver.specs.Ruled.{ruled_flow, comings_at, IsRuledOutcome, IsOutcomeBy}
 use Rattle.receiver.proofs.PlayedOut.{list-there}
+use Rattle.workers.specs.declared.channel_input.ChannelInput.{ChannelInput}
 use Rattle.workers.specs.declared.consumers.Consumers.{Consumers}
 use Rattle.uplink.specs.declared.finish.Concluded.{Concluded}
 use Rattle.uplink.specs.declared.finish.Ran.{Ran}
@@ -29,7 +33,8 @@ use Rattle.uplink.specs.declared.tapped.Tapped.{Tapped}
 use Rattle.uplink.specs.Received.{IsAnswerBy}
 use Rattle.uplink.specs.Inside.Collected.{CanBeMade, IsMadeOf}
 use Rattle.uplink.specs.Inside.Offering.{HasOrder}
-use Rattle.uplink.specs.Inside.Running.{in_order, HasRun, ConcludesAnswer}
+use Rattle.uplink.specs.Channels.{items_within}
+use Rattle.uplink.specs.Inside.Running.{HaveNotes, notes_on, HasRun, ConcludesAnswer}
 
 -- nothing more is collected where nothing is given
 still-nothing : (start : Collected) → HasCollected start [] start
@@ -68,10 +73,10 @@ kept-order first kept order now has empty is =
     let same : has.0 ≡ now = same_Some has.0 now (sym has.1 ∙ is) in
     ap (λ (v : Vec ℕ Global). v.items) (sym same) ∙ has.2 ∙ ap (λ l. l ++ order) empty
 
-module _ {F Q : Type 0} (rule : LossRule) (check : List ℕ → Bool) (setup : Setup) (came_in came_first : Incoming → Type 0) (first : Vec ℕ Global) (empty : first.items ≡ [])
+module _ {F Q : Type 0} (rule : LossRule) (check : List ℕ → Bool) (setup : Setup) (came_in came_first : List (List ChannelInput) → Incoming → Type 0) (first : Vec ℕ Global) (empty : first.items ≡ [])
     (consumers : Consumers (Tapped F NoTap) (Tapped NoTap Q)) (ran : Ran (Tapped F NoTap) (Tapped NoTap Q) LaneReport)
     (has : HasRun (λ start given now. HasCollected start.collected given now.collected) (λ start given now. HasCollected start.collected given now.collected)
-    IsReportOf rule check setup came_in came_first (Some first) consumers ran)
+    IsReportOf channel_limit rule check setup came_in came_first (Some first) consumers ran)
     (no_frames : HasNothing (length setup.flows.items) 0 consumers.consumer.collected) (no_requests : HasNothing 0 channel_limit consumers.scheduler.collected) where
   -- who collected the frames, and the requests
   abbrev kept_frames : Collected
@@ -97,23 +102,29 @@ module _ {F Q : Type 0} (rule : LossRule) (check : List ℕ → Bool) (setup : S
     frame_lists = λ whole. (frames-collected whole).flow_count_is;
     request_lists = λ whole. (requests-collected whole).channel_count_is;
     counts = counted ran.concluded has.answers;
+    notes = noted ran.concluded has.answers;
   }
     where
-      counted : (concluded : Option (Concluded LaneReport)) → IfSome concluded (ConcludesAnswer IsReportOf rule check setup came_in (Some first) has.frames has.requests)
+      counted : (concluded : Option (Concluded LaneReport)) → IfSome concluded (ConcludesAnswer IsReportOf channel_limit rule check setup came_in (Some first) has.frames has.requests)
           → IfSome concluded (λ c. length c.counts.items ≡ length setup.flows.items)
       counted None answers = tt
       counted (Some c) answers = answers.answer.flow_count
 
+      noted : (concluded : Option (Concluded LaneReport)) → IfSome concluded (ConcludesAnswer IsReportOf channel_limit rule check setup came_in (Some first) has.frames has.requests)
+          → IfSome concluded (λ c. HaveNotes channel_limit c.lanes)
+      noted None answers = tt
+      noted (Some c) answers = answers.have_notes
+
   module _ (outcome : Outcome) (made : IsMadeOf setup.flows.items kept_frames kept_requests ran.concluded outcome) where
     -- the answer that was concluded
-    answers : ConcludesAnswer IsReportOf rule check setup came_in (Some first) has.frames has.requests made.concluded
+    pub answers : ConcludesAnswer IsReportOf channel_limit rule check setup came_in (Some first) has.frames has.requests made.concluded
     answers =
-        subst (λ (o : Option (Concluded LaneReport)). IfSome o (ConcludesAnswer IsReportOf rule check setup came_in (Some first) has.frames has.requests)) made.was has.answers
+        subst (λ (o : Option (Concluded LaneReport)). IfSome o (ConcludesAnswer IsReportOf channel_limit rule check setup came_in (Some first) has.frames has.requests)) made.was has.answers
 
     abbrev order : List ℕ
     order = answers.order
 
-    abbrev answer : IsAnswerBy IsReportOf rule check setup answers.incoming order has.frames has.requests made.concluded.counts.items (in_order made.concluded.lanes)
+    abbrev answer : IsAnswerBy IsReportOf channel_limit rule check setup answers.incoming order has.frames has.requests made.concluded.counts.items (notes_on made.concluded.lanes)
     answer = answers.answer
 
     -- what flow k gave, as the outcome says
@@ -143,28 +154,55 @@ module _ {F Q : Type 0} (rule : LossRule) (check : List ℕ → Bool) (setup : S
     -- each channel's report
     reported : (channel : ℕ) (report : LaneReport) → channel < channel_limit → slice_get outcome.lanes channel ≡ Some report
         → IsReportOf (answer.intake.answered channel) report
-    reported channel report below at = answer.noted channel report below (ap (λ l. slice_get l channel) (sym made.lanes_are) ∙ at)
+    reported channel report below at =
+        let noted = answer.noted channel below in
+        subst (IsReportOf (answer.intake.answered channel)) (same_Some noted.0 report (sym noted.1 ∙ made.lanes_are channel report at)) noted.2
 
-    -- it is the one-thread answer
-    pub outcome-of-collected : (incoming : Incoming) × came_in incoming × IsOutcomeBy rule check setup incoming outcome.order.items outcome
-    outcome-of-collected =
-        let ordered : outcome.order.items ≡ order = kept-order first made.concluded.order order outcome.order answers.ordered empty made.order_is in
-        let collected = requests-collected made.requests_whole in
-        let is : IsOutcomeBy rule check setup answers.incoming order outcome =
-        record {
-          intake = answer.intake;
-          flows = record {
-            count = made.flows.count;
-            each = λ k flow_record of_flow.
-                let within = slice_get_within setup.flows.items k flow_record of_flow in
-                let flow = element_at outcome.flows.items k (let count = made.flows.count in omega arith) in
-                (flow.0, flow.1, flow-is k flow_record flow.0 of_flow flow.1);
-          };
-          request_lists = ap (λ (lists : List (Vec Request Global)). length lists) made.requests_are ∙ collected.channel_count_is;
-          requests = λ channel below.
-              ap (λ (lists : List (Vec Request Global)). list_at lists channel) made.requests_are ∙ collected.requests channel ∙ answer.requested channel below;
-          report_count = ap (λ (lanes : List LaneReport). length lanes) made.lanes_are ∙ answer.lane_count;
-          reports = reported;
-          order_is = ordered;
-        } in
-        (answers.incoming, answers.came, subst (λ o. IsOutcomeBy rule check setup answers.incoming o outcome) (sym ordered) is)
+    -- what came in, as four channels have it
+    module _ (incoming : Incoming) (same : (channel : ℕ) → channel < channel_limit → answers.incoming.inputs channel ≡ incoming.inputs channel)
+        (decisions : answers.incoming.decisions ≡ incoming.decisions) where
+      lanes-of : AreLanesOf setup incoming answer.intake.answered
+      lanes-of channel below =
+          let lane = answer.intake.lanes channel below in
+          record { answers = lane.answers; inputs = lane.inputs ∙ same channel below }
+
+      items-same : (sender : ℕ) → items_within channel_limit setup answers.incoming answer.intake.answered sender ≡ items_of setup incoming answer.intake.answered sender
+      items-same sender =
+          ap (λ (d : List Decision). if nat_lt sender channel_limit then map event_of_admitted (admitted_of (answer.intake.answered sender))
+          else map event_of_decision (filter (names_a_flow (length setup.flows.items)) d)) decisions
+
+      abbrev intake-of : IsIntake setup incoming order
+      intake-of = record {
+        answered = answer.intake.answered;
+        lanes = lanes-of;
+        items = answer.intake.items;
+        merged = record {
+          named = answer.intake.merged.named;
+          paired = answer.intake.merged.paired;
+          lists_are = λ sender below. answer.intake.merged.lists_are sender below ∙ items-same sender;
+        };
+      }
+
+      -- it is the one-thread answer
+      pub outcome-of-collected : IsOutcomeBy rule check setup incoming outcome.order.items outcome
+      outcome-of-collected =
+          let ordered : outcome.order.items ≡ order = kept-order first made.concluded.order order outcome.order answers.ordered empty made.order_is in
+          let collected = requests-collected made.requests_whole in
+          let is : IsOutcomeBy rule check setup incoming order outcome =
+          record {
+            intake = intake-of;
+            flows = record {
+              count = made.flows.count;
+              each = λ k flow_record of_flow.
+                  let within = slice_get_within setup.flows.items k flow_record of_flow in
+                  let flow = element_at outcome.flows.items k (let count = made.flows.count in omega arith) in
+                  (flow.0, flow.1, flow-is k flow_record flow.0 of_flow flow.1);
+            };
+            request_lists = ap (λ (lists : List (Vec Request Global)). length lists) made.requests_are ∙ collected.channel_count_is;
+            requests = λ channel below.
+                ap (λ (lists : List (Vec Request Global)). list_at lists channel) made.requests_are ∙ collected.requests channel ∙ answer.requested channel below;
+            report_count = made.lane_count;
+            reports = reported;
+            order_is = ordered;
+          } in
+          subst (λ o. IsOutcomeBy rule check setup incoming o outcome) (sym ordered) is

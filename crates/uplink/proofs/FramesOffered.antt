@@ -86,8 +86,8 @@ in-parts k first second before between after grew more =
     more ∙ ap (λ l. l ++ frames_of k second) grew ∙ append_assoc before (frames_of k first) (frames_of k second)
     ∙ ap (λ l. before ++ l) (sym (filter_map-append (frame_of k) first second))
 
--- What is offered of a flow comes first of what is given of it in two parts: if nothing was left out of the first, the second goes on, and otherwise nothing
--- more is offered.
+-- What is offered of a flow comes first of what is given of it in two parts: if nothing was left
+-- out of the first, the second goes on, and otherwise nothing more is offered.
 front-on : (start between end : Feeding) (first second : List Given) (k : ℕ) → HasOffered start first between → HasOffered between second end → (whole : Bool) → between.whole ≡ whole
     → ComesFirstIn (offered_to end.feeders.items k) (offered_to start.feeders.items k ++ frames_of k (first ++ second))
 front-on start between end first second k one other true is =

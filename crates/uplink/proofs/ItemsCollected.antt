@@ -4,11 +4,10 @@ use Rattle.std.proofs.lemmas.Bool.{cases_eq}
 use Rattle.std.proofs.lemmas.Bool.Decides.{nat_tests}
 use Rattle.std.proofs.lemmas.List.{length_push, map-append}
 use Rattle.std.proofs.lemmas.List.Elements.{All-nil, All-push}
-use Rattle.flow_records.specs.declared.event.Event.{Event}
 use Rattle.receiver.specs.Order.{picked}
 use Rattle.lane.specs.Limits.{senders}
 use Rattle.workers.specs.declared.item.Item.{Item}
-use Rattle.workers.specs.Inside.Carried.{carried}
+use Rattle.workers.specs.Inside.Carried.{SentEvent, carried}
 use Rattle.uplink.specs.Inside.Offering.{HasCollected}
 
 -- an item at the end is picked for its own sender
@@ -21,13 +20,17 @@ picked-push s t (u ∷ order) x (y ∷ items) same =
     let h = picked-push s t order x items (omega arith) in
     grind (arith, nat_tests, cases_eq s t, cases_eq s u)
 
+-- an item as it is sent
+abbrev pub sent_item : Item → SentEvent
+sent_item item = record { sender = item.sender; event = item.event }
+
 -- an item at the end carries its event
-pub carried-push : (items : List Item) (item : Item) → carried (items ++ item ∷ []) ≡ carried items ++ item.event ∷ []
-carried-push items item = map-append (λ (one : Item). one.event) items (item ∷ [])
+pub carried-push : (items : List Item) (item : Item) → carried (items ++ item ∷ []) ≡ carried items ++ sent_item item ∷ []
+carried-push items item = map-append sent_item items (item ∷ [])
 
 -- and so it does where it was posted or taken only of one sender
 carried-if : (b : Bool) (new old : List Item) (item : Item) → new ≡ (if b then old ++ item ∷ [] else old)
-    → carried new ≡ (if b then carried old ++ item.event ∷ [] else carried old)
+    → carried new ≡ (if b then carried old ++ sent_item item ∷ [] else carried old)
 carried-if true new old item is = ap carried is ∙ carried-push old item
 carried-if false new old item is = ap carried is
 
@@ -39,19 +42,19 @@ none_collected before = record {
   taken_is = λ sender. sym (append-nil (carried (before sender)));
 }
 
-module _ (before old new : ℕ → List Item) (order : List ℕ) (items : List Event) (so_far : HasCollected before old order items) where
+module _ (before old new : ℕ → List Item) (order : List ℕ) (items : List SentEvent) (so_far : HasCollected before old order items) where
   -- one item was taken
   pub one_collected : (from : ℕ) (item : Item) → from < senders
       → ((sender : ℕ) → new sender ≡ (if sender == from then old sender ++ item ∷ [] else old sender))
-      → HasCollected before new (order ++ from ∷ []) (items ++ item.event ∷ [])
+      → HasCollected before new (order ++ from ∷ []) (items ++ sent_item item ∷ [])
   one_collected from item named takes = record {
     named = All-push (λ tag. tag < senders) order from so_far.named named;
-    paired = omega (arith, length_push order from, length_push items item.event, so_far.paired);
+    paired = omega (arith, length_push order from, length_push items (sent_item item), so_far.paired);
     taken_is = λ sender.
-        let picks = picked-push sender from order item.event items so_far.paired in
+        let picks = picked-push sender from order (sent_item item) items so_far.paired in
         let was = so_far.taken_is sender in
         let now = carried-if (sender == from) (new sender) (old sender) item (takes sender) in
-        let joined = append_assoc (carried (before sender)) (picked sender order items) (item.event ∷ []) in
+        let joined = append_assoc (carried (before sender)) (picked sender order items) (sent_item item ∷ []) in
         grind (arith, nat_tests, cases_eq sender from);
   }
 

@@ -5,6 +5,8 @@ pub mod ItemsCollected
 pub mod AllAssembled
 pub mod FirstAssembled
 pub mod AllSettled
+pub mod LanesOpened
+pub mod SourcesServed
 pub mod RequestsByChannel
 pub mod RunAnswer
 pub mod FlowsCollected

@@ -1,9 +1,10 @@
 -- What is known of a running receiver before its start, after its end, and of what it gave.
-use Rattle.std.proofs.Common.{◌≡◌, ℕ, ◌<◌, ◌≤◌, ⊎_elim, Bool, Option, Some, IfSome, All, List, [], ◌∷◌, ◌++◌, map, filter, length, get_or, slice_get, slice_index_or, Vec, Global, refl, sym, ap, subst, ◌∙◌, append_assoc, arith}
-use Rattle.std.proofs.lemmas.Bool.{cases_lt}
+use Rattle.std.proofs.Common.{◌≡◌, ℕ, ◌<◌, ◌≤◌, ◌+◌, ◌%◌, ◌==◌, ◌&&◌, nat_lt, ⊎_elim, Bool, true, false, Option, Some, None, IfSome, All, List, [], ◌∷◌, ◌++◌, map, filter, flat_map, length, get_or, slice_get, slice_index_or, if◌then◌else◌, Vec, Global, refl, sym, ap, subst, ◌∙◌, append_assoc, arith}
+use Rattle.std.proofs.lemmas.Bool.{cases_lt, lt-ltb, le-ltb, eq-eqb, ne_eqb}
 use Rattle.std.proofs.lemmas.List.{length-map, get_or-map, get_or_past}
-use Rattle.std.proofs.lemmas.List.Elements.{All-nil, All-get_or, All-weaker}
-use Rattle.std.proofs.lemmas.Option.{slice_get_within, get_or_from_slice_get, same_Some}
+use Rattle.std.proofs.lemmas.List.Elements.{All-get_or, All-map, filter_map-append}
+use Rattle.std.specs.Option.{option_map}
+use Rattle.std.proofs.lemmas.Option.{slice_get_within, slice_get-map, get_or_from_slice_get, same_Some}
 use Rattle.docsis_wire.proofs.StreamPlaces.{element_at}
 use Rattle.mailbox.specs.Ports.{address, posted, closed_address, closed_posted}
 use Rattle.mailbox.specs.Mouths.{taken}
@@ -20,15 +21,13 @@ use Rattle.delivery.specs.declared.feeder.Feeder.{Feeder}
 use Rattle.delivery.specs.declared.feeder.ClosedFeeder.{ClosedFeeder}
 use Rattle.delivery.specs.declared.taker.Taker.{Taker}
 use Rattle.flow_core.specs.declared.counts.FlowCounts.{FlowCounts}
+use Rattle.flow_records.specs.declared.decision.Decision.{Decision}
 use Rattle.flow_records.specs.declared.event.Event.{Event}
 use Rattle.flow_records.specs.declared.record.FlowRecord.{FlowRecord}
 use Rattle.flow_records.specs.Decisions.{event_of_decision, names_a_flow}
-use Rattle.lane.specs.declared.admitted.Request.{Request}
-use Rattle.lane.specs.declared.lane.Lane.{Lane}
 use Rattle.lane.specs.Inputs.{AnsweredInput}
 use Rattle.lane.specs.Limits.{channel_limit, senders}
-use Rattle.lane.specs.Report.{admitted_of, requests_of, event_of_admitted, IsLaneRequest}
-use Rattle.lane.specs.Stands.{StandsFor}
+use Rattle.lane.specs.Report.{admitted_of, requests_of, event_of_admitted}
 use Rattle.docsis_wire.specs.declared.segment.Segment.{Segment}
 use Rattle.docsis_wire.specs.Cut.{IsLawfulCut}
 use Rattle.flow_core.specs.Events.{FlowEvent}
@@ -48,35 +47,41 @@ use Rattle.bonded_flows.specs.Slots.{PartStands, SlotStands}
 use Rattle.bonded_flows.specs.Table.{TableSetup, flow_setup, inputs_at}
 use Rattle.receiver.specs.declared.setup.Setup.{Setup}
 use Rattle.receiver.specs.HandedIn.{made_of}
-use Rattle.receiver.specs.Items.{Incoming, IsLaneOf, AreLanesOf, lane_setup, items_of}
-use Rattle.receiver.specs.Order.{picked, IsMergeOf}
+use Rattle.receiver.specs.Items.{Incoming}
+use Rattle.receiver.specs.Order.{picked}
 use Rattle.receiver.specs.Received.{GaveAllParts}
-use Rattle.receiver.specs.Ruled.{ruled_flow, comings_at}
+use Rattle.receiver.specs.Ruled.{comings_at}
 use Rattle.receiver.specs.TakenInOrder.{table_inputs}
-use Rattle.receiver.proofs.ChannelInputs.{requests-asked}
-use Rattle.receiver.proofs.Senders.{five, four}
+use Rattle.receiver.proofs.Senders.{four}
 use Rattle.receiver.proofs.ClosedFlows.{still-open}
 use Rattle.receiver.proofs.TakenInOrder.{inputs-come, one-part_over, one-part_last, one-part_gave}
+use Rattle.workers.specs.declared.channel_input.ChannelInput.{ChannelInput}
 use Rattle.workers.specs.declared.item.Item.{Item}
-use Rattle.workers.specs.declared.lane_worker.LaneDone.{LaneDone}
-use Rattle.workers.specs.Inside.Carried.{carried}
+use Rattle.workers.specs.declared.lane_notes.SourceNotes.{SourceNotes}
+use Rattle.workers.specs.declared.strays.Strays.{Strays}
+use Rattle.workers.specs.Channels.{belongs_to, AreStraysOf}
+use Rattle.workers.specs.Inside.Carried.{SentEvent, carried, sent_by, senders_of, events_of}
 use Rattle.workers.specs.Inside.Consuming.{taken_of}
 use Rattle.workers.specs.Inside.Scheduling.{Sent, given_of, requests_from}
-use Rattle.workers.specs.Inside.Working.{HasPosted, HasSent, HasServed, DidLane}
+use Rattle.workers.specs.Inside.Working.{ServedInput, answers_on, sent_in, asked_in, HasPosted, HasSent}
 use Rattle.uplink.specs.declared.open.Opened.{Opened}
 use Rattle.uplink.specs.declared.finish.Ended.{Ended}
 use Rattle.uplink.specs.declared.finish.Concluded.{Concluded}
+use Rattle.uplink.specs.declared.finish.FourNotes.{FourNotes}
 use Rattle.uplink.specs.declared.assembler.Assembled.{Assembled}
 use Rattle.uplink.specs.Fronts.{ComesFirstIn}
 use Rattle.uplink.specs.Headline.{TookAFront}
-use Rattle.uplink.specs.Received.{AreFramesOf, AreRequests, IsGivenByRule, IsAnswerBy, GivesTheFirst}
+use Rattle.uplink.specs.Channels.{incoming_of_sources, AreLanesWithin, items_within, IsMergeWithin, ruled_within}
+use Rattle.uplink.specs.Received.{AreFramesOf, AreRequests, IsGivenByRule, IsAnswerBy, AreStraysOfSources, GivesTheFirst}
 use Rattle.uplink.specs.Inside.Feeding.{offered_to, IsClosedAfter}
 use Rattle.uplink.specs.Inside.Offering.{HasOrder, HaveClosed, HasAssembledFirst, HasAssembled}
-use Rattle.uplink.specs.Inside.Running.{IsOpened, HasEnded, CanSettle, HasConcluded, IsConclusionOf, in_order, ConcludesAnswer, closed_arrivals, closed_requests, all_posted}
+use Rattle.uplink.specs.Inside.Running.{IsOpened, HasEnded, CanSettle, HasConcluded, IsConclusionOf, in_order, notes_on, strays_of, HaveNotes, ConcludesAnswer, closed_arrivals, closed_requests, all_posted}
 use Rattle.uplink.proofs.FramesOffered.{offered-there}
-use Rattle.uplink.proofs.RequestsByChannel.{AreOnTheirChannels, no-frame, by-channel, none-from}
+use Rattle.uplink.proofs.RequestsByChannel.{no-frame, picked-of-port, given-requests}
+use Rattle.uplink.proofs.SourcesServed.{event_from, events_from, request_for, requests_for, seen-of-port, picked-of-sender, senders-below, events-by, events-admitted, requests-admitted, AreServed, HasDone, on-their-channels, source-done}
 
--- what a flow has given that is under way, and what one gave that was closed, comes first in its delivery sequence
+-- what a flow has given that is under way, and what one gave that was closed, comes first in its
+-- delivery sequence
 abbrev pub OpenFlowsGive : Type 0
 OpenFlowsGive =
     (check : List ℕ → Bool) (setup : FlowSetup) (slot : FlowSlot) (comings : List Coming) (given frames chunks : List (List ℕ)) (fill : ℕ) (segments : List Segment)
@@ -125,49 +130,45 @@ module _ {T : Type 0} where
       ∙ ap (λ a. address ports.p0 ∷ address ports.p1 ∷ address ports.p2 ∷ address ports.p3 ∷ a ∷ []) a4
 
 -- a port that had posted nothing has posted items with these events
-sent-first : (port : Port Item) (events : List Event) (closed : ClosedPort Item) → HasSent port events closed
+sent-first : (port : Port Item) (events : List SentEvent) (closed : ClosedPort Item) → HasSent port events closed
     → posted port ≡ [] → carried (closed_posted closed) ≡ events
 sent-first port events closed has none = has.sent_is ∙ ap (λ items. carried items ++ events) none
 
--- what the worker of a channel did, with the answers to the channel's inputs
-record HasDone {N : Type 0} (are_of : List AnsweredInput → N → Type 0) (setup : Setup) (incoming : Incoming) (channel : ℕ) (arrivals : Port Item) (requests : Port Request) (done : LaneDone N) : Type 0 where
-  pub answered : List AnsweredInput
-  pub lane : IsLaneOf setup incoming channel answered
-  pub served : HasServed are_of arrivals requests answered done
+-- what comes first of nothing is nothing
+nothing-first : {X : Type 0} (front whole : List X) → whole ≡ [] → ComesFirstIn front whole → front ≡ []
+nothing-first [] whole none is = refl
+nothing-first (x ∷ front) whole none is = absurd (cc)
 
--- a worker whose lane was open did its channel's inputs
-done-on : {N : Type 0} (are_of : List AnsweredInput → N → Type 0) (setup : Setup) (incoming : Incoming) (channel : ℕ) (lane : Lane) (arrivals : Port Item) (requests : Port Request) (done : LaneDone N)
-    → StandsFor (lane_setup setup channel) lane [] → DidLane are_of lane arrivals requests (incoming.inputs channel) done
-    → HasDone are_of setup incoming channel arrivals requests done
-done-on are_of setup incoming channel lane arrivals requests done stands did =
-    let its = did.did (lane_setup setup channel) stands in
-    record { answered = its.0; lane = record { answers = its.1; inputs = its.2 }; served = its.3 }
-
-module _ {C N : Type 0} (are_of : List AnsweredInput → N → Type 0) (accepts : C → List ℕ → Bool) (accepted : List ℕ → Bool) (rule : LossRule) (setup : Setup) (opened : Opened C)
-    (is : IsOpened accepts accepted rule setup opened) where
+module _ {C N : Type 0} (are_of : List AnsweredInput → N → Type 0) (accepts : C → List ℕ → Bool) (accepted : List ℕ → Bool) (channels : ℕ) (rule : LossRule) (setup : Setup) (opened : Opened C)
+    (is : IsOpened accepts accepted channels rule setup opened) where
   -- there is a taker for each flow
   takers-counted : length opened.rings.takers.items ≡ length setup.flows.items
   takers-counted =
       sym (length-map opened.rings.takers.items taker_ring) ∙ ap length (sym is.rings.same)
       ∙ length-map opened.rings.feeders.items feeder_ring ∙ is.rings.count_is
 
-  module _ (incoming : Incoming) (kept : Option (Vec ℕ Global)) (frames : List Given) (sent : List Sent) (end : Ended N)
-      (has : HasEnded are_of accepts (length setup.flows.items) incoming opened kept frames sent end) where
-    -- what each channel's worker did
-    abbrev DidOn : ℕ → Port Item → Port Request → LaneDone N → Type 0
-    DidOn = HasDone are_of setup incoming
+  module _ (sources : List (List ChannelInput)) (decisions : List Decision) (kept : Option (Vec ℕ Global)) (frames : List Given) (sent : List Sent) (end : Ended N)
+      (has : HasEnded are_of accepts channels (length setup.flows.items) sources decisions opened kept frames sent end) where
+    -- what came in
+    abbrev incoming : Incoming
+    incoming = incoming_of_sources sources decisions
 
-    done-0 : DidOn 0 opened.arrivals.ports.p0 opened.requests.ports.p0 end.done.l0
-    done-0 = done-on are_of setup incoming 0 opened.lanes.l0 opened.arrivals.ports.p0 opened.requests.ports.p0 end.done.l0 is.lanes.l0 has.l0
+    -- what a source gave
+    abbrev given_by : ℕ → List ChannelInput
+    given_by source = slice_index_or sources source []
 
-    done-1 : DidOn 1 opened.arrivals.ports.p1 opened.requests.ports.p1 end.done.l1
-    done-1 = done-on are_of setup incoming 1 opened.lanes.l1 opened.arrivals.ports.p1 opened.requests.ports.p1 end.done.l1 is.lanes.l1 has.l1
+    -- what each source's worker did
+    done-0 : HasDone are_of channels 0 setup (given_by 0) opened.arrivals.ports.p0 opened.requests.ports.p0 end.done.l0
+    done-0 = source-done are_of channels 0 setup opened.lanes.l0.items (given_by 0) is.lanes.l0 opened.arrivals.ports.p0 opened.requests.ports.p0 end.done.l0 has.l0
 
-    done-2 : DidOn 2 opened.arrivals.ports.p2 opened.requests.ports.p2 end.done.l2
-    done-2 = done-on are_of setup incoming 2 opened.lanes.l2 opened.arrivals.ports.p2 opened.requests.ports.p2 end.done.l2 is.lanes.l2 has.l2
+    done-1 : HasDone are_of channels 1 setup (given_by 1) opened.arrivals.ports.p1 opened.requests.ports.p1 end.done.l1
+    done-1 = source-done are_of channels 1 setup opened.lanes.l1.items (given_by 1) is.lanes.l1 opened.arrivals.ports.p1 opened.requests.ports.p1 end.done.l1 has.l1
 
-    done-3 : DidOn 3 opened.arrivals.ports.p3 opened.requests.ports.p3 end.done.l3
-    done-3 = done-on are_of setup incoming 3 opened.lanes.l3 opened.arrivals.ports.p3 opened.requests.ports.p3 end.done.l3 is.lanes.l3 has.l3
+    done-2 : HasDone are_of channels 2 setup (given_by 2) opened.arrivals.ports.p2 opened.requests.ports.p2 end.done.l2
+    done-2 = source-done are_of channels 2 setup opened.lanes.l2.items (given_by 2) is.lanes.l2 opened.arrivals.ports.p2 opened.requests.ports.p2 end.done.l2 has.l2
+
+    done-3 : HasDone are_of channels 3 setup (given_by 3) opened.arrivals.ports.p3 opened.requests.ports.p3 end.done.l3
+    done-3 = source-done are_of channels 3 setup opened.lanes.l3.items (given_by 3) is.lanes.l3 opened.arrivals.ports.p3 opened.requests.ports.p3 end.done.l3 has.l3
 
     -- there is a closed feeder and a taker for each flow
     feeders-counted : length end.feeders.items ≡ length setup.flows.items
@@ -185,13 +186,13 @@ module _ {C N : Type 0} (are_of : List AnsweredInput → N → Type 0) (accepts 
     can-settle = record {
       arrivals =
           same-addresses opened.arrivals.ports (closed_arrivals end)
-          done-0.served.arrivals_are.address_is done-1.served.arrivals_are.address_is
-          done-2.served.arrivals_are.address_is done-3.served.arrivals_are.address_is has.decided.address_is
+          done-0.arrivals_are.address_is done-1.arrivals_are.address_is
+          done-2.arrivals_are.address_is done-3.arrivals_are.address_is has.decided.address_is
           ∙ is.arrivals.same ∙ sym has.places_same;
       requests =
           same-addresses opened.requests.ports (closed_requests end)
-          done-0.served.requests_are.address_is done-1.served.requests_are.address_is
-          done-2.served.requests_are.address_is done-3.served.requests_are.address_is has.unused.address_is
+          done-0.requests_are.address_is done-1.requests_are.address_is
+          done-2.requests_are.address_is done-3.requests_are.address_is has.unused.address_is
           ∙ is.requests.same ∙ sym has.requests_taken.has.places_are;
       arrivals_ended = has.ended_all;
       requests_ended = has.requests_taken.ended_all;
@@ -199,81 +200,203 @@ module _ {C N : Type 0} (are_of : List AnsweredInput → N → Type 0) (accepts 
       closed = has.frames_taken.closed;
     }
 
+    -- what each source's worker answered, and noted
+    abbrev served_by : ℕ → List ServedInput
+    served_by source = get_or (done-0.served ∷ done-1.served ∷ done-2.served ∷ done-3.served ∷ []) source []
+
+    abbrev noted_by : ℕ → Option (SourceNotes N)
+    noted_by source = get_or (end.done.l0.notes ∷ end.done.l1.notes ∷ end.done.l2.notes ∷ end.done.l3.notes ∷ []) source None
+
+    are-served : (source : ℕ) → source < channel_limit → AreServed are_of channels source setup (given_by source) (served_by source) (noted_by source)
+    are-served = four (λ source. AreServed are_of channels source setup (given_by source) (served_by source) (noted_by source)) done-0.are done-1.are done-2.are done-3.are
+
     -- the answers to the inputs of each channel
     abbrev answered : ℕ → List AnsweredInput
-    answered channel = get_or (done-0.answered ∷ done-1.answered ∷ done-2.answered ∷ done-3.answered ∷ []) channel []
+    answered channel = answers_on channel (served_by (channel % 4))
 
-    lanes-answered : AreLanesOf setup incoming answered
-    lanes-answered = four (λ channel. IsLaneOf setup incoming channel (answered channel)) done-0.lane done-1.lane done-2.lane done-3.lane
+    -- a channel belongs to the source whose number it leaves, and to no other
+    its-source : (channel : ℕ) → channel < channels → belongs_to channels (channel % 4) channel ≡ true
+    its-source channel below = ap (λ b. b && (channel % 4 == channel % 4)) (lt-ltb channel channels below) ∙ eq-eqb (channel % 4) (channel % 4) refl
 
-    -- the items of each sender were posted
-    items-posted : (sender : ℕ) → sender < senders → carried (all_posted (closed_arrivals end) sender) ≡ items_of setup incoming answered sender
-    items-posted =
+    not-its-source : (channel source : ℕ) → (source ≡ channel % 4 → ⊥) → belongs_to channels source channel ≡ false
+    not-its-source channel source not = either (nat_lt channel channels)
+      where
+        either : (b : Bool) → (b && (channel % 4 == source)) ≡ false
+        either true = ne_eqb (channel % 4) source (λ same. not (sym same))
+        either false = refl
+
+    no-source : (channel source : ℕ) → channels ≤ channel → belongs_to channels source channel ≡ false
+    no-source channel source past = ap (λ b. b && (channel % 4 == source)) (le-ltb channel channels past)
+
+    -- there are four sources
+    source-below : (channel : ℕ) → channel % 4 < channel_limit
+    source-below channel = omega arith
+
+    lanes-answered : AreLanesWithin channels setup incoming answered
+    lanes-answered channel below =
+        let own = its-source channel below in
+        let are = are-served (channel % 4) (source-below channel) in
+        record { answers = are.answers channel own; inputs = are.inputs_on channel own }
+
+    -- the decisions that name a flow, which the fifth port posted
+    abbrev decided : List Event
+    decided = map event_of_decision (filter (names_a_flow (length setup.flows.items)) decisions)
+
+    -- what each port posted
+    sent-by-source : (source : ℕ) → source < channel_limit → carried (all_posted (closed_arrivals end) source) ≡ flat_map sent_in (served_by source)
+    sent-by-source =
         let none = is.arrivals.none_posted in
         let ports = opened.arrivals.ports in
-        let admitted : List AnsweredInput → List Event = λ taken. map event_of_admitted (admitted_of taken) in
-        let decided : List Event = map event_of_decision (filter (names_a_flow (length setup.flows.items)) incoming.decisions) in
-        five (λ sender. carried (all_posted (closed_arrivals end) sender) ≡ items_of setup incoming answered sender)
-        (sent-first ports.p0 (admitted done-0.answered) end.done.l0.arrivals done-0.served.arrivals_are none.p0)
-        (sent-first ports.p1 (admitted done-1.answered) end.done.l1.arrivals done-1.served.arrivals_are none.p1)
-        (sent-first ports.p2 (admitted done-2.answered) end.done.l2.arrivals done-2.served.arrivals_are none.p2)
-        (sent-first ports.p3 (admitted done-3.answered) end.done.l3.arrivals done-3.served.arrivals_are none.p3)
-        (sent-first ports.p4 decided end.done.decided has.decided none.p4)
+        four (λ source. carried (all_posted (closed_arrivals end) source) ≡ flat_map sent_in (served_by source))
+        (sent-first ports.p0 (flat_map sent_in done-0.served) end.done.l0.arrivals done-0.arrivals_are none.p0)
+        (sent-first ports.p1 (flat_map sent_in done-1.served) end.done.l1.arrivals done-1.arrivals_are none.p1)
+        (sent-first ports.p2 (flat_map sent_in done-2.served) end.done.l2.arrivals done-2.arrivals_are none.p2)
+        (sent-first ports.p3 (flat_map sent_in done-3.served) end.done.l3.arrivals done-3.arrivals_are none.p3)
 
-    -- and so were the requests of each channel
-    requests-posted : (channel : ℕ) → channel < channel_limit → all_posted (closed_requests end) channel ≡ requests_of (answered channel)
-    requests-posted =
+    sent-decided : carried (all_posted (closed_arrivals end) channel_limit) ≡ sent_by channels decided
+    sent-decided = sent-first opened.arrivals.ports.p4 (sent_by channels decided) end.done.decided has.decided is.arrivals.none_posted.p4
+
+    -- of one sender
+    events-by-source : (sender source : ℕ) → source < channel_limit
+        → events_from sender (carried (all_posted (closed_arrivals end) source)) ≡ map event_of_admitted (admitted_of (answers_on sender (served_by source)))
+    events-by-source sender source below = ap (events_from sender) (sent-by-source source below) ∙ events-admitted sender (served_by source)
+
+    none-by-source : (sender source : ℕ) → source < channel_limit → belongs_to channels source sender ≡ false
+        → events_from sender (carried (all_posted (closed_arrivals end) source)) ≡ []
+    none-by-source sender source below foreign =
+        events-by-source sender source below ∙ ap (λ (l : List AnsweredInput). map event_of_admitted (admitted_of l)) ((are-served source below).none_on sender foreign)
+
+    events-decided : (sender : ℕ) → events_from sender (carried (all_posted (closed_arrivals end) channel_limit)) ≡ (if sender == channels then decided else [])
+    events-decided sender = ap (events_from sender) sent-decided ∙ events-by sender channels decided
+
+    -- the port by which a sender's items are posted: that of its source, or the fifth
+    abbrev port_of : ℕ → ℕ
+    port_of sender = if nat_lt sender channels then sender % 4 else channel_limit
+
+    port-of-channel : (sender : ℕ) → sender < channels → port_of sender ≡ sender % 4
+    port-of-channel sender below = ap (λ b. if b then sender % 4 else channel_limit) (lt-ltb sender channels below)
+
+    port-of-others : (sender : ℕ) → channels ≤ sender → port_of sender ≡ channel_limit
+    port-of-others sender past = ap (λ b. if b then sender % 4 else channel_limit) (le-ltb sender channels past)
+
+    port-below : (sender : ℕ) → port_of sender < senders
+    port-below sender = either (nat_lt sender channels)
+      where
+        either : (b : Bool) → (if b then sender % 4 else channel_limit) < senders
+        either true = omega arith
+        either false = omega arith
+
+    -- by any other it sends nothing
+    none-by-port : (sender port : ℕ) → port < senders → (port ≡ port_of sender → ⊥) → events_from sender (carried (all_posted (closed_arrivals end) port)) ≡ []
+    none-by-port sender port below not =
+        ⊎_elim
+        (λ (source : port < channel_limit).
+        none-by-source sender port source
+        (⊎_elim
+        (λ (here : sender < channels). not-its-source sender port (λ same. not (same ∙ sym (port-of-channel sender here))))
+        (λ (past : channels ≤ sender). no-source sender port past)
+        (cases_lt sender channels)))
+        (λ (last : channel_limit ≤ port).
+        let fifth : channel_limit ≡ port = omega arith in
+        subst (λ p. events_from sender (carried (all_posted (closed_arrivals end) p)) ≡ []) fifth
+        (events-decided sender
+        ∙ ⊎_elim
+        (λ (here : sender < channels). ap (λ b. if b then decided else []) (ne_eqb sender channels (λ same. absurd (omega arith))))
+        (λ (past : channels ≤ sender). absurd (not (sym fifth ∙ sym (port-of-others sender past))))
+        (cases_lt sender channels)))
+        (cases_lt port channel_limit)
+
+    -- and by its own all that it has to send
+    items-by-port : (sender : ℕ) → sender < channels + 1
+        → events_from sender (carried (all_posted (closed_arrivals end) (port_of sender))) ≡ items_within channels setup incoming answered sender
+    items-by-port sender below =
+        ⊎_elim
+        (λ (here : sender < channels).
+        ap (λ p. events_from sender (carried (all_posted (closed_arrivals end) p))) (port-of-channel sender here)
+        ∙ events-by-source sender (sender % 4) (source-below sender)
+        ∙ ap (λ b. if b then map event_of_admitted (admitted_of (answered sender)) else decided) (sym (lt-ltb sender channels here)))
+        (λ (past : channels ≤ sender).
+        ap (λ p. events_from sender (carried (all_posted (closed_arrivals end) p))) (port-of-others sender past)
+        ∙ events-decided sender
+        ∙ ap (λ b. if b then decided else []) (eq-eqb sender channels (omega arith))
+        ∙ ap (λ b. if b then map event_of_admitted (admitted_of (answered sender)) else decided) (sym (le-ltb sender channels past)))
+        (cases_lt sender channels)
+
+    -- who is no sender sends nothing
+    none-past-senders : (sender : ℕ) → channels + 1 ≤ sender → events_from sender (carried (all_posted (closed_arrivals end) (port_of sender))) ≡ []
+    none-past-senders sender past =
+        ap (λ p. events_from sender (carried (all_posted (closed_arrivals end) p))) (port-of-others sender (omega arith))
+        ∙ events-decided sender ∙ ap (λ b. if b then decided else []) (ne_eqb sender channels (λ same. absurd (omega arith)))
+
+    -- the requests of each port
+    asked-by-source : (source : ℕ) → source < channel_limit → all_posted (closed_requests end) source ≡ flat_map asked_in (served_by source)
+    asked-by-source =
         let none = is.requests.none_posted in
         let ports = opened.requests.ports in
-        four (λ channel. all_posted (closed_requests end) channel ≡ requests_of (answered channel))
-        (posted-first ports.p0 (requests_of done-0.answered) end.done.l0.requests done-0.served.requests_are none.p0)
-        (posted-first ports.p1 (requests_of done-1.answered) end.done.l1.requests done-1.served.requests_are none.p1)
-        (posted-first ports.p2 (requests_of done-2.answered) end.done.l2.requests done-2.served.requests_are none.p2)
-        (posted-first ports.p3 (requests_of done-3.answered) end.done.l3.requests done-3.served.requests_are none.p3)
+        four (λ source. all_posted (closed_requests end) source ≡ flat_map asked_in (served_by source))
+        (posted-first ports.p0 (flat_map asked_in done-0.served) end.done.l0.requests done-0.requests_are none.p0)
+        (posted-first ports.p1 (flat_map asked_in done-1.served) end.done.l1.requests done-1.requests_are none.p1)
+        (posted-first ports.p2 (flat_map asked_in done-2.served) end.done.l2.requests done-2.requests_are none.p2)
+        (posted-first ports.p3 (flat_map asked_in done-3.served) end.done.l3.requests done-3.requests_are none.p3)
 
-    -- nothing was posted by the port that no channel has
+    -- nothing was posted by the port that no source has
     none-unused : all_posted (closed_requests end) channel_limit ≡ []
     none-unused = posted-first opened.requests.ports.p4 [] end.unused_port has.unused is.requests.none_posted.p4
 
+    requests-by-source : (channel source : ℕ) → source < channel_limit
+        → requests_for channel (all_posted (closed_requests end) source) ≡ requests_of (answers_on channel (served_by source))
+    requests-by-source channel source below =
+        ap (requests_for channel) (asked-by-source source below)
+        ∙ requests-admitted channel (served_by source)
+        (on-their-channels are_of channels source setup (given_by source) (served_by source) (noted_by source) (are-served source below))
+
+    -- by any other than its port a channel asks for nothing
+    none-asked : (channel port : ℕ) → port < senders → (port ≡ port_of channel → ⊥) → requests_for channel (all_posted (closed_requests end) port) ≡ []
+    none-asked channel port below not =
+        ⊎_elim
+        (λ (source : port < channel_limit).
+        requests-by-source channel port source
+        ∙ ap requests_of ((are-served port source).none_on channel
+        (⊎_elim
+        (λ (here : channel < channels). not-its-source channel port (λ same. not (same ∙ sym (port-of-channel channel here))))
+        (λ (past : channels ≤ channel). no-source channel port past)
+        (cases_lt channel channels))))
+        (λ (last : channel_limit ≤ port).
+        let fifth : channel_limit ≡ port = omega arith in
+        subst (λ p. requests_for channel (all_posted (closed_requests end) p) ≡ []) fifth (ap (requests_for channel) none-unused))
+        (cases_lt port channel_limit)
+
     module _ (o : Option (Concluded N)) (settled : HasConcluded end o) where
-      -- the requests of each sender were taken
-      requests-taken : (sender : ℕ) → sender < senders → requests_from sender sent ≡ all_posted (closed_requests end) sender
-      requests-taken sender below =
-          sym (has.requests_taken.has.taken_are sender ∙ ap (λ l. l ++ requests_from sender sent) (is.requests.none_taken.taken_is sender))
-          ∙ settled.requests sender below
+      -- the requests of each port were taken
+      requests-taken : (port : ℕ) → port < senders → picked port (map (λ (s : Sent). s.from) sent) (map (λ (s : Sent). s.request) sent) ≡ all_posted (closed_requests end) port
+      requests-taken port below =
+          picked-of-port port sent
+          ∙ sym (has.requests_taken.has.taken_are port ∙ ap (λ l. l ++ requests_from port sent) (is.requests.none_taken.taken_is port))
+          ∙ settled.requests port below
+
+      -- of each channel they are those that its port posted
+      given-on-channel : (channel : ℕ) → requests_given channel (given_of sent) ≡ requests_for channel (all_posted (closed_requests end) (port_of channel))
+      given-on-channel channel =
+          let from = map (λ (s : Sent). s.from) sent in
+          let requests = map (λ (s : Sent). s.request) sent in
+          given-requests channel sent
+          ∙ seen-of-port (request_for channel) (port_of channel) from requests
+          (length-map sent (λ (s : Sent). s.from) ∙ sym (length-map sent (λ (s : Sent). s.request)))
+          (All-map (λ p. p < senders) (λ (s : Sent). s.from) sent has.requests_taken.has.named)
+          (λ other below not. ap (requests_for channel) (requests-taken other below) ∙ none-asked channel other below not)
+          ∙ ap (requests_for channel) (requests-taken (port_of channel) (port-below channel))
 
       -- those of each channel are those that it admitted
-      requests-on : (channel : ℕ) → channel < channel_limit → requests_from channel sent ≡ requests_of (answered channel)
-      requests-on channel below = requests-taken channel (omega arith) ∙ requests-posted channel below
+      requests-on : (channel : ℕ) → channel < channels → requests_given channel (given_of sent) ≡ requests_of (answered channel)
+      requests-on channel below =
+          given-on-channel channel ∙ ap (λ p. requests_for channel (all_posted (closed_requests end) p)) (port-of-channel channel below)
+          ∙ requests-by-source channel (channel % 4) (source-below channel)
 
-      -- and no other sender has any
-      requests-past : (sender : ℕ) → channel_limit ≤ sender → requests_from sender sent ≡ []
-      requests-past sender past =
-          ⊎_elim
-          (λ (last : sender < senders).
-          let here : channel_limit ≡ sender = omega arith in
-          ap (λ s. requests_from s sent) (sym here) ∙ requests-taken channel_limit (omega arith) ∙ none-unused)
-          (λ (other : senders ≤ sender). none-from sent sender has.requests_taken.has.named other)
-          (cases_lt sender senders)
-
-      -- each is of its sender's channel
-      on-their-channels : AreOnTheirChannels sent
-      on-their-channels sender =
-          ⊎_elim
-          (λ (channel : sender < channel_limit).
-          subst (All (λ (request : Request). request.channel ≡ sender)) (sym (requests-on sender channel))
-          (All-weaker (IsLaneRequest (lane_setup setup sender)) (λ (request : Request). request.channel ≡ sender) (λ request asked. asked.channel)
-          (requests_of (answered sender)) (requests-asked (lane_setup setup sender) (answered sender) (lanes-answered sender channel).answers)))
-          (λ (past : channel_limit ≤ sender).
-          subst (All (λ (request : Request). request.channel ≡ sender)) (sym (requests-past sender past)) (All-nil (λ (request : Request). request.channel ≡ sender)))
-          (cases_lt sender channel_limit)
-
-      given-on-channel : (channel : ℕ) → requests_given channel (given_of sent) ≡ requests_from channel sent
-      given-on-channel = by-channel sent on-their-channels
-
-      only-requests : AreRequests (given_of sent)
+      only-requests : AreRequests channels (given_of sent)
       only-requests = record {
-        of_channels = λ channel past. given-on-channel channel ∙ requests-past channel past;
+        of_channels = λ channel past.
+            given-on-channel channel ∙ ap (λ p. requests_for channel (all_posted (closed_requests end) p)) (port-of-others channel past)
+            ∙ ap (requests_for channel) none-unused;
         no_frame = λ k. no-frame k sent;
       }
 
@@ -309,13 +432,9 @@ module _ {C N : Type 0} (are_of : List AnsweredInput → N → Type 0) (accepts 
       none-offered-at k feeder at_feeder =
           offered-there opened.rings.feeders.items k feeder at_feeder ∙ all-at (λ f. offered f ≡ []) opened.rings.feeders.items k feeder is.rings.none_offered at_feeder
 
-      -- all items that a sender posted were taken
-      items-taken : (sender : ℕ) → sender < senders → carried (taken end.mouth sender) ≡ items_of setup incoming answered sender
-      items-taken sender below = ap carried (settled.arrivals sender below) ∙ items-posted sender below
-
-      -- none was before
-      none-carried : (sender : ℕ) → carried (taken opened.arrivals.mouth sender) ≡ []
-      none-carried sender = ap carried (is.arrivals.none_taken.taken_is sender)
+      -- none was taken before
+      none-carried : (port : ℕ) → carried (taken opened.arrivals.mouth port) ≡ []
+      none-carried port = ap carried (is.arrivals.none_taken.taken_is port)
 
       -- ============ What was given first, whatever failed ============
 
@@ -323,33 +442,63 @@ module _ {C N : Type 0} (are_of : List AnsweredInput → N → Type 0) (accepts 
           (IsClosedAfter opened.rings.feeders.items end.feeders.items)
       first = has.first
 
-      abbrev made : TableSetup
-      made = made_of rule channel_limit setup
+      abbrev first_order : List ℕ
+      first_order = senders_of first.items
 
-      -- the first items of each sender were taken
-      first-items : (sender : ℕ) → sender < senders → ComesFirstIn (picked sender first.order first.items) (items_of setup incoming answered sender)
-      first-items sender below =
-          let front = first.fronts sender in (
+      abbrev first_items : List Event
+      first_items = events_of first.items
+
+      abbrev made : TableSetup
+      made = made_of rule channels setup
+
+      -- the first items of each port were taken
+      first-of-port : (port : ℕ) → port < senders → ComesFirstIn (picked port first.ports first.items) (carried (all_posted (closed_arrivals end) port))
+      first-of-port port below =
+          let front = first.fronts port in (
             front.0,
-            sym (items-taken sender below) ∙ front.1 ∙ ap (λ l. (l ++ picked sender first.order first.items) ++ front.0) (none-carried sender),
+            sym (ap carried (settled.arrivals port below)) ∙ front.1 ∙ ap (λ l. (l ++ picked port first.ports first.items) ++ front.0) (none-carried port),
           )
+
+      -- of each sender
+      front-from : (sender port : ℕ) → port < senders
+          → ComesFirstIn (events_from sender (picked port first.ports first.items)) (events_from sender (carried (all_posted (closed_arrivals end) port)))
+      front-from sender port below =
+          let front = first-of-port port below in
+          (events_from sender front.0, ap (events_from sender) front.1 ∙ filter_map-append (event_from sender) (picked port first.ports first.items) front.0)
+
+      first-from : (sender : ℕ) → events_from sender first.items ≡ events_from sender (picked (port_of sender) first.ports first.items)
+      first-from sender =
+          seen-of-port (event_from sender) (port_of sender) first.ports first.items first.paired first.named
+          (λ other below not. let front = front-from sender other below in nothing-first _ _ (none-by-port sender other below not) front)
+
+      first-items : (sender : ℕ) → sender < channels + 1 → ComesFirstIn (picked sender first_order first_items) (items_within channels setup incoming answered sender)
+      first-items sender below =
+          let front = front-from sender (port_of sender) (port-below sender) in
+          let same : events_from sender (picked (port_of sender) first.ports first.items) ≡ picked sender first_order first_items =
+          sym (first-from sender) ∙ sym (picked-of-sender sender first.items) in
+          (front.0, sym (items-by-port sender below) ∙ front.1 ∙ ap (λ l. l ++ front.0) same)
+
+      first-named : All (λ tag. tag < channels + 1) first_order
+      first-named =
+          senders-below (channels + 1) first.items
+          (λ sender past. first-from sender ∙ nothing-first _ _ (none-past-senders sender past) (front-from sender (port_of sender) (port-below sender)))
 
       module _ (give_open : OpenFlowsGive) (give_closed : ClosedFlowsGave) (k fill : ℕ) (flow_record : FlowRecord) (whole chunks : List (List ℕ)) (segments : List Segment)
           (events : List FlowEvent) (lasts : Lasts) (fates : Fates) (of_flow : slice_get setup.flows.items k ≡ Some flow_record)
-          (ruled : AreRuled rule (ruled_flow setup.sids.items k flow_record) (comings_at k first.order first.items) events lasts fates)
+          (ruled : AreRuled rule (ruled_within channels setup.sids.items k flow_record) (comings_at k first_order first_items) events lasts fates)
           (cut : IsLawfulCut accepted whole flow_record.first fill chunks segments)
           (near : AreNear flow_record.first flow_record.window segments events) where
         abbrev own : FlowSetup
         own = flow_setup made k flow_record
 
         abbrev comings : List Coming
-        comings = comings_at k first.order first.items
+        comings = comings_at k first_order first_items
 
         abbrev given : List (List ℕ)
         given = frames_of k first.given
 
         -- the flows at last, some of them closed
-        stands : (flows : FlowTable C) × HaveClosed accepts flows accepted made (table_inputs first.order first.items) first.given first.counts
+        stands : (flows : FlowTable C) × HaveClosed accepts flows accepted made (table_inputs first_order first_items) first.given first.counts
         stands = first.stands accepted made is.flows
 
         -- a flow that was closed gave all
@@ -358,16 +507,16 @@ module _ {C N : Type 0} (are_of : List AnsweredInput → N → Type 0) (accepts 
             let parts = stands.1.gave k flow_record count of_flow at in
             give_closed accepted own comings given whole chunks count fill segments events lasts fates
             (one-part_gave accepted own comings given count
-            (subst (λ inputs. GaveAllParts accepted own inputs given count) (inputs-come k first.order first.items) parts))
+            (subst (λ inputs. GaveAllParts accepted own inputs given count) (inputs-come k first_order first_items) parts))
             ruled cut near
 
         -- one that wasn't gave what it has given so far
         open-gave : length first.counts ≤ k → (slot : FlowSlot) → slice_get stands.0.slots.items k ≡ Some slot → TookAFront whole chunks flow_record events given
         open-gave past slot at =
             let n = length first.counts in
-            let history = table_inputs first.order first.items in
+            let history = table_inputs first_order first_items in
             let is_slot : SlotStands accepted own slot (map comes comings) given =
-            subst (λ (inputs : List FlowInput). SlotStands accepted own slot inputs given) (still-open n k history past ∙ inputs-come k first.order first.items)
+            subst (λ (inputs : List FlowInput). SlotStands accepted own slot inputs given) (still-open n k history past ∙ inputs-come k first_order first_items)
             (stands.1.stands.flows k flow_record slot of_flow at) in
             let nothing : is_slot.earlier ≡ [] =
             subst (λ (parts : List Part). GaveInParts accepted own parts is_slot.earlier) (one-part_over own comings) is_slot.gave in
@@ -415,19 +564,19 @@ module _ {C N : Type 0} (are_of : List AnsweredInput → N → Type 0) (accepts 
 
       -- so it is what the run gave first
       pub first-given : OpenFlowsGive → ClosedFlowsGave → (requests : List Given) → requests ≡ given_of sent
-          → GivesTheFirst rule accepted setup incoming frames requests
+          → GivesTheFirst channels rule accepted setup incoming frames requests
       first-given give_open give_closed requests same = record {
         answered = answered;
         lanes = lanes-answered;
-        order = first.order;
-        items = first.items;
-        named = first.named;
-        paired = first.paired;
+        order = first_order;
+        items = first_items;
+        named = first-named;
+        paired = length-map first.items (λ (one : SentEvent). one.sender) ∙ sym (length-map first.items (λ (one : SentEvent). one.event));
         fronts = first-items;
         frames_only = only-frames;
-        requests_only = subst AreRequests (sym same) only-requests;
+        requests_only = subst (AreRequests channels) (sym same) only-requests;
         delivered = first-of-flow give_open give_closed;
-        requested = λ channel below. ap (requests_given channel) same ∙ given-on-channel channel ∙ requests-on channel below;
+        requested = λ channel below. ap (requests_given channel) same ∙ requests-on channel below;
       }
 
       -- ============ What was given if nothing failed ============
@@ -441,19 +590,30 @@ module _ {C N : Type 0} (are_of : List AnsweredInput → N → Type 0) (accepts 
 
         -- the order in which items were taken, and the items
         abbrev order : List ℕ
-        order = all.order
+        order = senders_of all.items
 
         abbrev items : List Event
-        items = all.items
+        items = events_of all.items
 
-        -- the items of each sender were taken
-        items-picked : (sender : ℕ) → sender < senders → picked sender order items ≡ items_of setup incoming answered sender
-        items-picked sender below =
-            sym (all.has_collected.taken_is sender ∙ ap (λ l. l ++ picked sender order items) (none-carried sender)) ∙ items-taken sender below
+        -- all items that a port posted were taken
+        picked-all : (port : ℕ) → port < senders → picked port all.ports all.items ≡ carried (all_posted (closed_arrivals end) port)
+        picked-all port below =
+            sym (all.has_collected.taken_is port ∙ ap (λ l. l ++ picked port all.ports all.items) (none-carried port)) ∙ ap carried (settled.arrivals port below)
+
+        -- of each sender
+        all-from : (sender : ℕ) → events_from sender all.items ≡ events_from sender (carried (all_posted (closed_arrivals end) (port_of sender)))
+        all-from sender =
+            seen-of-port (event_from sender) (port_of sender) all.ports all.items all.has_collected.paired all.has_collected.named
+            (λ other below not. ap (events_from sender) (picked-all other below) ∙ none-by-port sender other below not)
+            ∙ ap (events_from sender) (picked-all (port_of sender) (port-below sender))
 
         -- so they were merged
-        merged : IsMergeOf (items_of setup incoming answered) order items
-        merged = record { named = all.has_collected.named; paired = all.has_collected.paired; lists_are = items-picked }
+        merged : IsMergeWithin (channels + 1) (items_within channels setup incoming answered) order items
+        merged = record {
+          named = senders-below (channels + 1) all.items (λ sender past. all-from sender ∙ none-past-senders sender past);
+          paired = length-map all.items (λ (one : SentEvent). one.sender) ∙ sym (length-map all.items (λ (one : SentEvent). one.event));
+          lists_are = λ sender below. picked-of-sender sender all.items ∙ all-from sender ∙ items-by-port sender below;
+        }
 
         -- what was given of a flow is what its ring was offered
         given-as-offered : (k : ℕ) (feeder : Feeder) (closed : ClosedFeeder) (first last : Taker) → slice_get opened.rings.feeders.items k ≡ Some feeder
@@ -466,18 +626,18 @@ module _ {C N : Type 0} (are_of : List AnsweredInput → N → Type 0) (accepts 
 
         -- so each flow gave what comes of all that came to it
         flow-gave : (k : ℕ) (flow_record : FlowRecord) (count : FlowCounts) → slice_get setup.flows.items k ≡ Some flow_record → slice_get says.assembled.counts.items k ≡ Some count
-            → IsGivenByRule rule accepted (ruled_flow setup.sids.items k flow_record) flow_record (comings_at k order items) (frames_of k frames) count
+            → IsGivenByRule rule accepted (ruled_within channels setup.sids.items k flow_record) flow_record (comings_at k order items) (frames_of k frames) count
         flow-gave k flow_record count of_flow at_count =
             let within = slice_get_within setup.flows.items k flow_record of_flow in
             let feeder = element_at opened.rings.feeders.items k (let count = is.rings.count_is in omega arith) in
             let closed = element_at end.feeders.items k (let count = feeders-counted in omega arith) in
             let first = element_at opened.rings.takers.items k (let count = takers-counted in omega arith) in
             let last = element_at end.done.takers.items k (let count = takers-left in omega arith) in
-            let own = flow_setup (made_of rule channel_limit setup) k flow_record in
+            let own = flow_setup (made_of rule channels setup) k flow_record in
             let Gave : List (List ℕ) → Type 0 = λ given. GaveAllParts accepted own (inputs_at k (table_inputs order items)) given count in
             let parts : Gave (frames_of k frames) =
             subst Gave (given-as-offered k feeder.0 closed.0 first.0 last.0 feeder.1 closed.1 first.1 last.1)
-            (all.has_assembled.gave accepted (made_of rule channel_limit setup) is.flows k flow_record count of_flow at_count) in
+            (all.has_assembled.gave accepted (made_of rule channels setup) is.flows k flow_record count of_flow at_count) in
             let gave : GaveByRule accepted own (comings_at k order items) (frames_of k frames) count =
             one-part_gave accepted own (comings_at k order items) (frames_of k frames) count
             (subst (λ inputs. GaveAllParts accepted own inputs (frames_of k frames) count) (inputs-come k order items) parts) in
@@ -489,41 +649,88 @@ module _ {C N : Type 0} (are_of : List AnsweredInput → N → Type 0) (accepts 
               gives = record { n = gave.n; outcome = gave.outcome; closed = gave.closed };
             }
 
+        -- what each source's worker noted
+        abbrev lanes : FourNotes N
+        lanes = concluded.lanes
+
+        noted-there : (source : ℕ) → source < channel_limit → (notes : SourceNotes N) × (slice_get (in_order lanes) source ≡ Some notes) × (noted_by source ≡ Some notes)
+        noted-there =
+            four (λ source. (notes : SourceNotes N) × (slice_get (in_order lanes) source ≡ Some notes) × (noted_by source ≡ Some notes))
+            (lanes.n0, refl, says.noted0) (lanes.n1, refl, says.noted1) (lanes.n2, refl, says.noted2) (lanes.n3, refl, says.noted3)
+
+        module _ (source : ℕ) (below : source < channel_limit) where
+          -- it is of what the source gave
+          abbrev notes : SourceNotes N
+          notes = (noted-there source below).0
+
+          here : (P : SourceNotes N → Type 0) → IfSome (noted_by source) P → P notes
+          here P is = subst (λ (o : Option (SourceNotes N)). IfSome o P) (noted-there source below).2 is
+
+          long : length notes.lanes.items ≡ channels
+          long = here (λ all. length all.lanes.items ≡ channels) (are-served source below).count
+
+          of-lanes : (channel : ℕ) (one : N) → slice_get notes.lanes.items channel ≡ Some one → are_of (answers_on channel (served_by source)) one
+          of-lanes = here (λ all. (channel : ℕ) (one : N) → slice_get all.lanes.items channel ≡ Some one → are_of (answers_on channel (served_by source)) one) (are-served source below).noted
+
+          strays : AreStraysOf channels (belongs_to channels source) (given_by source) notes.strays
+          strays = here (λ all. AreStraysOf channels (belongs_to channels source) (given_by source) all.strays) (are-served source below).strays
+
         -- what is noted of each channel is of its answers
-        noted-by : (answers : List AnsweredInput) (o : Option N) (n notes : N) → IfSome o (are_of answers) → o ≡ Some n → n ≡ notes → are_of answers notes
-        noted-by answers o n notes noted is same = subst (are_of answers) same (subst (λ (o : Option N). IfSome o (are_of answers)) is noted)
+        noted : (channel : ℕ) → channel < channels → (one : N) × (notes_on lanes channel ≡ Some one) × are_of (answered channel) one
+        noted channel below =
+            let source = channel % 4 in
+            let there = noted-there source (source-below channel) in
+            let one = element_at there.0.lanes.items channel (let count = long source (source-below channel) in omega arith) in
+            let lists = get_or-map (λ (notes : SourceNotes N). notes.lanes.items) (in_order lanes) source there.0 [] (slice_get_within (in_order lanes) source there.0 there.1) in (
+              one.0,
+              ap (λ (l : List N). slice_get l channel) (lists ∙ ap (λ (notes : SourceNotes N). notes.lanes.items) (get_or_from_slice_get (in_order lanes) source there.0 there.0 there.1)) ∙ one.1,
+              of-lanes source (source-below channel) channel one.0 one.1,
+            )
 
-        noted : (channel : ℕ) (notes : N) → channel < channel_limit → slice_get (in_order concluded.lanes) channel ≡ Some notes → are_of (answered channel) notes
-        noted channel notes below at =
-            let done = end.done in
-            let lanes = concluded.lanes in
-            four (λ c. slice_get (in_order lanes) c ≡ Some notes → are_of (answered c) notes)
-            (λ is. noted-by done-0.answered done.l0.notes lanes.n0 notes done-0.served.noted says.noted0 (same_Some lanes.n0 notes is))
-            (λ is. noted-by done-1.answered done.l1.notes lanes.n1 notes done-1.served.noted says.noted1 (same_Some lanes.n1 notes is))
-            (λ is. noted-by done-2.answered done.l2.notes lanes.n2 notes done-2.served.noted says.noted2 (same_Some lanes.n2 notes is))
-            (λ is. noted-by done-3.answered done.l3.notes lanes.n3 notes done-3.served.noted says.noted3 (same_Some lanes.n3 notes is))
-            channel below at
+        -- so it is for each source
+        same-notes : (source : ℕ) (below : source < channel_limit) (all : SourceNotes N) → slice_get (in_order lanes) source ≡ Some all → notes source below ≡ all
+        same-notes source below all at = same_Some (notes source below) all (sym (noted-there source below).1 ∙ at)
 
-        -- what was given and counted is the answer for what came in, in the order in which it was taken
-        answer-of-run : IsAnswerBy are_of rule accepted setup incoming order frames (given_of sent) concluded.counts.items (in_order concluded.lanes)
+        have-notes : HaveNotes channels lanes
+        have-notes source all at =
+            let below : source < channel_limit = slice_get_within (in_order lanes) source all at in
+            subst (λ (n : SourceNotes N). length n.lanes.items ≡ channels) (same-notes source below all at) (long source below)
+
+        strays-are : AreStraysOfSources channels sources (strays_of lanes)
+        strays-are source inputs counts at_inputs at =
+            let below : source < channel_limit =
+            let within = slice_get_within (strays_of lanes) source counts at in
+            let count = length-map (in_order lanes) (λ (n : SourceNotes N). n.strays) in omega (arith, within, count) in
+            let there = noted-there source below in
+            let same : there.0.strays ≡ counts =
+            same_Some there.0.strays counts
+            (sym (slice_get-map (λ (n : SourceNotes N). n.strays) (in_order lanes) source ∙ ap (λ (o : Option (SourceNotes N)). option_map (λ (n : SourceNotes N). n.strays) o) there.1) ∙ at) in
+            subst (λ (c : Strays). AreStraysOf channels (belongs_to channels source) inputs c) same
+            (subst (λ (given : List ChannelInput). AreStraysOf channels (belongs_to channels source) given there.0.strays)
+            (get_or_from_slice_get sources source inputs [] at_inputs) (strays source below))
+
+        -- what was given and counted is the answer for what came in, in the order it was taken
+        answer-of-run : IsAnswerBy are_of channels rule accepted setup incoming order frames (given_of sent) concluded.counts.items (notes_on lanes)
         answer-of-run = record {
           intake = record { answered = answered; lanes = lanes-answered; items = items; merged = merged };
           frames_only = only-frames;
           requests_only = only-requests;
           flow_count = ap (λ (counts : Vec FlowCounts Global). length counts.items) says.counts_are ∙ all.has_assembled.count ∙ is.flows.flow_count;
           flows = λ k flow_record count of_flow at. flow-gave k flow_record count of_flow (ap (λ (counts : Vec FlowCounts Global). slice_get counts.items k) (sym says.counts_are) ∙ at);
-          requested = λ channel below. given-on-channel channel ∙ requests-on channel below;
-          lane_count = refl;
+          requested = requests-on;
           noted = noted;
         }
 
         -- so it is what the run comes to
-        pub run-answers : (requests : List Given) → requests ≡ given_of sent → (came_in : Incoming → Type 0) → came_in incoming
-            → ConcludesAnswer are_of rule accepted setup came_in kept frames requests concluded
+        pub run-answers : (requests : List Given) → requests ≡ given_of sent → (came_in : List (List ChannelInput) → Incoming → Type 0) → came_in sources incoming
+            → ConcludesAnswer are_of channels rule accepted setup came_in kept frames requests concluded
         run-answers requests same came_in came = record {
+          sources = sources;
           incoming = incoming;
           came = came;
           order = order;
           ordered = subst (λ (o : Option (Vec ℕ Global)). HasOrder kept order o) (sym says.order_is) all.ordered;
-          answer = subst (λ given. IsAnswerBy are_of rule accepted setup incoming order frames given concluded.counts.items (in_order concluded.lanes)) (sym same) answer-of-run;
+          answer = subst (λ given. IsAnswerBy are_of channels rule accepted setup incoming order frames given concluded.counts.items (notes_on lanes)) (sym same) answer-of-run;
+          have_notes = have-notes;
+          strays = strays-are;
         }

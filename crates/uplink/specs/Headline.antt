@@ -24,8 +24,9 @@ use Rattle.receiver.specs.Order.{IsLawfulOrder, lengths_of}
 use Rattle.lane.specs.Report.{requests_of}
 use Rattle.uplink.specs.Fronts.{ComesFirstIn}
 
--- What was taken is the flow's whole delivery sequence: once these events and the flow's close have decided what was kept and what is lost, exactly
--- the modem's frames whose segments were all kept, in the modem's order.
+-- What was taken is the flow's whole delivery sequence: once these events and the flow's close have
+-- decided what was kept and what is lost, exactly the modem's frames whose segments were all kept,
+-- in the modem's order.
 pub record TookTheDeliverySequence (frames chunks : List (List ℕ)) (flow_record : FlowRecord) (events : List FlowEvent) (taken : List (List ℕ)) : Type 0 where
   pub gaps : ℕ
   pub answers : List Applied
@@ -35,7 +36,8 @@ pub record TookTheDeliverySequence (frames chunks : List (List ℕ)) (flow_recor
   pub sequence : IsDeliverySequence frames chunks fates taken
   pub all_kept : FiltersTo (IsAllKept frames chunks fates) frames taken
 
--- What was taken comes first in the flow's delivery sequence: in that after the first of these events, or after all and some gaps of the flow's close.
+-- What was taken comes first in the flow's delivery sequence: in that after the first of these
+-- events, or after all and some gaps of the flow's close.
 pub record TookAFront (frames chunks : List (List ℕ)) (flow_record : FlowRecord) (events : List FlowEvent) (taken : List (List ℕ)) : Type 0 where
   pub gaps : ℕ
   pub reached : List FlowEvent
@@ -47,9 +49,12 @@ pub record TookAFront (frames chunks : List (List ℕ)) (flow_record : FlowRecor
   pub sequence_is : IsDeliverySequence frames chunks fates sequence
   pub front : ComesFirstIn taken sequence
 
--- The headline, of what a receiver gave for what came in, in this order. The order is a lawful one of all that each channel admits and all decisions that
--- name a flow. There are as many flows as records. What each flow's consumer took is the flow's whole delivery sequence, if the flow's segments are those of one lawful cut of a modem's frames
--- and its events in that order are near. And the requests of each channel are those of its admitted segments, each once and in their order.
+-- The headline, of what a receiver gave for what came in, in this order. The order is a lawful one
+-- of all that each channel admits and all decisions that name a flow. There are as many flows as
+-- records. What each flow's consumer took is the flow's whole delivery sequence, if the flow's
+-- segments are those of one lawful cut of a modem's frames and its events in that order are near.
+-- And the requests of each channel are those of its admitted segments, each once and in their
+-- order.
 pub record KeepsTheHeadline (check : List ℕ → Bool) (setup : Setup) (incoming : Incoming) (order : List ℕ) (outcome : Outcome) : Type 0 where
   pub intake : IsIntake setup incoming order
   pub lawful : IsLawfulOrder (lengths_of (items_of setup incoming intake.answered)) order
@@ -61,8 +66,8 @@ pub record KeepsTheHeadline (check : List ℕ → Bool) (setup : Setup) (incomin
       → TookTheDeliverySequence frames chunks flow_record (events_at k intake.items) flow.frames.items
   pub requested : (channel : ℕ) → channel < channel_limit → requests_on outcome channel ≡ requests_of (intake.answered channel)
 
--- The headline of a receiver that decides by a rule besides. All is the same but for the events of a flow, which are now those that by the rule come of
--- all that comes to it in that order.
+-- The headline of a receiver that decides by a rule besides. All is the same but for the events of
+-- a flow, which are now those that by the rule come of all that comes to it in that order.
 pub record KeepsTheHeadlineBy (rule : LossRule) (check : List ℕ → Bool) (setup : Setup) (incoming : Incoming) (order : List ℕ) (outcome : Outcome) : Type 0 where
   pub intake : IsIntake setup incoming order
   pub lawful : IsLawfulOrder (lengths_of (items_of setup incoming intake.answered)) order

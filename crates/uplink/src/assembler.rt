@@ -120,10 +120,10 @@ fn take_items<C: HeaderCheck + Drop, R: Wait>(
             break;
         }
         match mouth.next(rt) {
-            Taken::Item { from, item } => {
+            Taken::Item { item, .. } => {
                 wait.took();
                 let flow = item.event.flow();
-                taking = with_item(alloc, signals, taking, feeding, from, item);
+                taking = with_item(alloc, signals, taking, feeding, item);
                 feeding.wait_for_room(rt, signals, flow);
             }
             Taken::End { .. } => wait.took(),
@@ -144,17 +144,16 @@ fn with_item<C: HeaderCheck + Drop>(
     signals: &Signals,
     taking: Option<Taking<C>>,
     feeding: &mut Feeding<'_>,
-    from: u8,
     item: Item,
 ) -> Option<Taking<C>>
     requires { IfSome taking (λ was. IsInUse C.accepts was.flows) }
     ensures rings { rings_of feeding.new ≡ rings_of feeding.old }
     ensures takes { IfSome result (λ now. (was : _) × (taking ≡ Some was)
-        × HasOrder was.order (from ∷ []) now.order
-        × TakesItem C.accepts was.flows feeding.old from item.event now.flows feeding.new) }
+        × HasOrder was.order (item.sender ∷ []) now.order
+        × TakesItem C.accepts was.flows feeding.old item.sender item.event now.flows feeding.new) }
     ensures at_most { MatchOption taking (HasOffered feeding.old [] feeding.new)
         (λ was. TakesAtMostOf C.accepts was.flows feeding.old
-        (table_input_of from item.event) feeding.new) }
+        (table_input_of item.sender item.event) feeding.new) }
 {
     if signals.has_failed() {
         return None;
@@ -163,8 +162,8 @@ fn with_item<C: HeaderCheck + Drop>(
         mut flows,
         mut order,
     } = taking?;
-    note_sender(&mut order, from).ok()?;
-    take_item(&mut flows, alloc, from, item.event, feeding)?;
+    note_sender(&mut order, item.sender).ok()?;
+    take_item(&mut flows, alloc, item.sender, item.event, feeding)?;
     if !feeding.whole {
         return None;
     }
@@ -172,11 +171,11 @@ fn with_item<C: HeaderCheck + Drop>(
 }
 
 /// Appends a sender to the order, if it is kept.
-fn note_sender(order: &mut Option<Vec<u8>>, from: u8) -> Result<(), AllocError>
-    ensures { IfOk result (λ _. HasOrder order.old (from ∷ []) order.new) }
+fn note_sender(order: &mut Option<Vec<u8>>, sender: u8) -> Result<(), AllocError>
+    ensures { IfOk result (λ _. HasOrder order.old (sender ∷ []) order.new) }
 {
     if let Some(order) = order {
-        order.push(from)?;
+        order.push(sender)?;
     }
     Ok(())
 }
@@ -187,7 +186,7 @@ fn note_sender(order: &mut Option<Vec<u8>>, from: u8) -> Result<(), AllocError>
 fn take_item<C: HeaderCheck + Drop>(
     flows: &mut FlowTable<C>,
     alloc: Global,
-    from: u8,
+    sender: u8,
     item: Event,
     feeding: &mut Feeding<'_>,
 ) -> Option<()>
@@ -195,8 +194,8 @@ fn take_item<C: HeaderCheck + Drop>(
     requires takable { IsTakable item }
     ensures rings { rings_of feeding.new ≡ rings_of feeding.old }
     ensures takes { IfSome result (λ _.
-        TakesItem C.accepts flows.old feeding.old from item flows.new feeding.new) }
-    ensures at_most { TakesAtMost C.accepts flows.old feeding.old (table_input_of from item)
+        TakesItem C.accepts flows.old feeding.old sender item flows.new feeding.new) }
+    ensures at_most { TakesAtMost C.accepts flows.old feeding.old (table_input_of sender item)
         flows.new feeding.new }
 {
     let flow = item.flow();
@@ -205,7 +204,7 @@ fn take_item<C: HeaderCheck + Drop>(
     }
     match item {
         Event::Arrive { segment, .. } => {
-            take_segment(flows, alloc, flow, usize::from(from), segment, feeding)
+            take_segment(flows, alloc, flow, usize::from(sender), segment, feeding)
         }
         Event::Gap { .. } => decide(flows, alloc, flow, FlowDecision::Gap, feeding),
         Event::GapTo { number, .. } => {

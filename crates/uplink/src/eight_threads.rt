@@ -33,7 +33,7 @@ use workers::{Consumers, Decisions, Foreknown, Source, Sources};
 ///
 /// `Setup` and `Lane`: the first fault of the setup. `NoCapacity`: it has none, and the capacity of
 /// the mailboxes is 0. `OutOfMemory`: an allocation failed, in whichever thread, or a thread could
-/// not be started. Before all threads are started no source is asked. Later the worker of a channel
+/// not be started. Before all threads are started no source is asked. Later the worker of a source
 /// whose allocation failed asks its source for nothing more, all others go on to their end, and
 /// nothing of the outcome is given. What is handed in doesn't come back, on any answer. The check
 /// is used by the caller's thread alone. The call waits for its threads, and they for the sources:
@@ -130,7 +130,7 @@ where
         &setup,
         opened,
         order,
-        sources.foreknown(),
+        sources.on_four_channels(),
         Foreknown(decisions),
         consumers,
     );

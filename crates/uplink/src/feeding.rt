@@ -82,9 +82,9 @@ fn offer(
     is_offered
 }
 
-/// The frame in memory of its own size, or as it is where that memory can't be had. What a
-/// channel's thread asked for is freed at once, and not kept in that thread's part of the heap for
-/// as long as the frame waits.
+/// The frame in memory of its own size, or as it is where that memory can't be had. What a burst
+/// was given in is freed at once, and not kept in the part of the heap of the thread that asked for
+/// it for as long as the frame waits.
 fn own_copy(alloc: Global, frame: Bytes) -> Vec<u8>
     ensures { result.items ≡ frame }
 {

@@ -1,5 +1,5 @@
 //! What a run gave, once all threads have returned.
-ghost use Rattle.std.specs.Prelude.{◌≡◌, IsTrue, IfOk, IfSome, Some, length};
+ghost use Rattle.std.specs.Prelude.{◌≡◌, ◌<◌, IsTrue, IfOk, IfSome, Some, length, slice_get};
 ghost use Rattle.lane.specs.Limits.{channel_limit};
 ghost use Rattle.uplink.specs.Inside.Running.{CanSettle, HasConcluded};
 ghost use Rattle.uplink.specs.Inside.Collected.{AreFlowsOf, CanBeMade, IsMadeOf};
@@ -14,7 +14,7 @@ use mailbox::{ClosedPort, ClosedPorts, Mouth, settle};
 use receiver::{FlowOutcome, Outcome};
 use std::alloc::{AllocError, Global};
 use std::sync::Wait;
-use workers::{Consumers, Done, Item, both_done, settle_rings};
+use workers::{Consumers, Done, Item, SourceNotes, both_done, settle_rings};
 
 /// What all threads handed on.
 #[derive(Drop)]
@@ -29,7 +29,7 @@ pub struct Ended<N> {
 }
 
 /// What a run comes to: what was counted of each flow, what was noted of the inputs of the
-/// channels, and the order of the items, if it was kept.
+/// sources, and the order of the items, if it was kept.
 #[derive(Drop)]
 pub struct Concluded<N> {
     pub counts: Vec<FlowCounts>,
@@ -37,13 +37,13 @@ pub struct Concluded<N> {
     pub order: Option<Vec<u8>>,
 }
 
-/// What was noted of the channels 0 to 3.
+/// What was noted of the inputs of the four sources.
 #[derive(Drop)]
 pub struct FourNotes<N> {
-    pub n0: N,
-    pub n1: N,
-    pub n2: N,
-    pub n3: N,
+    pub n0: SourceNotes<N>,
+    pub n1: SourceNotes<N>,
+    pub n2: SourceNotes<N>,
+    pub n3: SourceNotes<N>,
 }
 
 /// Who took what a run gave, whether its threads began, and what it came to, unless an allocation
@@ -88,10 +88,13 @@ pub fn conclude<N: Drop, R: Wait>(rt: &R, end: Ended<N>) -> Option<Concluded<N>>
     concluded_of(end.assembled, noted)
 }
 
+/// What was noted of the inputs of two sources.
+type TwoNotes<N> = (SourceNotes<N>, SourceNotes<N>);
+
 /// What was counted and noted, if all was.
 fn concluded_of<N: Drop>(
     assembled: Option<Assembled>,
-    noted: Option<((N, N), (N, N))>,
+    noted: Option<(TwoNotes<N>, TwoNotes<N>)>,
 ) -> Option<Concluded<N>>
     ensures assembled { IfSome result (λ concluded. (made : _) × (assembled ≡ Some made)
         × (concluded.counts ≡ made.counts) × (concluded.order ≡ made.order)) }
@@ -147,9 +150,23 @@ pub fn outcome_of(
     Ok(Outcome {
         flows: flows_of(alloc, records, frames.frames, &counts)?,
         requests: four_lists(requests.requests),
-        lanes: [n0, n1, n2, n3],
+        lanes: [
+            report_on(n0, 0),
+            report_on(n1, 1),
+            report_on(n2, 2),
+            report_on(n3, 3),
+        ],
         order,
     })
+}
+
+/// What a source's worker noted of this channel.
+fn report_on(notes: SourceNotes<LaneReport>, channel: usize) -> LaneReport
+    requires { channel < length notes.lanes.items }
+    ensures { slice_get notes.lanes.items channel ≡ Some result }
+{
+    let mut lanes = notes.lanes;
+    lanes.swap_remove(channel)
 }
 
 /// What each flow gave: its frames, and its counts.

@@ -2,7 +2,7 @@
 //! the receiver on one thread stand beside it.
 //!
 //! Each function states a law in its contract; its body is empty or only calls other laws.
-ghost use Rattle.std.specs.Prelude.{◌≡◌, ℕ, ◌+◌, Bool};
+ghost use Rattle.std.specs.Prelude.{◌≡◌, ℕ, ◌+◌, Bool, Option};
 ghost use Rattle.std.specs.Prelude.{List, ◌++◌};
 ghost use Rattle.docsis_wire.specs.declared.segment.Segment.{Segment};
 ghost use Rattle.docsis_wire.specs.Cut.{IsLawfulCut};
@@ -52,7 +52,7 @@ pub use receiver::laws::{
     segments_in_turn_come_from_a_modem,
 };
 
-/// **The headline.** Whatever the four channels interleave, delay or lose and whenever gaps are
+/// **The headline.** Whatever the channels interleave, delay or lose and whenever gaps are
 /// declared: for the outcome of a receiver, from [`run`](crate::run) or from
 /// [`replay`](crate::replay), what each flow's consumer took is the flow's delivery sequence, if
 /// the segments of the flow are those of one lawful cut of a modem's frames and its events, in the
@@ -75,11 +75,12 @@ pub fn consumers_take_the_delivery_sequence()
         (incoming : Incoming) (order : List ℕ) (outcome : Outcome)
         → IsOutcomeBy rule check setup incoming order outcome
         → KeepsTheHeadlineBy rule check setup incoming order outcome }
-    ensures given { (rule : LossRule) (check : List ℕ → Bool) (setup : Setup)
+    ensures given { (channels : ℕ) (rule : LossRule) (check : List ℕ → Bool) (setup : Setup)
         (incoming : Incoming) (order : List ℕ) (frames requests : List Given)
-        (counts : List FlowCounts) (lanes : List LaneTally)
-        → IsAnswerBy IsTallyOf rule check setup incoming order frames requests counts lanes
-        → GivesTheHeadline rule check setup incoming order frames requests }
+        (counts : List FlowCounts) (tallies : ℕ → Option LaneTally)
+        → IsAnswerBy IsTallyOf channels rule check setup incoming order frames requests counts
+        tallies
+        → GivesTheHeadline channels rule check setup incoming order frames requests }
     ensures prefix { (check : List ℕ → Bool) (fill : ℕ) (flow_record : FlowRecord)
         (frames chunks given unoffered later : List (List ℕ)) (segments : List Segment)
         (events more : List FlowEvent) (counts : FlowCounts) (answers : List Applied)

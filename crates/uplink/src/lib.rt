@@ -1,17 +1,17 @@
-//! The receiver on threads, and all that it stands on: an upstream of four channels.
+//! The receiver on threads, and all that it stands on: an upstream of up to 16 channels.
 //!
-//! [`receive`] receives what four [`LiveSource`]s and [`LiveDecisions`] give, and gives each frame
-//! to one [`Consumer`] and each request to another as they come: four lane workers, one for the
-//! decisions, one that takes requests and one that takes frames, beside the caller, which is the
-//! assembler. Its clause `received` is the sentence that the whole project serves, of what the two
-//! were given; what was taken earlier is a law,
+//! [`receive`] receives what four [`LiveSource`]s and [`LiveDecisions`] give, on as many channels
+//! as its [`Width`] says, and gives each frame to one [`Consumer`] and each request to another as
+//! they come: four lane workers, one for the decisions, one that takes requests and one that takes
+//! frames, beside the caller, which is the assembler. Its clause `received` is the sentence that
+//! the whole project serves, of what the two were given; what was taken earlier is a law,
 //! [`consumers_take_the_delivery_sequence`](laws::consumers_take_the_delivery_sequence). [`run`]
-//! does the same with consumers that keep everything.
+//! does the same for four channels, with consumers that keep everything.
 //!
 //! The calls, in the order of use:
 //!
-//! 1. A [`Setup`] says which flows and service identifiers there are; [`Sources`] are what comes
-//!    in.
+//! 1. A [`Setup`] says which flows and service identifiers there are, and a [`Width`] how many
+//!    there may be; [`Sources`] are what comes in.
 //! 2. [`receive`] gives back the two consumers with what was counted ([`Received`]), or with the
 //!    fault ([`ReceiveError`]).
 //! 3. [`run`] gives the [`Outcome`], or says why there is none ([`RunFault`]); its [`Taps`] look
@@ -43,12 +43,12 @@ pub use lane::{
 };
 pub use loss_rule::LossRule;
 pub use receiver::{
-    BadSetup, Decision, FlowOutcome, LaneTally, Lists, Outcome, ReplayFault, Setup, admitted_order,
-    check_order, replay, replay_by,
+    BadSetup, Decision, FlowOutcome, LaneTally, Lists, Outcome, ReplayFault, Setup, Width,
+    WidthFault, admitted_order, check_order, replay, replay_by,
 };
 pub use receiving::{ReceiveError, Received, receive};
 pub use tap::{NoTap, Tap, Taps};
 pub use workers::{
-    Decisions, Foreknown, ListDecisions, ListSource, LiveDecisions, LiveSource, Source, Sources,
-    Stoppable, Stopper,
+    ChannelInput, Decisions, Foreknown, ListDecisions, ListSource, LiveDecisions, LiveSource,
+    OnChannel, Source, Sources, Stoppable, Stopper, Strays,
 };

@@ -4,6 +4,7 @@ use Rattle.std.proofs.KnownBytes.{Consumes-trans}
 use Rattle.std.proofs.lemmas.List.Concat.{flat_map-append}
 use Rattle.std.specs.Io.KnownBytes.{Consumes, Keeps, IsAtEnd}
 use Rattle.lane.specs.declared.input.Input.{Input}
+use Rattle.workers.specs.declared.channel_input.ChannelInput.{ChannelInput}
 use Rattle.uses.specs.declared.byte_source.ByteSource.{ByteSource}
 use Rattle.uses.specs.declared.byte_source.InputFault.{InputFault}
 use Rattle.uses.specs.InputForms.{form_of, forms_of, kind_of, behind_kind}
@@ -28,11 +29,16 @@ kept-end (Some x) (Some y) (Some z) kept read end = sym kept ∙ read ∙ end
 
 -- an input behind its kind
 pub kind-and-rest : (a b c : Option (List ℕ)) (input : Input) (kind : ℕ) → Consumes a b (kind ∷ []) → kind_of input ≡ kind → Consumes b c (behind_kind input)
-    → Consumes a c (form_of input)
+    → Consumes a c (kind_of input ∷ behind_kind input)
 kind-and-rest a b c input kind first is rest =
     subst (λ (k : ℕ). Consumes a c (k ∷ behind_kind input)) (sym is) (Consumes-trans a b c (kind ∷ []) (behind_kind input) first rest)
 
-forms-more : (inputs : List Input) (input : Input) → forms_of (inputs ++ input ∷ []) ≡ forms_of inputs ++ form_of input
+-- and that behind its channel
+pub channel-and-rest : (a b c : Option (List ℕ)) (channel : ℕ) (input : Input) → Consumes a b (channel ∷ []) → Consumes b c (kind_of input ∷ behind_kind input)
+    → Consumes a c (form_of (record { channel = channel; input = input }))
+channel-and-rest a b c channel input first rest = Consumes-trans a b c (channel ∷ []) (kind_of input ∷ behind_kind input) first rest
+
+forms-more : (inputs : List ChannelInput) (input : ChannelInput) → forms_of (inputs ++ input ∷ []) ≡ forms_of inputs ++ form_of input
 forms-more inputs input = flat_map-append form_of inputs (input ∷ []) ∙ ap (λ rest. forms_of inputs ++ rest) (append-nil (form_of input))
 
 -- bytes of which these were read began with them
@@ -47,13 +53,13 @@ all-read None b bytes read end = tt
 all-read (Some all) None bytes read end = absurd read
 all-read (Some all) (Some rest) bytes read end = read ∙ ap (λ r. bytes ++ r) end ∙ append-nil bytes
 
-module _ {R : Type 0} (remaining : R → Option (List ℕ)) (start old new : ByteSource R) (inputs : List Input) (has : HasRead remaining start inputs old) where
+module _ {R : Type 0} (remaining : R → Option (List ℕ)) (start old new : ByteSource R) (inputs : List ChannelInput) (has : HasRead remaining start inputs old) where
   module _ (goes_on : old.ended ≡ None) where
     has-read : Consumes (remaining start.reader) (remaining old.reader) (forms_of inputs)
     has-read = subst (λ (ended : Option _). IfNone ended (Consumes (remaining start.reader) (remaining old.reader) (forms_of inputs))) goes_on has.read
 
     -- one input more
-    pub reads-more : (input : Input) → new.ended ≡ None → Consumes (remaining old.reader) (remaining new.reader) (form_of input)
+    pub reads-more : (input : ChannelInput) → new.ended ≡ None → Consumes (remaining old.reader) (remaining new.reader) (form_of input)
         → HasRead remaining start (inputs ++ input ∷ []) new
     reads-more input still read =
         let all : Consumes (remaining start.reader) (remaining new.reader) (forms_of (inputs ++ input ∷ [])) =

@@ -54,7 +54,8 @@ adds-within (suc n) key w f g within each =
       | inr late ↦ let before = adds-behind n key w f g late each in grind (arith, nat_tests, cases_eq key n, before, last)
     ]
 
--- Where each thing that is given adds to the part of its key, all together is the sum of the parts below n, if there is nothing in those behind.
+-- Where each thing that is given adds to the part of its key, all together is the sum of the parts
+-- below n, if there is nothing in those behind.
 module _ (parts : ℕ → List Given → ℕ) (key weight : Given → ℕ) (empty : (k : ℕ) → parts k [] ≡ 0)
     (more : (k : ℕ) (x : Given) (xs : List Given) → parts k (x ∷ xs) ≡ added_at (key x) (weight x) k + parts k xs) where
   by-key : (n : ℕ) (given : List Given) → ((k : ℕ) → n ≤ k → parts k given ≡ 0) → sum_by weight given ≡ sum_below n (λ k. parts k given)

@@ -13,15 +13,17 @@ use Rattle.receiver.specs.Items.{Incoming}
 use Rattle.receiver.specs.Modem.{ComeFromAModem}
 use Rattle.receiver.specs.Ruled.{ruled_flow, comings_at, AreRuledOutcomes}
 
--- What each flow of a receiver gave that decides by this rule, for what came in, in the order of these tags.
+-- What each flow of a receiver gave that decides by this rule, for what came in, in the order of
+-- these tags.
 pub record AreFlowsBy (rule : LossRule) (check : List ℕ → Bool) (setup : Setup) (incoming : Incoming) (tags : List ℕ) (flows : List FlowOutcome) : Type 0 where
   pub order : List ℕ
   pub admitted : IsAdmittedOrder setup incoming tags order
   pub intake : IsIntake setup incoming order
   pub flows_are : AreRuledOutcomes rule check setup order intake.items flows
 
--- What each flow of a receiver gave for what came in, in the order of these tags. If what comes to a flow is of a modem that sends these frames, it gave
--- just those of them of which each segment came in, in the modem's order.
+-- What each flow of a receiver gave for what came in, in the order of these tags. If what comes to
+-- a flow is of a modem that sends these frames, it gave just those of them of which each segment
+-- came in, in the modem's order.
 pub record GaveTheFramesThatAllCame (check : List ℕ → Bool) (setup : Setup) (incoming : Incoming) (tags : List ℕ) (flows : List FlowOutcome) : Type 0 where
   pub order : List ℕ
   pub admitted : IsAdmittedOrder setup incoming tags order

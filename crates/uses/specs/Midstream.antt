@@ -23,7 +23,8 @@ module _ {C O : Type 0} (after : O → List Given → O → Type 0) (accepts : C
     pub stands : (check : List ℕ → Bool) (made : TableSetup) (history : List TableInput) (given : List Given)
         → StandsFor accepts flows check made history given → StandsFor accepts flows' check made (history ++ inputs) (given ++ more)
 
-  -- all flows are closed: with what that gave, each gave all that comes of what was handed in of it, and these are the counts
+  -- all flows are closed: with what that gave, each gave all that comes of what was handed in of
+  -- it, and these are the counts
   pub record ClosesAll (flows : FlowTable C) (out : O) (counts : List FlowCounts) (out' : O) : Type 0 where
     pub more : List Given
     pub was_given : (start : O) (given : List Given) → after start given out → after start (given ++ more) out'

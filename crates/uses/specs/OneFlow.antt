@@ -21,8 +21,8 @@ pub record IsPlayedTo (flow_record : FlowRecord) (segments : List Segment) (clos
   pub after : IsAfter flow_record.first flow_record.window (arrivals segments) answers fates
   pub closes : Closes flow_record.first flow_record.window fates closed
 
--- What the arrivals of these segments and the close give: for all frames of a modem, and every lawful cut of them to which the arrivals are
--- near, the delivery sequence.
+-- What the arrivals of these segments and the close give: for all frames of a modem, and every
+-- lawful cut of them to which the arrivals are near, the delivery sequence.
 abbrev pub GivesWhatIsDelivered : (List ℕ → Bool) → FlowRecord → List Segment → List (List ℕ) → Type 0
 GivesWhatIsDelivered check flow_record segments given =
     (frames chunks : List (List ℕ)) (fill : ℕ) (cut : List Segment) (closed : Fates)

@@ -10,9 +10,10 @@ use Rattle.uplink.specs.Headline.{TookTheDeliverySequence}
 use Rattle.receiver.specs.Intake.{IsIntake}
 use Rattle.receiver.specs.Items.{Incoming, events_at}
 
--- What was taken of each flow of a receiver. The segments that each channel admits and the decisions that name a flow came in some order. If those of a
--- flow come near in it, and its segments are those of one lawful cut of a modem's frames, what was taken is the flow's delivery sequence: just the frames
--- whose segments were all kept.
+-- What was taken of each flow of a receiver. The segments that each channel admits and the
+-- decisions that name a flow came in some order. If those of a flow come near in it, and its
+-- segments are those of one lawful cut of a modem's frames, what was taken is the flow's delivery
+-- sequence: just the frames whose segments were all kept.
 pub record TookOfEachFlow (check : List ℕ → Bool) (setup : Setup) (incoming : Incoming) (flows : List FlowOutcome) : Type 0 where
   pub order : List ℕ
   pub intake : IsIntake setup incoming order

@@ -1,10 +1,12 @@
 //! A source that reads its inputs from bytes, of which nothing is known before: a file, a pipe or a
 //! socket, as each of these is a [`Read`].
 //!
-//! An input is a byte for its kind and what follows it. Numbers have their highest byte first.
+//! An input is a byte for its channel, one for its kind, and what follows it. Numbers have their
+//! highest byte first.
 //!
 //! | bytes | of a grant, kind 0 | of a burst, kind 1 |
 //! |---|---|---|
+//! | 1, 1 | its channel, 0 | its channel, 1 |
 //! | 4 | its number | the number of its grant |
 //! | 2, 1 | its service identifier | 1 if its check is right, 0 if not |
 //! | 4 | how many bytes are granted | how many bytes it has, at most 65,535 |
@@ -20,7 +22,7 @@ use std::io;
 use std::io::{ErrorKind, Read};
 use std::sync::{Arc, OnceLock};
 use thiserror::Error;
-use uplink::{Input, LiveSource};
+use uplink::{ChannelInput, Input, LiveSource};
 
 /// The kind of a grant.
 const GRANT: u8 = 0;
@@ -129,7 +131,7 @@ impl<R: Read + Drop> LiveSource for ByteSource<R> {
 
     ghost is_over = { λ now. IsSome now.ended };
 
-    fn next(&mut self) -> Option<Input> {
+    fn next(&mut self) -> Option<ChannelInput> {
         if self.ended.is_some() {
             return None;
         }
@@ -145,27 +147,38 @@ impl<R: Read + Drop> LiveSource for ByteSource<R> {
 }
 
 /// Reads the next input, or none if the bytes end before it.
-fn read_input<R: Read>(alloc: Global, reader: &mut R) -> Result<Option<Input>, InputFault>
+fn read_input<R: Read>(alloc: Global, reader: &mut R) -> Result<Option<ChannelInput>, InputFault>
     ensures { IfOk result (ReadsInput (R.remaining reader.old) (R.remaining reader.new)) }
 {
-    let input = match read_kind(reader)? {
-        Some(GRANT) => read_grant(reader)?,
-        Some(BURST) => read_burst(alloc, reader)?,
-        Some(kind) => return Err(InputFault::UnknownKind(kind)),
-        None => return Ok(None),
+    let Some(channel) = read_channel(reader)? else {
+        return Ok(None);
     };
-    Ok(Some(input))
+    let input = read_behind_channel(alloc, reader)?;
+    Ok(Some(ChannelInput { channel, input }))
+}
+
+/// Reads what follows the channel of an input.
+fn read_behind_channel<R: Read>(alloc: Global, reader: &mut R) -> Result<Input, InputFault>
+    ensures { IfOk result (λ input. Consumes (R.remaining reader.old) (R.remaining reader.new)
+        (kind_of input ∷ behind_kind input)) }
+{
+    let input = match read_u8(reader)? {
+        GRANT => read_grant(reader)?,
+        BURST => read_burst(alloc, reader)?,
+        kind => return Err(InputFault::UnknownKind(kind)),
+    };
+    Ok(input)
 }
 
 /// Reads a byte, or none if the bytes end before it. A reader that is interrupted is asked again.
-fn read_kind<R: Read>(reader: &mut R) -> Result<Option<u8>, InputFault>
+fn read_channel<R: Read>(reader: &mut R) -> Result<Option<u8>, InputFault>
     ensures { IfOk result (ReadsByte (R.remaining reader.old) (R.remaining reader.new)) }
 {
-    let mut kind = [0u8; 1];
+    let mut channel = [0u8; 1];
     for _ in 0..TRIES {
-        match reader.read(&mut kind) {
+        match reader.read(&mut channel) {
             Ok(0) => return Ok(None),
-            Ok(_) => return Ok(Some(kind[0])),
+            Ok(_) => return Ok(Some(channel[0])),
             Err(error) => {
                 if error.kind() != ErrorKind::Interrupted {
                     return Err(InputFault::from(error));
@@ -202,6 +215,15 @@ fn read_burst<R: Read>(alloc: Global, reader: &mut R) -> Result<Input, InputFaul
         hcs_ok,
         bytes,
     })
+}
+
+fn read_u8<R: Read>(reader: &mut R) -> Result<u8, InputFault>
+    ensures { IfOk result (λ byte. Consumes (R.remaining reader.old) (R.remaining reader.new)
+        (byte ∷ [])) }
+{
+    let mut byte = [0u8; 1];
+    reader.read_exact(&mut byte)?;
+    Ok(byte[0])
 }
 
 fn read_u16<R: Read>(reader: &mut R) -> Result<u16, InputFault>
@@ -269,23 +291,27 @@ mod tests {
     use std::io::Cursor;
     use std::test::Fail;
 
-    /// A grant of 8 bytes under the number 258 to the service identifier 3, and a burst in it.
-    const FORMS: [u8; 29] = [
-        0, 0, 0, 1, 2, 0, 3, 0, 0, 0, 8, 1, 0, 0, 1, 2, 1, 0, 0, 0, 8, 9, 9, 9, 9, 9, 9, 9, 9,
+    /// A grant of 8 bytes on channel 5 under the number 258 to the service identifier 3, and a
+    /// burst in it.
+    const FORMS: [u8; 31] = [
+        5, 0, 0, 0, 1, 2, 0, 3, 0, 0, 0, 8, 5, 1, 0, 0, 1, 2, 1, 0, 0, 0, 8, 9, 9, 9, 9, 9, 9, 9, 9,
     ];
 
-    /// What a source says of an input: its kind, its number, and a flow's identifier and how many
-    /// bytes, or whether its check is right and its bytes.
-    fn next_form<S: LiveSource>(source: &mut S) -> Option<(u8, u32, u32, usize)> {
-        match source.next()? {
+    /// What a source says of an input: its channel, its kind, its number, and a flow's identifier
+    /// and how many bytes, or whether its check is right and its bytes.
+    type Form = (u8, u8, u32, u32, usize);
+
+    fn next_form<S: LiveSource>(source: &mut S) -> Option<Form> {
+        let ChannelInput { channel, input } = source.next()?;
+        match input {
             Input::Grant { number, sid, bytes } => {
-                Some((GRANT, number, bytes, usize::from(sid)))
+                Some((channel, GRANT, number, bytes, usize::from(sid)))
             }
             Input::Burst {
                 grant,
                 hcs_ok,
                 bytes,
-            } => Some((BURST, grant, u32::from(hcs_ok), bytes.len())),
+            } => Some((channel, BURST, grant, u32::from(hcs_ok), bytes.len())),
         }
     }
 
@@ -293,7 +319,7 @@ mod tests {
     fn read_three(
         alloc: Global,
         bytes: &[u8],
-    ) -> Result<([Option<(u8, u32, u32, usize)>; 3], Option<SourceEnd>), AllocError> {
+    ) -> Result<([Option<Form>; 3], Option<SourceEnd>), AllocError> {
         let (mut source, end) = ByteSource::new(alloc, Cursor::new(bytes.to_vec(alloc)?))?;
         let given = [
             next_form(&mut source),
@@ -303,9 +329,9 @@ mod tests {
         Ok((given, end.get()))
     }
 
-    const GRANT_READ: Option<(u8, u32, u32, usize)> = Some((GRANT, 258, 8, 3));
+    const GRANT_READ: Option<Form> = Some((5, GRANT, 258, 8, 3));
 
-    const BURST_READ: Option<(u8, u32, u32, usize)> = Some((BURST, 258, 1, 8));
+    const BURST_READ: Option<Form> = Some((5, BURST, 258, 1, 8));
 
     #[test]
     fn inputs_are_read_to_their_end(rt: HostRuntime) -> Result<(), Fail> {
@@ -326,7 +352,7 @@ mod tests {
 
     /// How a source of these bytes ends behind a grant.
     fn end_behind_grant(alloc: Global, rest: &[u8]) -> Result<Option<SourceEnd>, AllocError> {
-        let mut bytes = FORMS[..11].to_vec(alloc)?;
+        let mut bytes = FORMS[..12].to_vec(alloc)?;
         bytes.extend_from_slice(rest)?;
         let (given, end) = read_three(alloc, &bytes)?;
         Ok(if given == [GRANT_READ, None, None] {
@@ -338,12 +364,16 @@ mod tests {
 
     #[test]
     fn faults_end_a_source(rt: HostRuntime) -> Result<(), Fail> {
-        let cases: [(&[u8], InputFault); 5] = [
-            (&[2], InputFault::UnknownKind(2)),
-            (&[0, 1, 2, 3, 4, 5], InputFault::CutOff),
-            (&[1, 0, 0, 0, 0, 2], InputFault::UnknownCheck(2)),
-            (&[1, 0, 0, 0, 0, 0, 0, 1, 0, 0], InputFault::TooLong(65_536)),
-            (&[1, 0, 0, 0, 0, 0, 0, 0, 0, 2, 7], InputFault::CutOff),
+        let cases: [(&[u8], InputFault); 6] = [
+            (&[5], InputFault::CutOff),
+            (&[5, 2], InputFault::UnknownKind(2)),
+            (&[5, 0, 1, 2, 3, 4, 5], InputFault::CutOff),
+            (&[5, 1, 0, 0, 0, 0, 2], InputFault::UnknownCheck(2)),
+            (
+                &[5, 1, 0, 0, 0, 0, 0, 0, 1, 0, 0],
+                InputFault::TooLong(65_536),
+            ),
+            (&[5, 1, 0, 0, 0, 0, 0, 0, 0, 0, 2, 7], InputFault::CutOff),
         ];
         for (rest, fault) in cases {
             let end = end_behind_grant(rt.alloc(), rest)?;

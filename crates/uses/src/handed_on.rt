@@ -18,7 +18,7 @@ use std::sync::Wait;
 use std::thread;
 use std::thread::{PromisedHandle, Threads};
 use thiserror::Error;
-use uplink::{LiveDecisions, LiveSource, LossRule, RunFault, Setup, Sources, receive};
+use uplink::{LiveDecisions, LiveSource, LossRule, RunFault, Setup, Sources, Width, receive};
 
 /// Hands the frames of one flow on into a ring, and waits where that is full, so that a receiver
 /// waits for whoever takes them. Frames of other flows, and requests, it lets go.
@@ -77,12 +77,13 @@ pub enum HandingFault {
     Run(RunFault),
 }
 
-/// Receives on four channels until all sources and decisions are used up. The frames of the flow
+/// Receives until all sources and decisions are used up. The frames of the flow
 /// with this index go through a ring of this capacity to a thread of their own, as they come. The
 /// answer is what that thread took.
 pub fn take_elsewhere<S0, S1, S2, S3, D, C, R>(
     alloc: Global,
     rt: R,
+    width: Width,
     setup: Setup,
     rule: LossRule,
     sources: Sources<S0, S1, S2, S3>,
@@ -99,7 +100,7 @@ where
     D: LiveDecisions + Drop + Send + 'static,
     C: HeaderCheck + Drop,
     R: Threads + Wait + Copy + Send + 'static,
-    ensures { IfOk result (TookOfFlow rule (C.accepts check) setup
+    ensures { IfOk result (TookOfFlow width.channels rule (C.accepts check) setup
         (CameFrom (Yields S0.gave S0.is_over sources.s0) (Yields S1.gave S1.is_over sources.s1)
         (Yields S2.gave S2.is_over sources.s2) (Yields S3.gave S3.is_over sources.s3)
         (Yields D.gave D.is_over decisions)) flow) }
@@ -118,7 +119,7 @@ where
         is_whole: true,
     };
     match receive(
-        alloc, rt, setup, rule, sources, decisions, consumer, Forgets, check,
+        alloc, rt, width, setup, rule, sources, decisions, consumer, Forgets, check,
     ) {
         Ok(received) => match take_rest(&rt, received.consumer, handle) {
             Some(frames) => Ok(frames),
@@ -198,8 +199,8 @@ mod tests {
     fn forms(alloc: Global) -> Result<Vec<u8>, AllocError> {
         let mut bytes = Vec::new(alloc);
         for number in 0..SEGMENTS {
-            bytes.extend_from_slice(&[0, 0, 0, 0, number, 0, 1, 0, 0, 0, 15])?;
-            bytes.extend_from_slice(&[1, 0, 0, 0, number, 1, 0, 0, 0, 15])?;
+            bytes.extend_from_slice(&[0, 0, 0, 0, 0, number, 0, 1, 0, 0, 0, 15])?;
+            bytes.extend_from_slice(&[0, 1, 0, 0, 0, number, 1, 0, 0, 0, 15])?;
             bytes.extend_from_slice(&segment(number))?;
         }
         Ok(bytes)
@@ -248,6 +249,7 @@ mod tests {
         let frames = take_elsewhere(
             alloc,
             rt,
+            Width::PROFILE,
             setup(alloc)?,
             LossRule::Decided,
             Sources { s0, s1, s2, s3 },

@@ -46,9 +46,9 @@ impl From<AllocError> for MidstreamFault {
     }
 }
 
-/// Gives up all of a flow that lies before this number, the first that was heard of it, if that lies
-/// ahead of the flow's first number by less than 4,096; then takes the flow's segments that come,
-/// and answers what each flow gave; or the setup's first fault, or that an allocation failed.
+/// Gives up all of a flow that lies before this number, the first that was heard of it, if that
+/// lies ahead of the flow's first number by less than 4,096; then takes the flow's segments that
+/// come, and answers what each flow gave; or the setup's first fault, or that an allocation failed.
 /// The skip comes as a decision does, from the sender behind the channels.
 pub fn receive_from<C: HeaderCheck + Drop>(
     alloc: Global,

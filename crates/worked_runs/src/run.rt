@@ -14,6 +14,7 @@ mod repeated;
 mod request_first;
 mod stopped;
 mod told_flows;
+mod wide;
 
 use crate::expect::expect_same;
 use docsis_wire::NoCheck;

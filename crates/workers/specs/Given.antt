@@ -4,7 +4,8 @@ use Rattle.consumer.specs.declared.given.Given.{Given}
 use Rattle.workers.specs.declared.consumers.Consumers.{Consumers}
 
 module _ {O X : Type 0} (after : O → List X → O → Type 0) where
-  -- Whatever a consumer was given before, or a source gave, it became that one by this list besides, in order.
+  -- Whatever a consumer was given before, or a source gave, it became that one by this list
+  -- besides, in order.
   abbrev pub BecameBy : O → List X → O → Type 0
   BecameBy old given new = (start : O) (earlier : List X) → after start earlier old → after start (earlier ++ given) new
 

@@ -16,6 +16,8 @@ use std::thread::{Promise, PromisedHandle, Threads};
 /// What the decisions' worker works with.
 #[derive(Drop)]
 pub struct DecidingWork<D> {
+    /// The number of channels, which stands for the sender of decisions.
+    pub sender: u8,
     pub flow_count: usize,
     pub arrivals: Port<Item>,
     pub decisions: D,
@@ -66,6 +68,7 @@ fn serve_decisions<D: LiveDecisions + Drop, R: Wait>(
     let mut work = work;
     pass_on(rt, signals, &mut work);
     let DecidingWork {
+        sender: _,
         flow_count: _,
         arrivals,
         decisions: _,
@@ -83,7 +86,11 @@ fn pass_on<D: LiveDecisions, R: Wait>(rt: &R, signals: &Signals, work: &mut Deci
         };
         if decision.names_a_flow(work.flow_count) {
             let event = decision.event();
-            post_item(rt, signals.arrivals(), &mut work.arrivals, Item { event });
+            let item = Item {
+                sender: work.sender,
+                event,
+            };
+            post_item(rt, signals.arrivals(), &mut work.arrivals, item);
         }
     }
     unreachable!()

@@ -8,6 +8,9 @@ use flow_records::Event;
 /// number up to which segments are lost is below 8192.
 #[derive(Drop)]
 pub struct Item {
+    /// Who sends it: the channel on which its segment comes, or, of a decision, the number of
+    /// channels.
+    pub sender: u8,
     pub event: Event,
     ghost takable: { IsTakable event } by { takable-prop event },
 }

@@ -1,6 +1,6 @@
 //! The workers of a running receiver, and what they and its caller work with.
 //!
-//! Seven workers run beside the caller: one for each channel, one that passes the decisions on, one
+//! Seven workers run beside the caller: one for each source, one that passes the decisions on, one
 //! that takes the requests and gives them to the scheduler, and one that takes the frames and gives
 //! them to the consumer. They stand below `uplink`, whose receiver they serve; nothing here looks
 //! into a flow.
@@ -19,6 +19,7 @@
 #![tactic(auto)]
 
 mod both;
+mod channel_input;
 mod consumers;
 mod decision_worker;
 mod feeders;
@@ -36,22 +37,25 @@ mod signals;
 mod source;
 mod start_word;
 mod stopping;
+mod strays;
 mod team;
 mod waiting;
 mod work;
 
 pub use both::{both_done, both_made};
+pub use channel_input::ChannelInput;
 pub use consumers::Consumers;
 pub use feeders::{close_feeders, flush_all, wait_for_room};
 pub use item::Item;
-pub use lane_notes::LaneNotes;
+pub use lane_notes::{LaneNotes, SourceNotes};
 pub use lane_worker::LaneDone;
-pub use live_source::{Foreknown, LiveDecisions, LiveSource};
+pub use live_source::{Foreknown, LiveDecisions, LiveSource, OnChannel};
 pub use mailboxes::{OpenMailbox, open_mailbox};
 pub use mouth_wait::MouthWait;
 pub use rings::{Rings, open_rings, settle_rings};
 pub use signals::{MailboxSignals, Signals};
 pub use source::{Decisions, ListDecisions, ListSource, Source, Sources};
 pub use stopping::{Stoppable, Stopper};
+pub use strays::Strays;
 pub use team::{Done, Joined, Team, start_team};
 pub use work::{Lanes, Share, Work};

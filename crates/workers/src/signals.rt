@@ -88,12 +88,12 @@ impl Signals {
         self.shared.wants_room.store(wants);
     }
 
-    /// An allocation of a channel's worker failed.
+    /// An allocation of a source's worker failed.
     pub fn fail(&self) {
         self.shared.failed.store(true);
     }
 
-    /// Whether an allocation of a channel's worker failed.
+    /// Whether an allocation of a source's worker failed.
     pub fn has_failed(&self) -> bool {
         self.shared.failed.load()
     }

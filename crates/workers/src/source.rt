@@ -4,7 +4,7 @@ ghost use Rattle.std.specs.Vec.Iter.{into_iter_items};
 ghost use Rattle.lane.specs.declared.input.Input.{Input};
 ghost use Rattle.flow_records.specs.declared.decision.Decision.{Decision};
 
-use crate::live_source::Foreknown;
+use crate::live_source::OnChannel;
 use flow_records::Decision;
 use lane::Input;
 use std::vec::IntoIter;
@@ -34,7 +34,7 @@ pub trait Decisions {
             (λ decision. decides self.old ≡ decision ∷ decides self.new) };
 }
 
-/// The sources of the channels 0 to 3.
+/// Four sources. To each belong the channels whose number leaves its own when divided by four.
 #[derive(Drop)]
 pub struct Sources<S0, S1, S2, S3> {
     pub s0: S0,
@@ -44,18 +44,32 @@ pub struct Sources<S0, S1, S2, S3> {
 }
 
 impl<S0, S1, S2, S3> Sources<S0, S1, S2, S3> {
-    /// The same, of which it is known before what they give.
-    pub fn foreknown(self) -> Sources<Foreknown<S0>, Foreknown<S1>, Foreknown<S2>, Foreknown<S3>>
-        ensures s0 { result.s0.0 ≡ self.s0 }
-        ensures s1 { result.s1.0 ≡ self.s1 }
-        ensures s2 { result.s2.0 ≡ self.s2 }
-        ensures s3 { result.s3.0 ≡ self.s3 }
+    /// Each as a source of the channel that has its number.
+    pub fn on_four_channels(
+        self,
+    ) -> Sources<OnChannel<S0>, OnChannel<S1>, OnChannel<S2>, OnChannel<S3>>
+        ensures s0 { result.s0 ≡ record { channel = 0; source = self.s0 } }
+        ensures s1 { result.s1 ≡ record { channel = 1; source = self.s1 } }
+        ensures s2 { result.s2 ≡ record { channel = 2; source = self.s2 } }
+        ensures s3 { result.s3 ≡ record { channel = 3; source = self.s3 } }
     {
         Sources {
-            s0: Foreknown(self.s0),
-            s1: Foreknown(self.s1),
-            s2: Foreknown(self.s2),
-            s3: Foreknown(self.s3),
+            s0: OnChannel {
+                channel: 0,
+                source: self.s0,
+            },
+            s1: OnChannel {
+                channel: 1,
+                source: self.s1,
+            },
+            s2: OnChannel {
+                channel: 2,
+                source: self.s2,
+            },
+            s3: OnChannel {
+                channel: 3,
+                source: self.s3,
+            },
         }
     }
 }

@@ -1,11 +1,11 @@
 //! Telling a running receiver to stop.
 ghost use Rattle.std.specs.Prelude.{◌≡◌, ◌++◌, ◌∷◌, ◌⊎◌, [], false, List, None, IsTrue, MatchOption};
-ghost use Rattle.lane.specs.declared.input.Input.{Input};
 ghost use Rattle.flow_records.specs.declared.decision.Decision.{Decision};
+ghost use Rattle.workers.specs.declared.channel_input.ChannelInput.{ChannelInput};
 
+use crate::channel_input::ChannelInput;
 use crate::live_source::{LiveDecisions, LiveSource};
 use flow_records::Decision;
-use lane::Input;
 use std::alloc::{AllocError, Global};
 use std::sync::Arc;
 use std::sync::atomic::{AtomicBool, Ordering};
@@ -90,8 +90,8 @@ impl<S: LiveSource> LiveSource for Stoppable<S> {
 
     ghost is_over = { λ now. IsTrue now.stopped ⊎ S.is_over now.inner };
 
-    fn next(&mut self) -> Option<Input>
-        ensures given { (start : Stoppable S) (inputs : List Input)
+    fn next(&mut self) -> Option<ChannelInput>
+        ensures given { (start : Stoppable S) (inputs : List ChannelInput)
             → S.gave start.inner inputs self.old.inner
             → MatchOption result (S.gave start.inner inputs self.new.inner)
             (λ input. S.gave start.inner (inputs ++ input ∷ []) self.new.inner) }

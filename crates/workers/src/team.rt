@@ -41,10 +41,10 @@ pub struct Team<
     pub takers: TakerPair<F, Q>,
 }
 
-/// The workers of two channels.
+/// The workers of two sources.
 type LanePair<S0, S1, N> = (LaneWorker<S0, N>, LaneWorker<S1, N>);
 
-/// What the workers of two channels have done.
+/// What the workers of two sources have done.
 type TwoDone<N> = (LaneDone<N>, LaneDone<N>);
 
 /// The workers of frames and of requests.
@@ -120,7 +120,7 @@ where
     }
 }
 
-/// Starts the workers of two channels.
+/// Starts the workers of two sources.
 fn start_two<S0, S1, N, R>(
     alloc: Global,
     rt: &R,
@@ -238,7 +238,7 @@ fn end_started<W: Workers, R: Threads>(rt: &R, workers: Result<W, AllocError>) {
     }
 }
 
-/// Waits until the workers of two channels have returned. Nothing where an allocation failed in one
+/// Waits until the workers of two sources have returned. Nothing where an allocation failed in one
 /// of them.
 fn join_two<S0: LiveSource, S1: LiveSource, N: LaneNotes + Drop, R: Threads>(
     rt: &R,

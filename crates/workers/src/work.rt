@@ -17,13 +17,13 @@ use lane::{Lane, Request};
 use mailbox::{ClosedPort, Ports};
 use std::sync::Wait;
 
-/// The lanes of the four channels.
+/// The lanes of the four sources, each by the number of its channel.
 #[derive(Drop)]
 pub struct Lanes {
-    pub l0: Lane,
-    pub l1: Lane,
-    pub l2: Lane,
-    pub l3: Lane,
+    pub l0: Vec<Option<Lane>>,
+    pub l1: Vec<Option<Lane>>,
+    pub l2: Vec<Option<Lane>>,
+    pub l3: Vec<Option<Lane>>,
 }
 
 /// What was opened for the workers: what they share, the lanes, the ports of the arrivals, the
@@ -51,10 +51,11 @@ pub struct Work<S0, S1, S2, S3, D, F, Q> {
 }
 
 impl<S0, S1, S2, S3, D, F, Q> Work<S0, S1, S2, S3, D, F, Q> {
-    /// Gives each worker its part. The fifth port of the requests, which no worker needs, is
-    /// closed.
+    /// Gives each worker its part, where there are so many channels and flows. The fifth port of
+    /// the requests, which no worker needs, is closed.
     pub fn new<R: Wait>(
         rt: &R,
+        channels: u8,
         flow_count: usize,
         share: Share,
         sources: Sources<S0, S1, S2, S3>,
@@ -62,30 +63,31 @@ impl<S0, S1, S2, S3, D, F, Q> Work<S0, S1, S2, S3, D, F, Q> {
         consumers: Consumers<F, Q>,
     ) -> (Work<S0, S1, S2, S3, D, F, Q>, ClosedPort<Request>)
         ensures l0 { result.0.l0 ≡ record {
-          lane = share.lanes.l0;
+          lanes = share.lanes.l0;
           arrivals = share.arrivals.p0;
           requests = share.requests.ports.p0;
           source = sources.s0;
         } }
         ensures l1 { result.0.l1 ≡ record {
-          lane = share.lanes.l1;
+          lanes = share.lanes.l1;
           arrivals = share.arrivals.p1;
           requests = share.requests.ports.p1;
           source = sources.s1;
         } }
         ensures l2 { result.0.l2 ≡ record {
-          lane = share.lanes.l2;
+          lanes = share.lanes.l2;
           arrivals = share.arrivals.p2;
           requests = share.requests.ports.p2;
           source = sources.s2;
         } }
         ensures l3 { result.0.l3 ≡ record {
-          lane = share.lanes.l3;
+          lanes = share.lanes.l3;
           arrivals = share.arrivals.p3;
           requests = share.requests.ports.p3;
           source = sources.s3;
         } }
         ensures decisions { result.0.decisions ≡ record {
+          sender = channels;
           flow_count = flow_count;
           arrivals = share.arrivals.p4;
           decisions = decisions;
@@ -116,6 +118,7 @@ impl<S0, S1, S2, S3, D, F, Q> Work<S0, S1, S2, S3, D, F, Q> {
             l2: LaneWork::new(lanes.l2, arrivals.p2, ports.p2, sources.s2),
             l3: LaneWork::new(lanes.l3, arrivals.p3, ports.p3, sources.s3),
             decisions: DecidingWork {
+                sender: channels,
                 flow_count,
                 arrivals: arrivals.p4,
                 decisions,

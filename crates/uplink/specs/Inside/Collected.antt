@@ -10,7 +10,7 @@ use Rattle.consumer.specs.declared.collected.Collected.{Collected}
 use Rattle.receiver.specs.declared.outcome.FlowOutcome.{FlowOutcome}
 use Rattle.receiver.specs.declared.outcome.Outcome.{Outcome}
 use Rattle.uplink.specs.declared.finish.Concluded.{Concluded}
-use Rattle.uplink.specs.Inside.Running.{in_order}
+use Rattle.uplink.specs.Inside.Running.{HaveNotes, notes_on}
 
 -- what each flow gave: these frames and these counts, by the flow's index
 pub record AreFlowsOf (records : List FlowRecord) (frames : List (Vec Bytes Global)) (counts : List FlowCounts) (flows : List FlowOutcome) : Type 0 where
@@ -19,11 +19,13 @@ pub record AreFlowsOf (records : List FlowRecord) (frames : List (Vec Bytes Glob
       → slice_get records k ≡ Some flow_record → slice_get frames k ≡ Some given → slice_get counts k ≡ Some counted
       → (flow.sfid ≡ flow_record.sfid) × (flow.frames ≡ given) × (flow.counts ≡ counted)
 
--- there is a list for each of so many flows and of the channels, if all was kept, and there are as many counts
+-- there is a list for each of so many flows and of the channels, if all was kept, and there are as
+-- many counts
 pub record CanBeMade (flow_count : ℕ) (frames requests : Collected) (concluded : Option (Concluded LaneReport)) : Type 0 where
   pub frame_lists : IsTrue frames.whole → length frames.frames.items ≡ flow_count
   pub request_lists : IsTrue requests.whole → length requests.requests.items ≡ channel_limit
   pub counts : IfSome concluded (λ all. length all.counts.items ≡ flow_count)
+  pub notes : IfSome concluded (λ all. HaveNotes channel_limit all.lanes)
 
 -- an outcome of all that was kept and concluded
 pub record IsMadeOf (records : List FlowRecord) (frames requests : Collected) (o : Option (Concluded LaneReport)) (outcome : Outcome) : Type 0 where
@@ -34,4 +36,5 @@ pub record IsMadeOf (records : List FlowRecord) (frames requests : Collected) (o
   pub requests_whole : IsTrue requests.whole
   pub flows : AreFlowsOf records frames.frames.items concluded.counts.items outcome.flows.items
   pub requests_are : outcome.requests ≡ requests.requests.items
-  pub lanes_are : outcome.lanes ≡ in_order concluded.lanes
+  pub lanes_are : (channel : ℕ) (report : LaneReport) → slice_get outcome.lanes channel ≡ Some report → notes_on concluded.lanes channel ≡ Some report
+  pub lane_count : length outcome.lanes ≡ channel_limit

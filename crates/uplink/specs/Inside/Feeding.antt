@@ -22,8 +22,9 @@ Offers feeders flow frame feeders' =
 abbrev pub rings_of : Feeding → List RingName
 rings_of feeding = map feeder_ring feeding.feeders.items
 
--- The rings stay. If nothing is left out at the end, nothing was at the start, and each flow's feeder was offered just the frames that were given of it.
--- In any case it was offered those that come first, and nothing once something was left out.
+-- The rings stay. If nothing is left out at the end, nothing was at the start, and each flow's
+-- feeder was offered just the frames that were given of it. In any case it was offered those that
+-- come first, and nothing once something was left out.
 pub record HasOffered (start : Feeding) (given : List Given) (end : Feeding) : Type 0 where
   pub rings : rings_of end ≡ rings_of start
   pub front : (k : ℕ) → ComesFirstIn (offered_to end.feeders.items k) (offered_to start.feeders.items k ++ frames_of k given)

@@ -21,20 +21,21 @@ use Rattle.uplink.specs.declared.feeding.Feeding.{Feeding}
 use Rattle.uplink.specs.Inside.Feeding.{offered_to, HasOffered}
 use Rattle.uplink.specs.Fronts.{ComesFirstIn}
 use Rattle.workers.specs.declared.item.Item.{Item}
-use Rattle.workers.specs.Inside.Carried.{carried}
+use Rattle.workers.specs.Inside.Carried.{SentEvent, carried, senders_of, events_of}
 
--- the events of what was taken of each sender since the beginning are what the order gives to it, of these items
-pub record HasCollected (before now : ℕ → List Item) (order : List ℕ) (items : List Event) : Type 0 where
-  pub named : All (λ tag. tag < senders) order
-  pub paired : length order ≡ length items
-  pub taken_is : (sender : ℕ) → carried (now sender) ≡ carried (before sender) ++ picked sender order items
+-- The events of what was taken of each port since the beginning, with who sends them, are what this
+-- order of the ports gives to it, of these.
+pub record HasCollected (before now : ℕ → List Item) (ports : List ℕ) (items : List SentEvent) : Type 0 where
+  pub named : All (λ port. port < senders) ports
+  pub paired : length ports ≡ length items
+  pub taken_is : (port : ℕ) → carried (now port) ≡ carried (before port) ++ picked port ports items
 
 -- these senders were appended to an order that is kept; one that isn't kept stays so
 abbrev pub HasOrder : Option (Vec ℕ Global) → List ℕ → Option (Vec ℕ Global) → Type 0
 HasOrder None order now = now ≡ None
 HasOrder (Some was) order now = (kept : Vec ℕ Global) × (now ≡ Some kept) × (kept.items ≡ was.items ++ order)
 
--- what each flow gave that is closed, and these are its counts: all that comes of what was handed in of it
+-- what each closed flow gave, with these counts: all that comes of what was handed in of it
 abbrev pub GaveAll : (List ℕ → Bool) → TableSetup → List TableInput → List Given → List FlowCounts → Type 0
 GaveAll check made history given counts =
     (k : ℕ) (flow_record : FlowRecord) (count : FlowCounts) → slice_get made.records k ≡ Some flow_record → slice_get counts k ≡ Some count
@@ -60,18 +61,19 @@ module _ {C : Type 0} (accepts : C → List ℕ → Bool) where
   abbrev pub TakesAtMostOf : FlowTable C → Feeding → TableInput → Feeding → Type 0
   TakesAtMostOf flows feeding input feeding' = (flows' : FlowTable C) × TakesAtMost flows feeding input flows' feeding'
 
-  -- Some items were taken since the beginning, in this order, and what the flows gave for them was offered.
+  -- So far some items were taken, in this order, and what the flows gave for them was offered.
   pub record HasAssembledSoFar (first : Taking C) (feeding0 : Feeding) (before now : ℕ → List Item) (made : Taking C) (feeding : Feeding) : Type 0 where
-    pub order : List ℕ
-    pub items : List Event
+    pub ports : List ℕ
+    pub items : List SentEvent
     pub given : List Given
-    pub ordered : HasOrder first.order order made.order
-    pub has_collected : HasCollected before now order items
+    pub ordered : HasOrder first.order (senders_of items) made.order
+    pub has_collected : HasCollected before now ports items
     pub stands : (check : List ℕ → Bool) (setup : TableSetup) (history : List TableInput) (given0 : List Given) → StandsFor accepts first.flows check setup history given0
-        → StandsFor accepts made.flows check setup (history ++ table_inputs order items) (given0 ++ given)
+        → StandsFor accepts made.flows check setup (history ++ table_inputs (senders_of items) (events_of items)) (given0 ++ given)
     pub offered : HasOffered feeding0 given feeding
 
-  -- All flows are closed, and what that gave was offered: whatever was handed in and given before, with this each gave all, and these are the counts.
+  -- All flows are closed, and what that gave was offered: whatever was handed in and given before,
+  -- with this each gave all, and these are the counts.
   pub record ClosesFlows (flows : FlowTable C) (feeding : Feeding) (counts : List FlowCounts) (feeding' : Feeding) : Type 0 where
     pub more : List Given
     pub offered : HasOffered feeding more feeding'
@@ -79,7 +81,7 @@ module _ {C : Type 0} (accepts : C → List ℕ → Bool) where
     pub gave : (check : List ℕ → Bool) (setup : TableSetup) (history : List TableInput) (given : List Given)
         → StandsFor accepts flows check setup history given → GaveAll check setup history (given ++ more) counts
 
-  -- So many of the flows, from the first on, are closed and gave all. The others stand for what was handed in.
+  -- So many flows, from the first, are closed and gave all. The rest stand for what was handed in.
   pub record HaveClosed (flows : FlowTable C) (check : List ℕ → Bool) (setup : TableSetup) (history : List TableInput) (given : List Given) (counts : List FlowCounts) : Type 0 where
     pub stands : StandsFor accepts flows check setup (history ++ closings (length counts)) given
     pub gave : GaveAll check setup history given counts
@@ -93,30 +95,33 @@ module _ {C : Type 0} (accepts : C → List ℕ → Bool) where
     pub closed : (check : List ℕ → Bool) (setup : TableSetup) (history : List TableInput) (given : List Given)
         → StandsFor accepts flows check setup history given → HaveClosed flows' check setup history (given ++ more) counts
 
-  -- The first items of each sender were taken since the beginning, in this order, and some flows closed then; what was given for all that was offered so.
+  -- The first items of each port were taken since the beginning, in this order of the ports, and
+  -- some flows closed then; what was given for all that was offered so.
   pub record HasAssembledFirst (first : Taking C) (before now : ℕ → List Item) (is_offered : List Given → Type 0) : Type 0 where
-    pub order : List ℕ
-    pub items : List Event
+    pub ports : List ℕ
+    pub items : List SentEvent
     pub given : List Given
     pub counts : List FlowCounts
-    pub named : All (λ tag. tag < senders) order
-    pub paired : length order ≡ length items
-    pub fronts : (sender : ℕ) → ComesFirstIn (carried (before sender) ++ picked sender order items) (carried (now sender))
+    pub named : All (λ port. port < senders) ports
+    pub paired : length ports ≡ length items
+    pub fronts : (port : ℕ) → ComesFirstIn (carried (before port) ++ picked port ports items) (carried (now port))
     pub stands : (check : List ℕ → Bool) (setup : TableSetup) → StandsFor accepts first.flows check setup [] []
-        → (flows : FlowTable C) × HaveClosed flows check setup (table_inputs order items) given counts
+        → (flows : FlowTable C) × HaveClosed flows check setup (table_inputs (senders_of items) (events_of items)) given counts
     pub offered : is_offered given
 
-  -- The items, in this order, and each flow's close gave what was offered to the flow's feeder, and these counts.
+  -- The items, in this order, and each flow's close gave what was offered to the flow's feeder, and
+  -- these counts.
   pub record HasAssembledAll (flows : FlowTable C) (order : List ℕ) (items : List Event) (feeders : List Feeder) (closed : List ClosedFeeder) (counts : List FlowCounts) : Type 0 where
     pub given : List Given
     pub count : length counts ≡ length flows.slots.items
     pub offered : (k : ℕ) → slice_index_or (map closed_offered closed) k [] ≡ offered_to feeders k ++ frames_of k given
     pub gave : (check : List ℕ → Bool) (setup : TableSetup) → StandsFor accepts flows check setup [] [] → GaveAll check setup (table_inputs order items) given counts
 
-  -- All items were taken since the beginning, in some order, and they and each flow's close gave what was offered and counted.
+  -- All items were taken since the beginning, in some order, and they and each flow's close gave
+  -- what was offered and counted.
   pub record HasAssembled (first : Taking C) (feeders : List Feeder) (before now : ℕ → List Item) (closed : List ClosedFeeder) (done : Assembled) : Type 0 where
-    pub order : List ℕ
-    pub items : List Event
-    pub ordered : HasOrder first.order order done.order
-    pub has_collected : HasCollected before now order items
-    pub has_assembled : HasAssembledAll first.flows order items feeders closed done.counts.items
+    pub ports : List ℕ
+    pub items : List SentEvent
+    pub ordered : HasOrder first.order (senders_of items) done.order
+    pub has_collected : HasCollected before now ports items
+    pub has_assembled : HasAssembledAll first.flows (senders_of items) (events_of items) feeders closed done.counts.items

@@ -131,7 +131,7 @@ impl<R: Clock> HeaderCheck for CheckedLate<R> {
     }
 }
 
-/// Receives the segments as before, and an unfinished one behind them, whose header is checked late.
+/// Receives the segments as before, and an unfinished one after them, whose header is checked late.
 fn receive_held_up<R>(
     alloc: Global,
     rt: R,

@@ -17,7 +17,7 @@ use std::test::Fail;
 use std::thread::Threads;
 use uplink::{
     Collected, Consumer, Counts, Foreknown, Forgets, ListDecisions, ListSource, Lists, LossRule,
-    ReceiveError, Received, Request, Setup, Source, Sources, receive,
+    ReceiveError, Received, Request, Setup, Source, Sources, Width, receive,
 };
 use worked_traces::outcomes::NO_COUNTS;
 use worked_traces::traces::*;
@@ -92,9 +92,10 @@ where
     receive(
         alloc,
         rt,
+        Width::PROFILE,
         setup,
         LossRule::Decided,
-        sources.foreknown(),
+        sources.on_four_channels(),
         Foreknown(no_decisions(alloc)),
         consumer,
         scheduler,
@@ -165,9 +166,10 @@ where
     Ok(receive(
         alloc,
         rt,
+        Width::PROFILE,
         numbered::narrow(alloc, 4096)?,
         LossRule::Decided,
-        sources_of(inputs).foreknown(),
+        sources_of(inputs).on_four_channels(),
         Foreknown(ListDecisions::new(decisions)),
         Collected::new(alloc, 1, 0)?,
         Forgets,

@@ -127,10 +127,10 @@ where
     run(alloc, rt, setup, sources, decisions, taps, NoCheck)
 }
 
-/// Each of the four sources was asked four times, but that of a lane whose allocation failed, which
-/// was asked for no more, or none was asked.
+/// Each of the four sources was asked four times, but that of a worker whose allocation failed,
+/// which was asked for no more, or none was asked.
 fn expect_asked(rt: &impl Abort, asked: u64, has_failed: bool) {
-    let lawful = asked == 16 || has_failed && (asked == 0 || 13 <= asked && asked < 16);
+    let lawful = asked == 16 || has_failed && (asked == 0 || 12 <= asked && asked < 16);
     assert!(rt; lawful, "asked {asked} times");
 }
 

@@ -12,18 +12,19 @@ use std::thread;
 use std::thread::Threads;
 use std::time::{Clock, Duration};
 use uplink::{
-    Consumer, Decision, Forgets, Input, LiveDecisions, LiveSource, LossRule, ReceiveError,
-    Received, Request, Setup, SidRow, Sources, Stoppable, Stopper, receive,
+    ChannelInput, Consumer, Decision, Forgets, Input, LaneTally, LiveDecisions, LiveSource,
+    LossRule, ReceiveError, Received, Request, Setup, SidRow, Sources, Stoppable, Stopper, Width,
+    receive,
 };
 use worked_traces::outcomes::NO_COUNTS;
 use worked_traces::traces::{FLOW, setup_of};
 
-/// Segments with a frame each without end, each in a grant of its size. It counts those that it
-/// gave.
+/// Segments with a frame each without end on one channel, each in a grant of its size. It counts
+/// those that it gave.
 #[derive(Drop)]
 struct Endless {
     alloc: Global,
-    sid: u16,
+    channel: u8,
     number: u16,
     is_granted: bool,
     given: Arc<Count, Global>,
@@ -32,18 +33,27 @@ struct Endless {
 impl Endless {
     fn new(
         alloc: Global,
-        sid: u16,
+        channel: u8,
         given: &Arc<Count, Global>,
         stopper: &Stopper,
     ) -> Result<Stoppable<Endless>, AllocError> {
         let endless = Endless {
             alloc,
-            sid,
+            channel,
             number: 0,
             is_granted: false,
             given: Arc::try_clone(given)?,
         };
         Ok(Stoppable::new(endless, stopper.try_clone()?))
+    }
+
+    /// The grant of the next segment. The channel's service identifier is one more than its number.
+    fn grant(&self) -> Input {
+        Input::Grant {
+            number: u32::from(self.number),
+            sid: u16::from(self.channel).saturating_add(1),
+            bytes: 15,
+        }
     }
 
     /// The burst of the grant that it gave last.
@@ -66,15 +76,16 @@ impl LiveSource for Endless {
 
     ghost is_over = { λ _. Unit {0} };
 
-    fn next(&mut self) -> Option<Input> {
+    fn next(&mut self) -> Option<ChannelInput> {
         self.is_granted = !self.is_granted;
-        if !self.is_granted {
-            return self.burst();
-        }
-        Some(Input::Grant {
-            number: u32::from(self.number),
-            sid: self.sid,
-            bytes: 15,
+        let input = if self.is_granted {
+            self.grant()
+        } else {
+            self.burst()?
+        };
+        Some(ChannelInput {
+            channel: self.channel,
+            input,
         })
     }
 }
@@ -200,15 +211,16 @@ where
 {
     let [g0, g1, g2, g3] = &given.counts;
     let sources = Sources {
-        s0: Endless::new(alloc, 1, g0, stopper)?,
-        s1: Endless::new(alloc, 2, g1, stopper)?,
-        s2: Endless::new(alloc, 3, g2, stopper)?,
-        s3: Endless::new(alloc, 4, g3, stopper)?,
+        s0: Endless::new(alloc, 0, g0, stopper)?,
+        s1: Endless::new(alloc, 1, g1, stopper)?,
+        s2: Endless::new(alloc, 2, g2, stopper)?,
+        s3: Endless::new(alloc, 3, g3, stopper)?,
     };
     let decisions = Stoppable::new(EndlessDecisions, stopper.try_clone()?);
     Ok(receive(
         alloc,
         rt,
+        Width::PROFILE,
         four_flows(alloc)?,
         LossRule::Decided,
         sources,
@@ -239,9 +251,9 @@ fn expect_nothing_lost(rt: &impl Abort, answer: Answer, given: &Given) {
         return;
     };
     let came = given.each();
-    let [l0, l1, l2, l3] = &received.lanes;
-    let admitted = [l0.admitted, l1.admitted, l2.admitted, l3.admitted];
-    expect_same(rt, "admitted", admitted, came);
+    let admitted = |(lane, count): (&LaneTally, &u64)| lane.admitted == *count;
+    assert!(rt; received.lanes.len() == 4, "lanes");
+    assert!(rt; received.lanes.iter().zip(&came).all(admitted), "admitted");
     assert!(rt; are_counted(&received.flows, &came), "counts");
     expect_same(rt, "frames", received.consumer.came, came);
     assert!(rt; received.consumer.are_in_order, "order");

@@ -12,7 +12,8 @@ use Rattle.workers.specs.Given.{BecameBy}
 abbrev pub taken_of : List Taker → ℕ → List (List ℕ)
 taken_of takers k = slice_index_or (map taken takers) k []
 
--- These frames were taken since: of each flow those that are given of it, in order. No request is given.
+-- These frames were taken since: of each flow those that are given of it, in order. No request is
+-- given.
 pub record HaveTaken (takers : List Taker) (given : List Given) (takers' : List Taker) : Type 0 where
   pub rings_are : map taker_ring takers' ≡ map taker_ring takers
   pub taken_are : (k : ℕ) → taken_of takers' k ≡ taken_of takers k ++ frames_of k given
@@ -37,7 +38,8 @@ module _ {F : Type 0} (after : F → List Given → F → Type 0) where
     pub became : BecameBy after consumer given consumer'
     pub have : HaveTaken takers given takers'
 
-  -- what was taken of all flows was given to the consumer, and unless the worker was told to stop that is everything
+  -- what was taken of all flows was given to the consumer, and unless the worker was told to stop
+  -- that is everything
   pub record DidConsume (takers : List Taker) (consumer : F) (done : Consumed F) : Type 0 where
     pub given : List Given
     pub became : BecameBy after consumer given done.consumer

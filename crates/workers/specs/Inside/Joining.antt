@@ -8,7 +8,8 @@ use Rattle.workers.specs.Given.{BecameBy}
 use Rattle.workers.specs.Inside.Consuming.{HaveTakenAll}
 use Rattle.workers.specs.Inside.Scheduling.{Sent, given_of, HasTakenAll}
 
--- What was taken was given to the consumer and the scheduler, and if all workers have done their part that is everything.
+-- What was taken was given to the consumer and the scheduler, and if all workers have done their
+-- part that is everything.
 pub record HaveTakenFor {F Q N : Type 0} (takes : F → List Given → F → Type 0) (asks : Q → List Given → Q → Type 0) (frames : FrameWork F) (requests : RequestWork Q) (joined : Joined F Q N) : Type 0 where
   pub given : List Given
   pub sent : List Sent

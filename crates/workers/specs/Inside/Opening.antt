@@ -13,7 +13,8 @@ use Rattle.workers.specs.declared.rings.Rings.{Rings}
 abbrev pub ring_of : FlowRecord → ℕ
 ring_of flow_record = flow_record.ring
 
--- a ring for each record, with the room that the record says, with nothing offered and nothing taken
+-- a ring for each record, with the room that the record says, with nothing offered and nothing
+-- taken
 pub record AreOpenRings (records : List FlowRecord) (rings : Rings) : Type 0 where
   pub same : map feeder_ring rings.feeders.items ≡ map taker_ring rings.takers.items
   pub count_is : length rings.feeders.items ≡ length records

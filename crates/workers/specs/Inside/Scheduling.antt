@@ -43,7 +43,8 @@ module _ {Q : Type 0} (after : Q → List Given → Q → Type 0) where
     pub became : BecameBy after scheduler (given_of all) scheduler'
     pub has : HasTaken mouth all mouth'
 
-  -- what was taken was given to the scheduler, and unless the worker was told to stop that is everything
+  -- what was taken was given to the scheduler, and unless the worker was told to stop that is
+  -- everything
   pub record DidSchedule (mouth : Mouth Request) (scheduler : Q) (done : Scheduled Q) : Type 0 where
     pub all : List Sent
     pub became : BecameBy after scheduler (given_of all) done.scheduler

@@ -21,7 +21,7 @@ pub returns-then-flow-flow_count-clause-takes : goal.returns-then-flow-flow_coun
 returns-then-flow-flow_count-clause-takes g c =
     let item = c.args.item in (
       flow_of item,
-      passed-over g.C.HeaderCheck.accepts HasOffered c.args.flows.now c.args.feeding.now (flow_of item) (comes (coming_of c.args.from item))
+      passed-over g.C.HeaderCheck.accepts HasOffered c.args.flows.now c.args.feeding.now (flow_of item) (comes (coming_of c.args.sender item))
           (omega (arith, c.if-flow-flow_count.true, c.flow-flow.ensures, c.flow_count.ensures)),
     )
 
@@ -30,28 +30,28 @@ returns-in-Arrive-clause-takes g c =
     let call = c.take_segment in
     subst (λ (input : TableInput). IfSome call.result (λ _. Takes g.C.HeaderCheck.accepts c.args.flows.now c.args.feeding.now (input ∷ []) call.new.flows call.new.feeding))
     (ap (λ n. of_flow c.flow-flow.result (comes (on_channel n c.in-Arrive.segment))) c.from.ensures
-    ∙ its-input c.args.from c.flow-flow.result c.args.item _ c.flow-flow.ensures c.in-Arrive.is)
+    ∙ its-input c.args.sender c.flow-flow.result c.args.item _ c.flow-flow.ensures c.in-Arrive.is)
     call.ensures.takes
 
 pub returns-in-Gap-clause-takes : goal.returns-in-Gap-clause-takes
 returns-in-Gap-clause-takes g c =
     let call = c.decide in
     subst (λ (input : TableInput). IfSome call.result (λ _. Takes g.C.HeaderCheck.accepts c.args.flows.now c.args.feeding.now (input ∷ []) call.new.flows call.new.feeding))
-    (its-input c.args.from c.flow-flow.result c.args.item _ c.flow-flow.ensures c.in-Gap.is)
+    (its-input c.args.sender c.flow-flow.result c.args.item _ c.flow-flow.ensures c.in-Gap.is)
     call.ensures.takes
 
 pub returns-in-GapTo-clause-takes : goal.returns-in-GapTo-clause-takes
 returns-in-GapTo-clause-takes g c =
     let call = c.decide-in-GapTo in
     subst (λ (input : TableInput). IfSome call.result (λ _. Takes g.C.HeaderCheck.accepts c.args.flows.now c.args.feeding.now (input ∷ []) call.new.flows call.new.feeding))
-    (its-input c.args.from c.flow-flow.result c.args.item _ c.flow-flow.ensures c.in-GapTo.is)
+    (its-input c.args.sender c.flow-flow.result c.args.item _ c.flow-flow.ensures c.in-GapTo.is)
     call.ensures.takes
 
 pub returns-in-SkipTo-clause-takes : goal.returns-in-SkipTo-clause-takes
 returns-in-SkipTo-clause-takes g c =
     let call = c.decide-in-SkipTo in
     subst (λ (input : TableInput). IfSome call.result (λ _. Takes g.C.HeaderCheck.accepts c.args.flows.now c.args.feeding.now (input ∷ []) call.new.flows call.new.feeding))
-    (its-input c.args.from c.flow-flow.result c.args.item _ c.flow-flow.ensures c.in-SkipTo.is)
+    (its-input c.args.sender c.flow-flow.result c.args.item _ c.flow-flow.ensures c.in-SkipTo.is)
     call.ensures.takes
 
 pub returns-then-flow-flow_count-clause-at_most : goal.returns-then-flow-flow_count-clause-at_most
@@ -64,26 +64,26 @@ returns-in-Arrive-clause-at_most g c =
     let call = c.take_segment in
     subst (λ (input : TableInput). TakesAtMost g.C.HeaderCheck.accepts c.args.flows.now c.args.feeding.now input call.new.flows call.new.feeding)
     (ap (λ n. of_flow c.flow-flow.result (comes (on_channel n c.in-Arrive.segment))) c.from.ensures
-    ∙ its-input c.args.from c.flow-flow.result c.args.item _ c.flow-flow.ensures c.in-Arrive.is)
+    ∙ its-input c.args.sender c.flow-flow.result c.args.item _ c.flow-flow.ensures c.in-Arrive.is)
     call.ensures.at_most
 
 pub returns-in-Gap-clause-at_most : goal.returns-in-Gap-clause-at_most
 returns-in-Gap-clause-at_most g c =
     let call = c.decide in
     subst (λ (input : TableInput). TakesAtMost g.C.HeaderCheck.accepts c.args.flows.now c.args.feeding.now input call.new.flows call.new.feeding)
-    (its-input c.args.from c.flow-flow.result c.args.item _ c.flow-flow.ensures c.in-Gap.is)
+    (its-input c.args.sender c.flow-flow.result c.args.item _ c.flow-flow.ensures c.in-Gap.is)
     call.ensures.at_most
 
 pub returns-in-GapTo-clause-at_most : goal.returns-in-GapTo-clause-at_most
 returns-in-GapTo-clause-at_most g c =
     let call = c.decide-in-GapTo in
     subst (λ (input : TableInput). TakesAtMost g.C.HeaderCheck.accepts c.args.flows.now c.args.feeding.now input call.new.flows call.new.feeding)
-    (its-input c.args.from c.flow-flow.result c.args.item _ c.flow-flow.ensures c.in-GapTo.is)
+    (its-input c.args.sender c.flow-flow.result c.args.item _ c.flow-flow.ensures c.in-GapTo.is)
     call.ensures.at_most
 
 pub returns-in-SkipTo-clause-at_most : goal.returns-in-SkipTo-clause-at_most
 returns-in-SkipTo-clause-at_most g c =
     let call = c.decide-in-SkipTo in
     subst (λ (input : TableInput). TakesAtMost g.C.HeaderCheck.accepts c.args.flows.now c.args.feeding.now input call.new.flows call.new.feeding)
-    (its-input c.args.from c.flow-flow.result c.args.item _ c.flow-flow.ensures c.in-SkipTo.is)
+    (its-input c.args.sender c.flow-flow.result c.args.item _ c.flow-flow.ensures c.in-SkipTo.is)
     call.ensures.at_most

@@ -34,11 +34,11 @@ loop-preserved-in-Item g c =
       rings = c.wait_for_room.ensures.rings ∙ item.ensures.rings ∙ loop.invariant.rings;
       so_far = nothing-made accepts c.args.taking c.args.feeding.now before new new item.new.feeding c.wait_for_room.new.self item.result (λ sender. refl)
           c.wait_for_room.ensures
-          (item-made accepts c.args.taking c.args.feeding.now before old new loop.feeding item.new.feeding c.in-Item.from c.in-Item.item loop.taking item.result
+          (item-made accepts c.args.taking c.args.feeding.now before old new loop.feeding item.new.feeding _ c.in-Item.item loop.taking item.result
           takes.five takes.taken_is item.ensures.takes loop.invariant.so_far);
       first = first-stays accepts c.args.taking c.args.feeding.now before new new item.new.feeding c.wait_for_room.new.self
           (λ sender. unchanged (new sender) (new sender) refl) c.wait_for_room.ensures
-          (first-taken accepts c.args.taking c.args.feeding.now before old new loop.feeding item.new.feeding c.in-Item.from c.in-Item.item takes.five takes.taken_is
+          (first-taken accepts c.args.taking c.args.feeding.now before old new loop.feeding item.new.feeding _ c.in-Item.item takes.five takes.taken_is
           loop.taking loop.invariant.so_far item.ensures.at_most loop.invariant.first);
     }
 

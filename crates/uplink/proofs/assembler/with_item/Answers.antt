@@ -14,27 +14,27 @@ returns-clause-takes g c = (
 
 pub returns-then-has_failed-clause-at_most : goal.returns-then-has_failed-clause-at_most
 returns-then-has_failed-clause-at_most g c =
-    untried g.C.HeaderCheck.accepts c.args.taking c.args.feeding.now (table_input_of c.args.from c.args.item.event)
+    untried g.C.HeaderCheck.accepts c.args.taking c.args.feeding.now (table_input_of c.args.item.sender c.args.item.event)
 
 pub returns-in_err-flows-clause-at_most : goal.returns-in_err-flows-clause-at_most
 returns-in_err-flows-clause-at_most g c =
-    untried g.C.HeaderCheck.accepts c.args.taking c.args.feeding.now (table_input_of c.args.from c.args.item.event)
+    untried g.C.HeaderCheck.accepts c.args.taking c.args.feeding.now (table_input_of c.args.item.sender c.args.item.event)
 
 pub returns-in_err-ok-clause-at_most : goal.returns-in_err-ok-clause-at_most
 returns-in_err-ok-clause-at_most g c =
-    untried g.C.HeaderCheck.accepts c.args.taking c.args.feeding.now (table_input_of c.args.from c.args.item.event)
+    untried g.C.HeaderCheck.accepts c.args.taking c.args.feeding.now (table_input_of c.args.item.sender c.args.item.event)
 
 pub returns-in_err-take_item-clause-at_most : goal.returns-in_err-take_item-clause-at_most
 returns-in_err-take_item-clause-at_most g c =
-    tried g.C.HeaderCheck.accepts c.args.taking c.in_ok-flows.field-0 c.args.feeding.now c.take_item.new.feeding (table_input_of c.args.from c.args.item.event)
+    tried g.C.HeaderCheck.accepts c.args.taking c.in_ok-flows.field-0 c.args.feeding.now c.take_item.new.feeding (table_input_of c.args.item.sender c.args.item.event)
     c.take_item.new.flows c.in_ok-flows.was c.take_item.ensures.at_most
 
 pub returns-then-not-feeding-clause-at_most : goal.returns-then-not-feeding-clause-at_most
 returns-then-not-feeding-clause-at_most g c =
-    tried g.C.HeaderCheck.accepts c.args.taking c.in_ok-flows.field-0 c.args.feeding.now c.take_item.new.feeding (table_input_of c.args.from c.args.item.event)
+    tried g.C.HeaderCheck.accepts c.args.taking c.in_ok-flows.field-0 c.args.feeding.now c.take_item.new.feeding (table_input_of c.args.item.sender c.args.item.event)
     c.take_item.new.flows c.in_ok-flows.was c.take_item.ensures.at_most
 
 pub returns-clause-at_most : goal.returns-clause-at_most
 returns-clause-at_most g c =
-    tried g.C.HeaderCheck.accepts c.args.taking c.in_ok-flows.field-0 c.args.feeding.now c.take_item.new.feeding (table_input_of c.args.from c.args.item.event)
+    tried g.C.HeaderCheck.accepts c.args.taking c.in_ok-flows.field-0 c.args.feeding.now c.take_item.new.feeding (table_input_of c.args.item.sender c.args.item.event)
     c.take_item.new.flows c.in_ok-flows.was c.take_item.ensures.at_most

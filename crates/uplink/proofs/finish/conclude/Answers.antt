@@ -1,5 +1,6 @@
 -- All that was posted and offered was taken, and what is concluded is what was counted and noted.
 use Rattle.std.proofs.Common.{◌≡◌, Option, Some, None, IfSome, slice_get, subst, sym, ap, ◌∙◌}
+use Rattle.workers.specs.declared.lane_notes.SourceNotes.{SourceNotes}
 use Rattle.uplink.specs.declared.assembler.Assembled.{Assembled}
 use Rattle.uplink.specs.declared.finish.Concluded.{Concluded}
 use Rattle.uplink.specs.declared.finish.Ended.{Ended}
@@ -12,13 +13,13 @@ use Rattle.uplink.proofs.finish.conclude.Goals as goal
 of-some : {X : Type 0} (P : X → Type 0) (o : Option X) (x : X) → o ≡ Some x → IfSome o P → P x
 of-some P o x is said = subst (λ o. IfSome o P) is said
 
-module _ {N : Type 0} (end : Ended N) (first second : Option (N × N)) (noted : Option ((N × N) × (N × N)))
+module _ {N : Type 0} (end : Ended N) (first second : Option (SourceNotes N × SourceNotes N)) (noted : Option ((SourceNotes N × SourceNotes N) × (SourceNotes N × SourceNotes N)))
     (one : IfSome first (λ pair. (end.done.l0.notes ≡ Some pair.0) × (end.done.l1.notes ≡ Some pair.1)))
     (other : IfSome second (λ pair. (end.done.l2.notes ≡ Some pair.0) × (end.done.l3.notes ≡ Some pair.1)))
     (both : IfSome noted (λ pair. (first ≡ Some pair.0) × (second ≡ Some pair.1))) where
   conclusion : (o : Option (Concluded N))
       → IfSome o (λ concluded. (made : Assembled) × (end.assembled ≡ Some made) × (concluded.counts ≡ made.counts) × (concluded.order ≡ made.order))
-      → IfSome o (λ concluded. (notes : (N × N) × (N × N)) × (noted ≡ Some notes)
+      → IfSome o (λ concluded. (notes : (SourceNotes N × SourceNotes N) × (SourceNotes N × SourceNotes N)) × (noted ≡ Some notes)
       × (concluded.lanes ≡ record { n0 = notes.0.0; n1 = notes.0.1; n2 = notes.1.0; n3 = notes.1.1 }))
       → IfSome o (IsConclusionOf end)
   conclusion None counts notes = tt

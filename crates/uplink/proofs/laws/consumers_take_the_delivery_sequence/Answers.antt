@@ -1,4 +1,4 @@
-use Rattle.std.proofs.Common.{◌≡◌, ◌++◌, ℕ, Bool, List, [], append_assoc, sym, subst, ap, ◌∙◌, arith}
+use Rattle.std.proofs.Common.{◌≡◌, ◌++◌, ◌+◌, length, ℕ, Bool, List, [], append_assoc, sym, subst, ap, ◌∙◌, arith}
 use Rattle.std.proofs.lemmas.List.{append-nil}
 use Rattle.std.proofs.lemmas.Option.{same_Some, slice_get_within}
 use Rattle.docsis_wire.proofs.StreamPlaces.{element_at}
@@ -16,7 +16,9 @@ use Rattle.ccf.specs.Filter.{FiltersTo}
 use Rattle.receiver.specs.Outcome.{GivesAtItsClose, IsOutcomeOfFlow}
 use Rattle.receiver.specs.Items.{events_at, items_of}
 use Rattle.receiver.specs.Ruled.{ruled_flow, comings_at}
-use Rattle.receiver.proofs.MergedLists.{merge-lawful}
+use Rattle.receiver.proofs.MergedLists.{merge-lawful, times-picked}
+use Rattle.flow_records.specs.declared.event.Event.{Event}
+use Rattle.uplink.specs.Channels.{items_within, IsMergeWithin, IsLawfulWithin, ruled_within}
 use Rattle.uplink.specs.Headline.{TookTheDeliverySequence}
 use Rattle.uplink.proofs.laws.consumers_take_the_delivery_sequence.Goals as goal
 use Rattle.uplink.proofs.laws.consumers_take_the_delivery_sequence.Goals.{After-ruled_events_are_one}
@@ -73,24 +75,32 @@ returns-clause-by_rule c = λ rule check setup incoming order outcome is.
       requested = λ channel below. is.requests channel below;
     }
 
+-- the order of a merge of so many lists is lawful
+lawful-within : (senders : ℕ) (lists : ℕ → List Event) (order : List ℕ) (items : List Event) → IsMergeWithin senders lists order items → IsLawfulWithin senders lists order
+lawful-within senders lists order items is = record {
+  named = is.named;
+  whole = λ sender below. times-picked sender order items is.paired ∙ ap length (is.lists_are sender below);
+}
+
 pub returns-clause-given : goal.returns-clause-given
-returns-clause-given c = λ rule check setup incoming order frames requests counts lanes is.
+returns-clause-given c = λ channels rule check setup incoming order frames requests counts tallies is.
     record {
       intake = is.intake;
-      lawful = merge-lawful (items_of setup incoming is.intake.answered) order is.intake.items is.intake.merged;
+      lawful = lawful-within (channels + 1) (items_within channels setup incoming is.intake.answered) order is.intake.items is.intake.merged;
       delivered = λ k fill r whole chunks segments events lasts fates at ruled cut near.
           let within = slice_get_within setup.flows.items k r at in
           let count = element_at counts k (let many = is.flow_count in omega arith) in
           let own = is.flows k r count.0 at count.1 in
           let one : own.events ≡ events =
-          (c.ruled_events_are_one.ensures.only rule (ruled_flow setup.sids.items k r) (comings_at k order is.intake.items) own.events events own.lasts lasts own.fates fates
+          (c.ruled_events_are_one.ensures.only rule (ruled_within channels setup.sids.items k r) (comings_at k order is.intake.items) own.events events own.lasts lasts own.fates fates
           own.ruled ruled).0 in
           took-all c check fill r whole chunks segments cut events near (frames_of k frames) count.0
           (subst (λ (e : List FlowEvent). GivesAtItsClose check r e (frames_of k frames) count.0) one own.gives);
       requested = is.requested;
     }
 
--- what was taken is a prefix of what was offered, that of what the flow gave, that of the delivery sequence so far, and that of a later one
+-- what was taken is a prefix of what was offered, that of what the flow gave, that of the delivery
+-- sequence so far, and that of a later one
 taken-prefix : {X : Type 0} (later now given offered taken more ahead unoffered rest : List X) → later ≡ now ++ more → now ≡ given ++ ahead
     → given ≡ offered ++ unoffered → offered ≡ taken ++ rest → later ≡ taken ++ (rest ++ (unoffered ++ (ahead ++ more)))
 taken-prefix later now given offered taken more ahead unoffered rest grown given_ahead offered_part whole =

@@ -1,10 +1,9 @@
 -- What was made is what each call made, since all of them succeeded.
-use Rattle.std.proofs.Common.{◌≡◌, ℕ, Bool, List, [], Result, Ok, IfOk, subst, ◌∙◌, arith}
+use Rattle.std.proofs.Common.{◌≡◌, ℕ, Bool, List, [], Result, Ok, IfOk, refl, subst, ◌∙◌, arith}
 use Rattle.std.specs.declared.alloc.AllocError.{AllocError}
 use Rattle.bonded_flows.specs.declared.flow_table.FlowTable.{FlowTable}
 use Rattle.bonded_flows.specs.Table.{StandsFor}
 use Rattle.flow_records.specs.declared.record.FlowRecord.{FlowRecord}
-use Rattle.lane.specs.Limits.{channel_limit}
 use Rattle.lane.specs.declared.sids.SidRow.{SidRow}
 use Rattle.loss_rule.specs.declared.rule.LossRule.{LossRule}
 use Rattle.workers.specs.Inside.Opening.{AreOpenRings}
@@ -29,12 +28,12 @@ returns g c =
     let own_flows = all.0.1.1 in
     let mailboxes = of-made _ _ all.1.1 others.1 c.both_made-mailboxes.ensures in
     record {
+      channels_are = refl;
       lanes = of-made _ _ _ own.0 c.open_lanes-lanes.ensures;
       flows =
-          subst (λ records. Stands g.C.HeaderCheck.accepts own_flows c.args.check c.args.rule records channel_limit c.args.setup.now.sids.items) c.deref.ensures.value
-          (subst (λ rows. Stands g.C.HeaderCheck.accepts own_flows c.args.check c.args.rule c.deref.result.now channel_limit rows) c.deref-2.ensures.value
-          (subst (λ channels. Stands g.C.HeaderCheck.accepts own_flows c.args.check c.args.rule c.deref.result.now channels c.deref-2.result.now) c.channels-channels.ensures.is
-          (of-made _ _ _ own.1 c.new-flows.ensures.stands)));
+          subst (λ records. Stands g.C.HeaderCheck.accepts own_flows c.args.check c.args.rule records c.args.channels c.args.setup.now.sids.items) c.deref.ensures.value
+          (subst (λ rows. Stands g.C.HeaderCheck.accepts own_flows c.args.check c.args.rule c.deref.result.now c.args.channels rows) c.deref-2.ensures.value
+          (of-made _ _ _ own.1 c.new-flows.ensures.stands));
       in_use = of-made _ _ _ own.1 c.new-flows.ensures.in_use;
       rings =
           subst (λ records. AreOpenRings records all.1.0.0) c.deref-3.ensures.value

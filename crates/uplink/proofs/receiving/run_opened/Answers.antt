@@ -1,10 +1,12 @@
--- Each worker has done what it was given to do, if no allocation failed in any; and both come back, also where the workers could not be started.
+-- Each worker has done what it was given to do, if no allocation failed in any; and both come back,
+-- also where the workers could not be started.
 use Rattle.std.proofs.Common.{Option, Some, None, ◌≡◌, ◌∷◌, [], ◌++◌, IfSome, IsTrue, is_some, List, refl, sym, ap, subst, ◌∙◌, append-nil}
 use Rattle.std.proofs.lemmas.Bool.{false≢true}
-use Rattle.lane.specs.declared.input.Input.{Input}
 use Rattle.lane.specs.Inputs.{AnsweredInput}
-use Rattle.receiver.specs.Items.{Incoming, incoming_from}
+use Rattle.receiver.specs.Items.{Incoming}
+use Rattle.workers.specs.declared.channel_input.ChannelInput.{ChannelInput}
 use Rattle.workers.specs.declared.team.Done.{Done}
+use Rattle.workers.specs.declared.lane_notes.SourceNotes.{SourceNotes}
 use Rattle.workers.specs.declared.lane_worker.LaneWork.{LaneWork}
 use Rattle.workers.specs.declared.lane_worker.LaneDone.{LaneDone}
 use Rattle.workers.specs.declared.decision_worker.DecidingWork.{DecidingWork}
@@ -16,6 +18,7 @@ use Rattle.workers.specs.Inside.Scheduling.{given_of, HasTakenAll}
 use Rattle.workers.specs.Inside.Working.{DidServe, DidDecideAll}
 use Rattle.uplink.specs.declared.finish.Ended.{Ended}
 use Rattle.uplink.specs.Inside.Running.{HasEndedOn}
+use Rattle.uplink.specs.Channels.{incoming_of_sources}
 use Rattle.uplink.specs.Received.{CameFrom}
 use Rattle.uplink.proofs.receiving.run_opened.Given.{Over}
 use Rattle.uplink.proofs.receiving.run_opened.Goals as goal
@@ -43,8 +46,8 @@ of-done : {X : Type 0} (P : X → Type 0) (ended : Option X) (x : X) → ended �
 of-done P ended x is said = subst (λ o. IfSome o P) is said
 
 -- a source whose worker noted all has given all
-all-given : {S N : Type 0} (are_of : List AnsweredInput → N → Type 0) (gave : S → List Input → S → Type 0) (is_over : S → Type 0) (work : LaneWork S) (done : LaneDone N)
-    → (serves : DidServe are_of gave is_over work done) → (notes : Option N) → done.notes ≡ notes → IsTrue (is_some notes)
+all-given : {S N : Type 0} (are_of : List AnsweredInput → N → Type 0) (gave : S → List ChannelInput → S → Type 0) (is_over : S → Type 0) (work : LaneWork S) (done : LaneDone N)
+    → (serves : DidServe are_of gave is_over work done) → (notes : Option (SourceNotes N)) → done.notes ≡ notes → IsTrue (is_some notes)
     → Yields gave is_over work.source serves.inputs
 all-given are_of gave is_over work done serves None is noted = absurd (false≢true noted)
 all-given are_of gave is_over work done serves (Some n) is noted =
@@ -59,48 +62,53 @@ all-given are_of gave is_over work done serves (Some n) is noted =
 module _ (g : Over) (c : After-join-consumers g) (done : Done g.row.N.Denot) (is : c.join-consumers.result.done ≡ Some done) where
   -- what the workers of the channels and of the decisions have done, each with what it was given
   served0 : DidServe g.N.LaneNotes.are_of g.S0.LiveSource.gave g.S0.LiveSource.is_over
-      (record { lane = c.args.opened.lanes.l0; arrivals = c.args.opened.arrivals.ports.p0; requests = c.args.opened.requests.ports.p0; source = c.args.sources.s0 }) done.l0
+      (record { lanes = c.args.opened.lanes.l0; arrivals = c.args.opened.arrivals.ports.p0; requests = c.args.opened.requests.ports.p0; source = c.args.sources.s0 }) done.l0
   served0 =
       subst (λ (work : LaneWork g.row.S0.Denot). DidServe g.N.LaneNotes.are_of g.S0.LiveSource.gave g.S0.LiveSource.is_over work done.l0)
       (c.in-Ok.ensures.l0 ∙ c.new-work.ensures.l0) (of-done _ c.join-consumers.result.done done is c.join-consumers.ensures.l0)
 
   served1 : DidServe g.N.LaneNotes.are_of g.S1.LiveSource.gave g.S1.LiveSource.is_over
-      (record { lane = c.args.opened.lanes.l1; arrivals = c.args.opened.arrivals.ports.p1; requests = c.args.opened.requests.ports.p1; source = c.args.sources.s1 }) done.l1
+      (record { lanes = c.args.opened.lanes.l1; arrivals = c.args.opened.arrivals.ports.p1; requests = c.args.opened.requests.ports.p1; source = c.args.sources.s1 }) done.l1
   served1 =
       subst (λ (work : LaneWork g.row.S1.Denot). DidServe g.N.LaneNotes.are_of g.S1.LiveSource.gave g.S1.LiveSource.is_over work done.l1)
       (c.in-Ok.ensures.l1 ∙ c.new-work.ensures.l1) (of-done _ c.join-consumers.result.done done is c.join-consumers.ensures.l1)
 
   served2 : DidServe g.N.LaneNotes.are_of g.S2.LiveSource.gave g.S2.LiveSource.is_over
-      (record { lane = c.args.opened.lanes.l2; arrivals = c.args.opened.arrivals.ports.p2; requests = c.args.opened.requests.ports.p2; source = c.args.sources.s2 }) done.l2
+      (record { lanes = c.args.opened.lanes.l2; arrivals = c.args.opened.arrivals.ports.p2; requests = c.args.opened.requests.ports.p2; source = c.args.sources.s2 }) done.l2
   served2 =
       subst (λ (work : LaneWork g.row.S2.Denot). DidServe g.N.LaneNotes.are_of g.S2.LiveSource.gave g.S2.LiveSource.is_over work done.l2)
       (c.in-Ok.ensures.l2 ∙ c.new-work.ensures.l2) (of-done _ c.join-consumers.result.done done is c.join-consumers.ensures.l2)
 
   served3 : DidServe g.N.LaneNotes.are_of g.S3.LiveSource.gave g.S3.LiveSource.is_over
-      (record { lane = c.args.opened.lanes.l3; arrivals = c.args.opened.arrivals.ports.p3; requests = c.args.opened.requests.ports.p3; source = c.args.sources.s3 }) done.l3
+      (record { lanes = c.args.opened.lanes.l3; arrivals = c.args.opened.arrivals.ports.p3; requests = c.args.opened.requests.ports.p3; source = c.args.sources.s3 }) done.l3
   served3 =
       subst (λ (work : LaneWork g.row.S3.Denot). DidServe g.N.LaneNotes.are_of g.S3.LiveSource.gave g.S3.LiveSource.is_over work done.l3)
       (c.in-Ok.ensures.l3 ∙ c.new-work.ensures.l3) (of-done _ c.join-consumers.result.done done is c.join-consumers.ensures.l3)
 
   passed_on : DidDecideAll g.D.LiveDecisions.gave g.D.LiveDecisions.is_over
-      (record { flow_count = c.args.flow_count; arrivals = c.args.opened.arrivals.ports.p4; decisions = c.args.decisions }) done.decided
+      (record { sender = c.args.opened.channels; flow_count = c.args.flow_count; arrivals = c.args.opened.arrivals.ports.p4; decisions = c.args.decisions }) done.decided
   passed_on =
       subst (λ (work : DecidingWork g.row.D.Denot). DidDecideAll g.D.LiveDecisions.gave g.D.LiveDecisions.is_over work done.decided)
       (c.in-Ok.ensures.decider ∙ c.new-work.ensures.decisions) (of-done _ c.join-consumers.result.done done is c.join-consumers.ensures.decided)
 
-  -- what came in, if no allocation failed in a channel's worker
+  -- what the sources gave
+  abbrev given_all : List (List ChannelInput)
+  given_all = served0.inputs ∷ served1.inputs ∷ served2.inputs ∷ served3.inputs ∷ []
+
+  -- what came in, if no allocation failed in a source's worker
   came : IsTrue (is_some done.l0.notes) → IsTrue (is_some done.l1.notes) → IsTrue (is_some done.l2.notes) → IsTrue (is_some done.l3.notes)
       → CameFrom
       (Yields g.S0.LiveSource.gave g.S0.LiveSource.is_over c.args.sources.s0) (Yields g.S1.LiveSource.gave g.S1.LiveSource.is_over c.args.sources.s1)
       (Yields g.S2.LiveSource.gave g.S2.LiveSource.is_over c.args.sources.s2) (Yields g.S3.LiveSource.gave g.S3.LiveSource.is_over c.args.sources.s3)
       (Yields g.D.LiveDecisions.gave g.D.LiveDecisions.is_over c.args.decisions)
-      (incoming_from (served0.inputs ∷ served1.inputs ∷ served2.inputs ∷ served3.inputs ∷ []) passed_on.decisions)
+      given_all (incoming_of_sources given_all passed_on.decisions)
   came noted0 noted1 noted2 noted3 = record {
     i0 = served0.inputs;
     i1 = served1.inputs;
     i2 = served2.inputs;
     i3 = served3.inputs;
     decisions = passed_on.decisions;
+    sources_are = refl;
     incoming_is = refl;
     gave0 = all-given g.N.LaneNotes.are_of g.S0.LiveSource.gave g.S0.LiveSource.is_over _ done.l0 served0 done.l0.notes refl noted0;
     gave1 = all-given g.N.LaneNotes.are_of g.S1.LiveSource.gave g.S1.LiveSource.is_over _ done.l1 served1 done.l1.notes refl noted1;
@@ -114,13 +122,14 @@ module _ (g : Over) (c : After-join-consumers g) (done : Done g.row.N.Denot) (is
       (HasGivenFirst g.S0.LiveSource.gave c.args.sources.s0) (HasGivenFirst g.S1.LiveSource.gave c.args.sources.s1)
       (HasGivenFirst g.S2.LiveSource.gave c.args.sources.s2) (HasGivenFirst g.S3.LiveSource.gave c.args.sources.s3)
       (HasGivenFirst g.D.LiveDecisions.gave c.args.decisions)
-      (incoming_from (served0.inputs ∷ served1.inputs ∷ served2.inputs ∷ served3.inputs ∷ []) passed_on.decisions)
+      given_all (incoming_of_sources given_all passed_on.decisions)
   came-first = record {
     i0 = served0.inputs;
     i1 = served1.inputs;
     i2 = served2.inputs;
     i3 = served3.inputs;
     decisions = passed_on.decisions;
+    sources_are = refl;
     incoming_is = refl;
     gave0 = record { more = served0.unanswered; end = served0.end; became = served0.became };
     gave1 = record { more = served1.unanswered; end = served1.end; became = served1.became };
@@ -142,16 +151,16 @@ returns g c =
     let given = c.new-work.ensures in
     let taken = joined.ensures.taken in
     let sources = c.args.sources in
-    let CameIn : Incoming → Type 0 = CameFrom
+    let CameIn : List (List ChannelInput) → Incoming → Type 0 = CameFrom
     (Yields g.S0.LiveSource.gave g.S0.LiveSource.is_over sources.s0) (Yields g.S1.LiveSource.gave g.S1.LiveSource.is_over sources.s1)
     (Yields g.S2.LiveSource.gave g.S2.LiveSource.is_over sources.s2) (Yields g.S3.LiveSource.gave g.S3.LiveSource.is_over sources.s3)
     (Yields g.D.LiveDecisions.gave g.D.LiveDecisions.is_over c.args.decisions) in
-    let CameFirst : Incoming → Type 0 = CameFrom
+    let CameFirst : List (List ChannelInput) → Incoming → Type 0 = CameFrom
     (HasGivenFirst g.S0.LiveSource.gave sources.s0) (HasGivenFirst g.S1.LiveSource.gave sources.s1)
     (HasGivenFirst g.S2.LiveSource.gave sources.s2) (HasGivenFirst g.S3.LiveSource.gave sources.s3)
     (HasGivenFirst g.D.LiveDecisions.gave c.args.decisions) in
     let Ends : Option (Ended g.row.N.Denot) → Type 0 =
-    λ o. IfSome o (HasEndedOn g.N.LaneNotes.are_of g.C.HeaderCheck.accepts c.args.flow_count CameIn CameFirst c.args.opened c.args.order taken.given (given_of taken.sent)) in
+    λ o. IfSome o (HasEndedOn g.N.LaneNotes.are_of g.C.HeaderCheck.accepts c.args.opened.channels c.args.flow_count CameIn CameFirst c.args.opened c.args.order taken.given (given_of taken.sent)) in
     record {
       frames = taken.given;
       requests = given_of taken.sent;
@@ -168,8 +177,9 @@ returns g c =
             let done = w.in-Some.done in
             let is = w.in-Some.is in
             subst Ends (sym w.ended-is) (record {
-              incoming = incoming_from ((served0 g before done is).inputs ∷ (served1 g before done is).inputs ∷ (served2 g before done is).inputs ∷ (served3 g before done is).inputs ∷ [])
-                  (passed_on g before done is).decisions;
+              sources = given_all g before done is;
+              decisions = (passed_on g before done is).decisions;
+              four = refl;
               came = λ noted. came g before done is noted.l0 noted.l1 noted.l2 noted.l3;
               came_so_far = came-first g before done is;
               sent = taken.sent;

@@ -2,7 +2,6 @@
 use Rattle.std.proofs.Common.{[], length, ap, ◌∙◌, zero-add, arith}
 use Rattle.std.specs.Prelude.{count_by, sum_by}
 use Rattle.flow_records.specs.Counted.{counted}
-use Rattle.lane.specs.Limits.{channel_limit}
 use Rattle.consumer.specs.Counting.{HasCounted, is_frame, is_request, bytes_in}
 use Rattle.consumer.specs.Given.{requests_given}
 use Rattle.lane.specs.Report.{requests_of}
@@ -20,6 +19,7 @@ returns-in-Ok-clause-counted g c =
     let flow_count = length c.args.setup.flows.items in
     let of_flows = has.answer.frames_only.of_flows in
     record {
+      sources = has.sources;
       incoming = has.incoming;
       came = has.came;
       order = has.order;
@@ -27,12 +27,14 @@ returns-in-Ok-clause-counted g c =
       requests = has.requests;
       headline = has.headline;
       answer = has.answer;
+      lane_count = has.lane_count;
+      strays = has.strays;
       frame_count = taken.frames ∙ ap counted (zero-add (count_by is_frame has.frames) ∙ frames-by-flow flow_count has.frames of_flows);
       byte_count = taken.bytes ∙ ap counted (zero-add (sum_by bytes_in has.frames) ∙ bytes-by-flow flow_count has.frames of_flows);
       request_count =
           asked.requests
           ∙ ap counted (zero-add (count_by is_request has.requests)
-          ∙ requests-by-channel channel_limit has.requests has.answer.requests_only.of_channels
-          ∙ sum-same channel_limit (λ channel. length (requests_given channel has.requests)) (λ channel. length (requests_of (has.headline.intake.answered channel)))
+          ∙ requests-by-channel c.args.width.channels has.requests has.answer.requests_only.of_channels
+          ∙ sum-same c.args.width.channels (λ channel. length (requests_given channel has.requests)) (λ channel. length (requests_of (has.headline.intake.answered channel)))
           (λ channel within. ap (λ requests. length requests) (has.headline.requested channel within)));
     }

@@ -21,6 +21,7 @@ returns-in-Some g c =
     let handed = has.were_given.consumer_became start [] (hands-on-begins start) in
     let none = ap (λ (taker : Taker). taken taker) c.in-Ok-start_consumer.ensures ∙ c.in-Ok.ensures.taken in
     record {
+      sources = has.sources;
       incoming = has.incoming;
       came = has.came;
       order = has.order;

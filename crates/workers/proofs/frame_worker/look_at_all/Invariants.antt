@@ -1,4 +1,5 @@
--- What was taken so far was given to the consumer, and where all looks found `Closed` those so far are closed.
+-- What was taken so far was given to the consumer, and where all looks found `Closed` those so far
+-- are closed.
 use Rattle.std.proofs.Common.{◌≡◌, true}
 use Rattle.std.specs.List.{AllWithin}
 use Rattle.delivery.specs.Takers.{is_closed}

@@ -1,6 +1,6 @@
 -- All inputs that were answered are served.
 use Rattle.workers.proofs.LaneServed.{did_serve}
-use Rattle.workers.proofs.lane_worker.serve_channel.Goals as goal
+use Rattle.workers.proofs.lane_worker.serve_source.Goals as goal
 
 pub returns : goal.returns
 returns g c =

@@ -1,5 +1,5 @@
 use Rattle.std.specs.Io.KnownBytes.{Keeps}
-use Rattle.uses.proofs.byte_source.read_kind.Given as goal
+use Rattle.uses.proofs.byte_source.read_channel.Given as goal
 
 -- so far nothing was read
 abbrev pub invariant-loop : goal.invariant-loop
