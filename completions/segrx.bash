@@ -6,8 +6,8 @@ _segrx_options() {
         cut) echo --first --fill ;;
         replay) echo --losses --flows --shard ;;
         run) echo --losses --mailbox --ring ;;
-        follow) echo --losses --channels --events ;;
-        capture) echo --losses --wait --reorder --link --no-check --report --json --requests --picture ;;
+        follow) echo --losses --channels --events --flows --shard ;;
+        capture) echo --losses --wait --reorder --link --no-check --flows --shard --report --json --requests --picture ;;
     esac
     echo -h --help
 }
@@ -17,7 +17,7 @@ _segrx_has_map() {
     local place
     for ((place = 2; place < COMP_CWORD; place++)); do
         case ${COMP_WORDS[place]} in
-            --losses | --wait | --reorder | --link | --report | --json | --requests | --picture)
+            --losses | --wait | --reorder | --link | --flows | --shard | --report | --json | --requests | --picture)
                 [[ ${COMP_WORDS[place + 1]} == "=" ]] && ((place++))
                 ((place++))
                 ;;

@@ -6,6 +6,7 @@ use Rattle.frame_records.specs.declared.link.FrameLink.{FrameLink}
 use Rattle.frame_records.specs.declared.link.FrameLink.TheVariants.{Docsis, Xra}
 use Rattle.command_line.specs.Command.{HasWord}
 use Rattle.command_line.specs.Losses.{AskForLosses}
+use Rattle.command_line.specs.Flows.{AskForFlows}
 use Rattle.command_line.specs.OptionWords.{HasNoOption, HasOneValue}
 use Rattle.frame_engine.specs.declared.inner_check.InnerCheck.{InnerCheck}
 use Rattle.frame_engine.specs.declared.inner_check.InnerCheck.TheVariants.{Sequence, Nothing}
@@ -20,7 +21,8 @@ wait_max = 3600000
 abbrev pub nanoseconds : ℕ → ℕ
 nanoseconds count = count * 1000000
 
--- words ask for this time by the one such option among them, whose value is in milliseconds, and for the default one where there is none
+-- words ask for this time by the one such option among them, whose value is in milliseconds, and
+-- for the default one where there is none
 abbrev pub AskForWait : List ℕ → ℕ → List (List ℕ) → ℕ → Type 0
 AskForWait option default words wait =
     (HasNoOption option words × (wait ≡ nanoseconds default))
@@ -41,7 +43,12 @@ AskForLink words link = (HasNoOption link_option words × (link ≡ Docsis)) ⊎
 abbrev pub AskForCheck : List (List ℕ) → InnerCheck → Type 0
 AskForCheck words check = (HasWord (codes "--no-check") words × (check ≡ Nothing)) ⊎ (¬ HasWord (codes "--no-check") words × (check ≡ Sequence))
 
--- **Words ask for these settings**: each by its option, with its default where that isn't there, and none by two; no word ends the options
+-- the greatest index of a flow of a map
+abbrev pub last_captured : ℕ
+last_captured = 16383
+
+-- **Words ask for these settings**: each by its option, with its default where that isn't there,
+-- and none by two; no word ends the options
 pub record AskForSettings (words : List (List ℕ)) (settings : CaptureSettings) : Type 0 where
   pub unended : ¬ HasWord (codes "--") words
   pub losses : AskForLosses PassedOrSlid settings.rule words
@@ -49,6 +56,7 @@ pub record AskForSettings (words : List (List ℕ)) (settings : CaptureSettings)
   pub wait : AskForWait (codes "--wait") 20 words settings.waits.wait
   pub check : AskForCheck words settings.check
   pub link : AskForLink words settings.link
+  pub flows : AskForFlows last_captured settings.selected words
 
 -- a word asks for help
 abbrev pub AskForHelp : List (List ℕ) → Type 0

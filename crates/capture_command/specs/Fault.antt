@@ -10,7 +10,8 @@ use Rattle.engines.specs.Fault as engines
 use Rattle.capture_command.specs.declared.fault.CaptureCommandFault.{CaptureCommandFault}
 use Rattle.capture_command.specs.declared.fault.CaptureCommandFault.TheVariants.{Map, Setup, MapFile, OutputFile, Engine}
 
--- what is reported of a fault of the engine, of a map, and of what a map sets up; that memory ran out is told in one way
+-- what is reported of a fault of the engine, of a map, and of what a map sets up; that memory ran
+-- out is told in one way
 abbrev pub engine_fault : EngineFault → CaptureCommandFault
 engine_fault fault = Engine fault
 

@@ -55,7 +55,8 @@ module _ {R W File : Type 0} (remaining : R → Option (List ℕ)) (contents : W
   abbrev pub Captures : CaptureSettings → Device R → Device R → Device W → Device W → Result (Unit {0}) CaptureCommandFault → Type 0
   Captures settings reader reader' writer writer' result = JoinsByMap settings reader reader' writer writer' result ⊎ IsRefused reader reader' writer writer' result
 
-  -- **Help was written** that words ask for: a text, whole or, where the writer failed, a front of it; the reader wasn't used
+  -- **Help was written** that words ask for: a text, whole or, where the writer failed, a front of
+  -- it; the reader wasn't used
   pub record PrintsHelp (words : List (List ℕ)) (reader reader' : Device R) (writer writer' : Device W) (result : Result (Unit {0}) CaptureCommandFault) : Type 0 where
     pub asked : AskForHelp words
     pub unread : reader' ≡ reader
@@ -64,7 +65,8 @@ module _ {R W File : Type 0} (remaining : R → Option (List ℕ)) (contents : W
     pub front : OnErr result (AppendsFront (contents (inner_of writer)) (contents (inner_of writer')) text)
     pub fault : IfErr result (λ fault. fault ≡ Engine Write)
 
-  -- what words came to: a capture was joined by the settings that they ask for, or nothing was; or help was written that they ask for, and the reader wasn't used; or they were refused
+  -- what words came to: a capture was joined by the settings that they ask for, or nothing was; or
+  -- help was written that they ask for, and the reader wasn't used; or they were refused
   pub data Obeys (words : List (List ℕ)) (reader reader' : Device R) (writer writer' : Device W) (result : Result (Unit {0}) CaptureCommandFault) : Type 0 where
     captures : (settings : CaptureSettings) → AskForSettings words settings → Captures settings reader reader' writer writer' result
         → Obeys words reader reader' writer writer' result

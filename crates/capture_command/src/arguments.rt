@@ -36,6 +36,8 @@ pub fn capture_line<'a>(alloc: Global) -> Result<Command<'a>, AllocError> {
     let losses = "What is lost: decided, passed or slid [default: slid]";
     let wait = "How long a segment is held for those that are missing [default: 20]";
     let reorder = "How long a burst waits for its neighbours [default: 2]";
+    let flows = "Only these flows, as 0,3,8-15 [default: all]";
+    let shard = "Only flows whose index modulo N is K [default: all]";
     let link = "Frames alone, or packets with channel and SID [default: docsis]";
     let report = "Also write the counts to this file";
     let json = "Also write the counts to this file, as JSON";
@@ -62,6 +64,8 @@ pub fn capture_line<'a>(alloc: Global) -> Result<Command<'a>, AllocError> {
             "no-check",
             "Let headers of frames pass that end with a wrong check",
         ))?
+        .arg(option(alloc, "flows", "LIST", flows))?
+        .arg(option(alloc, "shard", "K/N", shard))?
         .arg(option(alloc, "report", "FILE", report))?
         .arg(option(alloc, "json", "FILE", json))?
         .arg(option(alloc, "requests", "FILE", requests))?

@@ -13,7 +13,7 @@ use crate::arguments::capture_line;
 use captured_flows::Waits;
 use clap::ArgMatches;
 use clap::error::ErrorKind;
-use command_line::{UsageFault, has_word, only_value, rule_named};
+use command_line::{UsageFault, asked_flows, has_word, only_value, rule_named};
 use frame_engine::{CaptureSettings, InnerCheck};
 use frame_records::FrameLink;
 use loss_rule::LossRule;
@@ -29,13 +29,12 @@ const WAIT: u32 = 20;
 const REORDER: u32 = 2;
 /// Nanoseconds in a millisecond.
 const MILLISECOND: u64 = 1_000_000;
+/// The greatest index of a flow of a map.
+const LAST_FLOW: u16 = 16_383;
 
-/// What is asked of a capture.
+/// The files that are asked for besides the frames.
 #[derive(Debug, Drop)]
-pub struct CaptureAsked {
-    /// The path of the map.
-    pub map: String,
-    pub settings: CaptureSettings,
+pub struct AskedFiles {
     /// The path of the file for the report.
     pub report: Option<String>,
     /// The path of the file for the counts as JSON.
@@ -44,6 +43,15 @@ pub struct CaptureAsked {
     pub requests: Option<String>,
     /// The path of the file for the picture.
     pub picture: Option<String>,
+}
+
+/// What is asked of a capture.
+#[derive(Debug, Drop)]
+pub struct CaptureAsked {
+    /// The path of the map.
+    pub map: String,
+    pub settings: CaptureSettings,
+    pub files: AskedFiles,
 }
 
 /// What the words ask for.
@@ -116,7 +124,7 @@ fn asked_check<S: AsStr>(words: &[S]) -> InnerCheck
 }
 
 /// The settings that options ask for, among which no `--` ends the options.
-fn asked_settings<S: AsStr>(words: &[S]) -> Result<CaptureSettings, UsageFault>
+fn asked_settings<S: AsStr>(alloc: Global, words: &[S]) -> Result<CaptureSettings, UsageFault>
     ensures { IfOk result (AskForSettings (map S.text words.now)) }
 {
     if has_word(words, "--") {
@@ -130,6 +138,7 @@ fn asked_settings<S: AsStr>(words: &[S]) -> Result<CaptureSettings, UsageFault>
         },
         check: asked_check(words),
         link: asked_link(words)?,
+        selected: asked_flows(alloc, words, LAST_FLOW)?,
     })
 }
 
@@ -176,10 +185,12 @@ pub fn read_capture_words<'a, S: AsStr>(
     };
     Ok(CaptureWords::Capture(CaptureAsked {
         map: String::from_str(alloc, path)?,
-        settings: asked_settings(words)?,
-        report: read_path(alloc, &matches, "report")?,
-        json: read_path(alloc, &matches, "json")?,
-        requests: read_path(alloc, &matches, "requests")?,
-        picture: read_path(alloc, &matches, "picture")?,
+        settings: asked_settings(alloc, words)?,
+        files: AskedFiles {
+            report: read_path(alloc, &matches, "report")?,
+            json: read_path(alloc, &matches, "json")?,
+            requests: read_path(alloc, &matches, "requests")?,
+            picture: read_path(alloc, &matches, "picture")?,
+        },
     }))
 }

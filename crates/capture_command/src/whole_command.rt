@@ -8,15 +8,17 @@ ghost use Rattle.capture_command.specs.declared.fault.CaptureCommandFault.TheVar
 ghost use Rattle.capture_command.specs.declared.fault.CaptureCommandFault.{CaptureCommandFault};
 ghost use Rattle.capture_command.specs.Program.{Captures, Obeys, ComesOf, status_of_outcome};
 
-use crate::asked::{CaptureAsked, CaptureWords, read_capture_words};
+use crate::asked::{AskedFiles, CaptureAsked, CaptureWords, read_capture_words};
 use crate::fault::CaptureCommandFault;
 use crate::files::{created, map_of_file};
 use capture_json::summary_json;
+use capture_map::CaptureMap;
 use capture_picture::put_picture;
 use capture_summary::{put_report, put_summary};
 use engines::{Device, EngineFault, TextWriter, held_room, write_text};
+use flow_selection::Selection;
 use frame_engine::{CaptureTally, FrameReading, join_capture};
-use std::alloc::Global;
+use std::alloc::{AllocError, Global};
 use std::convert::AsStr;
 use std::io::{Read, Write};
 use std::rt::Files;
@@ -101,14 +103,14 @@ fn tell_lost_requests(tally: &CaptureTally) -> Result<(), CaptureCommandFault> {
 fn write_counts<F: Files, E: Write>(
     alloc: Global,
     rt: &F,
-    asked: &CaptureAsked,
+    files: &AskedFiles,
     tally: &CaptureTally,
     err: &mut Device<E>,
 ) -> Result<(), CaptureCommandFault> {
     let summary = write_summary(alloc, tally, err);
-    let report = write_file(alloc, rt, &asked.report, tally, Shown::Report);
-    let json = write_file(alloc, rt, &asked.json, tally, Shown::Json);
-    let picture = write_file(alloc, rt, &asked.picture, tally, Shown::Picture);
+    let report = write_file(alloc, rt, &files.report, tally, Shown::Report);
+    let json = write_file(alloc, rt, &files.json, tally, Shown::Json);
+    let picture = write_file(alloc, rt, &files.picture, tally, Shown::Picture);
     summary?;
     report?;
     json?;
@@ -116,27 +118,46 @@ fn write_counts<F: Files, E: Write>(
     tell_lost_requests(tally)
 }
 
-/// Joins the capture that the reader gives, and writes what was counted, also where a fault ends it.
+/// Nothing was counted, of a capture with this map of which these flows are selected. What the
+/// files need is kept.
+fn new_tally(
+    alloc: Global,
+    capture_map: &CaptureMap,
+    selected: &Selection,
+    files: &AskedFiles,
+) -> Result<CaptureTally, AllocError> {
+    let with_requests = files.requests.is_some();
+    let mut tally = CaptureTally::new(alloc, capture_map, selected, with_requests)?;
+    if files.picture.is_some() {
+        tally.draw(alloc, capture_map)?;
+    }
+    Ok(tally)
+}
+
+/// Joins the capture that the reader gives, and writes what was counted, also where a fault ends
+/// it.
 fn capture<F: Files, R: Read, W: Write, E: Write>(
     alloc: Global,
     rt: &F,
-    asked: &CaptureAsked,
+    asked: CaptureAsked,
     reader: &mut Device<R>,
     out: &mut Device<W>,
     err: &mut Device<E>,
 ) -> Result<(), CaptureCommandFault>
     requires reader { IsFresh reader.old }
     requires out { IsFresh out.old }
-    ensures { Captures R.remaining W.contents F.File.remaining asked.now.settings
+    ensures { Captures R.remaining W.contents F.File.remaining asked.settings
         reader.old reader.new out.old out.new result }
 {
-    let capture_map = map_of_file(alloc, rt, asked.map.as_str())?;
-    let mut tally = CaptureTally::new(alloc, &capture_map, asked.requests.is_some())?;
-    if asked.picture.is_some() {
-        tally.draw(alloc, &capture_map)?;
-    }
-    let reading = FrameReading::new(alloc, asked.settings, capture_map)?;
-    let mut requests = match &asked.requests {
+    let CaptureAsked {
+        map,
+        settings,
+        files,
+    } = asked;
+    let capture_map = map_of_file(alloc, rt, map.as_str())?;
+    let mut tally = new_tally(alloc, &capture_map, &settings.selected, &files)?;
+    let reading = FrameReading::new(alloc, settings, capture_map)?;
+    let mut requests = match &files.requests {
         Some(path) => Some(Device::new(created(rt, path.as_str())?)),
         None => None,
     };
@@ -144,7 +165,7 @@ fn capture<F: Files, R: Read, W: Write, E: Write>(
     if let Some(file) = requests {
         file.into_inner();
     }
-    let counted = write_counts(alloc, rt, asked, &tally, err);
+    let counted = write_counts(alloc, rt, &files, &tally, err);
     joined?;
     counted
 }
@@ -178,7 +199,7 @@ fn obey<S: AsStr, F: Files, R: Read, W: Write, E: Write>(
         reader.old reader.new out.old out.new result }
 {
     match read_capture_words(alloc, words)? {
-        CaptureWords::Capture(asked) => capture(alloc, rt, &asked, reader, out, err),
+        CaptureWords::Capture(asked) => capture(alloc, rt, asked, reader, out, err),
         CaptureWords::Help(text) => print_help(out, text.as_str()),
     }
 }
@@ -197,10 +218,10 @@ fn report_outcome<E: Write>(outcome: &Result<(), CaptureCommandFault>, err: &mut
     }
 }
 
-/// The whole command: it does what the words ask for, the program's name first, and answers the exit
-/// status: 0 where it was done, also for help; 1 for a fault of the map or of the capture, 2 for
-/// usage, 3 for out of memory, 4 for a failed read or write. A fault's line goes to `err`, behind the
-/// summary.
+/// The whole command: it does what the words ask for, the program's name first, and answers the
+/// exit status: 0 where it was done, also for help; 1 for a fault of the map or of the capture, 2
+/// for usage, 3 for out of memory, 4 for a failed read or write. A fault's line goes to `err`,
+/// behind the summary.
 pub fn capture_program<S, F, R, O, E>(
     alloc: Global,
     rt: &F,

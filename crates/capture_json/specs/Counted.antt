@@ -3,7 +3,7 @@ use Rattle.std.specs.Prelude.{ℕ, List, [], ◌∷◌, map, codes}
 use Rattle.serde_json.specs.Data.{Data, Members, object, array, number, unsigned, member, no_members}
 use Rattle.serde_json.specs.View.{items_of}
 use Rattle.lane.specs.declared.refusal.Refusal.TheVariants.{GrantRange, GrantKnown, UnknownSid, TooManyGrants, GrantOutOfMemory, NoGrant, TooLong, BadCheck, TooShort, PointerPast, BurstOutOfMemory}
-use Rattle.capture_summary.specs.Counting.{count_of_refusal}
+use Rattle.capture_summary.specs.Counting.{count_of_refusal, selected_flows}
 use Rattle.capture_summary.specs.declared.flow_summary.FlowSummary.{FlowSummary}
 use Rattle.capture_summary.specs.declared.refusals.RefusalCounts.{RefusalCounts}
 use Rattle.capture_summary.specs.declared.channel_summary.ChannelSummary.{ChannelSummary}
@@ -62,11 +62,11 @@ passed_data passed = numbers
     ∷ (codes "no_segment_header", passed.no_segment_header) ∷ (codes "other_link_type", passed.other_link_type) ∷ (codes "other_type", passed.other_type)
     ∷ (codes "unknown_channel", passed.unknown_channel) ∷ (codes "unknown_sid", passed.unknown_sid) ∷ [])
 
--- **All that was counted**
+-- **All that was counted**, of flows that of those which are selected
 abbrev pub summary_data : CaptureSummary → Data
 summary_data summary = object
     (member (codes "channels") (array (items_of (map channel_data summary.channels.items)))
     (numbers_then ((codes "clock_crowded", summary.crowded) ∷ (codes "clock_set_back", summary.set_back) ∷ (codes "earlier", summary.earlier) ∷ [])
-    (member (codes "flows") (array (items_of (map flow_data summary.flows.items)))
+    (member (codes "flows") (array (items_of (map flow_data (selected_flows summary.flows.items))))
     (member (codes "passed") (passed_data summary.passed)
     (numbers_then ((codes "records", summary.records) ∷ []) no_members)))))

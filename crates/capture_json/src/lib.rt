@@ -8,6 +8,7 @@ ghost use Rattle.std.specs.Prelude.{◌≡◌, ◌∷◌, ◌++◌, [], false, I
 ghost use Rattle.serde_json.specs.View.{view};
 ghost use Rattle.serde_json.specs.Written.{compact_text, has_float};
 ghost use Rattle.text_lines.specs.Lines.{line_feed};
+ghost use Rattle.capture_summary.specs.Counting.{selected_flows};
 ghost use Rattle.capture_json.specs.Counted.{segments_data, frames_data, flow_data};
 ghost use Rattle.capture_json.specs.Counted.{refused_grants_data, refused_bursts_data};
 ghost use Rattle.capture_json.specs.Counted.{channel_data};
@@ -120,13 +121,16 @@ fn passed_value(alloc: Global, passed: &PassedCounts) -> Result<Value, AllocErro
     })
 }
 
-/// What was counted of these flows.
+/// What was counted of those of these flows that are selected.
 fn all_flows(alloc: Global, flows: &[FlowSummary]) -> Result<Vec<Value>, AllocError>
-    ensures { IfOk result (λ values. map view values.items ≡ map flow_data flows.now) }
+    ensures { IfOk result (λ values.
+        map view values.items ≡ map flow_data (selected_flows flows.now)) }
 {
     let mut values = Vec::with_capacity(alloc, flows.len())?;
     for flow in flows {
-        values.push(flow_value(alloc, flow)?)?;
+        if flow.is_selected {
+            values.push(flow_value(alloc, flow)?)?;
+        }
     }
     Ok(values)
 }

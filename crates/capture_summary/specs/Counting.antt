@@ -1,5 +1,5 @@
 -- What is counted of a capture.
-use Rattle.std.specs.Prelude.{ℕ, ◌+◌, ◌-◌, ◌==◌, Bool, List, [], ◌∷◌, replicate, slice_index, slice_set, if◌then◌else◌}
+use Rattle.std.specs.Prelude.{ℕ, ◌+◌, ◌-◌, ◌==◌, ◌&&◌, Bool, true, List, [], ◌∷◌, replicate, filter, slice_index, slice_set, if◌then◌else◌}
 use Rattle.std.specs.List.{list_all}
 use Rattle.flow_records.specs.Counted.{counted}
 use Rattle.flow_core.specs.Counts.{no_counts}
@@ -33,9 +33,9 @@ both_counts one other = record {
   skipped = counted (one.skipped + other.skipped);
 }
 
--- nothing was counted of a flow with this service flow identifier
+-- nothing was counted of a flow with this service flow identifier, which is selected
 abbrev pub new_flow : ℕ → FlowSummary
-new_flow sfid = record { sfid = sfid; counts = no_counts; right = 0; wrong = 0; encrypted = 0; restarts = 0; requests = 0; units = 0 }
+new_flow sfid = record { sfid = sfid; counts = no_counts; right = 0; wrong = 0; encrypted = 0; restarts = 0; requests = 0; units = 0; is_selected = true }
 
 -- one more frame, of which this is known; one more request, for so many units; one more restart
 abbrev pub with_frame : FrameSequence → FlowSummary → FlowSummary
@@ -58,6 +58,14 @@ all_counts flow =
 
 abbrev pub is_quiet : FlowSummary → Bool
 is_quiet flow = list_all (λ count. count == 0) (all_counts flow)
+
+-- so of a flow that is selected
+abbrev pub is_selected_quiet : FlowSummary → Bool
+is_selected_quiet flow = flow.is_selected && is_quiet flow
+
+-- the flows that are selected
+abbrev pub selected_flows : List FlowSummary → List FlowSummary
+selected_flows flows = filter (λ flow. flow.is_selected) flows
 
 -- how often a refusal came: refusals are numbered from 1
 abbrev pub no_refusals : RefusalCounts

@@ -26,9 +26,9 @@ joined_line k flow =
     named (codes "joined") k ++ named (codes " right") flow.right ++ named (codes " wrong") flow.wrong ++ named (codes " encrypted") flow.encrypted
     ++ named (codes " restarts") flow.restarts ++ named (codes " requests") flow.requests ++ named (codes " units") flow.units ++ line_feed ∷ []
 
--- of a flow its line as in a report of replay, and how its frames and requests are
+-- of a flow that is selected its line as in a report of replay, and how its frames and requests are
 abbrev pub flow_lines : ℕ → FlowSummary → List ℕ
-flow_lines k flow = flow_line k flow.sfid flow.counts ++ joined_line k flow
+flow_lines k flow = if flow.is_selected then (flow_line k flow.sfid flow.counts ++ joined_line k flow) else []
 
 -- all refusals, by their numbers
 abbrev pub all_refusals : List Refusal
@@ -79,7 +79,8 @@ records_line summary = named (codes "records") summary.records ++ named (codes "
 abbrev pub clock_line : CaptureSummary → List ℕ
 clock_line summary = named (codes "clock set_back") summary.set_back ++ named (codes " crowded") summary.crowded ++ line_feed ∷ []
 
--- **The report of a capture**: the lines of each flow and of each channel, in order, what was passed over, how many records there were, and how clocks were.
+-- **The report of a capture**: the lines of each flow that is selected and of each channel, in
+-- order, what was passed over, how many records there were, and how clocks were.
 abbrev pub report_text : CaptureSummary → List ℕ
 report_text summary =
     numbered_texts flow_lines summary.flows.items ++ flat_map channel_lines summary.channels.items ++ passed_lines summary.passed ++ records_line summary

@@ -11,7 +11,7 @@ use Rattle.csv.specs.Writing.{default_writer, needs_quotes, writer_setup, fields
 abbrev pub second : ℕ
 second = 1000000000
 
--- a time in seconds, with nine digits behind the point: those of one second more, but for the first one
+-- a time in seconds, with nine digits behind the point: those of a second more, but for the first
 abbrev pub seconds_text : ℕ → List ℕ
 seconds_text nanoseconds = decimal (nanoseconds / second) ++ codes "." ++ drop 1 (decimal (second + nanoseconds % second))
 

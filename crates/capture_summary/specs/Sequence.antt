@@ -29,12 +29,13 @@ abbrev pub sequence_in : List ℕ → List ℕ → FrameSequence
 sequence_in extended ethernet =
     if is_encrypted extended then Encrypted else (if ends_with_its_sequence ethernet then Right else Wrong)
 
--- MAC_PARM is the length of the extended header where FC's last bit, EHDR_ON, is set; else there is none
+-- MAC_PARM is the extended header's length where FC's last bit, EHDR_ON, is set; else there is none
 abbrev pub extended_length : ℕ → ℕ → ℕ
 extended_length fc parm = if fc % 2 == 1 then parm else 0
 
--- **What is known of the frame check sequence in a frame.** Its header is FC, MAC_PARM, two bytes of LEN, the extended header, and two bytes of HCS.
--- FC is 0 or 1 in a packet's frame, in which an Ethernet frame follows the header.
+-- **What is known of the frame check sequence in a frame.** Its header is FC, MAC_PARM, two bytes
+-- of LEN, the extended header, and two bytes of HCS. FC is 0 or 1 in a packet's frame, in which an
+-- Ethernet frame follows the header.
 abbrev pub sequence_of : List ℕ → FrameSequence
 sequence_of (fc ∷ parm ∷ high ∷ low ∷ others) =
     if nat_le fc 1 then sequence_in (take (extended_length fc parm) others) (drop 2 (drop (extended_length fc parm) others)) else NotThere

@@ -1,8 +1,8 @@
 -- What people read of a capture in the end.
-use Rattle.std.specs.Prelude.{ℕ, ◌==◌, List, [], ◌∷◌, ◌++◌, flat_map, count_by, codes, if◌then◌else◌}
+use Rattle.std.specs.Prelude.{ℕ, ◌==◌, ◌||◌, not, List, [], ◌∷◌, ◌++◌, flat_map, count_by, codes, if◌then◌else◌}
 use Rattle.text_lines.specs.Lines.{line_feed}
 use Rattle.lane.specs.declared.refusal.Refusal.{Refusal}
-use Rattle.capture_summary.specs.Counting.{is_quiet, count_of_refusal, count_of_reason}
+use Rattle.capture_summary.specs.Counting.{is_quiet, is_selected_quiet, count_of_refusal, count_of_reason}
 use Rattle.capture_summary.specs.Report.{all_refusals, all_reasons}
 use Rattle.capture_summary.specs.Words.{named, reason_text, refusal_text}
 use Rattle.capture_summary.specs.declared.flow_summary.FlowSummary.{FlowSummary}
@@ -28,9 +28,9 @@ abbrev pub requests_line : FlowSummary → List ℕ
 requests_line flow =
     named (codes "  restarts") flow.restarts ++ named (codes "; requests") flow.requests ++ named (codes ", units") flow.units ++ line_feed ∷ []
 
--- a flow of which something came
+-- a flow that is selected, and of which something came
 abbrev pub flow_text : FlowSummary → List ℕ
-flow_text flow = if is_quiet flow then [] else (segments_line flow ++ frames_line flow ++ requests_line flow)
+flow_text flow = if not flow.is_selected || is_quiet flow then [] else (segments_line flow ++ frames_line flow ++ requests_line flow)
 
 -- what was counted, if something was
 abbrev pub counted_line : List ℕ → ℕ → List ℕ
@@ -65,8 +65,9 @@ times_told summary =
 abbrev pub reason_line : PassedReason → ℕ → List ℕ
 reason_line why count = if count == 0 then [] else (codes "  passed over: " ++ named (reason_text why) count ++ line_feed ∷ [])
 
--- **What people read of a capture in the end**: of each flow of which something came, of each channel, and of all records.
+-- **What people read of a capture in the end**: of each selected flow of which something came, of
+-- each channel, and of all records.
 abbrev pub summary_text : CaptureSummary → List ℕ
 summary_text summary =
-    flat_map flow_text summary.flows.items ++ counted_line (codes "flows of which nothing came:") (count_by is_quiet summary.flows.items) ++ flat_map channel_text summary.channels.items
+    flat_map flow_text summary.flows.items ++ counted_line (codes "flows of which nothing came:") (count_by is_selected_quiet summary.flows.items) ++ flat_map channel_text summary.channels.items
     ++ all_records_line summary ++ times_told summary ++ flat_map (λ why. reason_line why (count_of_reason summary.passed why)) all_reasons

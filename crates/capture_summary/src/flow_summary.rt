@@ -24,10 +24,12 @@ pub struct FlowSummary {
     pub requests: u64,
     /// The units that were requested, of the flow's own size.
     pub units: u64,
+    /// Whether it is selected: of a flow that isn't no text says anything.
+    pub is_selected: bool,
 }
 
 impl FlowSummary {
-    /// Nothing was counted yet.
+    /// Nothing was counted yet of a flow that is selected.
     pub fn new(sfid: u32) -> FlowSummary
         ensures { result ≡ new_flow sfid }
     {
@@ -40,6 +42,7 @@ impl FlowSummary {
             restarts: 0,
             requests: 0,
             units: 0,
+            is_selected: true,
         }
     }
 

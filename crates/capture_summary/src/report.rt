@@ -46,13 +46,22 @@ fn put_joined_line<O: PutText>(out: &mut O, k: usize, flow: &FlowSummary)
     put_word(out, "\n");
 }
 
-/// Puts the lines of flows.
+/// Puts the lines of the flow with this index, if it is selected.
+fn put_flow<O: PutText>(out: &mut O, k: usize, flow: &FlowSummary)
+    ensures { Puts O.after out.old (flow_lines k flow.now) out.new }
+{
+    if flow.is_selected {
+        put_flow_line(out, k, flow.sfid, &flow.counts);
+        put_joined_line(out, k, flow);
+    }
+}
+
+/// Puts the lines of the flows that are selected.
 fn put_flows<O: PutText>(out: &mut O, flows: &[FlowSummary])
     ensures { Puts O.after out.old (numbered_texts flow_lines flows.now) out.new }
 {
     for (k, flow) in flows.iter().enumerate() {
-        put_flow_line(out, k, flow.sfid, &flow.counts);
-        put_joined_line(out, k, flow);
+        put_flow(out, k, flow);
     }
 }
 
@@ -169,8 +178,9 @@ fn put_clock_line<O: PutText>(out: &mut O, summary: &CaptureSummary)
     put_word(out, "\n");
 }
 
-/// Puts the report of a capture: two lines for each flow, in order; two for each channel, in order;
-/// one for each reason for which records were passed over; one for all records; and one for clocks.
+/// Puts the report of a capture: two lines for each flow that is selected, in order; two for each
+/// channel, in order; one for each reason for which records were passed over; one for all records;
+/// and one for clocks.
 pub fn put_report<O: PutText>(out: &mut O, summary: &CaptureSummary)
     ensures { Puts O.after out.old (report_text summary.now) out.new }
 {

@@ -1,7 +1,7 @@
 //! What people read of a capture in the end.
 ghost use Rattle.std.specs.Prelude.{◌≡◌, flat_map, count_by};
 ghost use Rattle.text_lines.specs.Putting.{Puts};
-ghost use Rattle.capture_summary.specs.Counting.{is_quiet, count_of_refusal, count_of_reason};
+ghost use Rattle.capture_summary.specs.Counting.{is_selected_quiet, count_of_refusal, count_of_reason};
 ghost use Rattle.capture_summary.specs.SummaryText.{segments_line, frames_line, requests_line, flow_text, counted_line, refusal_line, channel_line, channel_text, all_records_line, times_told, reason_line, summary_text};
 
 use crate::channel_summary::ChannelSummary;
@@ -48,10 +48,13 @@ fn put_requests_line<O: PutText>(out: &mut O, flow: &FlowSummary)
     put_word(out, "\n");
 }
 
-/// Puts what came of a flow, if something did.
+/// Puts what came of a flow, if it is selected and something did.
 fn put_flow<O: PutText>(out: &mut O, flow: &FlowSummary)
     ensures { Puts O.after out.old (flow_text flow.now) out.new }
 {
+    if !flow.is_selected {
+        return;
+    }
     if flow.is_quiet() {
         return;
     }
@@ -69,11 +72,14 @@ fn put_flows<O: PutText>(out: &mut O, flows: &[FlowSummary])
     }
 }
 
-/// How many of these flows there are of which nothing came.
+/// How many of these flows are selected, and nothing came of them.
 fn quiet_count(flows: &[FlowSummary]) -> usize
-    ensures { result ≡ count_by is_quiet flows.now }
+    ensures { result ≡ count_by is_selected_quiet flows.now }
 {
-    flows.iter().filter(|flow| flow.is_quiet()).count()
+    flows
+        .iter()
+        .filter(|flow| flow.is_selected && flow.is_quiet())
+        .count()
 }
 
 /// Puts what was counted, if something was.
@@ -186,10 +192,10 @@ fn put_reasons<O: PutText>(out: &mut O, passed: &PassedCounts, reasons: &[Passed
     }
 }
 
-/// Puts what people read of a capture in the end: three lines for each flow of which something
-/// came, and how many others there are; a line for each channel, and below it one for each refusal
-/// that came; one for all records, and below it one for each way in which times couldn't be gone by
-/// and for each reason to pass some over.
+/// Puts what people read of a capture in the end: three lines for each selected flow of which
+/// something came, and how many others of them there are; a line for each channel, and below it one
+/// for each refusal that came; one for all records, and below it one for each way in which times
+/// couldn't be gone by and for each reason to pass some over.
 pub fn put_summary<O: PutText>(out: &mut O, summary: &CaptureSummary)
     ensures { Puts O.after out.old (summary_text summary.now) out.new }
 {

@@ -1,4 +1,5 @@
--- Options that ask for a loss rule and for events at most: for which rule they ask, and whether for events.
+-- Options that ask for a loss rule and for events at most: for which rule they ask, and whether for
+-- events.
 use Rattle.std.proofs.Common.{◌≡◌, ◌≢◌, ◌<◌, ◌≤◌, ◌-◌, ℕ, zero, suc, All, Bool, true, false, Option, Some, None, List, [], ◌∷◌, ◌++◌, length, get_or, take, drop, inl, inr, refl, ap, sym, ◌∙◌, subst, arith}
 use Rattle.std.specs.Prelude.{map, ◌↔◌}
 use Rattle.std.proofs.lemmas.Option.{same_Some}
@@ -29,7 +30,8 @@ events_for_no_rule (inr with) = let at : 101 ≡ 108 = ap (λ text. get_or text 
 only_events : HasNoLossesWord (events_option ∷ [])
 only_events = All-cons (λ w. ¬ IsOption losses_option w) events_option [] events_for_no_rule (All-nil (λ w. ¬ IsOption losses_option w))
 
--- each word of options that ask for a rule and for events at most is an option, with its value or without, or the name of a rule
+-- each word of options that ask for a rule and for events at most is an option, with its value or
+-- without, or the name of a rule
 pub each_follow_alone : (P : List ℕ → Type 0) → ((rest : List ℕ) → P (losses_option ++ rest)) → ((rule : LossRule) → P (rule_name rule)) → P events_option
     → (rule : LossRule) (events : Bool) (options : List (List ℕ)) → AskToFollowAlone rule events options → All P options
 each_follow_alone P of_option of_name of_events rule false options alone = each_alone P of_option of_name rule options alone

@@ -94,7 +94,8 @@ AskForRule-alone rule (option ∷ value ∷ []) alone =
     )
 AskForRule-alone rule (option ∷ value ∷ another ∷ more) alone = absurd alone
 
--- each word of options that ask for a rule and for nothing else is the option, with its value or without, or the name of a rule
+-- each word of options that ask for a rule and for nothing else is the option, with its value or
+-- without, or the name of a rule
 pub each_alone : (P : List ℕ → Type 0) → ((rest : List ℕ) → P (losses_option ++ rest)) → ((rule : LossRule) → P (rule_name rule))
     → (rule : LossRule) (options : List (List ℕ)) → AskForRuleAlone rule options → All P options
 each_alone P of_option of_name rule [] alone = All-nil P

@@ -126,7 +126,7 @@ AsksForAnEngine-with_options words Join asks = absurd asks
 AsksForAnEngine-with_options words (Cut first fill) asks = inr (inl asks.0)
 AsksForAnEngine-with_options words (Replay rule selected) asks = inr (inr (inl (rule, selected, asks)))
 AsksForAnEngine-with_options words (Run rule mailbox ring) asks = inr (inr (inr (inl (rule, asks.0))))
-AsksForAnEngine-with_options words (Follow rule channels events) asks = inr (inr (inr (inr (inl (rule, channels, asks.0)))))
+AsksForAnEngine-with_options words (Follow rule channels events selected) asks = inr (inr (inr (inr (inl (rule, channels, asks.0)))))
 AsksForAnEngine-with_options words Map asks = absurd asks
 AsksForAnEngine-with_options words (Help text) asks = absurd asks
 

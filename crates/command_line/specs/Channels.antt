@@ -11,7 +11,8 @@ channels_max = 16
 abbrev pub channels_option : List ℕ
 channels_option = codes "--channels"
 
--- options ask for this many channels: by the one `--channels` among them, and for 16 where there is none; where there are two they ask for no number
+-- options ask for this many channels: by the one `--channels` among them, and for 16 where there is
+-- none; where there are two they ask for no number
 abbrev pub AskForChannels : ℕ → List (List ℕ) → Type 0
 AskForChannels channels options =
     (HasNoOption channels_option options × (channels ≡ channels_max))

@@ -48,7 +48,8 @@ AsksToRunBy rule words = IsCommand (codes "run") words × AskForRule rule (optio
 abbrev pub AsksToRunByAlone : LossRule → List (List ℕ) → Type 0
 AsksToRunByAlone rule words = IsCommand (codes "run") words × AskForRuleAlone rule (options_in words)
 
--- to replay, the command's word alone follows the name; by a loss rule, the option for it behind that and nothing else
+-- to replay, the command's word alone follows the name; by a loss rule, the option for it behind
+-- that and nothing else
 abbrev pub AsksToReplay : List (List ℕ) → Type 0
 AsksToReplay words = IsCommandAlone (codes "replay") words
 
@@ -64,9 +65,14 @@ abbrev pub AsksToReplayFlows : LossRule → Selection → List (List ℕ) → Ty
 AsksToReplayFlows rule selected words =
     IsCommand (codes "replay") words × AskForRule rule (options_in words) × AskForFlows last_replayed selected (options_in words)
 
--- to follow has options too, for a loss rule as to run, and for how many channels the trace may have
+-- to follow has options too, for a loss rule as to run, and for how many channels the trace may
+-- have
 abbrev pub AsksToFollow : LossRule → ℕ → List (List ℕ) → Type 0
 AsksToFollow rule channels words = IsCommand (codes "follow") words × AskForRule rule (options_in words) × AskForChannels channels (options_in words)
+
+-- the greatest index of a flow of a trace that is followed
+abbrev pub last_followed : ℕ
+last_followed = 16383
 
 -- the option for events
 abbrev pub events_option : List ℕ
@@ -114,7 +120,8 @@ pub record StandsBeforeHelp (before words : List (List ℕ)) : Type 0 where
   pub help : IsHelpWord word
   pub first : HasNoHelpWord before
 
--- the words ask for an engine, to run, to replay or to follow by some loss rule, which is `Decided` where none is asked for; or for a map
+-- the words ask for an engine, to run, to replay or to follow by some loss rule, which is `Decided`
+-- where none is asked for; or for a map
 abbrev pub AsksForAnEngine : List (List ℕ) → Type 0
 AsksForAnEngine words =
     AsksToJoin words ⊎ AsksToCut words ⊎ ((rule : LossRule) × (selected : Selection) × AsksToReplayFlows rule selected words) ⊎ ((rule : LossRule) × AsksToRunBy rule words)
@@ -124,13 +131,14 @@ AsksForAnEngine words =
 abbrev pub AsksForHelp : List (List ℕ) → Type 0
 AsksForHelp words = (before : List (List ℕ)) × StandsBeforeHelp before words × AsksForAnEngine before
 
--- The words ask for this. The first number of a cut is one of a segment, and mailboxes and rings have room for something; no word of a command with
--- options asks for help.
+-- The words ask for this. The first number of a cut is one of a segment, and mailboxes and rings
+-- have room for something; no word of a command with options asks for help.
 abbrev pub Asks : List (List ℕ) → Command → Type 0
 Asks words Join = AsksToJoin words
 Asks words (Cut first fill) = AsksToCut words × HasNoHelpWord words × (first < sequence_modulus)
 Asks words (Replay rule selected) = AsksToReplayFlows rule selected words × HasNoHelpWord words
 Asks words (Run rule mailbox ring) = AsksToRunBy rule words × HasNoHelpWord words × (1 ≤ mailbox) × (1 ≤ ring)
-Asks words (Follow rule channels events) = AsksToFollow rule channels words × HasNoHelpWord words × AskForEvents events (options_in words)
+Asks words (Follow rule channels events selected) =
+    AsksToFollow rule channels words × HasNoHelpWord words × AskForEvents events (options_in words) × AskForFlows last_followed selected (options_in words)
 Asks words Map = AsksToMap words
 Asks words (Help text) = AsksForHelp words

@@ -18,7 +18,8 @@ flows_option = codes "--flows"
 abbrev pub shard_option : List ℕ
 shard_option = codes "--shard"
 
--- the value `K/N` says the shard of the flows whose index leaves K when divided by N, and K is below N
+-- the value `K/N` says the shard of the flows whose index leaves K when divided by N, and K is
+-- below N
 pub record SaysShard (value : List ℕ) (shard : Shard) : Type 0 where
   pub remainder_text : List ℕ
   pub count_text : List ℕ
@@ -50,11 +51,12 @@ SaysRanges last value (range ∷ []) = SaysRange last value range
 SaysRanges last value (range ∷ another ∷ more) =
     (part rest : List ℕ) × (value ≡ part ++ codes "," ++ rest) × SaysRange last part range × SaysRanges last rest (another ∷ more)
 
--- options ask for these flows, whose indexes go up to the last one: for all where neither option is among them, and otherwise for those that the one
--- option says which is; where both are, or one is twice, they ask for no flows
+-- options ask for these flows, whose indexes go up to the last one: for all where neither option is
+-- among them, and otherwise for those that the one option says which is; where both are, or one is
+-- twice, they ask for no flows
 abbrev pub AskForFlows : ℕ → Selection → List (List ℕ) → Type 0
 AskForFlows last selected.All options = HasNoOption shard_option options × HasNoOption flows_option options
 AskForFlows last (selected.Shard shard) options =
     HasNoOption flows_option options × ((value : List ℕ) × HasOneValue shard_option options value × SaysShard value shard)
 AskForFlows last (selected.Listed ranges) options =
-    HasNoOption shard_option options × ((value : List ℕ) × HasOneValue flows_option options value × SaysRanges last value ranges.items)
+    HasNoOption shard_option options × ((value : List ℕ) × HasOneValue flows_option options value × SaysRanges last value ranges)

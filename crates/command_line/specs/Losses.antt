@@ -18,7 +18,8 @@ losses_option = codes "--losses"
 abbrev pub HasNoLossesWord : List (List ℕ) → Type 0
 HasNoLossesWord = HasNoOption losses_option
 
--- options ask for this rule: by the one `--losses` among them, and for the default one where there is none; where there are two they ask for no rule
+-- options ask for this rule: by the one `--losses` among them, and for the default one where there
+-- is none; where there are two they ask for no rule
 abbrev pub AskForLosses : LossRule → LossRule → List (List ℕ) → Type 0
 AskForLosses default rule options = (HasNoLossesWord options × (rule ≡ default)) ⊎ HasOneValue losses_option options (rule_name rule)
 

@@ -1,4 +1,5 @@
--- An option with a value among words: the value is in the option's own word, behind `=`, or is the word behind it.
+-- An option with a value among words: the value is in the option's own word, behind `=`, or is the
+-- word behind it.
 use Rattle.std.specs.Prelude.{◌≡◌, ◌⊎◌, ℕ, List, [], ◌∷◌, ◌++◌, All, codes}
 
 -- the word of an option that has its value too
@@ -13,12 +14,14 @@ IsOption option word = (word ≡ option) ⊎ ((value : List ℕ) × (word ≡ wi
 abbrev pub HasNoOption : List ℕ → List (List ℕ) → Type 0
 HasNoOption option = All (λ word. ¬ IsOption option word)
 
--- the value of an option without one: the first of the words behind it, and no letter where there is none
+-- the value of an option without one: the first of the words behind it, and no letter where there
+-- is none
 abbrev pub value_behind : List (List ℕ) → List ℕ
 value_behind [] = []
 value_behind (word ∷ more) = word
 
--- the first of these words that is this option has this value, and these words stand behind the option
+-- the first of these words that is this option has this value, and these words stand behind the
+-- option
 abbrev pub HasFirstValue : List ℕ → List (List ℕ) → List ℕ → List (List ℕ) → Type 0
 HasFirstValue option [] value behind = ⊥
 HasFirstValue option (word ∷ more) value behind =

@@ -93,13 +93,13 @@ fn cut_command<'a>(alloc: Global) -> Result<Command<'a>, AllocError> {
         .arg(option(alloc, "fill", "zero|ones", fill))
 }
 
-/// The option of `replay` that lists flows.
+/// The option of `replay` and `follow` that lists flows.
 fn flows_option<'a>(alloc: Global) -> Arg<'a> {
     let help = "Only these flows, as 0,3,8-15 [default: all]";
     option(alloc, "flows", "LIST", help)
 }
 
-/// The option of `replay` that names a shard.
+/// The option of `replay` and `follow` that names a shard.
 fn shard_option<'a>(alloc: Global) -> Arg<'a> {
     let help = "Only flows whose index modulo N is K [default: all]";
     option(alloc, "shard", "K/N", help)
@@ -139,11 +139,13 @@ fn events_option<'a>(alloc: Global) -> Arg<'a> {
 fn follow_command<'a>(alloc: Global) -> Result<Command<'a>, AllocError> {
     let channels = "Channels that the trace may have, 1 to 16 [default: 16]";
     let about = "Follows a trace, and prints what each flow gives as lines are read";
-    let usage = "segrx follow [--losses RULE] [--channels N] [--events] < TRACE > FRAMES";
+    let usage = "segrx follow [OPTION]... < TRACE > FRAMES";
     command(alloc, "follow", about, usage)
         .arg(losses_option(alloc))?
         .arg(option(alloc, "channels", "N", channels))?
-        .arg(events_option(alloc))
+        .arg(events_option(alloc))?
+        .arg(flows_option(alloc))?
+        .arg(shard_option(alloc))
 }
 
 /// The command `map`, which has no options.
@@ -165,7 +167,7 @@ const USAGE: &str = "segrx [join] < SEGMENTS > FRAMES
        segrx cut [--first N] [--fill zero|ones] < FRAMES_AND_PIECES > SEGMENTS
        segrx replay [--losses RULE] [--flows LIST|--shard K/N] < TRACE > REPORT
        segrx run [--losses RULE] [--mailbox N] [--ring N] < TRACE > REPORT
-       segrx follow [--losses RULE] [--channels N] [--events] < TRACE > FRAMES
+       segrx follow [OPTION]... < TRACE > FRAMES
        segrx map < CAPTURE > MAP
        segrx capture MAP [OPTION]... < CAPTURE > FRAMES";
 

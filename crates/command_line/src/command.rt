@@ -70,6 +70,8 @@ pub enum Command {
         channels: u8,
         /// Whether what becomes of each input and each decision is printed too.
         events: bool,
+        /// Of which flows it is printed, with indexes up to 16,383.
+        flows: Selection,
     },
     /// To write the map that the registrations in a capture give.
     Map,
@@ -122,6 +124,8 @@ const CAPACITY_MAX: u16 = 65_535;
 
 /// The greatest index of a flow of a trace that is replayed.
 const LAST_REPLAYED: u16 = 63;
+/// And so of a trace that is followed.
+const LAST_FOLLOWED: u16 = 16_383;
 
 /// Whether the words are the program's name and this command's word.
 fn is_command_alone<S: AsStr>(words: &[S], command: &str) -> bool
@@ -369,10 +373,12 @@ fn read_with_options<'a, S: AsStr>(alloc: Global, words: &'a [S]) -> Result<Comm
         && matches.subcommand_matches("follow").is_some()
     {
         let events = asked_events(words);
+        let flows = asked_flows_of(alloc, words, "follow", LAST_FOLLOWED)?;
         return Ok(Command::Follow {
             rule,
             channels,
             events,
+            flows,
         });
     }
     if let Some(rule) = replay_rule
@@ -420,7 +426,7 @@ pub fn read_words<'a, S: AsStr>(alloc: Global, words: &'a [S]) -> Result<Command
         → result ≡ Ok (Command.Run rule default_capacity default_capacity) }
     ensures follow { (rule : LossRule) (events : Bool)
         → AsksToFollowAlone rule events (map S.text words.now)
-        → result ≡ Ok (Command.Follow rule channels_max events) }
+        → result ≡ Ok (Command.Follow rule channels_max events Selection.All) }
 {
     if asks_to_join(words) {
         return Ok(Command::Join);
@@ -442,10 +448,12 @@ pub fn read_words<'a, S: AsStr>(alloc: Global, words: &'a [S]) -> Result<Command
         });
     }
     if let Some((rule, events)) = asked_follow_alone(words) {
+        let flows = Selection::All;
         return Ok(Command::Follow {
             rule,
             channels: CHANNELS_MAX,
             events,
+            flows,
         });
     }
     let Some(before) = before_help(words) else {

@@ -6,7 +6,7 @@ ghost use Rattle.command_line.specs.Inside.Flows.{AddsRange};
 
 use crate::command::UsageFault;
 use crate::option_words::only_value;
-use flow_selection::{FlowRange, Selection, Shard};
+use flow_selection::{FlowList, FlowRange, Selection, Shard};
 use std::alloc::Global;
 use std::convert::AsStr;
 use text_lines::read_number;
@@ -103,7 +103,10 @@ pub fn asked_flows<S: AsStr>(
             Some(shard) => Ok(Selection::Shard(shard)),
             None => Err(UsageFault::Usage),
         },
-        (None, Some(value)) => Ok(Selection::Listed(read_ranges(alloc, value, last)?)),
+        (None, Some(value)) => {
+            let ranges = read_ranges(alloc, value, last)?;
+            Ok(Selection::Listed(FlowList::new(alloc, ranges)?))
+        }
         (Some(_), Some(_)) => Err(UsageFault::Usage),
     }
 }

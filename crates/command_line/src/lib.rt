@@ -20,5 +20,6 @@ mod losses;
 mod option_words;
 
 pub use command::{Command, UsageFault, has_word, read_words};
+pub use flows::asked_flows;
 pub use losses::rule_named;
 pub use option_words::only_value;

@@ -19,7 +19,8 @@ pub fn rule_named(name: &str) -> Option<LossRule>
     }
 }
 
-/// The rule that options ask for, `Decided` where they ask for none. Two `--losses` ask for no rule.
+/// The rule that options ask for, `Decided` where they ask for none. Two `--losses` ask for no
+/// rule.
 pub fn asked_rule<S: AsStr>(options: &[S]) -> Option<LossRule>
     ensures { (rule : LossRule)
         → (result ≡ Some rule) ↔ AskForRule rule (map S.text options.now) }

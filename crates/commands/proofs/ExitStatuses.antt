@@ -14,7 +14,8 @@ use Rattle.texts.specs.Run.{IsRunText, IsRunTextBy}
 use Rattle.engines.specs.Device.{inner_of}
 use Rattle.engines.specs.Following.{HasFollowCause, FollowsTrace}
 use Rattle.receiver.specs.declared.width.Width.{Width}
-use Rattle.texts.specs.Follow.{IsFollowed}
+use Rattle.texts.specs.declared.follow.settings.FollowSettings.{FollowSettings}
+use Rattle.texts.specs.Follow.{of_all_flows, IsFollowed}
 use Rattle.engines.specs.Fault.{status_of, exit_status_of}
 use Rattle.loss_rule.specs.declared.rule.LossRule.{LossRule}
 use Rattle.command_line.specs.Command.{AsksToJoin, AsksToReplay, AsksToReplayBy, AsksToRunByAlone, AsksToFollowAlone, AsksToMap}
@@ -108,14 +109,14 @@ follow_fault rule channels width (Some input) reader writer Usage wide cause = a
 follow_fault rule channels width (Some input) reader writer (Capture fault) wide cause = absurd cause
 
 -- and after a trace was followed
-SaysOf-followed : {R W : Type 0} (remaining : R → Option (List ℕ)) (contents : W → Option (List ℕ)) (rule : LossRule) (channels : ℕ) (events : Bool)
+SaysOf-followed : {R W : Type 0} (remaining : R → Option (List ℕ)) (contents : W → Option (List ℕ)) (rule : LossRule) (channels : ℕ) (settings : FollowSettings)
     (reader reader' : Device R) (writer writer' : Device W) (result : Result (Unit {0}) EngineFault)
-    → RunsFollowBy rule channels events remaining contents reader reader' writer writer' result
+    → RunsFollowBy rule channels settings remaining contents reader reader' writer writer' result
     → IfSome (remaining (inner_of reader)) (SaysOf (HasFollowed rule channels) (HasFollowFault channels) (exit_status_of result))
-SaysOf-followed remaining contents rule channels events reader reader' writer writer' (Ok done) ran =
-    SaysOf-written (HasFollowed rule channels) (IsFollowed rule ran.0 events) (HasFollowFault channels) (remaining (inner_of reader)) (contents (inner_of writer))
-    (contents (inner_of writer')) (λ input text is. (ran.0, events, text, ran.1, is)) ran.2.written
-SaysOf-followed remaining contents rule channels events reader reader' writer writer' (Err fault) ran =
+SaysOf-followed remaining contents rule channels settings reader reader' writer writer' (Ok done) ran =
+    SaysOf-written (HasFollowed rule channels) (IsFollowed rule ran.0 settings) (HasFollowFault channels) (remaining (inner_of reader)) (contents (inner_of writer))
+    (contents (inner_of writer')) (λ input text is. (ran.0, settings, text, ran.1, is)) ran.2.written
+SaysOf-followed remaining contents rule channels settings reader reader' writer writer' (Err fault) ran =
     follow_fault rule channels ran.0 (remaining (inner_of reader)) reader' writer' fault ran.1 ran.2.cause
 
 -- what the status says of a fault of a capture that is mapped
@@ -156,7 +157,8 @@ known_map remaining contents reader reader' writer writer' (Err Read) ran e = om
 known_map remaining contents reader reader' writer writer' (Err Write) ran e = omega (arith, e)
 known_map remaining contents reader reader' writer writer' (Err Usage) ran e = ran.cause
 
--- words that ask to join, to replay or to run by a rule alone are known: whatever comes of them, it is not usage
+-- words that ask to join, to replay or to run by a rule alone are known: whatever comes of them, it
+-- is not usage
 known_status : {R W : Type 0} (remaining : R → Option (List ℕ)) (contents : W → Option (List ℕ)) (IsText : List ℕ → List ℕ → Type 0) (IsFault : List ℕ → TextFault → Type 0)
     (reader reader' : Device R) (writer writer' : Device W) (result : Result (Unit {0}) EngineFault) → RunsEngine remaining contents IsText IsFault reader reader' writer writer' result
     → exit_status_of result ≢ 2
@@ -173,17 +175,17 @@ known_status remaining contents IsText IsFault reader reader' writer writer' (Er
 known_status remaining contents IsText IsFault reader reader' writer writer' (Err (Capture fault)) ran e = ran.cause
 
 -- so are those that ask to follow with no option but a rule and events
-known_followed : {R W : Type 0} (remaining : R → Option (List ℕ)) (contents : W → Option (List ℕ)) (rule : LossRule) (width : Width) (events : Bool) (reader reader' : Device R)
-    (writer writer' : Device W) (result : Result (Unit {0}) EngineFault) → FollowsTrace rule width events remaining contents reader reader' writer writer' result
+known_followed : {R W : Type 0} (remaining : R → Option (List ℕ)) (contents : W → Option (List ℕ)) (rule : LossRule) (width : Width) (settings : FollowSettings) (reader reader' : Device R)
+    (writer writer' : Device W) (result : Result (Unit {0}) EngineFault) → FollowsTrace rule width settings remaining contents reader reader' writer writer' result
     → exit_status_of result ≢ 2
-known_followed remaining contents rule width events reader reader' writer writer' (Ok done) ran e = omega (arith, e)
-known_followed remaining contents rule width events reader reader' writer writer' (Err (Trace fault)) ran e = omega (arith, e)
-known_followed remaining contents rule width events reader reader' writer writer' (Err (Cut fault)) ran e = ran.cause
-known_followed remaining contents rule width events reader reader' writer writer' (Err OutOfMemory) ran e = omega (arith, e)
-known_followed remaining contents rule width events reader reader' writer writer' (Err Read) ran e = omega (arith, e)
-known_followed remaining contents rule width events reader reader' writer writer' (Err Write) ran e = omega (arith, e)
-known_followed remaining contents rule width events reader reader' writer writer' (Err Usage) ran e = ran.cause
-known_followed remaining contents rule width events reader reader' writer writer' (Err (Capture fault)) ran e = ran.cause
+known_followed remaining contents rule width settings reader reader' writer writer' (Ok done) ran e = omega (arith, e)
+known_followed remaining contents rule width settings reader reader' writer writer' (Err (Trace fault)) ran e = omega (arith, e)
+known_followed remaining contents rule width settings reader reader' writer writer' (Err (Cut fault)) ran e = ran.cause
+known_followed remaining contents rule width settings reader reader' writer writer' (Err OutOfMemory) ran e = omega (arith, e)
+known_followed remaining contents rule width settings reader reader' writer writer' (Err Read) ran e = omega (arith, e)
+known_followed remaining contents rule width settings reader reader' writer writer' (Err Write) ran e = omega (arith, e)
+known_followed remaining contents rule width settings reader reader' writer writer' (Err Usage) ran e = ran.cause
+known_followed remaining contents rule width settings reader reader' writer writer' (Err (Capture fault)) ran e = ran.cause
 
 -- the status of an outcome is one of the table
 IsStatus-outcome : (result : Result (Unit {0}) EngineFault) → IsStatus (exit_status_of result)
@@ -262,13 +264,13 @@ SaysOfWords-outcome remaining contents words reader reader' writer writer' resul
       (obeyed.run_alone rule asks);
   follow = λ rule channels asks.
       elim (obeyed.follow rule channels asks) [
-        | inl ran ↦ SaysOf-followed remaining contents rule channels ran.0 reader reader' writer writer' result ran.2
+        | inl ran ↦ SaysOf-followed remaining contents rule channels ran.0 reader reader' writer writer' result ran.3
         | inr refused ↦
             SaysOf-above (HasFollowed rule channels) (HasFollowFault channels) (remaining (inner_of reader)) (exit_status_of result)
             (refused_status reader reader' writer writer' result refused)
       ];
   follow_is_known = λ rule events asks.
-      let ran = obeyed.follow_alone rule events asks in known_followed remaining contents rule ran.0 events reader reader' writer writer' result ran.2;
+      let ran = obeyed.follow_alone rule events asks in known_followed remaining contents rule ran.0 (of_all_flows events) reader reader' writer writer' result ran.2;
   map = λ asks. SaysOf-mapped remaining contents reader reader' writer writer' result (obeyed.map asks);
   map_is_known = λ asks. known_map remaining contents reader reader' writer writer' result (obeyed.map asks);
   usage = λ asks. refused_status reader reader' writer writer' result (obeyed.nothing asks);

@@ -33,6 +33,7 @@ use Rattle.command_line.proofs.AskedWithoutHelp.{map_without_help}
 use Rattle.command_line.proofs.CommandsApart.{commands_apart, cut_is_not_run, cut_is_not_replay, replay_is_not_run, follow_is_not_cut, follow_is_not_run, follow_is_not_replay, cut_is_not_map, replay_is_not_map, run_is_not_map, follow_is_not_map, maps_alone, join_is_another, join_is_not_cut, join_is_not_replay, join_is_not_run, join_is_not_follow, join_is_not_map}
 use Rattle.engines.proofs.WeakerTexts.{RunsEngine-weaker}
 use Rattle.engines.specs.Following.{HasFollowCause}
+use Rattle.texts.specs.Follow.{of_all_flows}
 use Rattle.receiver.specs.declared.width.Width.{Width}
 use Rattle.capture_engines.specs.Mapping.{HasMapCause, MapsCapture}
 use Rattle.commands.specs.Program.{AsksToReplayOnly, RunsReplay, AsksToCutOnly, AsksToRunOnly, AsksToRunByOnly, AsksToFollowOnly, AsksForNothing, RunsCut, RunsRun, RunsRunBy, RunsRunAlone, RunsFollowBy, RunsFollow, WritesHelp, Obeys}
@@ -93,7 +94,7 @@ module _ {R W : Type 0} (remaining : R → Option (List ℕ)) (contents : W → 
       → ((rule : LossRule) → AsksToRunByOnly rule words → RunsRunBy rule remaining contents reader reader' writer writer' result)
       → ((rule : LossRule) → AsksToRunByAlone rule words → RunsRunAlone rule remaining contents reader reader' writer writer' result)
       → ((rule : LossRule) (channels : ℕ) → ¬ AsksToFollow rule channels words)
-      → ((rule : LossRule) (events : Bool) → AsksToFollowAlone rule events words → RunsFollowBy rule channels_max events remaining contents reader reader' writer writer' result)
+      → ((rule : LossRule) (events : Bool) → AsksToFollowAlone rule events words → RunsFollowBy rule channels_max (of_all_flows events) remaining contents reader reader' writer writer' result)
       → ¬ AsksToMap words
       → ¬ AsksForNothing words → (¬ AsksToJoin words → HasNoHelpWord words) → Obeys remaining contents words reader reader' writer writer' result
   Obeys-engine IsText IsFault (Ok done) replay_same run_same ran joins cuts replays for_flows runs alone no_follow followed no_map something no_help = record {
@@ -198,7 +199,7 @@ module _ {R W : Type 0} (remaining : R → Option (List ℕ)) (contents : W → 
   -- words that ask to follow a trace
   Obeys-follow : (rule : LossRule) (channels : ℕ) (result : Result (Unit {0}) EngineFault) → AsksToFollow rule channels words → HasNoHelpWord words
       → RunsFollow rule channels words remaining contents reader reader' writer writer' result
-      → ((rule : LossRule) (events : Bool) → AsksToFollowAlone rule events words → RunsFollowBy rule channels_max events remaining contents reader reader' writer writer' result)
+      → ((rule : LossRule) (events : Bool) → AsksToFollowAlone rule events words → RunsFollowBy rule channels_max (of_all_flows events) remaining contents reader reader' writer writer' result)
       → ¬ AsksForNothing words → Obeys remaining contents words reader reader' writer writer' result
   Obeys-follow rule channels result asked no_help ran followed something = record {
     join = λ asks. absurd (join_is_another (codes "follow") join_is_not_follow words asks asked.0);
@@ -220,10 +221,10 @@ module _ {R W : Type 0} (remaining : R → Option (List ℕ)) (contents : W → 
     map = λ asks. absurd (commands_apart (codes "follow") (codes "map") follow_is_not_map words asked.0 (maps_alone words asks));
     nothing = λ asks. absurd (something asks);
     help = λ other asks. absurd (asks no_help);
-    flushed = ran.2.2.flushed;
-    no_cause = OnOk-weaker result ran.2.2.no_cause;
-    read_fault = λ is. followed_fault result is ran.2.2.cause;
-    write_fault = λ is. followed_write result is ran.2.2.cause;
+    flushed = ran.3.2.flushed;
+    no_cause = OnOk-weaker result ran.3.2.no_cause;
+    read_fault = λ is. followed_fault result is ran.3.2.cause;
+    write_fault = λ is. followed_write result is ran.3.2.cause;
     read_first = λ none _. absurd (none rule channels (asked, λ helps. absurd (no_help_asked helps)));
   } where
     OnOk-weaker : (result : Result (Unit {0}) EngineFault)
@@ -231,16 +232,16 @@ module _ {R W : Type 0} (remaining : R → Option (List ℕ)) (contents : W → 
     OnOk-weaker (Ok done) is = is.2
     OnOk-weaker (Err fault) is = tt
 
-    followed_fault : (result : Result (Unit {0}) EngineFault) → result ≡ Err Read → IfErr result (HasFollowCause ran.2.0 (remaining (inner_of reader)) reader' writer')
+    followed_fault : (result : Result (Unit {0}) EngineFault) → result ≡ Err Read → IfErr result (HasFollowCause ran.3.0 (remaining (inner_of reader)) reader' writer')
         → IsReadFault reader'
     followed_fault (Ok done) is cause = absurd cc
-    followed_fault (Err fault) is cause = let same : fault ≡ Read = cc in followed_reader ran.2.0 fault same cause
+    followed_fault (Err fault) is cause = let same : fault ≡ Read = cc in followed_reader ran.3.0 fault same cause
 
-    followed_write : (result : Result (Unit {0}) EngineFault) → result ≡ Err Write → IfErr result (HasFollowCause ran.2.0 (remaining (inner_of reader)) reader' writer')
+    followed_write : (result : Result (Unit {0}) EngineFault) → result ≡ Err Write → IfErr result (HasFollowCause ran.3.0 (remaining (inner_of reader)) reader' writer')
         → has_failed writer' ≡ true
     followed_write (Ok done) is cause = absurd cc
     followed_write (Err fault) is cause =
-        let same : fault ≡ Write = cc in subst (HasFollowCause ran.2.0 (remaining (inner_of reader)) reader' writer') same cause
+        let same : fault ≡ Write = cc in subst (HasFollowCause ran.3.0 (remaining (inner_of reader)) reader' writer') same cause
 
     no_help_asked : AsksForHelp words → ⊥
     no_help_asked helps =
@@ -304,8 +305,8 @@ module _ {R W : Type 0} (remaining : R → Option (List ℕ)) (contents : W → 
 
   -- and one that was read as following with no option but a rule and events
   performed_follow : (command : Command) (result : Result (Unit {0}) EngineFault) → Performs remaining contents command reader reader' writer writer' result
-      → ((rule : LossRule) (events : Bool) → AsksToFollowAlone rule events words → command ≡ Follow rule channels_max events)
-      → (rule : LossRule) (events : Bool) → AsksToFollowAlone rule events words → RunsFollowBy rule channels_max events remaining contents reader reader' writer writer' result
+      → ((rule : LossRule) (events : Bool) → AsksToFollowAlone rule events words → command ≡ Follow rule channels_max events All)
+      → (rule : LossRule) (events : Bool) → AsksToFollowAlone rule events words → RunsFollowBy rule channels_max (of_all_flows events) remaining contents reader reader' writer writer' result
   performed_follow command result ran follows rule events asks =
       subst (λ is. Performs remaining contents is reader reader' writer writer' result) (follows rule events asks) ran
 
@@ -321,7 +322,7 @@ module _ {R W : Type 0} (remaining : R → Option (List ℕ)) (contents : W → 
       → IsFresh reader → IsFresh writer → Asks words command → (AsksToJoin words → command ≡ Join) → (AsksToMap words → command ≡ Map)
       → ((rule : LossRule) → AsksToReplayBy rule words → command ≡ Replay rule All)
       → ((rule : LossRule) → AsksToRunByAlone rule words → command ≡ Run rule default_capacity default_capacity)
-      → ((rule : LossRule) (events : Bool) → AsksToFollowAlone rule events words → command ≡ Follow rule channels_max events)
+      → ((rule : LossRule) (events : Bool) → AsksToFollowAlone rule events words → command ≡ Follow rule channels_max events All)
       → Performs remaining contents command reader reader' writer writer' result
       → Obeys remaining contents words reader reader' writer writer' result
   Obeys-performed Join result replay_same run_same all_same unread unwritten asked joins maps replays runs follows ran =
@@ -367,8 +368,8 @@ module _ {R W : Type 0} (remaining : R → Option (List ℕ)) (contents : W → 
       (λ other channels asks. absurd (commands_apart (codes "follow") (codes "run") follow_is_not_run words asks.0 asked.0.0)) (performed_follow (Run rule mailbox ring) result ran follows)
       (λ asks. let e = maps asks in absurd cc)
       (λ nothing. nothing.0 (inr (inr (inr (inl (rule, asked.0)))))) (λ _. asked.1)
-  Obeys-performed (Follow rule channels events) result replay_same run_same all_same unread unwritten asked joins maps replays runs follows ran =
-      Obeys-follow rule channels result asked.0 asked.1 (events, asked.2, ran) (performed_follow (Follow rule channels events) result ran follows)
+  Obeys-performed (Follow rule channels events selected) result replay_same run_same all_same unread unwritten asked joins maps replays runs follows ran =
+      Obeys-follow rule channels result asked.0 asked.1 (record { events = events; selected = selected }, asked.2, asked.3, ran) (performed_follow (Follow rule channels events selected) result ran follows)
       (λ nothing. nothing.0 (inr (inr (inr (inr (inl (rule, channels, asked.0)))))))
   Obeys-performed Map result replay_same run_same all_same unread unwritten asked joins maps replays runs follows ran =
       Obeys-map result asked ran (λ nothing. nothing.0 (inr (inr (inr (inr (inr asked))))))
@@ -378,7 +379,8 @@ module _ {R W : Type 0} (remaining : R → Option (List ℕ)) (contents : W → 
       (λ rule channels asks. asks.1 asked) (λ rule events asks. let e = follows rule events asks in absurd cc) (λ asks. let e = maps asks in absurd cc)
       (λ nothing. nothing.1 asked) ran
 
--- words that were refused ask neither to join, nor for a map, nor to replay, nor to run or to follow by a rule alone, and nothing is read or written
+-- words that were refused ask neither to join, nor for a map, nor to replay, nor to run or to
+-- follow by a rule alone, and nothing is read or written
 pub Obeys-refused : {R W : Type 0} (remaining : R → Option (List ℕ)) (contents : W → Option (List ℕ)) (words : List (List ℕ)) (reader : Device R)
     (writer : Device W) (fault : UsageFault) → IsFresh reader → ¬ AsksToJoin words → ((rule : LossRule) → ¬ AsksToReplayBy rule words)
     → ((rule : LossRule) → ¬ AsksToRunByAlone rule words) → ((rule : LossRule) (events : Bool) → ¬ AsksToFollowAlone rule events words) → ¬ AsksToMap words

@@ -14,7 +14,7 @@ use Rattle.engines.specs.Device.{inner_of, has_failed, is_flushed, IsFresh}
 use Rattle.engines.specs.Transfer.{AppendsFront, IsLeftFlushed, IsReadFault, IsRead}
 use Rattle.engines.specs.Fault.{status_of, exit_status_of, fault_line}
 use Rattle.engines.specs.Engine.{engine_fault, RunsEngine}
-use Rattle.command_line.specs.Command.{IsCommand, last_replayed, AsksToJoin, AsksToCut, AsksToReplay, AsksToReplayBy, AsksToRun, AsksToRunBy, AsksToRunByAlone, AsksToFollow, AsksToFollowAlone, AsksToMap, AskForEvents, options_in, AsksForAnEngine, AsksForHelp, HasNoHelpWord}
+use Rattle.command_line.specs.Command.{IsCommand, last_replayed, last_followed, AsksToJoin, AsksToCut, AsksToReplay, AsksToReplayBy, AsksToRun, AsksToRunBy, AsksToRunByAlone, AsksToFollow, AsksToFollowAlone, AsksToMap, AskForEvents, options_in, AsksForAnEngine, AsksForHelp, HasNoHelpWord}
 use Rattle.command_line.specs.Channels.{channels_max}
 use Rattle.command_line.specs.Flows.{AskForFlows}
 use Rattle.command_line.specs.Losses.{AskForRule}
@@ -27,7 +27,8 @@ use Rattle.text_lines.specs.Lines.{lines_of}
 use Rattle.engines.specs.Following.{FollowsTrace}
 use Rattle.engines.specs.declared.fault.PlacedFault.{PlacedFault}
 use Rattle.capture_engines.specs.Mapping.{IsMapText, IsFaultyCapture, MapsCapture}
-use Rattle.texts.specs.Follow.{IsFollowed}
+use Rattle.texts.specs.declared.follow.settings.FollowSettings.{FollowSettings}
+use Rattle.texts.specs.Follow.{of_all_flows, IsFollowed}
 use Rattle.texts.specs.Trace.Line.{shape_of}
 use Rattle.texts.specs.Trace.Place.{nothing_said_in, trace_format}
 use Rattle.texts.specs.Join.{IsJoined, IsJoinFault}
@@ -113,25 +114,28 @@ RunsReplay rule words remaining contents reader reader' writer writer' result =
     (selected : Selection) × AskForFlows last_replayed selected (options_in words)
     × RunsEngine remaining contents (IsReplayedOf selected rule) IsReplayFault reader reader' writer writer' result
 
--- a receiver of this width follows a trace of so many channels: it has as many flows as one can have
+-- a receiver of this width follows a trace of so many channels, with the most flows it can have
 abbrev pub IsWidthOf : ℕ → Width → Type 0
 IsWidthOf channels width = (width.channels ≡ channels) × (width.flows ≡ most_flows)
 
--- a trace of so many channels was followed by a loss rule, with events or without
-abbrev pub RunsFollowBy : {R W : Type 0} → LossRule → ℕ → Bool → (R → Option (List ℕ)) → (W → Option (List ℕ)) → Device R → Device R → Device W → Device W → Result (Unit {0}) EngineFault → Type 0
-RunsFollowBy rule channels events remaining contents reader reader' writer writer' result =
-    (width : Width) × IsWidthOf channels width × FollowsTrace rule width events remaining contents reader reader' writer writer' result
+-- a trace of so many channels was followed by a loss rule, and this of it was told
+abbrev pub RunsFollowBy : {R W : Type 0} → LossRule → ℕ → FollowSettings → (R → Option (List ℕ)) → (W → Option (List ℕ)) → Device R → Device R → Device W → Device W → Result (Unit {0}) EngineFault → Type 0
+RunsFollowBy rule channels settings remaining contents reader reader' writer writer' result =
+    (width : Width) × IsWidthOf channels width × FollowsTrace rule width settings remaining contents reader reader' writer writer' result
 
--- so with events just if the words ask for them
+-- so with events just if the words ask for them, and of the flows for which they ask
 abbrev pub RunsFollow : {R W : Type 0} → LossRule → ℕ → List (List ℕ) → (R → Option (List ℕ)) → (W → Option (List ℕ)) → Device R → Device R → Device W → Device W → Result (Unit {0}) EngineFault → Type 0
 RunsFollow rule channels words remaining contents reader reader' writer writer' result =
-    (events : Bool) × AskForEvents events (options_in words) × RunsFollowBy rule channels events remaining contents reader reader' writer writer' result
+    (settings : FollowSettings) × AskForEvents settings.events (options_in words) × AskForFlows last_followed settings.selected (options_in words)
+    × RunsFollowBy rule channels settings remaining contents reader reader' writer writer' result
 
--- what comes of words, the program's name first, over a fresh reader and a fresh writer: `remaining` are the bytes that a reader is known
--- to have left, `contents` those that a writer is known to hold
+-- what comes of words, the program's name first, over a fresh reader and a fresh writer:
+-- `remaining` are the bytes that a reader is known to have left, `contents` those that a writer is
+-- known to hold
 pub record Obeys {R W : Type 0} (remaining : R → Option (List ℕ)) (contents : W → Option (List ℕ)) (words : List (List ℕ))
     (reader reader' : Device R) (writer writer' : Device W) (result : Result (Unit {0}) EngineFault) : Type 0 where
-  -- an engine keeps all its promises, words that ask for nothing do nothing, and where a word asks for help no engine runs
+  -- an engine keeps all its promises, words that ask for nothing do nothing, and where a word asks
+  -- for help no engine runs
   pub join : AsksToJoin words → RunsEngine remaining contents IsJoined IsJoinFault reader reader' writer writer' result
   pub cut : AsksToCutOnly words → RunsCut remaining contents reader reader' writer writer' result ⊎ IsRefused reader reader' writer writer' result
   pub replay : AsksToReplay words → RunsEngine remaining contents IsReplayed IsReplayFault reader reader' writer writer' result
@@ -151,7 +155,7 @@ pub record Obeys {R W : Type 0} (remaining : R → Option (List ℕ)) (contents 
       → RunsFollow rule channels words remaining contents reader reader' writer writer' result ⊎ IsRefused reader reader' writer writer' result
   -- and never refused where nothing but a rule and events is asked for
   pub follow_alone : (rule : LossRule) (events : Bool) → AsksToFollowAlone rule events words
-      → RunsFollowBy rule channels_max events remaining contents reader reader' writer writer' result
+      → RunsFollowBy rule channels_max (of_all_flows events) remaining contents reader reader' writer writer' result
   -- the map of a capture is written, which is never refused
   pub map : AsksToMap words → MapsCapture remaining contents reader reader' writer writer' result
   pub nothing : AsksForNothing words → IsRefused reader reader' writer writer' result
@@ -165,14 +169,14 @@ pub record Obeys {R W : Type 0} (remaining : R → Option (List ℕ)) (contents 
   -- and but where a trace is followed or a capture mapped no more is read than an engine reads
   pub read_first : ((rule : LossRule) (channels : ℕ) → ¬ AsksToFollowOnly rule channels words) → ¬ AsksToMap words → IfErr result (λ fault. fault ≢ Read → IsRead reader')
 
--- an outcome was reported: the line of its fault was written and flushed, or the writer failed and a front of it went out; without a fault
--- the writer was not used
+-- an outcome was reported: the line of its fault was written and flushed, or the writer failed and
+-- a front of it went out; without a fault the writer was not used
 abbrev pub IsReported : {W : Type 0} → (W → Option (List ℕ)) → Device W → Device W → Result (Unit {0}) EngineFault → Type 0
 IsReported contents writer writer' (Ok done) = writer' ≡ writer
 IsReported contents writer writer' (Err fault) = (written : Result (Unit {0}) WriteFault) × Writes contents (fault_line fault) writer writer' written
 
--- words, the program's name first, were obeyed over a fresh reader and a fresh writer; what came of it was reported to a third device, and
--- the status is that of what came of it
+-- words, the program's name first, were obeyed over a fresh reader and a fresh writer; what came of
+-- it was reported to a third device, and the status is that of what came of it
 pub record RunsWords {R W E : Type 0} (remaining : R → Option (List ℕ)) (contents : W → Option (List ℕ)) (reported : E → Option (List ℕ)) (words : List (List ℕ))
     (reader reader' : Device R) (writer writer' : Device W) (err err' : Device E) (status : ℕ) : Type 0 where
   pub outcome : Result (Unit {0}) EngineFault
@@ -180,7 +184,8 @@ pub record RunsWords {R W E : Type 0} (remaining : R → Option (List ℕ)) (con
   pub report : IsReported reported err err' outcome
   pub ends : status ≡ exit_status_of outcome
 
--- the words were obeyed over a fresh device on this reader and one on this writer, and this came of it, which was reported to a fresh device on a third
+-- the words were obeyed over a fresh device on this reader and one on this writer, and this came of
+-- it, which was reported to a fresh device on a third
 pub record ComesOf {R W E : Type 0} (remaining : R → Option (List ℕ)) (contents : W → Option (List ℕ)) (reported : E → Option (List ℕ)) (words : List (List ℕ))
     (reader : R) (writer : W) (err : E) (result : Result (Unit {0}) EngineFault) : Type 0 where
   pub input : Device R
@@ -225,7 +230,7 @@ HasRunReportBy rule input = (mailbox ring : ℕ) × (text : List ℕ) × (1 ≤ 
 
 -- some text may stand for a trace of so many channels that is followed by a loss rule
 abbrev pub HasFollowed : LossRule → ℕ → List ℕ → Type 0
-HasFollowed rule channels input = (width : Width) × (events : Bool) × (text : List ℕ) × IsWidthOf channels width × IsFollowed rule width events input text
+HasFollowed rule channels input = (width : Width) × (settings : FollowSettings) × (text : List ℕ) × IsWidthOf channels width × IsFollowed rule width settings input text
 
 -- a trace of so many channels that is followed has this fault
 abbrev pub HasFollowFault : ℕ → List ℕ → TextFault → Type 0

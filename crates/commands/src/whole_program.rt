@@ -26,7 +26,7 @@ use std::convert::AsStr;
 use std::io::{Read, Write};
 use std::sync::Wait;
 use std::thread::Threads;
-use texts::laws;
+use texts::{FollowSettings, laws};
 use uplink::{NoTap, Taps};
 
 /// Does what a command asks for: runs its engine between the reader and the writer, or writes the
@@ -63,11 +63,16 @@ fn perform<T: Threads + Wait + Copy + Send + 'static, R: Read, W: Write>(
             rule,
             channels,
             events,
+            flows,
         } => {
             let Ok(width) = Width::new(channels, MOST_FLOWS) else {
                 return Err(EngineFault::Usage);
             };
-            follow_text(rule, width, events, alloc, reader, out)
+            let settings = FollowSettings {
+                events,
+                selected: flows,
+            };
+            follow_text(rule, width, settings, alloc, reader, out)
         }
         Command::Map => map_capture(alloc, reader, out),
         Command::Help(text) => Ok(write_text(out, text.as_bytes())?),

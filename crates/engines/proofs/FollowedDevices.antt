@@ -10,6 +10,7 @@ use Rattle.text_lines.specs.Capacities.{default_capacity}
 use Rattle.text_lines.specs.declared.fault.TraceFault.{TraceFault}
 use Rattle.text_lines.specs.Format.{no_lines, IsFirstFaultyLine}
 use Rattle.text_lines.specs.Lines.{lines_of}
+use Rattle.texts.specs.declared.follow.settings.FollowSettings.{FollowSettings}
 use Rattle.texts.specs.Happened.{HappenedAt, HappenedBy}
 use Rattle.texts.specs.Follow.{told_lines, IsFollowed, IsFollowedSoFar}
 use Rattle.texts.specs.Trace.Line.{shape_of}
@@ -18,7 +19,7 @@ use Rattle.engines.specs.declared.device.Device.{Device}
 use Rattle.engines.specs.declared.fault.EngineFault.{EngineFault}
 use Rattle.engines.specs.declared.fault.EngineFault.TheVariants.{Trace, Cut, Capture, OutOfMemory, Read, Write, Usage}
 use Rattle.engines.specs.declared.follow.Follower.{Follower}
-use Rattle.engines.specs.Device.{inner_of, has_failed, given_of}
+use Rattle.engines.specs.Device.{inner_of, has_failed, given_of, is_flushed}
 use Rattle.engines.specs.Engine.{WritesText}
 use Rattle.engines.specs.Following.{IsBehind, IsTextOfFront, IsTextOfWhole, IsFollowedBefore, IsFollowedTill, HasFollowCause, FollowsTrace}
 use Rattle.engines.specs.Inside.Following.{IsEndFault, HasFollowedBytes, IsFollowFault, IsFollowFaultOr, WritesTill, EndsBy}
@@ -33,21 +34,27 @@ pub flushed_then : {W : Type 0} (a b c : Device W) → IsLeftFlushed a b → IsL
 flushed_then {W = W} a b c first (inl same) = subst (λ (device : Device W). IsLeftFlushed a device) (sym same) first
 flushed_then a b c first (inr flushed) = inr flushed
 
-module _ {R W : Type 0} (remaining : R → Option (List ℕ)) (contents : W → Option (List ℕ)) (rule : LossRule) (width : Width) (events : Bool) where
-  -- So far these bytes were read and followed, and what happened by their lines was written and flushed.
+-- so nothing waits to be flushed, if nothing did
+pub stays_flushed : {W : Type 0} (a b : Device W) → is_flushed a ≡ true → IsLeftFlushed a b → is_flushed b ≡ true
+stays_flushed a b before (inl same) = ap is_flushed same ∙ before
+stays_flushed a b before (inr flushed) = flushed
+
+module _ {R W : Type 0} (remaining : R → Option (List ℕ)) (contents : W → Option (List ℕ)) (rule : LossRule) (width : Width) (settings : FollowSettings) where
+  -- So far these bytes were read and followed, and what happened by their lines was written and
+  -- flushed.
   pub record FollowsSoFar (reader reader' : Device R) (writer writer' : Device W) (follower : Follower) : Type 0 where
     pub bytes : List ℕ
     pub told : List HappenedAt
-    pub followed : HasFollowedBytes rule width events bytes told follower
+    pub followed : HasFollowedBytes rule width settings bytes told follower
     pub read : Consumes (remaining (inner_of reader)) (remaining (inner_of reader')) bytes
-    pub wrote : Appends (contents (inner_of writer)) (contents (inner_of writer')) (flat_map (told_lines events) told)
+    pub wrote : Appends (contents (inner_of writer)) (contents (inner_of writer')) (flat_map (told_lines settings) told)
     pub flushed : IsLeftFlushed writer writer'
     pub sound : has_failed writer' ≡ has_failed writer
     pub read_sound : has_failed reader' ≡ has_failed reader
 
   module _ (reader : Device R) (writer : Device W) where
     -- nothing was read
-    pub far_nothing : (follower : Follower) → HasFollowedBytes rule width events [] [] follower → FollowsSoFar reader reader writer writer follower
+    pub far_nothing : (follower : Follower) → HasFollowedBytes rule width settings [] [] follower → FollowsSoFar reader reader writer writer follower
     far_nothing follower has = record {
       bytes = [];
       told = [];
@@ -60,7 +67,7 @@ module _ {R W : Type 0} (remaining : R → Option (List ℕ)) (contents : W → 
     }
 
     -- an allocation failed before anything was read
-    pub trace_refused : FollowsTrace rule width events remaining contents reader reader writer writer (Err OutOfMemory)
+    pub trace_refused : FollowsTrace rule width settings remaining contents reader reader writer writer (Err OutOfMemory)
     trace_refused = record {
       written = tt;
       above = λ other. ([], till, Appends-nil (contents (inner_of writer)));
@@ -70,10 +77,10 @@ module _ {R W : Type 0} (remaining : R → Option (List ℕ)) (contents : W → 
       cause = tt;
       no_cause = tt;
     } where
-      nothing : IsFollowedSoFar rule width events [] []
+      nothing : IsFollowedSoFar rule width settings [] []
       nothing = record { told = []; happened = nothing_happened rule width; numbered = numbered_nothing rule width (nothing_happened rule width); printed = refl }
 
-      till : IsFollowedTill rule width events (remaining (inner_of reader)) (remaining (inner_of reader)) OutOfMemory []
+      till : IsFollowedTill rule width settings (remaining (inner_of reader)) (remaining (inner_of reader)) OutOfMemory []
       till = record {
         bytes = [];
         read = Consumes-nil (remaining (inner_of reader));
@@ -91,25 +98,25 @@ module _ {R W : Type 0} (remaining : R → Option (List ℕ)) (contents : W → 
 
     module _ (reader' : Device R) (writer' : Device W) (follower : Follower) (far : FollowsSoFar reader reader' writer writer' follower) where
       abbrev text : List ℕ
-      text = flat_map (told_lines events) far.told
+      text = flat_map (told_lines settings) far.told
 
-      whole : IsTextOfWhole rule width events far.bytes text
-      whole = text_so_far rule width events far.bytes far.told follower far.followed
+      whole : IsTextOfWhole rule width settings far.bytes text
+      whole = text_so_far rule width settings far.bytes far.told follower far.followed
 
-      all_before : (piece : List ℕ) → length piece ≤ piece_limit → IsFollowedBefore rule width events (far.bytes ++ piece)
+      all_before : (piece : List ℕ) → length piece ≤ piece_limit → IsFollowedBefore rule width settings (far.bytes ++ piece)
       all_before piece few = record { before = far.bytes; piece = piece; parts = refl; few = few; text = text; whole = whole }
 
-      all_here : IsFollowedBefore rule width events far.bytes
-      all_here = subst (λ (bytes : List ℕ). IsFollowedBefore rule width events bytes) (append-nil far.bytes) (all_before [] (omega arith))
+      all_here : IsFollowedBefore rule width settings far.bytes
+      all_here = subst (λ (bytes : List ℕ). IsFollowedBefore rule width settings bytes) (append-nil far.bytes) (all_before [] (omega arith))
 
       till_here : (left : Option (List ℕ)) (fault : EngineFault) → Consumes (remaining (inner_of reader)) left far.bytes → IsBehind far.bytes whole.lines fault
-          → IsFollowedTill rule width events (remaining (inner_of reader)) left fault text
+          → IsFollowedTill rule width settings (remaining (inner_of reader)) left fault text
       till_here left fault read behind =
-          record { bytes = far.bytes; read = read; no_further = all_here; front = inl (front_of_whole rule width events fault far.bytes text whole behind); whole = λ is. whole }
+          record { bytes = far.bytes; read = read; no_further = all_here; front = inl (front_of_whole rule width settings fault far.bytes text whole behind); whole = λ is. whole }
 
       -- the reader failed, or gave as much as can be counted
       pub trace_unread : (reader'' : Device R) → Keeps (remaining (inner_of reader')) (remaining (inner_of reader''))
-          → (has_failed reader'' ≡ true) ⊎ (2 ^ 64 - 1 ≤ given_of reader'') → FollowsTrace rule width events remaining contents reader reader'' writer writer' (Err Read)
+          → (has_failed reader'' ≡ true) ⊎ (2 ^ 64 - 1 ≤ given_of reader'') → FollowsTrace rule width settings remaining contents reader reader'' writer writer' (Err Read)
       trace_unread reader'' kept cause = record {
         written = tt;
         above = λ other. (
@@ -126,8 +133,8 @@ module _ {R W : Type 0} (remaining : R → Option (List ℕ)) (contents : W → 
       }
 
       -- one text was written, and another behind it
-      both_written : (more : List HappenedAt) → text ++ flat_map (told_lines events) more ≡ flat_map (told_lines events) (far.told ++ more)
-      both_written more = sym (flat_map-append (told_lines events) far.told more)
+      both_written : (more : List HappenedAt) → text ++ flat_map (told_lines settings) more ≡ flat_map (told_lines settings) (far.told ++ more)
+      both_written more = sym (flat_map-append (told_lines settings) far.told more)
 
       module _ (reader'' : Device R) (piece : List ℕ) (read : Consumes (remaining (inner_of reader')) (remaining (inner_of reader'')) piece) where
         read_both : Consumes (remaining (inner_of reader)) (remaining (inner_of reader'')) (far.bytes ++ piece)
@@ -136,8 +143,8 @@ module _ {R W : Type 0} (remaining : R → Option (List ℕ)) (contents : W → 
 
         -- a piece was followed
         pub far_more : (writer'' : Device W) (follower' : Follower) (happened : List HappenedAt) → has_failed reader'' ≡ has_failed reader'
-            → HasFollowedBytes rule width events (far.bytes ++ piece) (far.told ++ happened) follower'
-            → Appends (contents (inner_of writer')) (contents (inner_of writer'')) (flat_map (told_lines events) happened) → IsLeftFlushed writer' writer''
+            → HasFollowedBytes rule width settings (far.bytes ++ piece) (far.told ++ happened) follower'
+            → Appends (contents (inner_of writer')) (contents (inner_of writer'')) (flat_map (told_lines settings) happened) → IsLeftFlushed writer' writer''
             → has_failed writer'' ≡ has_failed writer' → FollowsSoFar reader reader'' writer writer'' follower'
         far_more writer'' follower' happened read_sound followed wrote flushed sound = record {
           bytes = far.bytes ++ piece;
@@ -146,15 +153,15 @@ module _ {R W : Type 0} (remaining : R → Option (List ℕ)) (contents : W → 
           read = read_both;
           wrote =
               subst (λ (all : List ℕ). Appends (contents (inner_of writer)) (contents (inner_of writer'')) all) (both_written happened)
-              (Appends-trans (contents (inner_of writer)) (contents (inner_of writer')) (contents (inner_of writer'')) text (flat_map (told_lines events) happened) far.wrote wrote);
+              (Appends-trans (contents (inner_of writer)) (contents (inner_of writer')) (contents (inner_of writer'')) text (flat_map (told_lines settings) happened) far.wrote wrote);
           flushed = flushed_then writer writer' writer'' far.flushed flushed;
           sound = sound ∙ far.sound;
           read_sound = read_sound ∙ far.read_sound;
         }
 
         module _ (few : length piece ≤ piece_limit) (writer'' : Device W) (happened : List HappenedAt) where
-          till_there : (fault : EngineFault) → IsTextOfFront rule width events fault (far.bytes ++ piece) (flat_map (told_lines events) (far.told ++ happened)) → fault ≢ Read
-              → IsFollowedTill rule width events (remaining (inner_of reader)) (remaining (inner_of reader'')) fault (flat_map (told_lines events) (far.told ++ happened))
+          till_there : (fault : EngineFault) → IsTextOfFront rule width settings fault (far.bytes ++ piece) (flat_map (told_lines settings) (far.told ++ happened)) → fault ≢ Read
+              → IsFollowedTill rule width settings (remaining (inner_of reader)) (remaining (inner_of reader'')) fault (flat_map (told_lines settings) (far.told ++ happened))
           till_there fault front other = record { bytes = far.bytes ++ piece; read = read_both; no_further = all_before piece few; front = inl front; whole = λ is. absurd (other is) }
 
           -- of what is known the first faulty line
@@ -178,17 +185,17 @@ module _ {R W : Type 0} (remaining : R → Option (List ℕ)) (contents : W → 
           cause_of (Capture fault) is = absurd is
 
           -- a line of the piece is at fault, or an allocation failed
-          stopped_at : (fault : EngineFault) → IsTextOfFront rule width events fault (far.bytes ++ piece) (flat_map (told_lines events) (far.told ++ happened))
+          stopped_at : (fault : EngineFault) → IsTextOfFront rule width settings fault (far.bytes ++ piece) (flat_map (told_lines settings) (far.told ++ happened))
               → fault ≢ Write → fault ≢ Read → IsFollowFault width (far.bytes ++ piece) fault
-              → Appends (contents (inner_of writer')) (contents (inner_of writer'')) (flat_map (told_lines events) happened) × IsLeftFlushed writer' writer''
-              × (has_failed writer'' ≡ has_failed writer') → FollowsTrace rule width events remaining contents reader reader'' writer writer'' (Err fault)
+              → Appends (contents (inner_of writer')) (contents (inner_of writer'')) (flat_map (told_lines settings) happened) × IsLeftFlushed writer' writer''
+              × (has_failed writer'' ≡ has_failed writer') → FollowsTrace rule width settings remaining contents reader reader'' writer writer'' (Err fault)
           stopped_at fault front no_write no_read is wrote = record {
             written = tt;
             above = λ other. (
-              flat_map (told_lines events) (far.told ++ happened),
+              flat_map (told_lines settings) (far.told ++ happened),
               till_there fault front no_read,
               subst (λ (all : List ℕ). Appends (contents (inner_of writer)) (contents (inner_of writer'')) all) (both_written happened)
-                  (Appends-trans (contents (inner_of writer)) (contents (inner_of writer')) (contents (inner_of writer'')) text (flat_map (told_lines events) happened) far.wrote wrote.0),
+                  (Appends-trans (contents (inner_of writer)) (contents (inner_of writer')) (contents (inner_of writer'')) text (flat_map (told_lines settings) happened) far.wrote wrote.0),
             );
             write_fault = λ written. absurd (no_write cc);
             flushed = tt;
@@ -197,9 +204,9 @@ module _ {R W : Type 0} (remaining : R → Option (List ℕ)) (contents : W → 
             no_cause = tt;
           }
 
-          pub trace_stopped : (fault : EngineFault) → IsTextOfFront rule width events fault (far.bytes ++ piece) (flat_map (told_lines events) (far.told ++ happened))
+          pub trace_stopped : (fault : EngineFault) → IsTextOfFront rule width settings fault (far.bytes ++ piece) (flat_map (told_lines settings) (far.told ++ happened))
               → IsFollowFaultOr contents width (far.bytes ++ piece) fault
-              → WritesTill contents writer' writer'' (flat_map (told_lines events) happened) fault → FollowsTrace rule width events remaining contents reader reader'' writer writer'' (Err fault)
+              → WritesTill contents writer' writer'' (flat_map (told_lines settings) happened) fault → FollowsTrace rule width settings remaining contents reader reader'' writer writer'' (Err fault)
           trace_stopped (Trace fault) front is wrote = stopped_at (Trace fault) front (λ e. absurd cc) (λ e. absurd cc) is wrote
           trace_stopped (Cut fault) front is wrote = absurd is
           trace_stopped OutOfMemory front is wrote = stopped_at OutOfMemory front (λ e. absurd cc) (λ e. absurd cc) is wrote
@@ -210,10 +217,10 @@ module _ {R W : Type 0} (remaining : R → Option (List ℕ)) (contents : W → 
             written = tt;
             above = λ other. absurd (other refl);
             write_fault = λ _. (
-              flat_map (told_lines events) (far.told ++ happened),
+              flat_map (told_lines settings) (far.told ++ happened),
               inr (till_there Write front (λ e. absurd cc)),
               subst (λ (all : List ℕ). AppendsFront (contents (inner_of writer)) (contents (inner_of writer'')) all) (both_written happened)
-                  (AppendsFront-behind (contents (inner_of writer)) (contents (inner_of writer')) (contents (inner_of writer'')) text (flat_map (told_lines events) happened) far.wrote wrote.0),
+                  (AppendsFront-behind (contents (inner_of writer)) (contents (inner_of writer')) (contents (inner_of writer'')) text (flat_map (told_lines settings) happened) far.wrote wrote.0),
             );
             flushed = tt;
             flushed_above = λ other. absurd (other refl);
@@ -237,12 +244,12 @@ module _ {R W : Type 0} (remaining : R → Option (List ℕ)) (contents : W → 
 
         -- all was followed and written
         pub trace_followed : (writer'' : Device W) (done : Unit {0}) (rest : List ℕ) → has_failed reader ≡ false → has_failed writer ≡ false
-            → has_failed reader'' ≡ has_failed reader' → IsFollowed rule width events far.bytes (text ++ rest)
+            → has_failed reader'' ≡ has_failed reader' → IsFollowed rule width settings far.bytes (text ++ rest)
             → Appends (contents (inner_of writer')) (contents (inner_of writer'')) rest → IsLeftFlushed writer' writer'' → has_failed writer'' ≡ has_failed writer'
-            → FollowsTrace rule width events remaining contents reader reader'' writer writer'' (Ok done)
+            → FollowsTrace rule width settings remaining contents reader reader'' writer writer'' (Ok done)
         trace_followed writer'' done rest read_sound sound kept followed wrote flushed writes = record {
           written =
-              all_of (WritesText (IsFollowed rule width events) (contents (inner_of writer)) (contents (inner_of writer''))) (
+              all_of (WritesText (IsFollowed rule width settings) (contents (inner_of writer)) (contents (inner_of writer''))) (
                 text ++ rest,
                 followed,
                 Appends-trans (contents (inner_of writer)) (contents (inner_of writer')) (contents (inner_of writer'')) text rest far.wrote wrote,
@@ -258,10 +265,10 @@ module _ {R W : Type 0} (remaining : R → Option (List ℕ)) (contents : W → 
         -- the last line is at fault, or an allocation failed
         ended_at : (fault : EngineFault) → IsEndFault width far.bytes fault → fault ≢ Write
             → HasFollowCause width (remaining (inner_of reader)) reader'' writer' fault
-            → FollowsTrace rule width events remaining contents reader reader'' writer writer' (Err fault)
+            → FollowsTrace rule width settings remaining contents reader reader'' writer writer' (Err fault)
         ended_at fault is no_write cause = record {
           written = tt;
-          above = λ other. (text, till_here (remaining (inner_of reader'')) fault read_all (behind_last rule width events far.bytes text fault whole is), far.wrote);
+          above = λ other. (text, till_here (remaining (inner_of reader'')) fault read_all (behind_last rule width settings far.bytes text fault whole is), far.wrote);
           write_fault = λ written. absurd (no_write cc);
           flushed = tt;
           flushed_above = λ other. far.flushed;
@@ -271,8 +278,8 @@ module _ {R W : Type 0} (remaining : R → Option (List ℕ)) (contents : W → 
 
         -- the lines of all that was read were followed
         till_end : (fault : EngineFault) → (fault ≡ OutOfMemory) ⊎ (fault ≡ Write) → fault ≢ Read → (all : List ℕ)
-            → IsFollowedSoFar rule width events (lines_of far.bytes) all
-            → IsFollowedTill rule width events (remaining (inner_of reader)) (remaining (inner_of reader'')) fault all
+            → IsFollowedSoFar rule width settings (lines_of far.bytes) all
+            → IsFollowedTill rule width settings (remaining (inner_of reader)) (remaining (inner_of reader'')) fault all
         till_end fault closing other all followed = record {
           bytes = far.bytes;
           read = read_all;
@@ -281,15 +288,15 @@ module _ {R W : Type 0} (remaining : R → Option (List ℕ)) (contents : W → 
           whole = λ is. absurd (other is);
         }
 
-        pub trace_ended : (writer'' : Device W) (fault : EngineFault) → EndsBy contents rule width events far.bytes far.told writer' writer'' fault
-            → FollowsTrace rule width events remaining contents reader reader'' writer writer'' (Err fault)
+        pub trace_ended : (writer'' : Device W) (fault : EngineFault) → EndsBy contents rule width settings far.bytes far.told writer' writer'' fault
+            → FollowsTrace rule width settings remaining contents reader reader'' writer writer'' (Err fault)
         trace_ended writer'' (Trace fault) by =
-            subst (λ (device : Device W). FollowsTrace rule width events remaining contents reader reader'' writer device (Err (Trace fault))) (sym by.0)
+            subst (λ (device : Device W). FollowsTrace rule width settings remaining contents reader reader'' writer device (Err (Trace fault))) (sym by.0)
             (ended_at (Trace fault) by.1 (λ e. absurd cc)
             (all_of (λ input. length input < 2 ^ 64 → IsFirstFaultyLine trace_format (nothing_said_in (shape_of width default_capacity)) (lines_of input) fault) by.1))
         trace_ended writer'' (Cut fault) by = absurd by.1
         trace_ended writer'' OutOfMemory (inl same) =
-            subst (λ (device : Device W). FollowsTrace rule width events remaining contents reader reader'' writer device (Err OutOfMemory)) (sym same)
+            subst (λ (device : Device W). FollowsTrace rule width settings remaining contents reader reader'' writer device (Err OutOfMemory)) (sym same)
             (ended_at OutOfMemory tt (λ e. absurd cc) tt)
         trace_ended writer'' OutOfMemory (inr by) = record {
           written = tt;
@@ -313,7 +320,7 @@ module _ {R W : Type 0} (remaining : R → Option (List ℕ)) (contents : W → 
           write_fault = λ _. (
             text ++ by.0,
             elim by.1 [
-              | inl all ↦ inl (all_of (λ input. IsFollowed rule width events input (text ++ by.0)) all)
+              | inl all ↦ inl (all_of (λ input. IsFollowed rule width settings input (text ++ by.0)) all)
               | inr lines ↦ inr (till_end Write (inr refl) (λ e. absurd cc) (text ++ by.0) lines)
             ],
             AppendsFront-behind (contents (inner_of writer)) (contents (inner_of writer')) (contents (inner_of writer'')) text by.0 far.wrote by.2,
@@ -328,9 +335,9 @@ module _ {R W : Type 0} (remaining : R → Option (List ℕ)) (contents : W → 
         pub trace_finished : (writer'' : Device W) (result : Result (Unit {0}) EngineFault) → has_failed reader ≡ false → has_failed writer ≡ false
             → has_failed reader'' ≡ has_failed reader'
             → MatchResult result
-            (λ _. (rest : List ℕ) × IsFollowed rule width events far.bytes (text ++ rest)
+            (λ _. (rest : List ℕ) × IsFollowed rule width settings far.bytes (text ++ rest)
             × Appends (contents (inner_of writer')) (contents (inner_of writer'')) rest × IsLeftFlushed writer' writer'' × (has_failed writer'' ≡ has_failed writer'))
-            (λ fault. EndsBy contents rule width events far.bytes far.told writer' writer'' fault)
-            → FollowsTrace rule width events remaining contents reader reader'' writer writer'' result
+            (λ fault. EndsBy contents rule width settings far.bytes far.told writer' writer'' fault)
+            → FollowsTrace rule width settings remaining contents reader reader'' writer writer'' result
         trace_finished writer'' (Ok done) read_sound sound kept ends = trace_followed writer'' done ends.0 read_sound sound kept ends.1 ends.2 ends.3 ends.4
         trace_finished writer'' (Err fault) read_sound sound kept ends = trace_ended writer'' fault ends

@@ -13,12 +13,12 @@ use Rattle.text_lines.specs.Format.{IsRead}
 use Rattle.text_lines.specs.Lines.{lines_of}
 use Rattle.text_lines.specs.Putting.{Puts}
 use Rattle.consumer.specs.declared.given.Given.{Given}
+use Rattle.texts.specs.declared.follow.settings.FollowSettings.{FollowSettings}
 use Rattle.texts.specs.declared.follow.Followed.{Followed}
 use Rattle.texts.specs.declared.follow.happening.Happening.{Happening}
 use Rattle.texts.specs.declared.follow.happening.Happening.TheVariants.{Gave}
-use Rattle.texts.specs.Happening.{given_line, happening_lines}
 use Rattle.texts.specs.Happened.{HasHappened, HappenedBy, HappenedAt, happening_of, AreNumbered}
-use Rattle.texts.specs.Follow.{told_lines, closed_lines, end_text, IsFollowed, IsFollowedTo, IsFollowedSoFar}
+use Rattle.texts.specs.Follow.{given_told, lines_told, told_lines, closed_lines, end_text, IsFollowed, IsFollowedTo, IsFollowedSoFar}
 use Rattle.texts.specs.Trace.Line.{shape_of}
 use Rattle.texts.specs.Trace.Place.{nothing_said_in, trace_format}
 use Rattle.texts.specs.Inside.Followed.{HasFollowedLines, IsAllPut, PutsHappened, with_told}
@@ -42,14 +42,14 @@ use Rattle.text_lines.proofs.PutTexts.{puts-nothing}
 
 -- ---- all lines were taken
 
-module _ (rule : LossRule) (width : Width) (events : Bool) (bytes : List ℕ) where
+module _ (rule : LossRule) (width : Width) (settings : FollowSettings) (bytes : List ℕ) where
   -- what is told besides what was told of the lines that are ended happens by the last one
-  pub numbered_end : (told : List HappenedAt) (follower : Follower) (line : ℕ) → HasFollowedBytes rule width events bytes told follower → IsLastLine follower line
+  pub numbered_end : (told : List HappenedAt) (follower : Follower) (line : ℕ) → HasFollowedBytes rule width settings bytes told follower → IsLastLine follower line
       → (happened : List Happening) → HappenedBy rule width (lines_of bytes) (map happening_of told ++ happened)
       → AreNumbered rule width (lines_of bytes) (told ++ all_at line happened)
   numbered_end told follower line has last happened by =
       let are = has.taken.1 in
-      let number = last rule width events bytes told has in
+      let number = last rule width settings bytes told has in
       let all = lines_with_last bytes are.lines follower.lines.unfinished are.parts in
       let short = one_at_most follower.lines.unfinished in
       let long = ap length all ∙ length-append are.lines (if length follower.lines.unfinished == 0 then [] else follower.lines.unfinished ∷ []) in
@@ -64,9 +64,9 @@ module _ (rule : LossRule) (width : Width) (events : Bool) (bytes : List ℕ) wh
         by_flag true = omega arith
         by_flag false = omega arith
 
-  module _ (told : List HappenedAt) (ended : EndedTrace) (has : HasEnded rule width events bytes told ended) where
+  module _ (told : List HappenedAt) (ended : EndedTrace) (has : HasEnded rule width settings bytes told ended) where
     -- of a trace of which nothing is pending the text of all lines was told
-    pub text_of_lines : IsAllPut ended.input.taker → IsFollowedSoFar rule width events (lines_of bytes) (flat_map (told_lines events) told)
+    pub text_of_lines : IsAllPut ended.input.taker → IsFollowedSoFar rule width settings (lines_of bytes) (flat_map (told_lines settings) told)
     text_of_lines put =
         let by =
         happened_by rule width (map happening_of told) (lines_of bytes) has.state ended.input.width ended.input.rule ended.input.setup ended.input.taker has.read
@@ -80,11 +80,11 @@ module _ (rule : LossRule) (width : Width) (events : Bool) (bytes : List ℕ) wh
         }
 
     -- what was pending was told besides
-    pub ended_told : (ended' : EndedTrace) (happened : List Happening) → ended'.events ≡ ended.events → ended'.line ≡ ended.line
+    pub ended_told : (ended' : EndedTrace) (happened : List Happening) → ended'.settings ≡ ended.settings → ended'.line ≡ ended.line
         → HasFollowedLines (with_told has.state happened) ended'.input.width ended'.input.rule ended'.input.setup ended'.input.taker
-        → HasEnded rule width events bytes (told ++ all_at ended.line happened) ended'
-    ended_told ended' happened same_events same_line stands = record {
-      events_are = same_events ∙ has.events_are;
+        → HasEnded rule width settings bytes (told ++ all_at ended.line happened) ended'
+    ended_told ended' happened same_settings same_line stands = record {
+      settings_are = same_settings ∙ has.settings_are;
       state = with_told has.state happened;
       read =
           subst (λ (all : List Happening). IsRead taking_format (nothing_taken all rule width) (lines_of bytes) (with_told has.state happened))
@@ -102,18 +102,18 @@ module _ (rule : LossRule) (width : Width) (events : Bool) (bytes : List ℕ) wh
 
     -- so where it was put
     pub pending_told : {T : Type 0} (after : T → List ℕ → T → Type 0) (out out' : T) (ended' : EndedTrace) (put : Result (Unit {0}) AllocError)
-        → OnOk put (PutsHappened after ended.line ended.events ended.input.width ended.input.rule ended.input.setup ended.input.taker out
+        → OnOk put (PutsHappened after ended.line ended.settings ended.input.width ended.input.rule ended.input.setup ended.input.taker out
         ended'.input.width ended'.input.rule ended'.input.setup ended'.input.taker out') → OnErr put (out' ≡ out)
-        → ended'.events ≡ ended.events → ended'.line ≡ ended.line
-        → (more : List HappenedAt) × Puts after out (flat_map (told_lines events) more) out'
-        × MatchResult put (λ _. HasEnded rule width events bytes (told ++ more) ended' × IsAllPut ended'.input.taker) (λ _. more ≡ [])
-    pending_told after out out' ended' (Ok done) put same same_events same_line = (
+        → ended'.settings ≡ ended.settings → ended'.line ≡ ended.line
+        → (more : List HappenedAt) × Puts after out (flat_map (told_lines settings) more) out'
+        × MatchResult put (λ _. HasEnded rule width settings bytes (told ++ more) ended' × IsAllPut ended'.input.taker) (λ _. more ≡ [])
+    pending_told after out out' ended' (Ok done) put same same_settings same_line = (
       all_at ended.line put.happened,
-      subst (λ (text : List ℕ). Puts after out text out') (sym (lines_at events ended.line put.happened))
-          (subst (λ (told_of : Bool). Puts after out (flat_map (happening_lines told_of ended.line) put.happened) out') has.events_are put.put),
-      (ended_told ended' put.happened same_events same_line (put.told has.state has.stands), put.none),
+      subst (λ (text : List ℕ). Puts after out text out') (sym (lines_at settings ended.line put.happened))
+          (subst (λ (told_of : FollowSettings). Puts after out (flat_map (lines_told told_of ended.line) put.happened) out') has.settings_are put.put),
+      (ended_told ended' put.happened same_settings same_line (put.told has.state has.stands), put.none),
     )
-    pending_told {T} after out out' ended' (Err none) put same same_events same_line =
+    pending_told {T} after out out' ended' (Err none) put same same_settings same_line =
         ([], subst (λ (now : T). Puts after out [] now) (sym same) (puts-nothing after out), refl)
 
     -- the receiver was closed
@@ -129,32 +129,32 @@ module _ (rule : LossRule) (width : Width) (events : Bool) (bytes : List ℕ) wh
         )
 
     printed_as : (line : ℕ) (last : List Happening) (rest : List Given) (end : Followed) → end.happened.items ≡ last ++ map Gave rest
-        → flat_map (told_lines events) told ++ end_text events line end
-        ≡ flat_map (told_lines events) (told ++ all_at line last) ++ flat_map given_line rest ++ closed_lines end.setup end.closed
+        → flat_map (told_lines settings) told ++ end_text settings line end
+        ≡ flat_map (told_lines settings) (told ++ all_at line last) ++ flat_map (given_told settings.selected) rest ++ closed_lines settings.selected end.setup end.closed
     printed_as line last rest end are =
-        let closed = closed_lines end.setup end.closed in
-        let before = flat_map (told_lines events) told in
-        let lasts = flat_map (happening_lines events line) last in
-        let left : flat_map (happening_lines events line) end.happened.items ≡ lasts ++ flat_map given_line rest =
-        ap (flat_map (happening_lines events line)) are ∙ flat_map-append (happening_lines events line) last (map Gave rest)
-        ∙ ap (λ text. lasts ++ text) (lines_given events line rest) in
-        let all : flat_map (told_lines events) (told ++ all_at line last) ≡ before ++ lasts =
-        flat_map-append (told_lines events) told (all_at line last) ∙ ap (λ text. before ++ text) (lines_at events line last) in
+        let closed = closed_lines settings.selected end.setup end.closed in
+        let before = flat_map (told_lines settings) told in
+        let lasts = flat_map (lines_told settings line) last in
+        let left : flat_map (lines_told settings line) end.happened.items ≡ lasts ++ flat_map (given_told settings.selected) rest =
+        ap (flat_map (lines_told settings line)) are ∙ flat_map-append (lines_told settings line) last (map Gave rest)
+        ∙ ap (λ text. lasts ++ text) (lines_given settings line rest) in
+        let all : flat_map (told_lines settings) (told ++ all_at line last) ≡ before ++ lasts =
+        flat_map-append (told_lines settings) told (all_at line last) ∙ ap (λ text. before ++ text) (lines_at settings line last) in
         ap (λ text. before ++ (text ++ closed)) left
-        ∙ sym (append_assoc before (lasts ++ flat_map given_line rest) closed)
-        ∙ ap (λ text. text ++ closed) (sym (append_assoc before lasts (flat_map given_line rest)))
-        ∙ ap (λ text. (text ++ flat_map given_line rest) ++ closed) (sym all)
+        ∙ sym (append_assoc before (lasts ++ flat_map (given_told settings.selected) rest) closed)
+        ∙ ap (λ text. text ++ closed) (sym (append_assoc before lasts (flat_map (given_told settings.selected) rest)))
+        ∙ ap (λ text. (text ++ flat_map (given_told settings.selected) rest) ++ closed) (sym all)
 
     -- the text of all that was followed
     pub followed_text : (end : Followed) → IsFollowedTo has.state.rule has.state.width has.state.said has.state.state end
-        → IsFollowed rule width events bytes (flat_map (told_lines events) told ++ end_text ended.events ended.line end)
+        → IsFollowed rule width settings bytes (flat_map (told_lines settings) told ++ end_text ended.settings ended.line end)
     followed_text end to_end =
         let closed = followed_to end to_end in
         let to = closed.1 in
         let told_now = told ++ all_at ended.line to.last in
         let happened =
         subst (λ (all : List Happening). HasHappened (made_of rule width.channels end.setup) to.handed to.given all) (sym (all_of told ended.line to.last)) to.happened in
-        subst (λ (by : Bool). IsFollowed rule width events bytes (flat_map (told_lines events) told ++ end_text by ended.line end)) (sym has.events_are)
+        subst (λ (by : FollowSettings). IsFollowed rule width settings bytes (flat_map (told_lines settings) told ++ end_text by ended.line end)) (sym has.settings_are)
         (record {
           said = has.state.said;
           read = closed.0;
@@ -191,27 +191,27 @@ module _ (rule : LossRule) (width : Width) (events : Bool) (bytes : List ℕ) wh
 
 -- ---- what was pending, and the rest
 
-module _ {W : Type 0} (contents : W → Option (List ℕ)) (writer writer' : Device W) (rule : LossRule) (width : Width) (events : Bool) (bytes : List ℕ)
+module _ {W : Type 0} (contents : W → Option (List ℕ)) (writer writer' : Device W) (rule : LossRule) (width : Width) (settings : FollowSettings) (bytes : List ℕ)
     (told : List HappenedAt) where
-  both_texts : (more : List HappenedAt) → flat_map (told_lines events) (told ++ more) ≡ flat_map (told_lines events) told ++ flat_map (told_lines events) more
-  both_texts more = flat_map-append (told_lines events) told more
+  both_texts : (more : List HappenedAt) → flat_map (told_lines settings) (told ++ more) ≡ flat_map (told_lines settings) told ++ flat_map (told_lines settings) more
+  both_texts more = flat_map-append (told_lines settings) told more
 
   -- the writer failed at what was pending
   pub pending_unwritten : (more : List HappenedAt) (ended' : EndedTrace) (fault : WriteFault) (put : Result (Unit {0}) AllocError)
-      → IsWritten contents (flat_map (told_lines events) more) writer writer' (Err fault)
-      → MatchResult put (λ _. HasEnded rule width events bytes (told ++ more) ended' × IsAllPut ended'.input.taker) (λ _. more ≡ [])
-      → PendsBy contents rule width events bytes told writer writer' Write
+      → IsWritten contents (flat_map (told_lines settings) more) writer writer' (Err fault)
+      → MatchResult put (λ _. HasEnded rule width settings bytes (told ++ more) ended' × IsAllPut ended'.input.taker) (λ _. more ≡ [])
+      → PendsBy contents rule width settings bytes told writer writer' Write
   pending_unwritten more ended' fault (Ok done) wrote has = (
-    flat_map (told_lines events) more,
-    subst (λ (text : List ℕ). IsFollowedSoFar rule width events (lines_of bytes) text) (both_texts more)
-        (text_of_lines rule width events bytes (told ++ more) ended' has.0 has.1),
+    flat_map (told_lines settings) more,
+    subst (λ (text : List ℕ). IsFollowedSoFar rule width settings (lines_of bytes) text) (both_texts more)
+        (text_of_lines rule width settings bytes (told ++ more) ended' has.0 has.1),
     wrote.front,
     wrote.failed,
   )
-  pending_unwritten more ended' fault (Err none) wrote is = absurd (wrote.some (ap (flat_map (told_lines events)) is))
+  pending_unwritten more ended' fault (Err none) wrote is = absurd (wrote.some (ap (flat_map (told_lines settings)) is))
 
   -- by which fault the end was not followed
-  pub ends_by : (fault : EngineFault) → writer' ≡ writer → IsEndFault width bytes fault → EndsBy contents rule width events bytes told writer writer' fault
+  pub ends_by : (fault : EngineFault) → writer' ≡ writer → IsEndFault width bytes fault → EndsBy contents rule width settings bytes told writer writer' fault
   ends_by (Trace fault) same is = (same, is)
   ends_by (Cut fault) same is = absurd is
   ends_by OutOfMemory same is = inl same
@@ -220,8 +220,8 @@ module _ {W : Type 0} (contents : W → Option (List ℕ)) (writer writer' : Dev
   ends_by Usage same is = absurd is
   ends_by (Capture fault) same is = absurd is
 
-  pub ends_pending : (fault : EngineFault) → PendsBy contents rule width events bytes told writer writer' fault
-      → EndsBy contents rule width events bytes told writer writer' fault
+  pub ends_pending : (fault : EngineFault) → PendsBy contents rule width settings bytes told writer writer' fault
+      → EndsBy contents rule width settings bytes told writer writer' fault
   ends_pending (Trace fault) by = absurd by
   ends_pending (Cut fault) by = absurd by
   ends_pending OutOfMemory by = inl by
@@ -230,34 +230,34 @@ module _ {W : Type 0} (contents : W → Option (List ℕ)) (writer writer' : Dev
   ends_pending Usage by = absurd by
   ends_pending (Capture fault) by = absurd by
 
-  module _ (more : List HappenedAt) (ended : EndedTrace) (has : HasEnded rule width events bytes (told ++ more) ended) (put : IsAllPut ended.input.taker)
-      (wrote : Appends (contents (inner_of writer)) (contents (inner_of writer')) (flat_map (told_lines events) more)) (flushed : IsLeftFlushed writer writer')
+  module _ (more : List HappenedAt) (ended : EndedTrace) (has : HasEnded rule width settings bytes (told ++ more) ended) (put : IsAllPut ended.input.taker)
+      (wrote : Appends (contents (inner_of writer)) (contents (inner_of writer')) (flat_map (told_lines settings) more)) (flushed : IsLeftFlushed writer writer')
       (sound : has_failed writer' ≡ has_failed writer) (writer'' : Device W) where
     -- what was pending, and then the rest
-    rest_of : (rest : List ℕ) → IsFollowed rule width events bytes (flat_map (told_lines events) (told ++ more) ++ rest)
-        → IsFollowed rule width events bytes (flat_map (told_lines events) told ++ (flat_map (told_lines events) more ++ rest))
+    rest_of : (rest : List ℕ) → IsFollowed rule width settings bytes (flat_map (told_lines settings) (told ++ more) ++ rest)
+        → IsFollowed rule width settings bytes (flat_map (told_lines settings) told ++ (flat_map (told_lines settings) more ++ rest))
     rest_of rest is =
-        subst (λ (text : List ℕ). IsFollowed rule width events bytes text)
-        (ap (λ (text : List ℕ). text ++ rest) (both_texts more) ∙ append_assoc (flat_map (told_lines events) told) (flat_map (told_lines events) more) rest) is
+        subst (λ (text : List ℕ). IsFollowed rule width settings bytes text)
+        (ap (λ (text : List ℕ). text ++ rest) (both_texts more) ∙ append_assoc (flat_map (told_lines settings) told) (flat_map (told_lines settings) more) rest) is
 
-    closes_by : (fault : EngineFault) → ClosesBy contents rule width events bytes (told ++ more) writer' writer'' fault
-        → EndsBy contents rule width events bytes told writer writer'' fault
+    closes_by : (fault : EngineFault) → ClosesBy contents rule width settings bytes (told ++ more) writer' writer'' fault
+        → EndsBy contents rule width settings bytes told writer writer'' fault
     closes_by (Trace fault) by = absurd by
     closes_by (Cut fault) by = absurd by
     closes_by OutOfMemory same =
-        subst (λ (device : Device W). EndsBy contents rule width events bytes told writer device OutOfMemory) (sym same)
+        subst (λ (device : Device W). EndsBy contents rule width settings bytes told writer device OutOfMemory) (sym same)
         (inr (
-          flat_map (told_lines events) more,
-          subst (λ (text : List ℕ). IsFollowedSoFar rule width events (lines_of bytes) text) (both_texts more)
-              (text_of_lines rule width events bytes (told ++ more) ended has put),
+          flat_map (told_lines settings) more,
+          subst (λ (text : List ℕ). IsFollowedSoFar rule width settings (lines_of bytes) text) (both_texts more)
+              (text_of_lines rule width settings bytes (told ++ more) ended has put),
           wrote,
           flushed,
         ))
     closes_by Read by = absurd by
     closes_by Write by = (
-      flat_map (told_lines events) more ++ by.0,
+      flat_map (told_lines settings) more ++ by.0,
       inl (rest_of by.0 by.1),
-      AppendsFront-behind (contents (inner_of writer)) (contents (inner_of writer')) (contents (inner_of writer'')) (flat_map (told_lines events) more) by.0 wrote by.2,
+      AppendsFront-behind (contents (inner_of writer)) (contents (inner_of writer')) (contents (inner_of writer'')) (flat_map (told_lines settings) more) by.0 wrote by.2,
       by.3,
     )
     closes_by Usage by = absurd by
@@ -266,17 +266,17 @@ module _ {W : Type 0} (contents : W → Option (List ℕ)) (writer writer' : Dev
     -- the receiver was closed behind it, or not
     pub ends_closed : (result : Result (Unit {0}) EngineFault)
         → MatchResult result
-        (λ _. (rest : List ℕ) × IsFollowed rule width events bytes (flat_map (told_lines events) (told ++ more) ++ rest)
+        (λ _. (rest : List ℕ) × IsFollowed rule width settings bytes (flat_map (told_lines settings) (told ++ more) ++ rest)
         × Appends (contents (inner_of writer')) (contents (inner_of writer'')) rest × IsLeftFlushed writer' writer'' × (has_failed writer'' ≡ has_failed writer'))
-        (λ fault. ClosesBy contents rule width events bytes (told ++ more) writer' writer'' fault)
+        (λ fault. ClosesBy contents rule width settings bytes (told ++ more) writer' writer'' fault)
         → MatchResult result
-        (λ _. (rest : List ℕ) × IsFollowed rule width events bytes (flat_map (told_lines events) told ++ rest)
+        (λ _. (rest : List ℕ) × IsFollowed rule width settings bytes (flat_map (told_lines settings) told ++ rest)
         × Appends (contents (inner_of writer)) (contents (inner_of writer'')) rest × IsLeftFlushed writer writer'' × (has_failed writer'' ≡ has_failed writer))
-        (λ fault. EndsBy contents rule width events bytes told writer writer'' fault)
+        (λ fault. EndsBy contents rule width settings bytes told writer writer'' fault)
     ends_closed (Ok done) closed = (
-      flat_map (told_lines events) more ++ closed.0,
+      flat_map (told_lines settings) more ++ closed.0,
       rest_of closed.0 closed.1,
-      Appends-trans (contents (inner_of writer)) (contents (inner_of writer')) (contents (inner_of writer'')) (flat_map (told_lines events) more) closed.0 wrote closed.2,
+      Appends-trans (contents (inner_of writer)) (contents (inner_of writer')) (contents (inner_of writer'')) (flat_map (told_lines settings) more) closed.0 wrote closed.2,
       flushed_then writer writer' writer'' flushed closed.3,
       closed.4 ∙ sound,
     )

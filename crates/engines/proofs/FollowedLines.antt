@@ -17,6 +17,7 @@ use Rattle.text_lines.specs.declared.fault.ParseFault.{ParseFault}
 use Rattle.text_lines.proofs.LinesTaken.{AreTaken-none, IsSettledFault-longer}
 use Rattle.text_lines.proofs.CutAtLineFeeds.{slice_split_shape, slice_split-append, lines_of_parts-append}
 use Rattle.text_lines.proofs.LinesReadOneWay.{read_without_fault}
+use Rattle.texts.specs.declared.follow.settings.FollowSettings.{FollowSettings}
 use Rattle.texts.proofs.OneTrace.{trace_is_determined}
 use Rattle.std.proofs.lemmas.Bool.{cases_lt, eqb-true, eqb-false}
 use Rattle.texts.specs.declared.follow.Followed.{Followed}
@@ -133,10 +134,10 @@ taken_by rule width told follower bytes took put =
     let are = took.1 in
     happened_by rule width told are.lines are.state follower.input.width follower.input.rule follower.input.setup follower.input.taker are.read are.stands put
 
-module _ (rule : LossRule) (width : Width) (events : Bool) where
+module _ (rule : LossRule) (width : Width) (settings : FollowSettings) where
   -- all whole lines of what was followed were told of
-  pub text_so_far : (bytes : List ℕ) (told : List HappenedAt) (follower : Follower) → HasFollowedBytes rule width events bytes told follower
-      → IsTextOfWhole rule width events bytes (flat_map (told_lines events) told)
+  pub text_so_far : (bytes : List ℕ) (told : List HappenedAt) (follower : Follower) → HasFollowedBytes rule width settings bytes told follower
+      → IsTextOfWhole rule width settings bytes (flat_map (told_lines settings) told)
   text_so_far bytes told follower has =
       let are = has.taken.1 in
       record {
@@ -152,8 +153,8 @@ module _ (rule : LossRule) (width : Width) (events : Bool) where
       }
 
   -- they are its first lines
-  pub front_of_whole : (fault : EngineFault) (bytes text : List ℕ) → (is : IsTextOfWhole rule width events bytes text) → IsBehind bytes is.lines fault
-      → IsTextOfFront rule width events fault bytes text
+  pub front_of_whole : (fault : EngineFault) (bytes text : List ℕ) → (is : IsTextOfWhole rule width settings bytes text) → IsBehind bytes is.lines fault
+      → IsTextOfFront rule width settings fault bytes text
   front_of_whole fault bytes text is behind =
       record { lines = is.lines; below = is.rest ∷ []; some = omega arith; parts = is.parts; followed = is.followed; behind = behind }
 
@@ -174,7 +175,7 @@ module _ (rule : LossRule) (width : Width) (events : Bool) where
 
   -- the first lines of some bytes are the first lines of more
   longer : (fault : EngineFault) (bytes more text : List ℕ) (lines below : List (List ℕ)) → 0 < length below → slice_split is_line_feed bytes ≡ lines ++ below
-      → IsFollowedSoFar rule width events lines text → IsBehind (bytes ++ more) lines fault → IsTextOfFront rule width events fault (bytes ++ more) text
+      → IsFollowedSoFar rule width settings lines text → IsBehind (bytes ++ more) lines fault → IsTextOfFront rule width settings fault (bytes ++ more) text
   longer fault bytes more text lines [] some parts followed behind = absurd (omega (arith, some))
   longer fault bytes more text lines (first ∷ others) some parts followed behind =
       let split = last_of first others in
@@ -195,12 +196,13 @@ module _ (rule : LossRule) (width : Width) (events : Bool) where
       some_of [] last rest = omega arith
       some_of (one ∷ init) last rest = omega arith
 
-  pub front_longer : (fault : EngineFault) (bytes more text : List ℕ) → IsTextOfFront rule width events fault bytes text
-      → IsTextOfFront rule width events fault (bytes ++ more) text
+  pub front_longer : (fault : EngineFault) (bytes more text : List ℕ) → IsTextOfFront rule width settings fault bytes text
+      → IsTextOfFront rule width settings fault (bytes ++ more) text
   front_longer fault bytes more text is =
       longer fault bytes more text is.lines is.below is.some is.parts is.followed (behind_longer fault bytes more is.lines is.behind)
 
-  -- the lines above a line that is at fault, of which there is one at most behind those that were followed
+  -- the lines above a line that is at fault, of which there is one at most behind those that were
+  -- followed
   in_front : (above lines below more : List (List ℕ)) (line : List ℕ) → above ++ line ∷ below ≡ lines ++ more → length above < length lines
       → (rest : List (List ℕ)) × (lines ≡ above ++ line ∷ rest)
   in_front above [] below more line is within = absurd (omega (arith, within))
@@ -241,7 +243,7 @@ module _ (rule : LossRule) (width : Width) (events : Bool) where
   few_more rest first (next ∷ others) few = omega (arith, few)
 
   -- so a fault of bytes that goes with it is one of the line behind those that were followed
-  pub behind_followed : (bytes piece text : List ℕ) (fault : TraceFault) (is : IsTextOfWhole rule width events bytes text) → length (lines_of piece) ≤ 1
+  pub behind_followed : (bytes piece text : List ℕ) (fault : TraceFault) (is : IsTextOfWhole rule width settings bytes text) → length (lines_of piece) ≤ 1
       → IsFirstFaultyLine trace_format (nothing_said_in (shape_of width default_capacity)) (lines_of (bytes ++ piece)) fault → fault.line ≡ length is.lines + 1
   behind_followed bytes piece text fault is few first =
       let next = slice_split_shape is_line_feed piece in
@@ -254,7 +256,7 @@ module _ (rule : LossRule) (width : Width) (events : Bool) where
       (subst (λ (lines : List (List ℕ)). IsFirstFaultyLine trace_format (nothing_said_in (shape_of width default_capacity)) lines fault) all first) short
 
   -- the line of a piece that is at fault
-  pub behind_piece : (bytes piece text : List ℕ) (fault : EngineFault) (is : IsTextOfWhole rule width events bytes text) → length (lines_of piece) ≤ 1
+  pub behind_piece : (bytes piece text : List ℕ) (fault : EngineFault) (is : IsTextOfWhole rule width settings bytes text) → length (lines_of piece) ≤ 1
       → IsFollowFault width (bytes ++ piece) fault → IsBehind (bytes ++ piece) is.lines fault
   behind_piece bytes piece text (Trace fault) is few settled = λ short.
       behind_followed bytes piece text fault is few
@@ -268,7 +270,7 @@ module _ (rule : LossRule) (width : Width) (events : Bool) where
   behind_piece bytes piece text (Capture fault) is few settled = tt
 
   -- the last line that is at fault
-  pub behind_last : (bytes text : List ℕ) (fault : EngineFault) (is : IsTextOfWhole rule width events bytes text) → IsEndFault width bytes fault
+  pub behind_last : (bytes text : List ℕ) (fault : EngineFault) (is : IsTextOfWhole rule width settings bytes text) → IsEndFault width bytes fault
       → IsBehind bytes is.lines fault
   behind_last bytes text (Trace fault) is first = λ short.
       behind_followed bytes [] text fault is (omega arith)
@@ -292,10 +294,10 @@ settled_alone told rule width bytes fault settled = λ more. faulty_alone (nothi
 -- ---- a piece more
 
 -- nothing was handed in before the first line
-pub followed_nothing : (rule : LossRule) (width : Width) (events : Bool) (follower : Follower) → follower.events ≡ events → follower.lines ≡ no_progress
-    → HasFollowedSoFar (nothing_taken [] rule width) follower → HasFollowedBytes rule width events [] [] follower
-followed_nothing rule width events follower same none has = record {
-  events_are = same;
+pub followed_nothing : (rule : LossRule) (width : Width) (settings : FollowSettings) (follower : Follower) → follower.settings ≡ settings → follower.lines ≡ no_progress
+    → HasFollowedSoFar (nothing_taken [] rule width) follower → HasFollowedBytes rule width settings [] [] follower
+followed_nothing rule width settings follower same none has = record {
+  settings_are = same;
   taken =
       subst (λ (progress : Progress). HasTaken taking_format (nothing_taken [] rule width) HasFollowedSoFar follower progress []) (sym none)
       (refl, AreTaken-none taking_format (nothing_taken [] rule width) HasFollowedSoFar follower has);
@@ -313,12 +315,12 @@ followed_nothing rule width events follower same none has = record {
   put_of wide by setup (Some now) has = absurd (omega (arith, has.taken.0))
 
 -- What was told after a piece of one line at most: what happened by its line, and nothing else.
-pub followed_line : (rule : LossRule) (width : Width) (events : Bool) (bytes piece : List ℕ) (told : List HappenedAt) (before after : Follower)
-    (happened : List Happening) (line : ℕ) → HasFollowedBytes rule width events bytes told before → length (lines_of piece) ≤ 1
-    → after.events ≡ before.events → line ≡ after.lines.count
+pub followed_line : (rule : LossRule) (width : Width) (settings : FollowSettings) (bytes piece : List ℕ) (told : List HappenedAt) (before after : Follower)
+    (happened : List Happening) (line : ℕ) → HasFollowedBytes rule width settings bytes told before → length (lines_of piece) ≤ 1
+    → after.settings ≡ before.settings → line ≡ after.lines.count
     → HasTaken taking_format (nothing_taken (map happening_of told ++ happened) rule width) HasFollowedSoFar after after.lines (bytes ++ piece)
-    → IsAllPut after.input.taker → HasFollowedBytes rule width events (bytes ++ piece) (told ++ all_at line happened) after
-followed_line rule width events bytes piece told before after happened line has few same is took put =
+    → IsAllPut after.input.taker → HasFollowedBytes rule width settings (bytes ++ piece) (told ++ all_at line happened) after
+followed_line rule width settings bytes piece told before after happened line has few same is took put =
     let was = has.taken.1 in
     let now = took.1 in
     let next = slice_split_shape is_line_feed piece in
@@ -340,7 +342,7 @@ followed_line rule width events bytes piece told before after happened line has 
     (has.numbered was.lines before.lines.unfinished was.parts) has.within (omega (arith, is, was.counted, now.counted, long)) (is ∙ now.counted) both
     (omega (arith, long)) (omega (arith, long, short)) by in
     record {
-      events_are = same ∙ has.events_are;
+      settings_are = same ∙ has.settings_are;
       taken = taken_now;
       within = subst (λ (n : ℕ). AreWithin n told_now) is (within_more before.lines.count line told happened has.within (omega (arith, is, was.counted, now.counted, long)));
       numbered = λ lines rest parts.
@@ -369,26 +371,26 @@ fault_longer width bytes more Usage is = absurd is
 fault_longer width bytes more (Capture fault) is = absurd is
 
 -- where nothing more was told of a piece of one line at most, the lines above were told of
-pub told_above : (rule : LossRule) (width : Width) (events : Bool) (bytes piece : List ℕ) (told : List HappenedAt) (follower : Follower) (fault : EngineFault)
-    → HasFollowedBytes rule width events bytes told follower → length (lines_of piece) ≤ 1 → IsFollowFault width (bytes ++ piece) fault
-    → IsTextOfFront rule width events fault (bytes ++ piece) (flat_map (told_lines events) (told ++ []))
-told_above rule width events bytes piece told follower fault has few is =
-    let whole = text_so_far rule width events bytes told follower has in
-    subst (λ (happened : List HappenedAt). IsTextOfFront rule width events fault (bytes ++ piece) (flat_map (told_lines events) happened)) (sym (append-nil told))
-    (longer rule width events fault bytes piece (flat_map (told_lines events) told) whole.lines (whole.rest ∷ []) (omega arith) whole.parts whole.followed
-    (behind_piece rule width events bytes piece (flat_map (told_lines events) told) fault whole few is))
+pub told_above : (rule : LossRule) (width : Width) (settings : FollowSettings) (bytes piece : List ℕ) (told : List HappenedAt) (follower : Follower) (fault : EngineFault)
+    → HasFollowedBytes rule width settings bytes told follower → length (lines_of piece) ≤ 1 → IsFollowFault width (bytes ++ piece) fault
+    → IsTextOfFront rule width settings fault (bytes ++ piece) (flat_map (told_lines settings) (told ++ []))
+told_above rule width settings bytes piece told follower fault has few is =
+    let whole = text_so_far rule width settings bytes told follower has in
+    subst (λ (happened : List HappenedAt). IsTextOfFront rule width settings fault (bytes ++ piece) (flat_map (told_lines settings) happened)) (sym (append-nil told))
+    (longer rule width settings fault bytes piece (flat_map (told_lines settings) told) whole.lines (whole.rest ∷ []) (omega arith) whole.parts whole.followed
+    (behind_piece rule width settings bytes piece (flat_map (told_lines settings) told) fault whole few is))
 
 -- a front of bytes of which two pieces were followed
 in_four : (a b c d : List ℕ) → (a ++ b) ++ c ++ d ≡ a ++ (b ++ (c ++ d))
 in_four a b c d = append_assoc (a ++ b) c d ∙ append_assoc a b (c ++ d)
 
-pub front_of_two : (rule : LossRule) (width : Width) (events : Bool) (fault : EngineFault) (bytes first second third : List ℕ) (told happened more : List HappenedAt)
-    → IsTextOfFront rule width events fault ((bytes ++ first) ++ second) (flat_map (told_lines events) ((told ++ happened) ++ more))
-    → IsTextOfFront rule width events fault (bytes ++ (first ++ (second ++ third))) (flat_map (told_lines events) (told ++ (happened ++ more)))
-front_of_two rule width events fault bytes first second third told happened more is =
-    subst (λ (all : List HappenedAt). IsTextOfFront rule width events fault (bytes ++ (first ++ (second ++ third))) (flat_map (told_lines events) all)) (append_assoc told happened more)
-    (subst (λ (all : List ℕ). IsTextOfFront rule width events fault all (flat_map (told_lines events) ((told ++ happened) ++ more))) (in_four bytes first second third)
-    (front_longer rule width events fault ((bytes ++ first) ++ second) third (flat_map (told_lines events) ((told ++ happened) ++ more)) is))
+pub front_of_two : (rule : LossRule) (width : Width) (settings : FollowSettings) (fault : EngineFault) (bytes first second third : List ℕ) (told happened more : List HappenedAt)
+    → IsTextOfFront rule width settings fault ((bytes ++ first) ++ second) (flat_map (told_lines settings) ((told ++ happened) ++ more))
+    → IsTextOfFront rule width settings fault (bytes ++ (first ++ (second ++ third))) (flat_map (told_lines settings) (told ++ (happened ++ more)))
+front_of_two rule width settings fault bytes first second third told happened more is =
+    subst (λ (all : List HappenedAt). IsTextOfFront rule width settings fault (bytes ++ (first ++ (second ++ third))) (flat_map (told_lines settings) all)) (append_assoc told happened more)
+    (subst (λ (all : List ℕ). IsTextOfFront rule width settings fault all (flat_map (told_lines settings) ((told ++ happened) ++ more))) (in_four bytes first second third)
+    (front_longer rule width settings fault ((bytes ++ first) ++ second) third (flat_map (told_lines settings) ((told ++ happened) ++ more)) is))
 
 pub fault_of_two : (width : Width) (bytes first second third : List ℕ) (fault : EngineFault) → IsFollowFault width ((bytes ++ first) ++ second) fault
     → IsFollowFault width (bytes ++ (first ++ (second ++ third))) fault
@@ -405,7 +407,8 @@ pub end_fault : (rule : LossRule) (width : Width) (told : List Happening) (bytes
 end_fault rule width told bytes (parse.Line fault) is = λ few. faulty_alone (nothing_taken told rule width) (lines_of bytes) fault (is few)
 end_fault rule width told bytes parse.OutOfMemory is = tt
 
--- the lines of some bytes: those that line feeds end, and what is behind the last of those if there is anything
+-- the lines of some bytes: those that line feeds end, and what is behind the last of those if there
+-- is anything
 pub lines_with_last : (bytes : List ℕ) (lines : List (List ℕ)) (rest : List ℕ) → slice_split is_line_feed bytes ≡ lines ++ rest ∷ []
     → lines_of bytes ≡ lines ++ (if length rest == 0 then [] else rest ∷ [])
 lines_with_last bytes lines rest parts = ap lines_of_parts parts ∙ lines_of_parts-append lines rest []
@@ -414,7 +417,7 @@ lines_with_last bytes lines rest parts = ap lines_of_parts parts ∙ lines_of_pa
 pub last_is : (follower : Follower) (line : ℕ)
     → ((length follower.lines.unfinished ≡ 0) × (line ≡ follower.lines.count))
     ⊎ ((0 < length follower.lines.unfinished) × (line ≡ min (follower.lines.count + 1) (2 ^ 64 - 1))) → IsLastLine follower line
-last_is follower line is = λ rule width events bytes told has.
+last_is follower line is = λ rule width settings bytes told has.
     let are = has.taken.1 in
     let all = lines_with_last bytes are.lines follower.lines.unfinished are.parts in
     by_case are.lines follower.lines.unfinished follower.lines.count line are.counted is (ap length all)
@@ -435,14 +438,15 @@ last_is follower line is = λ rule width events bytes told has.
 
 -- ---- a piece that is written
 
--- however the lines of a piece were taken, a front of the bytes was followed where the writer failed
-pub front_either : (rule : LossRule) (width : Width) (events : Bool) (bytes piece : List ℕ) (told : List HappenedAt) (follower : Follower) (taken : Result (Unit {0}) EngineFault)
-    → MatchResult taken (λ _. HasFollowedBytes rule width events (bytes ++ piece) told follower)
-    (λ fault. IsTextOfFront rule width events fault (bytes ++ piece) (flat_map (told_lines events) told) × IsFollowFault width (bytes ++ piece) fault)
-    → IsTextOfFront rule width events Write (bytes ++ piece) (flat_map (told_lines events) told)
-front_either rule width events bytes piece told follower (Ok done) followed =
-    front_of_whole rule width events Write (bytes ++ piece) (flat_map (told_lines events) told) (text_so_far rule width events (bytes ++ piece) told follower followed) tt
-front_either rule width events bytes piece told follower (Err fault) stopped =
+-- however the lines of a piece were taken, a front of the bytes was followed where the writer
+-- failed
+pub front_either : (rule : LossRule) (width : Width) (settings : FollowSettings) (bytes piece : List ℕ) (told : List HappenedAt) (follower : Follower) (taken : Result (Unit {0}) EngineFault)
+    → MatchResult taken (λ _. HasFollowedBytes rule width settings (bytes ++ piece) told follower)
+    (λ fault. IsTextOfFront rule width settings fault (bytes ++ piece) (flat_map (told_lines settings) told) × IsFollowFault width (bytes ++ piece) fault)
+    → IsTextOfFront rule width settings Write (bytes ++ piece) (flat_map (told_lines settings) told)
+front_either rule width settings bytes piece told follower (Ok done) followed =
+    front_of_whole rule width settings Write (bytes ++ piece) (flat_map (told_lines settings) told) (text_so_far rule width settings (bytes ++ piece) told follower followed) tt
+front_either rule width settings bytes piece told follower (Err fault) stopped =
     let front = stopped.0 in
     record { lines = front.lines; below = front.below; some = front.some; parts = front.parts; followed = front.followed; behind = tt }
 
@@ -459,17 +463,17 @@ module _ {W : Type 0} (contents : W → Option (List ℕ)) (writer writer' : Dev
   stopped_by width bytes text done (Capture fault) wrote is = absurd is
 
   -- what happened by the lines of a piece was written
-  pub piece_written : (rule : LossRule) (width : Width) (events : Bool) (bytes piece : List ℕ) (told happened : List HappenedAt) (follower : Follower)
-      (taken : Result (Unit {0}) EngineFault) (done : Unit {0}) → IsWritten contents (flat_map (told_lines events) happened) writer writer' (Ok done)
-      → MatchResult taken (λ _. HasFollowedBytes rule width events (bytes ++ piece) (told ++ happened) follower)
-      (λ fault. IsTextOfFront rule width events fault (bytes ++ piece) (flat_map (told_lines events) (told ++ happened)) × IsFollowFault width (bytes ++ piece) fault)
+  pub piece_written : (rule : LossRule) (width : Width) (settings : FollowSettings) (bytes piece : List ℕ) (told happened : List HappenedAt) (follower : Follower)
+      (taken : Result (Unit {0}) EngineFault) (done : Unit {0}) → IsWritten contents (flat_map (told_lines settings) happened) writer writer' (Ok done)
+      → MatchResult taken (λ _. HasFollowedBytes rule width settings (bytes ++ piece) (told ++ happened) follower)
+      (λ fault. IsTextOfFront rule width settings fault (bytes ++ piece) (flat_map (told_lines settings) (told ++ happened)) × IsFollowFault width (bytes ++ piece) fault)
       → MatchResult taken
-      (λ _. HasFollowedBytes rule width events (bytes ++ piece) (told ++ happened) follower
-      × Appends (contents (inner_of writer)) (contents (inner_of writer')) (flat_map (told_lines events) happened) × IsLeftFlushed writer writer'
+      (λ _. HasFollowedBytes rule width settings (bytes ++ piece) (told ++ happened) follower
+      × Appends (contents (inner_of writer)) (contents (inner_of writer')) (flat_map (told_lines settings) happened) × IsLeftFlushed writer writer'
       × (has_failed writer' ≡ has_failed writer))
-      (λ fault. IsTextOfFront rule width events fault (bytes ++ piece) (flat_map (told_lines events) (told ++ happened)) × IsFollowFaultOr contents width (bytes ++ piece) fault
-      × WritesTill contents writer writer' (flat_map (told_lines events) happened) fault)
-  piece_written rule width events bytes piece told happened follower (Ok all) done wrote followed = (followed, wrote.written, wrote.left_flushed, wrote.sound)
-  piece_written rule width events bytes piece told happened follower (Err fault) done wrote stopped =
-      let both = stopped_by width (bytes ++ piece) (flat_map (told_lines events) happened) done fault wrote stopped.1 in
+      (λ fault. IsTextOfFront rule width settings fault (bytes ++ piece) (flat_map (told_lines settings) (told ++ happened)) × IsFollowFaultOr contents width (bytes ++ piece) fault
+      × WritesTill contents writer writer' (flat_map (told_lines settings) happened) fault)
+  piece_written rule width settings bytes piece told happened follower (Ok all) done wrote followed = (followed, wrote.written, wrote.left_flushed, wrote.sound)
+  piece_written rule width settings bytes piece told happened follower (Err fault) done wrote stopped =
+      let both = stopped_by width (bytes ++ piece) (flat_map (told_lines settings) happened) done fault wrote stopped.1 in
       (stopped.0, both.0, both.1)

@@ -4,14 +4,16 @@ use Rattle.std.specs.Prelude.{if◌then◌else◌, filter, flat_map, map}
 use Rattle.std.proofs.lemmas.Bool.{cases_Bool, cases_lt}
 use Rattle.std.proofs.lemmas.List.{take-append-drop}
 use Rattle.text_lines.specs.Lines.{lines_of_parts}
+use Rattle.flow_selection.specs.Lines.{is_left}
 use Rattle.loss_rule.specs.declared.rule.LossRule.{LossRule}
 use Rattle.receiver.specs.declared.width.Width.{Width}
+use Rattle.texts.specs.declared.follow.settings.FollowSettings.{FollowSettings}
 use Rattle.texts.specs.declared.follow.happening.Happening.{Happening}
 use Rattle.texts.specs.declared.follow.happening.Happening.TheVariants.{Gave}
 use Rattle.consumer.specs.declared.given.Given.{Given}
 use Rattle.texts.specs.Happening.{given_line, happening_lines}
 use Rattle.texts.specs.Happened.{HappenedBy, HappenedAt, happening_of, happened_till, AreNumbered}
-use Rattle.texts.specs.Follow.{told_lines}
+use Rattle.texts.specs.Follow.{flow_of_given, given_told, lines_told, told_lines}
 use Rattle.engines.specs.Inside.Following.{AreWithin, all_at}
 
 -- ---- lists
@@ -63,21 +65,27 @@ both_at line [] more = refl
 both_at line (one ∷ happened) more = ap (λ rest. record { line = line; happening = one } ∷ rest) (both_at line happened more)
 
 -- their lines
-pub lines_at : (events : Bool) (line : ℕ) (happened : List Happening)
-    → flat_map (told_lines events) (all_at line happened) ≡ flat_map (happening_lines events line) happened
-lines_at events line [] = refl
-lines_at events line (one ∷ more) = ap (λ rest. happening_lines events line one ++ rest) (lines_at events line more)
+pub lines_at : (settings : FollowSettings) (line : ℕ) (happened : List Happening)
+    → flat_map (told_lines settings) (all_at line happened) ≡ flat_map (lines_told settings line) happened
+lines_at settings line [] = refl
+lines_at settings line (one ∷ more) = ap (λ rest. lines_told settings line one ++ rest) (lines_at settings line more)
 
 -- of what is given there is its line alone
 no_event : (events : Bool) (line : ℕ) (given : Given) → happening_lines events line (Gave given) ≡ given_line given
 no_event true line given = append-nil (given_line given)
 no_event false line given = append-nil (given_line given)
 
-pub lines_given : (events : Bool) (line : ℕ) (given : List Given) → flat_map (happening_lines events line) (map Gave given) ≡ flat_map given_line given
-lines_given events line [] = refl
-lines_given events line (one ∷ more) =
-    ap (λ rest. rest ++ flat_map (happening_lines events line) (map Gave more)) (no_event events line one)
-    ∙ ap (λ rest. given_line one ++ rest) (lines_given events line more)
+-- so where it is told
+given_alone : (settings : FollowSettings) (line : ℕ) (given : Given) → lines_told settings line (Gave given) ≡ given_told settings.selected given
+given_alone settings line given =
+    ap (λ (text : List ℕ). if is_left settings.selected (flow_of_given given) then text else []) (no_event settings.events line given)
+
+pub lines_given : (settings : FollowSettings) (line : ℕ) (given : List Given)
+    → flat_map (lines_told settings line) (map Gave given) ≡ flat_map (given_told settings.selected) given
+lines_given settings line [] = refl
+lines_given settings line (one ∷ more) =
+    ap (λ rest. rest ++ flat_map (lines_told settings line) (map Gave more)) (given_alone settings line one)
+    ∙ ap (λ rest. given_told settings.selected one ++ rest) (lines_given settings line more)
 
 -- ---- numbers
 
@@ -132,7 +140,8 @@ module _ (rule : LossRule) (width : Width) where
     of_none [] below are = nothing
     of_none (line ∷ above) below are = absurd (omega (arith, ap length are))
 
-  -- One line more at most, and what happened by the last of them: each thing happened by the line that it names.
+  -- One line more at most, and what happened by the last of them: each thing happened by the line
+  -- that it names.
   pub numbered_more : (lines all : List (List ℕ)) (rest others : List (List ℕ)) (told : List HappenedAt) (n line : ℕ) (happened : List Happening)
       → AreNumbered rule width lines told → AreWithin n told → n ≤ line → line ≡ min (length all) (2 ^ 64 - 1)
       → lines ++ rest ≡ all ++ others → length lines ≤ length all → length all ≤ length lines + 1

@@ -15,7 +15,8 @@ use Rattle.engines.specs.Device.{inner_of}
 use Rattle.engines.specs.Engine.{engine_fault}
 use Rattle.engines.specs.LinesRead.{HasLinesCause}
 
--- the bytes that were taken, line by line, and those that were read besides and stand at the front of the room
+-- the bytes that were taken, line by line, and those that were read besides and stand at the front
+-- of the room
 pub record HasReadSoFar {R Taker State : Type 0} (remaining : R → Option (List ℕ)) (first now : Device R) (format : Format State)
     (stands_for : State → Taker → Type 0) (fresh taker : Taker) (progress : Progress) (room : List ℕ) (given count : ℕ) : Type 0 where
   pub bytes : List ℕ

@@ -13,7 +13,8 @@ use Rattle.engines.specs.Transfer.{AppendsBefore, AppendsFront}
 use Rattle.engines.specs.Inside.Writing.{HasCome, HasWritten, Takes}
 use Rattle.engines.specs.Writing.{IsWritten}
 
--- one text went out but for what was held back, and of that and some more bytes all but what is held back now
+-- one text went out but for what was held back, and of that and some more bytes all but what is
+-- held back now
 AppendsBefore-then : (a b c : Option (List ℕ)) (text held bytes rest : List ℕ) → AppendsBefore a b text held → AppendsBefore b c (held ++ bytes) rest
     → AppendsBefore a c (text ++ bytes) rest
 AppendsBefore-then a b c text held bytes rest before after = (

@@ -14,22 +14,24 @@ has_failed device = device.failed
 abbrev pub given_of : {T : Type 0} → Device T → ℕ
 given_of device = device.given
 
--- whether a flush ended well after the last write
+-- whether all that was written by way of the device is flushed: nothing was, or a flush ended well
+-- after the last write
 abbrev pub is_flushed : {T : Type 0} → Device T → Bool
 is_flushed device = device.flushed
 
 -- no call was made yet
 abbrev pub IsFresh : {T : Type 0} → Device T → Type 0
-IsFresh device = (has_failed device ≡ false) × (given_of device ≡ 0) × (is_flushed device ≡ false)
+IsFresh device = (has_failed device ≡ false) × (given_of device ≡ 0) × (is_flushed device ≡ true)
 
--- a read's bytes are counted, and an error is a failure; nothing is flushed
+-- a read's bytes are counted, and an error is a failure; what is flushed stays so
 abbrev pub RecordsRead : {T E : Type 0} → Device T → Device T → Result ℕ E → Type 0
 RecordsRead old new r =
     MatchResult r
     (λ n. (has_failed new ≡ has_failed old) × (given_of new ≡ min (given_of old + n) (2 ^ 64 - 1)))
     (λ _. (has_failed new ≡ true) × (given_of new ≡ given_of old)) × (is_flushed new ≡ is_flushed old)
 
--- a write that took some bytes, or had none to take, is no failure; every other one is; none gives bytes, and none is flushed yet
+-- a write that took some bytes, or had none to take, is no failure; every other one is; none gives
+-- bytes, and none is flushed yet
 abbrev pub RecordsWrite : {T E : Type 0} → Device T → Device T → List ℕ → Result ℕ E → Type 0
 RecordsWrite old new buf r =
     MatchResult r
@@ -37,7 +39,8 @@ RecordsWrite old new buf r =
     × (n ≡ 0 → buf ≢ [] → has_failed new ≡ true))
     (λ _. has_failed new ≡ true) × (given_of new ≡ given_of old) × (is_flushed new ≡ false)
 
--- a flush fails where it answers an error, and gives no bytes; where it answers none, all that was written is flushed
+-- a flush fails where it answers an error, and gives no bytes; where it answers none, all that was
+-- written is flushed
 abbrev pub RecordsFlush : {T E : Type 0} → Device T → Device T → Result (Unit {0}) E → Type 0
 RecordsFlush old new r =
     MatchResult r

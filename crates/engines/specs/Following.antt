@@ -7,6 +7,7 @@ use Rattle.receiver.specs.declared.width.Width.{Width}
 use Rattle.text_lines.specs.Capacities.{default_capacity}
 use Rattle.text_lines.specs.Format.{IsFirstFaultyLine}
 use Rattle.text_lines.specs.Lines.{lines_of, is_line_feed}
+use Rattle.texts.specs.declared.follow.settings.FollowSettings.{FollowSettings}
 use Rattle.texts.specs.Follow.{IsFollowed, IsFollowedSoFar}
 use Rattle.texts.specs.Trace.Line.{shape_of}
 use Rattle.texts.specs.Trace.Place.{nothing_said_in, trace_format}
@@ -18,8 +19,8 @@ use Rattle.engines.specs.Engine.{WritesText}
 use Rattle.engines.specs.Limits.{piece_limit}
 use Rattle.engines.specs.Transfer.{AppendsFront, IsLeftFlushed}
 
--- why no more of a trace was followed: its first faulty line, where it is known; an allocation; the reader, which failed or gave 2^64 - 1 bytes; the
--- writer
+-- why no more of a trace was followed: its first faulty line, where it is known; an allocation; the
+-- reader, which failed or gave 2^64 - 1 bytes; the writer
 abbrev pub HasFollowCause : {R W : Type 0} → Width → Option (List ℕ) → Device R → Device W → EngineFault → Type 0
 HasFollowCause width known reader writer (Trace fault) =
     IfSome known (λ input. length input < 2 ^ 64 → IsFirstFaultyLine trace_format (nothing_said_in (shape_of width default_capacity)) (lines_of input) fault)
@@ -35,15 +36,15 @@ abbrev pub IsBehind : List ℕ → List (List ℕ) → EngineFault → Type 0
 IsBehind bytes lines (Trace fault) = length bytes < 2 ^ 64 → fault.line ≡ length lines + 1
 IsBehind bytes lines _ = Unit {0}
 
-module _ (rule : LossRule) (width : Width) (events : Bool) where
-  -- The first lines of some bytes were followed: each of them is ended by a line feed, and this is the text of all of them; they are all above a line
-  -- that is at fault.
+module _ (rule : LossRule) (width : Width) (settings : FollowSettings) where
+  -- The first lines of some bytes were followed: each of them is ended by a line feed, and this is
+  -- the text of all of them; they are all above a line that is at fault.
   pub record IsTextOfFront (fault : EngineFault) (bytes text : List ℕ) : Type 0 where
     pub lines : List (List ℕ)
     pub below : List (List ℕ)
     pub some : 0 < length below
     pub parts : slice_split is_line_feed bytes ≡ lines ++ below
-    pub followed : IsFollowedSoFar rule width events lines text
+    pub followed : IsFollowedSoFar rule width settings lines text
     pub behind : IsBehind bytes lines fault
 
   -- all lines of some bytes were followed that a line feed ends
@@ -51,9 +52,10 @@ module _ (rule : LossRule) (width : Width) (events : Bool) where
     pub lines : List (List ℕ)
     pub rest : List ℕ
     pub parts : slice_split is_line_feed bytes ≡ lines ++ rest ∷ []
-    pub followed : IsFollowedSoFar rule width events lines text
+    pub followed : IsFollowedSoFar rule width settings lines text
 
-  -- All whole lines of some bytes were followed without a fault but for those that end in a last piece.
+  -- All whole lines of some bytes were followed without a fault but for those that end in a last
+  -- piece.
   pub record IsFollowedBefore (bytes : List ℕ) : Type 0 where
     pub before : List ℕ
     pub piece : List ℕ
@@ -62,15 +64,17 @@ module _ (rule : LossRule) (width : Width) (events : Bool) where
     pub text : List ℕ
     pub whole : IsTextOfWhole before text
 
-  -- All lines of some bytes were followed, also a last one that no line feed ends, and this is the text of all of them: the reader gave no more, and
-  -- then an allocation failed as the receiver was closed, or the writer failed.
+  -- All lines of some bytes were followed, also a last one that no line feed ends, and this is the
+  -- text of all of them: the reader gave no more, and then an allocation failed as the receiver was
+  -- closed, or the writer failed.
   pub record IsTextOfAll (left : Option (List ℕ)) (fault : EngineFault) (bytes text : List ℕ) : Type 0 where
     pub ended : IsAtEnd left
     pub closing : (fault ≡ OutOfMemory) ⊎ (fault ≡ Write)
-    pub followed : IsFollowedSoFar rule width events (lines_of bytes) text
+    pub followed : IsFollowedSoFar rule width settings (lines_of bytes) text
 
-  -- What was read where a fault is reported, and the text of what was followed of it: where the reader failed, of all its lines. **A fault ends the
-  -- reading**: all that was read before the last piece was followed.
+  -- What was read where a fault is reported, and the text of what was followed of it: where the
+  -- reader failed, of all its lines. **A fault ends the reading**: all that was read before the
+  -- last piece was followed.
   pub record IsFollowedTill (known left : Option (List ℕ)) (fault : EngineFault) (text : List ℕ) : Type 0 where
     pub bytes : List ℕ
     pub read : Consumes known left bytes
@@ -78,18 +82,18 @@ module _ (rule : LossRule) (width : Width) (events : Bool) where
     pub front : IsTextOfFront fault bytes text ⊎ IsTextOfAll left fault bytes text
     pub whole : fault ≡ Read → IsTextOfWhole bytes text
 
-  -- **What following a trace promises**, whatever becomes of it: `remaining` are the bytes that a reader is known to have left, `contents` those that a
-  -- writer is known to hold.
+  -- **What following a trace promises**, whatever becomes of it: `remaining` are the bytes that a
+  -- reader is known to have left, `contents` those that a writer is known to hold.
   pub record FollowsTrace {R W : Type 0} (remaining : R → Option (List ℕ)) (contents : W → Option (List ℕ))
       (reader reader' : Device R) (writer writer' : Device W) (result : Result (Unit {0}) EngineFault) : Type 0 where
     -- without a fault the text of all that the reader gave was written
-    pub written : OnOk result (IfSome (remaining (inner_of reader)) (WritesText (IsFollowed rule width events) (contents (inner_of writer)) (contents (inner_of writer'))))
+    pub written : OnOk result (IfSome (remaining (inner_of reader)) (WritesText (IsFollowed rule width settings) (contents (inner_of writer)) (contents (inner_of writer'))))
     -- **at whichever place of the input a fault ends it**, the text of the lines above was written
     pub above : IfErr result (λ fault. fault ≢ Write → (text : List ℕ)
         × IsFollowedTill (remaining (inner_of reader)) (remaining (inner_of reader')) fault text × Appends (contents (inner_of writer)) (contents (inner_of writer')) text)
     -- and where the writer failed, a front of such a text
     pub write_fault : result ≡ Err Write → (text : List ℕ)
-        × (IfSome (remaining (inner_of reader)) (λ input. IsFollowed rule width events input text)
+        × (IfSome (remaining (inner_of reader)) (λ input. IsFollowed rule width settings input text)
         ⊎ IsFollowedTill (remaining (inner_of reader)) (remaining (inner_of reader')) Write text)
         × AppendsFront (contents (inner_of writer)) (contents (inner_of writer')) text
     -- what was written is flushed, also where a line is at fault

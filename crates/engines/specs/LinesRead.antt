@@ -25,7 +25,8 @@ IsLinesFault format start input (text_fault.Trace fault) = IsFirstFaultyLine for
 IsLinesFault format start input (text_fault.Cut fault) = ⊥
 IsLinesFault format start input text_fault.OutOfMemory = Unit {0}
 
--- why what a reader gives was not read: a faulty line of an input, the known one where it is known, a failed allocation, or the reader
+-- why what a reader gives was not read: a faulty line of an input, the known one where it is known,
+-- a failed allocation, or the reader
 abbrev pub HasLinesCause : {State R : Type 0} → Format State → State → Option (List ℕ) → Device R → EngineFault → Type 0
 HasLinesCause format start known reader (Trace fault) = IsFaultOfKnown (IsLinesFault format start) known (text_fault.Trace fault)
 HasLinesCause format start known reader (Cut fault) = ⊥

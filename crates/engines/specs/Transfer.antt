@@ -25,6 +25,7 @@ IsReadFault device = (has_failed device ≡ true) ⊎ (input_limit < given_of de
 abbrev pub IsRead : {T : Type 0} → Device T → Type 0
 IsRead device = (has_failed device ≡ false) × (given_of device ≤ input_limit)
 
--- a reader was read to its end: it did not fail and gave no more than an engine reads, and nothing is left of the bytes that it is known to have
+-- a reader was read to its end: it did not fail and gave no more than an engine reads, and nothing
+-- is left of the bytes that it is known to have
 abbrev pub IsReadToEnd : {T : Type 0} → Device T → Option (List ℕ) → Type 0
 IsReadToEnd device left = IsRead device × IsAtEnd left

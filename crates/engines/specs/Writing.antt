@@ -7,7 +7,8 @@ use Rattle.engines.specs.Device.{inner_of, has_failed, is_flushed}
 use Rattle.engines.specs.Transfer.{AppendsFront, IsLeftFlushed}
 
 module _ {W : Type 0} (contents : W → Option (List ℕ)) where
-  -- A text was written to a device and flushed; an empty one was neither. Where that failed, a front of a text that isn't empty went out.
+  -- A text was written to a device and flushed; an empty one was neither. Where that failed, a
+  -- front of a text that isn't empty went out.
   pub record IsWritten (text : List ℕ) (writer writer' : Device W) (result : Result (Unit {0}) WriteFault) : Type 0 where
     pub written : OnOk result (Appends (contents (inner_of writer)) (contents (inner_of writer')) text)
     pub left_flushed : OnOk result (IsLeftFlushed writer writer')

@@ -36,8 +36,9 @@ fn write_segments<W: Write>(
 
 /// Cuts the frames that a reader gives into the pieces that it gives, and writes the segments, each
 /// a line of hexadecimal. The first one has the number `first`, 0 to 8191, and what a piece has of
-/// fill is this byte. It reads all, at most 268,435,456 bytes, piece by piece, of which it keeps the
-/// frames and the pieces alone; then it writes the text as it makes it. An empty one is not written.
+/// fill is this byte. It reads all, at most 268,435,456 bytes, piece by piece, of which it keeps
+/// the frames and the pieces alone; then it writes the text as it makes it. An empty one is not
+/// written.
 ///
 /// `Read`: the reader failed or gave more. `Trace`: the first faulty line, `UnknownLine`,
 /// `FieldCount`, `BadNumber` or `NotHex`. `Cut`: no line is at fault, and this is the first fault

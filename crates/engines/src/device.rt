@@ -8,7 +8,7 @@ use std::io;
 use std::io::{Error, ErrorKind, Read, Write};
 
 /// A reader or a writer that remembers whether a call of it failed, how many bytes it gave, and
-/// whether what was written to it was flushed.
+/// whether all that was written to it is flushed.
 ///
 /// A call that was interrupted is made again, and is no failure. It is not dropped by chance:
 /// whoever made the device looks at it, or takes it apart.
@@ -29,7 +29,7 @@ impl<T> Device<T> {
             inner,
             failed: false,
             given: 0,
-            flushed: false,
+            flushed: true,
         }
     }
 
@@ -47,7 +47,8 @@ impl<T> Device<T> {
         self.given
     }
 
-    /// Whether a flush ended well after the last write.
+    /// Whether all that was written by way of the device is flushed: nothing was, or a flush ended
+    /// well after the last write.
     pub fn flushed(&self) -> bool
         ensures { result ≡ is_flushed self.now }
     {

@@ -11,14 +11,14 @@ ghost use Rattle.text_lines.specs.Lines.{lines_of};
 use crate::device::Device;
 use crate::fault::{EngineFault, WriteFault};
 use crate::text_writer::{TextWriter, held_room};
-use crate::transfer::{read_some, zeros};
+use crate::transfer::{read_behind, zeros};
 use ended::EndedTrace;
 use loss_rule::LossRule;
 use receiver::Width;
 use std::alloc::{AllocError, Global};
 use std::io::{Read, Write};
 use text_lines::{LineReader, PutText, split_behind_line};
-use texts::FollowInput;
+use texts::{FollowInput, FollowSettings};
 
 mod ended;
 
@@ -30,8 +30,8 @@ const PIECE_BYTES: usize = 262_144;
 struct Follower {
     lines: LineReader,
     input: FollowInput,
-    /// Whether what became of inputs and decisions is told.
-    events: bool,
+    /// What is told.
+    settings: FollowSettings,
 }
 
 impl Follower {
@@ -40,14 +40,14 @@ impl Follower {
         alloc: Global,
         rule: LossRule,
         width: Width,
-        events: bool,
+        settings: FollowSettings,
     ) -> Result<Follower, AllocError>
-        ensures { IfOk result (HasFollowedBytes rule width events [] []) }
+        ensures { IfOk result (HasFollowedBytes rule width settings [] []) }
     {
         Ok(Follower {
             lines: LineReader::new(alloc),
             input: FollowInput::new(alloc, width, rule)?,
-            events,
+            settings,
         })
     }
 
@@ -82,12 +82,12 @@ impl Follower {
     {
         self.lines.take_piece(alloc, piece, &mut self.input)?;
         let line = self.lines.line_count();
-        self.input.put_happened(line, self.events, out)?;
+        self.input.put_happened(line, &self.settings, out)?;
         Ok(())
     }
 
-    /// Takes the lines of a piece, and writes what happens by them. It answers how that went, and how
-    /// the lines were taken. The room is empty.
+    /// Takes the lines of a piece, and writes what happens by them. It answers how that went, and
+    /// how the lines were taken. The room is empty.
     fn write_lines<W: Write>(
         &mut self,
         alloc: Global,
@@ -141,13 +141,13 @@ impl Follower {
         let Follower {
             lines,
             mut input,
-            events,
+            settings,
         } = self;
         lines.finish(alloc, &mut input)?;
         Ok(EndedTrace {
             input,
             line,
-            events,
+            settings,
         })
     }
 
@@ -169,32 +169,33 @@ impl Follower {
 
 /// Follows the trace that a reader gives, of a receiver of this width, where besides the decisions
 /// of the trace this rule decides which segments are lost: what the receiver gives for a line, and
-/// with events also what became of its input or decision, is written as soon as the line is read, and
-/// flushed before more is read. It reads without a limit, up to 2^64 - 1 bytes, and holds a piece of
-/// the input, a line, and what the receiver holds.
+/// with events also what became of its input or decision, is written as soon as the line is read,
+/// of the flows that the settings select, and flushed before more is read. It reads without a
+/// limit, up to 2^64 - 1 bytes, and holds a piece of the input, a line, and what the receiver
+/// holds.
 ///
 /// `Read`: the reader failed, or gave more. `Trace`: the first faulty line, any kind but `TooShort`
 /// and `PointerPast`. `OutOfMemory`: an allocation failed. Whichever comes, what happened by the
-/// lines before was written and flushed. `Write`: the writer failed, and a front of the text may have
-/// gone out.
+/// lines before was written and flushed. `Write`: the writer failed, and a front of the text may
+/// have gone out.
 pub fn follow_text<R: Read, W: Write>(
     rule: LossRule,
     width: Width,
-    events: bool,
+    settings: FollowSettings,
     alloc: Global,
     reader: &mut Device<R>,
     writer: &mut Device<W>,
 ) -> Result<(), EngineFault>
     requires reader { IsFresh reader.old }
     requires writer { IsFresh writer.old }
-    ensures { FollowsTrace rule width events R.remaining W.contents
+    ensures { FollowsTrace rule width settings R.remaining W.contents
         reader.old reader.new writer.old writer.new result }
 {
     let mut piece = zeros(alloc, PIECE_BYTES)?;
     let mut room = held_room(alloc)?;
-    let mut follower = Follower::new(alloc, rule, width, events)?;
+    let mut follower = Follower::new(alloc, rule, width, settings)?;
     for _ in 0..u64::MAX {
-        let count = read_some(reader, &mut piece)?;
+        let count = read_behind(reader, writer, &mut piece)?;
         if count == 0 {
             return follower.finish(alloc, &mut room, writer);
         }

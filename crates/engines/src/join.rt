@@ -29,8 +29,8 @@ fn write_frames<W: Write>(
 }
 
 /// Joins the segments that a reader gives and writes their frames, each a line of hexadecimal. It
-/// reads all, at most 268,435,456 bytes, piece by piece, of which it keeps the frames alone; then it
-/// writes the text as it makes it. An empty one is not written.
+/// reads all, at most 268,435,456 bytes, piece by piece, of which it keeps the frames alone; then
+/// it writes the text as it makes it. An empty one is not written.
 ///
 /// `Read`: the reader failed or gave more. `Trace`: the first faulty line, `FieldCount`, `NotHex`,
 /// `TooShort` or `PointerPast`. `OutOfMemory`: an allocation failed. Up to here nothing was

@@ -101,8 +101,8 @@ impl<'a, W: Write> TextWriter<'a, W> {
         }
     }
 
-    /// Writes what is held back, and then these bytes. It stands apart, so that the test for room is
-    /// inlined.
+    /// Writes what is held back, and then these bytes. It stands apart, so that the test for room
+    /// is inlined.
     #[cold]
     #[inline(never)]
     fn write_with(&mut self, bytes: &[u8]) -> Result<(), WriteFault>
@@ -127,8 +127,8 @@ impl<W: Write> PutText for TextWriter<'_, W> {
 
     ghost after = { HasWritten W.contents };
 
-    // Most pieces of a text are a word or a space. Inlined, one that is known takes a store, not a call
-    // of the function that copies bytes.
+    // Most pieces of a text are a word or a space. Inlined, one that is known takes a store, not a
+    // call of the function that copies bytes.
     #[inline(always)]
     fn put(&mut self, bytes: &[u8]) {
         if let Stage::Failed = self.stage {

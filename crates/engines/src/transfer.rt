@@ -1,7 +1,7 @@
 //! Reads from a device piece by piece, and writes a whole text to one.
 ghost use Rattle.std.specs.Prelude.{◌≡◌, ◌≢◌, ◌<◌, ◌≤◌, ◌+◌, ◌-◌, ◌^◌, [], length, min, take, IsOk, true, IfOk, IfErr, OnOk, OnErr, vec_len};
 ghost use Rattle.std.specs.Io.KnownBytes.{Appends, Consumes, Keeps, IsAtEnd};
-ghost use Rattle.engines.specs.Device.{inner_of, has_failed, given_of, is_flushed, IsFresh};
+ghost use Rattle.engines.specs.Device.{inner_of, has_failed, given_of, is_flushed};
 ghost use Rattle.engines.specs.Transfer.{AppendsFront, IsLeftFlushed, IsReadFault};
 ghost use Rattle.engines.specs.Inside.Transfer.{IsCounted};
 
@@ -40,6 +40,30 @@ pub fn read_some<R: Read>(reader: &mut Device<R>, room: &mut [u8]) -> Result<usi
         Ok(count) => Ok(count),
         Err(_) => Err(EngineFault::Read),
     }
+}
+
+/// Makes one read of a reader, as [`read_some`] does, where all that was written to a writer is
+/// flushed: the read may take long, and what was written has to be seen before.
+pub fn read_behind<R: Read, W>(
+    reader: &mut Device<R>,
+    _writer: &Device<W>,
+    room: &mut [u8],
+) -> Result<usize, EngineFault>
+    requires room { 0 < length room.old }
+    requires flushed { is_flushed _writer.now ≡ true }
+    ensures within { IfOk result (λ count. count ≤ length room.new) }
+    ensures taken { IfOk result (λ count. Consumes (R.remaining (inner_of reader.old))
+        (R.remaining (inner_of reader.new)) (take count room.new)) }
+    ensures end { IfOk result (λ count. count ≡ 0 → IsAtEnd (R.remaining (inner_of reader.new))) }
+    ensures given { IfOk result (λ count. given_of reader.new
+        ≡ min (given_of reader.old + count) (2 ^ 64 - 1)) }
+    ensures sound { IfOk result (λ _. has_failed reader.new ≡ has_failed reader.old) }
+    ensures failed { OnErr result (has_failed reader.new ≡ true) }
+    ensures kept { OnErr result (Keeps (R.remaining (inner_of reader.old))
+        (R.remaining (inner_of reader.new))) }
+    ensures only { IfErr result (λ fault. fault ≡ EngineFault.Read) }
+{
+    read_some(reader, room)
 }
 
 /// Makes one read of a reader that gave so many bytes before. It answers how many it gave now, at

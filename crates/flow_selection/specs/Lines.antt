@@ -1,4 +1,5 @@
--- The lines of a text of which some are a flow's, and what is left of them where some flows are selected.
+-- The lines of a text of which some are a flow's, and what is left of them where some flows are
+-- selected.
 use Rattle.std.specs.Prelude.{ℕ, Bool, true, Option, Some, None, List, filter, flat_map}
 use Rattle.flow_selection.specs.declared.selection.Selection.{Selection}
 use Rattle.flow_selection.specs.Selection.{is_selected}

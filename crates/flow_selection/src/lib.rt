@@ -9,10 +9,12 @@
 #![tactic(auto)]
 
 pub mod laws;
+mod list;
 mod range;
 mod selection;
 mod shard;
 
+pub use list::FlowList;
 pub use range::FlowRange;
 pub use selection::Selection;
 pub use shard::Shard;

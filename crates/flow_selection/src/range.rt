@@ -1,6 +1,6 @@
 //! Flows whose indexes follow each other.
 ghost use Rattle.std.specs.Prelude.{◌≡◌};
-ghost use Rattle.flow_selection.specs.Selection.{is_in_range};
+ghost use Rattle.flow_selection.specs.Ranges.{is_in_range};
 
 /// The flows from one index to another, both included. Where the last comes before the first there
 /// are none.

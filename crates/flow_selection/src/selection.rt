@@ -1,8 +1,9 @@
 //! Which flows are selected.
 ghost use Rattle.std.specs.Prelude.{◌≡◌};
-ghost use Rattle.flow_selection.specs.Selection.{has_some, is_selected};
+ghost use Rattle.flow_selection.specs.Selection.{is_selected};
+ghost use Rattle.flow_selection.specs.Lines.{is_left};
 
-use crate::range::FlowRange;
+use crate::list::FlowList;
 use crate::shard::Shard;
 
 /// Which flows are selected, each by its index: the place of its record, from 0.
@@ -12,22 +13,8 @@ pub enum Selection {
     All,
     /// Those of a shard.
     Shard(Shard),
-    /// Those of at least one of these ranges.
-    Listed(Vec<FlowRange>),
-}
-
-/// Whether the flow with this index is of one of some ranges.
-fn some_has(ranges: &[FlowRange], flow: usize) -> bool
-    ensures { result ≡ has_some ranges.now flow }
-{
-    let mut rest = ranges;
-    while let [range, more @ ..] = rest {
-        if range.has(flow) {
-            return true;
-        }
-        rest = more;
-    }
-    false
+    /// Those of a list of ranges.
+    Listed(FlowList),
 }
 
 impl Selection {
@@ -38,7 +25,18 @@ impl Selection {
         match self {
             Selection::All => true,
             Selection::Shard(shard) => shard.has(flow),
-            Selection::Listed(ranges) => some_has(ranges, flow),
+            Selection::Listed(list) => list.has(flow),
+        }
+    }
+
+    /// Whether what is of this flow, or of none, is left where the flows of the selection are asked
+    /// for.
+    pub fn leaves(&self, flow: Option<usize>) -> bool
+        ensures { result ≡ is_left self.now flow }
+    {
+        match flow {
+            Some(flow) => self.has(flow),
+            None => true,
         }
     }
 }

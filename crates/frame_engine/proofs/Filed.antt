@@ -1,40 +1,66 @@
 -- What came is in the file.
-use Rattle.std.proofs.Common.{◌≡◌, ℕ, Option, List, [], ◌++◌, IsTrue, sym, ap, subst, ◌∙◌, append-nil, append_assoc}
+use Rattle.std.proofs.Common.{◌≡◌, ℕ, Option, List, [], ◌∷◌, ◌++◌, IsTrue, refl, sym, ap, subst, ◌∙◌, append-nil, append_assoc}
 use Rattle.std.proofs.lemmas.Grind.{flat_map-append}
+use Rattle.std.proofs.lemmas.List.Elements.{filter-append}
 use Rattle.capture.specs.Pcap.{header_bytes}
 use Rattle.capture_map.specs.declared.map.CaptureMap.{CaptureMap}
 use Rattle.capture_map.specs.declared.map.MapChannel.{MapChannel}
 use Rattle.captured_flows.specs.Steps.{CaptureStep}
+use Rattle.flow_selection.specs.declared.selection.Selection.{Selection}
+use Rattle.flow_selection.specs.declared.selection.Selection.TheVariants.{All}
+use Rattle.flow_selection.specs.Lines.{is_left}
 use Rattle.frame_records.specs.Frames.{file_header}
 use Rattle.frame_records.specs.declared.link.FrameLink.{FrameLink}
 use Rattle.timed_frames.specs.declared.timed_step.LastBurst.{LastBurst}
 use Rattle.timed_frames.specs.declared.timed_step.TimedStep.{TimedStep}
+use Rattle.timed_frames.specs.declared.timed_step.TimedStep.TheVariants.{HandedIn, Frame, Asked, Ended}
 use Rattle.timed_frames.specs.declared.timed_frames.TimedFrames.{TimedFrames}
 use Rattle.timed_frames.specs.Timed.{Timed}
 use Rattle.timed_frames.specs.Seen.{HasSeen}
 use Rattle.timed_frames.specs.Timing.{timed_then}
 use Rattle.frame_engine.specs.declared.settings.CaptureSettings.{CaptureSettings}
 use Rattle.frame_engine.specs.declared.frame_file.FrameFile.{FrameFile}
-use Rattle.frame_engine.specs.Written.{written_of, written_in}
-use Rattle.frame_engine.specs.Joined.{none_handed_in, file_of, IsFileOf}
+use Rattle.frame_engine.specs.Written.{flow_of_frame, written_of, written_in, steps_left, left_in}
+use Rattle.frame_engine.specs.Joined.{of_all_flows, none_handed_in, whole_file, file_of, IsFileOf}
 use Rattle.frame_engine.specs.Inside.Joins.{PutsCame, HasFiled}
+
+-- what is left of what came, and of more
+pub left-more : (selected : Selection) (link : FrameLink) (channels : List MapChannel) (came more : List TimedStep)
+    → left_in selected link channels (came ++ more) ≡ left_in selected link channels came ++ left_in selected link channels more
+left-more selected link channels came more =
+    ap (written_in link channels) (filter-append (λ step. is_left selected (flow_of_frame step)) came more)
+    ∙ flat_map-append (written_of link channels) (steps_left selected came) (steps_left selected more)
+
+-- all is left where all flows are selected
+left-all : (timed : List TimedStep) → steps_left All timed ≡ timed
+left-all [] = refl
+left-all (HandedIn flow burst ∷ timed) = ap (λ (rest : List TimedStep). HandedIn flow burst ∷ rest) (left-all timed)
+left-all (Frame flow burst frame ∷ timed) = ap (λ (rest : List TimedStep). Frame flow burst frame ∷ rest) (left-all timed)
+left-all (Asked burst request ∷ timed) = ap (λ (rest : List TimedStep). Asked burst request ∷ rest) (left-all timed)
+left-all (Ended flow counts ∷ timed) = ap (λ (rest : List TimedStep). Ended flow counts ∷ rest) (left-all timed)
+
+pub file-all : (settings : CaptureSettings) (capture_map : CaptureMap) (timed : List TimedStep)
+    → whole_file settings capture_map timed ≡ file_of (of_all_flows settings) capture_map timed
+file-all settings capture_map timed =
+    ap (λ (left : List TimedStep). header_bytes (file_header settings.link) ++ written_in settings.link capture_map.channels.items left) (sym (left-all timed))
 
 module _ (settings : CaptureSettings) (capture_map : CaptureMap) where
   abbrev written_for : List TimedStep → List ℕ
-  written_for timed = written_in settings.link capture_map.channels.items timed
+  written_for timed = left_in settings.selected settings.link capture_map.channels.items timed
 
   -- the file of what came, and of more
   file-more : (came more : List TimedStep) → file_of settings capture_map (came ++ more) ≡ file_of settings capture_map came ++ written_for more
   file-more came more =
-      ap (λ (text : List ℕ). header_bytes (file_header settings.link) ++ text) (flat_map-append (written_of settings.link capture_map.channels.items) came more)
+      ap (λ (text : List ℕ). header_bytes (file_header settings.link) ++ text) (left-more settings.selected settings.link capture_map.channels.items came more)
       ∙ sym (append_assoc (header_bytes (file_header settings.link)) (written_for came) (written_for more))
 
-  -- what waited of a file's link and channels
-  written-as : (link : FrameLink) (channels : List MapChannel) (waiting came : List TimedStep) → link ≡ settings.link → channels ≡ capture_map.channels.items → waiting ≡ came
-      → written_in link channels waiting ≡ written_for came
-  written-as link channels waiting came l c w =
-      ap (λ (link : FrameLink). written_in link channels waiting) l ∙ ap (λ (channels : List MapChannel). written_in settings.link channels waiting) c
-      ∙ ap (λ (waiting : List TimedStep). written_in settings.link capture_map.channels.items waiting) w
+  -- what waited of a file's selection, link and channels
+  written-as : (selected : Selection) (link : FrameLink) (channels : List MapChannel) (waiting came : List TimedStep) → selected ≡ settings.selected → link ≡ settings.link
+      → channels ≡ capture_map.channels.items → waiting ≡ came → left_in selected link channels waiting ≡ written_for came
+  written-as selected link channels waiting came s l c w =
+      ap (λ (selected : Selection). left_in selected link channels waiting) s ∙ ap (λ (link : FrameLink). left_in settings.selected link channels waiting) l
+      ∙ ap (λ (channels : List MapChannel). left_in settings.selected settings.link channels waiting) c
+      ∙ ap (λ (waiting : List TimedStep). left_in settings.selected settings.link capture_map.channels.items waiting) w
 
   -- **More steps were seen, and what came of them was put.**
   pub filed-more : (steps more : List CaptureStep) (written : List ℕ) (timed mid timed' : TimedFrames) (file file' : FrameFile)
@@ -52,9 +78,10 @@ module _ (settings : CaptureSettings) (capture_map : CaptureMap) where
         none_waits = puts.none_waits;
         link = puts.link ∙ filed.link;
         channels = ap (λ channels. channels.items) puts.channels ∙ filed.channels;
+        selected = puts.selected ∙ filed.selected;
         text =
             file-more filed.came later ∙ ap (λ (text : List ℕ). text ++ written_for later) filed.text ∙ append_assoc written file.bytes.items (written_for later)
-            ∙ ap (λ (bytes : List ℕ). written ++ (file.bytes.items ++ bytes)) (sym (written-as file.link file.channels.items mid.waiting.items later filed.link filed.channels waited))
+            ∙ ap (λ (bytes : List ℕ). written ++ (file.bytes.items ++ bytes)) (sym (written-as file.selected file.link file.channels.items mid.waiting.items later filed.selected filed.link filed.channels waited))
             ∙ ap (λ (bytes : List ℕ). written ++ bytes) (sym puts.bytes);
       }
 
@@ -66,15 +93,16 @@ module _ (settings : CaptureSettings) (capture_map : CaptureMap) where
 
   -- it was written
   pub filed-written : (steps : List CaptureStep) (written : List ℕ) (timed : TimedFrames) (file file' : FrameFile) → HasFiled settings capture_map steps written timed file
-      → file'.link ≡ file.link → file'.channels ≡ file.channels → file'.bytes.items ≡ []
+      → file'.link ≡ file.link → file'.channels ≡ file.channels → file'.selected ≡ file.selected → file'.bytes.items ≡ []
       → HasFiled settings capture_map steps (written ++ file.bytes.items) timed file'
-  filed-written steps written timed file file' filed link channels none = record {
+  filed-written steps written timed file file' filed link channels selected none = record {
     came = filed.came;
     is_timed = filed.is_timed;
     whole = filed.whole;
     none_waits = filed.none_waits;
     link = link ∙ filed.link;
     channels = ap (λ channels. channels.items) channels ∙ filed.channels;
+    selected = selected ∙ filed.selected;
     text =
         filed.text ∙ sym (append-nil (written ++ file.bytes.items))
         ∙ ap (λ (bytes : List ℕ). (written ++ file.bytes.items) ++ bytes) (sym none);

@@ -187,13 +187,13 @@ module _ (settings : CaptureSettings) (capture_map : CaptureMap) where
 
   -- where it was written
   pub ended-written : (bursts : List CapturedBurst) (written : List ℕ) (old new : Joining) → HasEnded settings capture_map bursts written old
-      → new ≡ record old { file = new.file } → new.file.link ≡ old.file.link → new.file.channels ≡ old.file.channels → new.file.bytes.items ≡ []
+      → new ≡ record old { file = new.file } → new.file.link ≡ old.file.link → new.file.channels ≡ old.file.channels → new.file.selected ≡ old.file.selected → new.file.bytes.items ≡ []
       → HasEnded settings capture_map bursts (written ++ old.file.bytes.items) new
-  ended-written bursts written old new has is link channels none =
+  ended-written bursts written old new has is link channels selected none =
       subst (λ (joining : Joining). HasEnded settings capture_map bursts (written ++ old.file.bytes.items) joining) (sym is) (record {
         handed = has.handed;
         steps = has.steps;
         comes = has.comes;
         stands = has.stands;
-        filed = filed-written settings capture_map has.steps written old.timed old.file new.file has.filed link channels none;
+        filed = filed-written settings capture_map has.steps written old.timed old.file new.file has.filed link channels selected none;
       })

@@ -16,6 +16,7 @@ use Rattle.captured_flows.specs.Together.{view_begun}
 use Rattle.captured_flows.specs.Captures.{SpellsBursts, EndsAll, made_from}
 use Rattle.captured_flows.specs.Steps.{CaptureStep, gave, given_in}
 use Rattle.captured_flows.specs.Plays.{Plays}
+use Rattle.flow_selection.specs.declared.selection.Selection.TheVariants.{All}
 use Rattle.frame_records.specs.Frames.{file_header}
 use Rattle.timed_frames.specs.declared.timed_step.LastBurst.{LastBurst}
 use Rattle.timed_frames.specs.declared.timed_step.TimedStep.{TimedStep}
@@ -23,7 +24,11 @@ use Rattle.timed_frames.specs.Timed.{Timed}
 use Rattle.frame_engine.specs.declared.settings.CaptureSettings.{CaptureSettings}
 use Rattle.frame_engine.specs.Settings.{inner_accepts}
 use Rattle.frame_engine.specs.Records.{AreBurstsOf}
-use Rattle.frame_engine.specs.Written.{written_in}
+use Rattle.frame_engine.specs.Written.{written_in, left_in}
+
+-- the same settings, with all flows selected
+abbrev pub of_all_flows : CaptureSettings → CaptureSettings
+of_all_flows settings = record settings { selected = All }
 
 module _ (settings : CaptureSettings) (capture_map : CaptureMap) where
   -- what the receiver is made with
@@ -38,16 +43,23 @@ module _ (settings : CaptureSettings) (capture_map : CaptureMap) where
   abbrev pub none_handed_in : List (Option LastBurst)
   none_handed_in = replicate (length capture_map.flows.items) None
 
-  -- the file of what came of some steps
-  abbrev pub file_of : List TimedStep → List ℕ
-  file_of timed = header_bytes (file_header settings.link) ++ written_in settings.link capture_map.channels.items timed
+  -- the file of all that came of some steps: a header, and what is written of that
+  abbrev pub whole_file : List TimedStep → List ℕ
+  whole_file timed = header_bytes (file_header settings.link) ++ written_in settings.link capture_map.channels.items timed
 
-  -- **What comes of these bursts**, one after another: what is handed in to the receiver, how the flows of the map then stand, and what the receiver gives.
+  -- the file of what came of some steps: a header, and what is written of that but the frames of
+  -- flows that aren't selected
+  abbrev pub file_of : List TimedStep → List ℕ
+  file_of timed = header_bytes (file_header settings.link) ++ left_in settings.selected settings.link capture_map.channels.items timed
+
+  -- **What comes of these bursts**, one after another: what is handed in to the receiver, how the
+  -- flows of the map then stand, and what the receiver gives.
   pub record ComesOf (bursts : List CapturedBurst) (handed : List Act) (flows : List FlowView) (steps : List CaptureStep) : Type 0 where
     pub spelled : SpellsBursts capture_map made settings.waits.wait (map (view_begun settings.waits) capture_map.flows.items) [] bursts handed flows
     pub plays : Plays inner_accepts check made [] [] handed steps
 
-  -- and what comes of it when nothing more comes: what waits is handed in, of one flow after another
+  -- and what comes of it when nothing more comes: what waits is handed in, of one flow after
+  -- another
   pub record ComesAtEnd (bursts : List CapturedBurst) (handed : List Act) (steps : List CaptureStep) : Type 0 where
     pub before : List Act
     pub flows : List FlowView
@@ -59,7 +71,8 @@ module _ (settings : CaptureSettings) (capture_map : CaptureMap) where
     pub handed_is : handed ≡ before ++ later
     pub plays : Plays inner_accepts check made [] [] handed steps
 
-  -- **The file of the frames that come of some steps**, each with the burst of its flow that was handed in last.
+  -- **The file of the frames of the selected flows that come of some steps**, each with the burst
+  -- of its flow that was handed in last.
   pub record IsFileOf (steps : List CaptureStep) (text : List ℕ) : Type 0 where
     pub timed : List TimedStep
     pub lasts : List (Option LastBurst)
@@ -81,7 +94,8 @@ module _ (settings : CaptureSettings) (capture_map : CaptureMap) where
     pub comes : ComesAtEnd bursts handed steps
     pub file : IsFileOf steps text
 
-  -- **and all of them**: what was given when the receiver was closed is the answer for all that was handed in
+  -- **and all of them**: what was given when the receiver was closed is the answer for all that was
+  -- handed in
   pub record AreAllFrames (bursts : List CapturedBurst) (text : List ℕ) : Type 0 where
     pub handed : List Act
     pub steps : List CaptureStep

@@ -23,20 +23,23 @@ pub record AreInFront (bytes : List ℕ) (records : List CaptureParts) (rest : L
   pub captured : HasCaptured reader records front
   pub are : bytes ≡ front ++ rest
 
--- where the capture is at fault, this many records stand before it; where the reader failed, nothing more was read
+-- where the capture is at fault, this many records stand before it; where the reader failed,
+-- nothing more was read
 abbrev pub IsBehindThem : List CaptureParts → List ℕ → EngineFault → Type 0
 IsBehindThem records rest (Capture fault) = fault.records ≡ counted records
 IsBehindThem records rest Read = rest ≡ []
 IsBehindThem records rest _ = Unit {0}
 
--- Bytes are no capture: what comes behind these records of them is at fault, whatever follows; or they end too early.
+-- Bytes are no capture: what comes behind these records of them is at fault, whatever follows; or
+-- they end too early.
 pub data IsFaultBehind (input : List ℕ) (fault : PlacedFault) : Type 0 where
   within : (records : List CaptureParts) (front back : List ℕ) → input ≡ front ++ back → HasCaptureFault records front fault.fault
       → fault.records ≡ counted records → IsFaultBehind input fault
   at_end : (records : List CaptureParts) (reader : CaptureReader) → HasCaptured reader records input → ¬ IsWholeCapture reader
       → fault.records ≡ counted records → IsFaultBehind input fault
 
--- why no more of a capture was joined: it is at fault; an allocation failed; the reader, which failed or gave 2^64 − 1 bytes; the writer
+-- why no more of a capture was joined: it is at fault; an allocation failed; the reader, which
+-- failed or gave 2^64 − 1 bytes; the writer
 abbrev pub HasJoinCause : {R W : Type 0} → Option (List ℕ) → Device R → Device W → EngineFault → Type 0
 HasJoinCause known reader writer (Capture fault) = IfSome known (λ input. IsFaultBehind input fault)
 HasJoinCause known reader writer OutOfMemory = Unit {0}
@@ -47,8 +50,9 @@ HasJoinCause known reader writer (Cut fault) = ⊥
 HasJoinCause known reader writer Usage = ⊥
 
 module _ (settings : CaptureSettings) (capture_map : CaptureMap) where
-  -- **How far some bytes were joined** where a fault is reported, and the file so far: not at all, where an allocation failed at the start; all records
-  -- before the fault; or all records and what waited, where an allocation failed when the receiver was closed.
+  -- **How far some bytes were joined** where a fault is reported, and the file so far: not at all,
+  -- where an allocation failed at the start; all records before the fault; or all records and what
+  -- waited, where an allocation failed when the receiver was closed.
   pub data IsJoinedTill (bytes : List ℕ) (fault : EngineFault) (text : List ℕ) : Type 0 where
     not_begun : fault ≡ OutOfMemory → text ≡ [] → IsJoinedTill bytes fault text
     so_far : (records : List CaptureParts) (rest : List ℕ) → AreInFront bytes records rest → IsBehindThem records rest fault
@@ -62,8 +66,8 @@ module _ (settings : CaptureSettings) (capture_map : CaptureMap) where
     pub read : Consumes known left bytes
     pub till : IsJoinedTill bytes fault text
 
-  -- **What joining a capture promises**, whatever becomes of it: `remaining` are the bytes that a reader is known to have left, `contents` those that a
-  -- writer is known to hold.
+  -- **What joining a capture promises**, whatever becomes of it: `remaining` are the bytes that a
+  -- reader is known to have left, `contents` those that a writer is known to hold.
   pub record JoinsCapture {R W : Type 0} (remaining : R → Option (List ℕ)) (contents : W → Option (List ℕ))
       (reader reader' : Device R) (writer writer' : Device W) (result : Result (Unit {0}) EngineFault) : Type 0 where
     -- without a fault the file of all that the reader gave was written

@@ -19,8 +19,9 @@ xra = 273
 abbrev pub greatest_sid : ℕ
 greatest_sid = 65535
 
--- a burst with its record's time, as it comes to the flows of a map: its grant has the bytes that its bits make up, and of a service identifier of more
--- than 16 bits it is enough that no map has it
+-- a burst with its record's time, as it comes to the flows of a map: its grant has the bytes that
+-- its bits make up, and of a service identifier of more than 16 bits it is enough that no map has
+-- it
 abbrev pub captured_burst : ℕ → BurstParts → CapturedBurst
 captured_burst nanoseconds burst = record {
   time = nanoseconds;

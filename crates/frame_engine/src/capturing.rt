@@ -8,23 +8,23 @@ ghost use Rattle.frame_engine.specs.Begun.{IsBegun, CanJoin};
 
 use crate::frame_reading::FrameReading;
 use crate::tally::CaptureTally;
-use engines::{Device, EngineFault, read_some, zeros};
+use engines::{Device, EngineFault, read_behind, zeros};
 use std::alloc::Global;
 use std::io::{Read, Write};
 
 /// How many bytes are asked of the reader at once.
 const PIECE_BYTES: usize = 262_144;
 
-/// Reads a capture, pcap or pcapng, to its end, and writes the pcap file of the frames of its bursts,
-/// each with the time and the origin of the burst that completed it. The header is written first, and
-/// what a piece brings is written and flushed before the next is read. It reads without a limit, up to
-/// 2^64 - 1 bytes. What is counted on the way comes into the tally, and its lines of requests go to a
-/// writer of their own, if there is one.
+/// Reads a capture, pcap or pcapng, to its end, and writes the pcap file of the frames of its
+/// bursts, each with the time and the origin of the burst that completed it. The header is written
+/// first, and what a piece brings is written and flushed before the next is read. It reads without
+/// a limit, up to 2^64 - 1 bytes. What is counted on the way comes into the tally, and its lines of
+/// requests go to a writer of their own, if there is one.
 ///
 /// `Read`: the reader failed, or gave more. `Capture`: the capture is malformed behind so many
-/// records, or ends too early. `OutOfMemory`: an allocation failed. Whichever comes, the frames of the
-/// records before were written and flushed; what waited then isn't handed in. `Write`: the writer
-/// failed, and a front of the file may have gone out.
+/// records, or ends too early. `OutOfMemory`: an allocation failed. Whichever comes, the frames of
+/// the records before were written and flushed; what waited then isn't handed in. `Write`: the
+/// writer failed, and a front of the file may have gone out.
 pub fn join_capture<R: Read, W: Write, Q: Write>(
     alloc: Global,
     mut reading: FrameReading,
@@ -44,7 +44,7 @@ pub fn join_capture<R: Read, W: Write, Q: Write>(
     let mut piece = zeros(alloc, PIECE_BYTES)?;
     reading.joining.file.write(writer)?;
     for _ in 0..u64::MAX {
-        let count = match read_some(reader, &mut piece) {
+        let count = match read_behind(reader, writer, &mut piece) {
             Ok(count) => count,
             Err(fault) => {
                 reading.note_all(tally);

@@ -4,6 +4,7 @@ ghost use Rattle.std.specs.Io.KnownBytes.{Appends};
 ghost use Rattle.capture.specs.PcapReading.{MovesOn};
 ghost use Rattle.captured_flows.specs.Captures.{IsFaultOf};
 ghost use Rattle.engines.specs.Device.{inner_of, has_failed};
+ghost use Rattle.engines.specs.Transfer.{IsLeftFlushed};
 ghost use Rattle.frame_engine.specs.Begun.{IsBegun, CanJoin};
 ghost use Rattle.frame_engine.specs.Inside.Joins.{JoinsSome, JoinsPiece, CannotJoin};
 ghost use Rattle.frame_engine.specs.Inside.Joins.{JoinsWritten, FinishesJoined};
@@ -26,8 +27,8 @@ pub struct FrameReading {
 }
 
 impl FrameReading {
-    /// Nothing was read. A fault is one of the setup that the map makes; a map that was read has none
-    /// but a failed allocation.
+    /// Nothing was read. A fault is one of the setup that the map makes; a map that was read has
+    /// none but a failed allocation.
     pub fn new(
         alloc: Global,
         settings: CaptureSettings,
@@ -48,8 +49,8 @@ impl FrameReading {
         tally.note_clocks(self.joining.flows.clock_counts());
     }
 
-    /// Notes how often times couldn't be gone by, and what came of the flows, where a fault ends the
-    /// capture.
+    /// Notes how often times couldn't be gone by, and what came of the flows, where a fault ends
+    /// the capture.
     pub(crate) fn note_all(&self, tally: &mut CaptureTally) {
         self.note_clocks(tally);
         self.joining.count_open(tally);
@@ -113,6 +114,7 @@ impl FrameReading {
             self.new writer.new result }
         ensures ready { OnOk result (CanJoin self.new) }
         ensures empty { OnOk result (self.new.joining.file.bytes.items ≡ []) }
+        ensures flushed { OnOk result (IsLeftFlushed writer.old writer.new) }
     {
         let taken = self.take_piece(alloc, piece, tally);
         self.joining.file.write(writer)?;

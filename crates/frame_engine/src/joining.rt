@@ -35,8 +35,8 @@ pub(crate) struct Joining {
     pub(crate) records: u64,
 }
 
-/// Puts all that waits into the file. Where an allocation failed, here or before, the file stays as it
-/// was.
+/// Puts all that waits into the file. Where an allocation failed, here or before, the file stays as
+/// it was.
 fn put_came(
     alloc: Global,
     timed: &mut TimedFrames,
@@ -67,15 +67,16 @@ impl Joining {
         ensures capturing { IfOk result (λ joining. IsCapturing inner_accepts joining.flows) }
         ensures fault { IfErr result (IsFaultOf capture_map) }
     {
+        let CaptureSettings {
+            rule,
+            waits,
+            check,
+            link,
+            selected,
+        } = settings;
         let timed = TimedFrames::new(alloc, capture_map.flows.len())?;
-        let file = FrameFile::new(alloc, settings.link, &capture_map.channels)?;
-        let flows = CapturedFlows::new(
-            alloc,
-            capture_map,
-            settings.rule,
-            settings.waits,
-            settings.check,
-        )?;
+        let file = FrameFile::new(alloc, link, &capture_map.channels, selected)?;
+        let flows = CapturedFlows::new(alloc, capture_map, rule, waits, check)?;
         Ok(Joining {
             flows,
             timed,
@@ -173,8 +174,8 @@ impl Joining {
         }
     }
 
-    /// Counts what came of each flow since it was begun or began anew, where a fault ends the capture
-    /// before the receiver is closed.
+    /// Counts what came of each flow since it was begun or began anew, where a fault ends the
+    /// capture before the receiver is closed.
     pub fn count_open(&self, tally: &mut CaptureTally) {
         for flow in 0..tally.summary.flows.len() {
             if let Some(counts) = self.flows.counts(flow) {
@@ -225,8 +226,8 @@ impl Joining {
         closed
     }
 
-    /// Nothing more comes: what waits is handed in and the receiver is closed, and what each gave is
-    /// written.
+    /// Nothing more comes: what waits is handed in and the receiver is closed, and what each gave
+    /// is written.
     pub fn finish<W: Write>(
         mut self,
         alloc: Global,

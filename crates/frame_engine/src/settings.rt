@@ -1,11 +1,12 @@
 //! What is asked of a capture.
 use crate::inner_check::InnerCheck;
 use captured_flows::Waits;
+use flow_selection::Selection;
 use frame_records::FrameLink;
 use loss_rule::LossRule;
 
 /// By what rules the bursts of a capture are joined, and how their frames are written.
-#[derive(Clone, Copy, Debug, PartialEq, Eq)]
+#[derive(Debug, Drop)]
 pub struct CaptureSettings {
     /// By what losses are decided, besides what is held for long.
     pub rule: LossRule,
@@ -15,4 +16,6 @@ pub struct CaptureSettings {
     pub check: InnerCheck,
     /// What a record with a frame holds.
     pub link: FrameLink,
+    /// Whose frames are written, and which flows what is counted tells of.
+    pub selected: Selection,
 }

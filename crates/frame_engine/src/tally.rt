@@ -13,6 +13,7 @@ use captured_flows::BurstTaken;
 use docsis_wire::Bytes;
 use engines::{Device, EngineFault, write_text};
 use flow_core::FlowCounts;
+use flow_selection::Selection;
 use lane::{Refusal, Request};
 use receiver::Reply;
 use std::alloc::{AllocError, Global};
@@ -38,11 +39,17 @@ pub struct CaptureTally {
     drawing: Option<Drawing>,
 }
 
-/// A summary of each flow of a map.
-fn new_flows(alloc: Global, capture_map: &CaptureMap) -> Result<Vec<FlowSummary>, AllocError> {
+/// A summary of each flow of a map, of which some are selected.
+fn new_flows(
+    alloc: Global,
+    capture_map: &CaptureMap,
+    selected: &Selection,
+) -> Result<Vec<FlowSummary>, AllocError> {
     let mut flows = Vec::with_capacity(alloc, capture_map.flows.len())?;
-    for flow in &capture_map.flows {
-        flows.push(FlowSummary::new(flow.sfid))?;
+    for (k, flow) in capture_map.flows.iter().enumerate() {
+        let mut summary = FlowSummary::new(flow.sfid);
+        summary.is_selected = selected.has(k);
+        flows.push(summary)?;
     }
     Ok(flows)
 }
@@ -79,11 +86,12 @@ fn refusals_of(reply: Reply) -> (Option<Refusal>, Option<Refusal>) {
 }
 
 impl CaptureTally {
-    /// Nothing was counted, of a capture with this map. Lines of requests are kept, the line of
-    /// their names first, where they are asked for.
+    /// Nothing was counted, of a capture with this map of which these flows are selected. Lines of
+    /// requests are kept, the line of their names first, where they are asked for.
     pub fn new(
         alloc: Global,
         capture_map: &CaptureMap,
+        selected: &Selection,
         with_requests: bool,
     ) -> Result<CaptureTally, AllocError>
         ensures none_lost { IfOk result (λ tally. tally.lost_requests ≡ None) }
@@ -99,7 +107,7 @@ impl CaptureTally {
         }
         Ok(CaptureTally {
             summary: CaptureSummary {
-                flows: new_flows(alloc, capture_map)?,
+                flows: new_flows(alloc, capture_map, selected)?,
                 channels: new_channels(alloc, &capture_map.channels)?,
                 passed: PassedCounts::none(),
                 records: 0,
@@ -219,13 +227,15 @@ impl CaptureTally {
         }
     }
 
-    /// Draws a burst that was handed in.
+    /// Draws a burst of a flow that was handed in, if the flow is selected.
     fn draw_burst(&mut self, alloc: Global, flow: usize, burst: LastBurst) {
         let (Some(drawing), Some(summary)) = (&mut self.drawing, self.summary.flows.get(flow))
         else {
             return;
         };
-        drawing.hand_in(alloc, flow, summary.sfid, burst);
+        if summary.is_selected {
+            drawing.hand_in(alloc, flow, summary.sfid, burst);
+        }
     }
 
     /// Whether a picture is drawn.
@@ -275,9 +285,11 @@ impl CaptureTally {
         }
     }
 
-    /// Counts a frame of a flow.
+    /// Counts a frame of a flow that is selected.
     fn count_frame(&mut self, flow: usize, frame: &Bytes) {
-        if let Some(summary) = self.summary.flows.get_mut(flow) {
+        if let Some(summary) = self.summary.flows.get_mut(flow)
+            && summary.is_selected
+        {
             summary.count_frame(sequence_of(frame.as_slice()));
         }
     }

@@ -36,7 +36,8 @@ use Rattle.texts.specs.declared.follow.happening_list.HappeningList.{HappeningLi
 use Rattle.texts.specs.AnyHeader.{any_header, no_check}
 use Rattle.texts.specs.Happened.{IsOfTrace, IsStanding, TellsStanding, TellsStandingAfter, flow_admitted, flow_decided, Tells, HasHappened, one_more}
 use Rattle.text_lines.specs.Putting.{Puts}
-use Rattle.texts.specs.Happening.{happening_lines}
+use Rattle.texts.specs.Follow.{lines_told}
+use Rattle.texts.specs.declared.follow.settings.FollowSettings.{FollowSettings}
 use Rattle.texts.specs.Inside.SetupLines.{SetupSoFar}
 use Rattle.texts.specs.Inside.Followed.{HasAdded, HasKept, TellsStandingIn, TellsStandingOf, TellsStandingIfAny, ReceiverUnderWay, IsNonePending, HasFollowed, EndsFollowing, PutsHappened}
 
@@ -120,7 +121,8 @@ settled_decided receiver flow (decision_reply.Taken lost) settled = settled
 
 -- ---- nothing is left to be done
 
--- of any flow, where nothing was of any before, only one changed since, and nothing is left to be done of that
+-- of any flow, where nothing was of any before, only one changed since, and nothing is left to be
+-- done of that
 others_settled : (receiver receiver' : Receiver NoCheck) (flow : ℕ) → ((k : ℕ) → IsSettledAt receiver k) → OthersStay receiver.flows flow receiver'.flows
     → IsSettledAt receiver' flow → (k : ℕ) → IsSettledAt receiver' k
 others_settled receiver receiver' flow all others settled k = by_cases (cases_eq k flow) where
@@ -245,14 +247,14 @@ put_more told rule width setup entries now now' has same whole none = record {
       (has.happened whole);
 }
 
-pub puts_happened : {T E : Type 0} (after : T → List ℕ → T → Type 0) (line : ℕ) (events : Bool) (width : Width) (rule : LossRule) (so_far : SetupSoFar)
+pub puts_happened : {T E : Type 0} (after : T → List ℕ → T → Type 0) (line : ℕ) (settings : FollowSettings) (width : Width) (rule : LossRule) (so_far : SetupSoFar)
     (taker : Option ReceiverUnderWay) (now now' : ReceiverUnderWay) (out out' : T) (result : Result (Unit {0}) E) → taker ≡ Some now
-    → OnOk result (Puts after out (flat_map (happening_lines events line) now.pending.happened.items) out') → OnOk result (now.pending.whole ≡ true)
+    → OnOk result (Puts after out (flat_map (lines_told settings line) now.pending.happened.items) out') → OnOk result (now.pending.whole ≡ true)
     → OnOk result (IsNonePending now') → OnOk result (now'.receiver ≡ now.receiver)
-    → OnOk result (PutsHappened after line events width rule so_far taker out width rule so_far (Some now') out')
-puts_happened after line events width rule so_far taker now now' out out' (Err fault) is put whole none same = tt
-puts_happened after line events width rule so_far taker now now' out out' (Ok done) is put whole none same =
-    subst (λ (taker : Option ReceiverUnderWay). PutsHappened after line events width rule so_far taker out width rule so_far (Some now') out') (sym is)
+    → OnOk result (PutsHappened after line settings width rule so_far taker out width rule so_far (Some now') out')
+puts_happened after line settings width rule so_far taker now now' out out' (Err fault) is put whole none same = tt
+puts_happened after line settings width rule so_far taker now now' out out' (Ok done) is put whole none same =
+    subst (λ (taker : Option ReceiverUnderWay). PutsHappened after line settings width rule so_far taker out width rule so_far (Some now') out') (sym is)
     (record {
       happened = now.pending.happened.items;
       put = put;

@@ -29,3 +29,4 @@ pub mod OneReport
 pub mod OneReplay
 pub mod PutLines
 pub mod SelectedLines
+pub mod FollowedLinesLeft

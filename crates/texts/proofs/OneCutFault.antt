@@ -1,4 +1,4 @@
--- An input of `cut` has one fault, by what `docsis_wire` says of the frames and the pieces, or they can be cut.
+-- An input of `cut` has one fault, by what `docsis_wire` says of frames and pieces, or can be cut.
 use Rattle.std.proofs.Common.{◌≡◌, ◌≢◌, ℕ, List, refl, ap, subst}
 use Rattle.docsis_wire.specs.declared.pieces.Piece.{Piece}
 use Rattle.docsis_wire.specs.declared.pieces.CutFault.{CutFault}

@@ -1,4 +1,5 @@
--- The fields of a trace's line: they have one form, and of the fields without their form the first has the least fault.
+-- The fields of a trace's line: they have one form, and of the fields without their form the first
+-- has the least fault.
 use Rattle.std.proofs.Common.{◌≡◌, ◌≢◌, ℕ, ◌<◌, ◌≤◌, List, [], ◌∷◌, ◌⊎◌, length, get_or, inl, inr, refl, sym, ap, ◌∙◌, subst, arith}
 use Rattle.text_lines.specs.declared.fault.TraceKind.{TraceKind}
 use Rattle.text_lines.specs.declared.fault.TraceKind.TheVariants.{UnknownLine, SetupLate, FieldCount, BadNumber, BadWord, NotHex}

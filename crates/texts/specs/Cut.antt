@@ -20,7 +20,8 @@ use Rattle.text_lines.specs.Format.{IsRead, IsFirstFaultyLine}
 use Rattle.texts.specs.Cut.Line.{nothing, cut_format}
 use Rattle.texts.specs.AnyHeader.{any_header}
 
--- the segments of the lawful cut that the pieces name: their numbers begin with the first, and the fields that a cut gives no meaning are 0
+-- the segments of the lawful cut that the pieces name: their numbers begin with the first, and the
+-- fields that a cut gives no meaning are 0
 pub record IsCutInto (first : ℕ) (fill : FillByte) (frames : List (List ℕ)) (pieces : List Piece) (segments : List Segment) : Type 0 where
   pub lawful : IsLawfulCut any_header frames first (fill_byte fill) (chunks_of frames pieces) segments
   pub named : ArePieceSegments (fill_byte fill) frames pieces segments
@@ -39,8 +40,8 @@ pub record IsPrinted (cut : CutUnderWay) (text : List ℕ) : Type 0 where
 abbrev pub PutsCut : {T : Type 0} → (T → List ℕ → T → Type 0) → CutUnderWay → T → T → Type 0
 PutsCut after cut old new = (text : List ℕ) × IsPrinted cut text × Puts after old text new
 
--- How long the lines of a cut's segments are: two digits for each byte of a header, of what the pieces take of the frames, and of fill, and a
--- line feed for each segment.
+-- How long the lines of a cut's segments are: two digits for each byte of a header, of what the
+-- pieces take of the frames, and of fill, and a line feed for each segment.
 abbrev pub cut_text_length : List (List ℕ) → List Piece → ℕ
 cut_text_length frames pieces =
     (min (sum_by (λ piece. piece.bytes) pieces) (sum_by length frames) + sum_by (λ piece. piece.fill) pieces + length pieces * header_length) * 2 + length pieces
@@ -74,7 +75,8 @@ pub record IsFirstPieceFault (input : List ℕ) (fault : CutFault) : Type 0 wher
   pub read : IsRead cut_format nothing (lines_of input) (record { frames = frames; pieces = pieces })
   pub reported : IsPieceFault frames pieces fault
 
--- why an input was not cut: its first faulty line, or else the first fault of its frames and pieces, or a failed allocation
+-- why an input was not cut: its first faulty line, or else the first fault of its frames and
+-- pieces, or a failed allocation
 abbrev pub IsCutFault : List ℕ → TextFault → Type 0
 IsCutFault input (Trace fault) = IsFirstFaultyLine cut_format nothing (lines_of input) fault
 IsCutFault input (Cut fault) = IsFirstPieceFault input fault

@@ -52,8 +52,9 @@ pub record IsTalliedAs (report : LaneReport) (tally : LaneTally) : Type 0 where
   pub admitted : tally.admitted ≡ report.admitted
   pub refused : tally.refused ≡ counted (length report.refused.items)
 
--- **What was given and counted is what an outcome says**: of each flow its frames, of each channel its requests, both in order, and what was counted of
--- both. Of no other flow, and on no other channel, anything was given.
+-- **What was given and counted is what an outcome says**: of each flow its frames, of each channel
+-- its requests, both in order, and what was counted of both. Of no other flow, and on no other
+-- channel, anything was given.
 pub record IsGivenAsReported (outcome : Outcome) (setup : Setup) (given : List Given) (closed : Closed) : Type 0 where
   pub flow_count : length closed.flows.items ≡ length outcome.flows.items
   pub flows : (k : ℕ) (flow : FlowOutcome) → slice_get outcome.flows.items k ≡ Some flow → GaveAsReported setup given closed k flow

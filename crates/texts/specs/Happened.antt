@@ -45,8 +45,9 @@ pub record AreHandedIn (channels : ℕ) (entries : List Entry) (handed : List Ha
 
 -- ---- what is told of one thing that is handed in
 
--- A flow with this record stands so after all this: it expects the number of the index that it expects, and holds as many segments as a receiver does that
--- stands for all this, once nothing of the flow is left to be done.
+-- A flow with this record stands so after all this: it expects the number of the index that it
+-- expects, and holds as many segments as a receiver does that stands for all this, once nothing of
+-- the flow is left to be done.
 pub record IsStanding (made : TableSetup) (handed : List HandedIn) (given : List Given) (flow : ℕ) (flow_record : FlowRecord) (expected held : ℕ) : Type 0 where
   pub number : IsNumberExpected made flow flow_record handed expected
   pub receiver : Receiver NoCheck
@@ -74,7 +75,8 @@ flow_decided flow (decision_reply.Taken lost) = Some flow
 abbrev pub TellsStandingAfter : TableSetup → List HandedIn → List Given → Option ℕ → List Happening → Type 0
 TellsStandingAfter made handed given flow told = MatchOption flow (told ≡ []) (λ k. TellsStanding made handed given k told)
 
--- Of an input that came after all this: its lane's answer, rightly what became of its segment, and then how its flow stands.
+-- Of an input that came after all this: its lane's answer, rightly what became of its segment, and
+-- then how its flow stands.
 pub record TellsInput (made : TableSetup) (handed : List HandedIn) (given : List Given) (channel : ℕ) (one : AnsweredInput) (told : List Happening) : Type 0 where
   pub reply : Reply
   pub says : Says reply one.answer
@@ -83,7 +85,8 @@ pub record TellsInput (made : TableSetup) (handed : List HandedIn) (given : List
   pub stands : TellsStandingAfter made (handed ++ came channel one ∷ []) given (flow_admitted reply) standing
   pub are : told ≡ Took (name_of_input channel one.input) reply ∷ standing
 
--- Of a decision that came after all this: whether it was passed over, rightly whether a segment is lost by it, and then how its flow stands.
+-- Of a decision that came after all this: whether it was passed over, rightly whether a segment is
+-- lost by it, and then how its flow stands.
 pub record TellsDecision (made : TableSetup) (handed : List HandedIn) (given : List Given) (flow : ℕ) (decision : FlowDecision) (told : List Happening) : Type 0 where
   pub reply : DecisionReply
   pub passed_over : reply ≡ decision_reply.PassedOver ↔ ((nat_lt flow (length made.records) && is_in_range decision) ≡ false)
@@ -98,7 +101,8 @@ Tells made handed given (came channel one) told = TellsInput made handed given c
 Tells made handed given (decided flow decision) told = TellsDecision made handed given flow decision told
 Tells made handed given (restarted flow first) told = ⊥
 
--- **What happens** as one thing after another is handed in: for each the receiver gives something, and then it is told what became of it.
+-- **What happens** as one thing after another is handed in: for each the receiver gives something,
+-- and then it is told what became of it.
 pub data HasHappened (made : TableSetup) : List HandedIn → List Given → List Happening → Type 0 where
   nothing : HasHappened made [] [] []
   one_more : {handed : List HandedIn} {given : List Given} (given_more : List Given) (one : HandedIn) {happened : List Happening} (told : List Happening)
@@ -107,8 +111,9 @@ pub data HasHappened (made : TableSetup) : List HandedIn → List Given → List
 
 -- ---- what happens for the lines of a trace
 
--- What happened by this rule at a receiver of this width for what some lines say that came in: it has the setup that they give, each entry was handed in, in
--- order, and nothing is left to be done, so that all was given that is whole. It is made with the first entry; before, nothing happens.
+-- What happened by this rule at a receiver of this width for what some lines say that came in: it
+-- has the setup that they give, each entry was handed in, in order, and nothing is left to be done,
+-- so that all was given that is whole. It is made with the first entry; before, nothing happens.
 pub record HasHappenedFor (rule : LossRule) (width : Width) (said : Said) (happened : List Happening) : Type 0 where
   pub setup : Setup
   pub is_setup : IsSetupOf said setup
@@ -138,8 +143,8 @@ happening_of one = one.happening
 abbrev pub happened_till : ℕ → List HappenedAt → List Happening
 happened_till line told = map happening_of (filter (λ one. nat_le one.line line) told)
 
--- **Each thing happened by the line that it names**: up to the last of the first lines, however many, just that has happened which happens for them. Lines
--- are numbered up to 2^64 − 1.
+-- **Each thing happened by the line that it names**: up to the last of the first lines, however
+-- many, just that has happened which happens for them. Lines are numbered up to 2^64 − 1.
 abbrev pub AreNumbered : LossRule → Width → List (List ℕ) → List HappenedAt → Type 0
 AreNumbered rule width lines told =
     (above below : List (List ℕ)) → lines ≡ above ++ below → length above < 2 ^ 64 - 1 → HappenedBy rule width above (happened_till (length above) told)

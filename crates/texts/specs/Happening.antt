@@ -90,7 +90,8 @@ abbrev pub admitted_lines : ℕ → ℕ → ℕ → Told → List ℕ
 admitted_lines line flow sequence told =
     skip_lines line flow told.skipped_to ++ line_head line ++ named (codes "flow") flow ++ verdict_text sequence told.verdict ++ line_feed ∷ []
 
--- `line <number> grant <channel> <number> granted`, the line of a refusal, or the lines of a segment that is admitted
+-- `line <number> grant <channel> <number> granted`, the line of a refusal, or the lines of a
+-- segment that is admitted
 abbrev pub took_lines : ℕ → InputName → Reply → List ℕ
 took_lines line name reply.Granted = line_head line ++ input_text name ++ codes " granted" ++ line_feed ∷ []
 took_lines line name (reply.Refused refusal) = refused_line line name refusal

@@ -15,7 +15,7 @@ use Rattle.texts.specs.AnyHeader.{any_header}
 abbrev pub frame_line : List ℕ → List ℕ
 frame_line frame = encode_lower frame ++ line_feed ∷ []
 
--- the text that stands for an input: a line for each frame that its segments, none of them lost, join to
+-- the text that stands for an input: a line for each frame that its segments, none lost, join to
 pub record IsJoined (input text : List ℕ) : Type 0 where
   pub segments : List Segment
   pub frames : List (List ℕ)

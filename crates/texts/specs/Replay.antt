@@ -16,13 +16,15 @@ use Rattle.texts.specs.AnyHeader.{any_header}
 use Rattle.texts.specs.Report.{report_text}
 use Rattle.texts.specs.Trace.Place.{Said, nothing_said, trace_format}
 
--- the setup that lines give which say this: the flows and the rows, with mailboxes of the capacity that is taken where none is asked for
+-- the setup that lines give which say this: the flows and the rows, with mailboxes of the capacity
+-- that is taken where none is asked for
 pub record IsSetupOf (said : Said) (setup : Setup) : Type 0 where
   pub flows : setup.flows.items ≡ said.flows
   pub sids : setup.sids.items ≡ said.sids
   pub mailbox : setup.mailbox ≡ default_capacity
 
--- what lines give that say this: the one-thread answer, in the order in which they say that what was admitted came
+-- what lines give that say this: the one-thread answer, in the order in which they say that what
+-- was admitted came
 pub record IsPlayed (said : Said) (outcome : Outcome) : Type 0 where
   pub setup : Setup
   pub given : IsSetupOf said setup
@@ -38,7 +40,8 @@ pub record IsReplayed (input text : List ℕ) : Type 0 where
   pub played : IsPlayed said outcome
   pub printed : text ≡ report_text outcome
 
--- what lines give by a loss rule that say this: the one-thread answer by that rule, in the same order
+-- what lines that say this give by a loss rule: the one-thread answer by that rule, in the same
+-- order
 pub record IsPlayedBy (rule : LossRule) (said : Said) (outcome : Outcome) : Type 0 where
   pub setup : Setup
   pub given : IsSetupOf said setup
@@ -54,7 +57,8 @@ pub record IsReplayedBy (rule : LossRule) (input text : List ℕ) : Type 0 where
   pub played : IsPlayedBy rule said outcome
   pub printed : text ≡ report_text outcome
 
--- why an input has no report, with rings of this capacity: its first faulty line, or a failed allocation
+-- why an input has no report, with rings of this capacity: its first faulty line, or a failed
+-- allocation
 abbrev pub IsReportFault : ℕ → List ℕ → TextFault → Type 0
 IsReportFault ring input (Trace fault) = IsFirstFaultyLine trace_format (nothing_said ring) (lines_of input) fault
 IsReportFault ring input (Cut fault) = ⊥

@@ -49,7 +49,8 @@ lane_line channel lane =
     codes "lane" ++ spaced channel ++ named (codes "admitted") lane.admitted ++ codes " refused" ++ refused_text lane.refused.items
     ++ line_feed ∷ []
 
--- The report of an outcome: the lines of each flow and its frames, of each channel's requests, and of each lane.
+-- The report of an outcome: the lines of each flow and its frames, of each channel's requests, and
+-- of each lane.
 abbrev pub report_text : Outcome → List ℕ
 report_text outcome =
     numbered_texts flow_lines outcome.flows.items

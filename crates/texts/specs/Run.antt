@@ -10,7 +10,8 @@ use Rattle.texts.specs.AnyHeader.{any_header}
 use Rattle.texts.specs.Report.{report_text}
 use Rattle.texts.specs.Trace.{IsTrace}
 
--- what a trace may give on threads: the one-thread answer in the order that the outcome states, which is a lawful one of all that its lines admit
+-- what a trace may give on threads: the one-thread answer in the order that the outcome states,
+-- which is a lawful one of all that its lines admit
 abbrev pub IsReceived : TraceValue → Outcome → Type 0
 IsReceived trace outcome = IsOutcome any_header trace.setup (incoming_of trace.lists) outcome.order.items outcome
 
@@ -22,11 +23,13 @@ pub record IsRunText (ring mailbox : ℕ) (input text : List ℕ) : Type 0 where
   pub received : IsReceived trace outcome
   pub printed : text ≡ report_text outcome
 
--- what a trace may give on threads by a loss rule: the one-thread answer by that rule, in the order that the outcome states
+-- what a trace may give on threads by a loss rule: the one-thread answer by that rule, in the order
+-- that the outcome states
 abbrev pub IsReceivedBy : LossRule → TraceValue → Outcome → Type 0
 IsReceivedBy rule trace outcome = IsOutcomeBy rule any_header trace.setup (incoming_of trace.lists) outcome.order.items outcome
 
--- a text that an input may have on threads by a loss rule: the report of what its trace may give by it
+-- a text that an input may have on threads by a loss rule: the report of what its trace may give
+-- by it
 pub record IsRunTextBy (rule : LossRule) (ring mailbox : ℕ) (input text : List ℕ) : Type 0 where
   pub trace : TraceValue
   pub is_trace : IsTrace ring mailbox input trace

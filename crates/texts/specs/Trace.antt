@@ -12,14 +12,15 @@ use Rattle.text_lines.specs.Format.{IsRead, IsReadingFault}
 use Rattle.texts.specs.declared.trace.Trace.{Trace}
 use Rattle.texts.specs.Trace.Place.{Said, nothing_said, trace_format}
 
--- The lists that these entries give: of each of the four channels its inputs, and the decisions, each in order.
+-- The lists that these entries give: of each of the four channels its inputs, and the decisions,
+-- each in order.
 pub record AreListsOf (entries : List Entry) (lists : Lists) : Type 0 where
   pub channels : length lists.inputs ≡ channel_limit
   pub inputs : (channel : ℕ) → channel < channel_limit → inputs_on lists channel ≡ filter_map (came_on channel) entries
   pub decisions : lists.decisions.items ≡ filter_map decision_in entries
 
--- The trace that lines give which say this, with mailboxes of this capacity: the flows, the rows and the lists, and for each input line its
--- sender.
+-- The trace that lines give which say this, with mailboxes of this capacity: the flows, the rows
+-- and the lists, and for each input line its sender.
 pub record IsGivenBy (mailbox : ℕ) (said : Said) (trace : Trace) : Type 0 where
   pub flows : trace.setup.flows.items ≡ said.flows
   pub sids : trace.setup.sids.items ≡ said.sids
@@ -33,7 +34,8 @@ pub record IsTrace (ring mailbox : ℕ) (input : List ℕ) (trace : Trace) : Typ
   pub read : IsRead trace_format (nothing_said ring) (lines_of input) said
   pub given : IsGivenBy mailbox said trace
 
--- why an input is no trace: its first faulty line, with the least kind of its faults; or an allocation failed
+-- why an input is no trace: its first faulty line, with the least kind of its faults; or an
+-- allocation failed
 abbrev pub IsTraceFault : ℕ → List ℕ → ParseFault → Type 0
 IsTraceFault ring input = IsReadingFault trace_format (nothing_said ring) (lines_of input)
 

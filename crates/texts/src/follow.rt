@@ -17,10 +17,12 @@ mod following;
 mod happening;
 mod happening_list;
 mod lines;
+mod settings;
 
 pub use following::Following;
 pub use happening::{Happening, InputKind, InputName};
 pub use happening_list::HappeningList;
+pub use settings::FollowSettings;
 
 /// The lines so far of a trace that is followed as they are read. What happened by them that wasn't
 /// put yet is held.
@@ -28,22 +30,22 @@ pub type FollowInput = TraceInput<Following>;
 
 impl FollowInput {
     /// Puts the lines of all that happened and that wasn't put yet, which was by the line of the
-    /// trace with this number: of each frame and each request that the receiver gave, and with
-    /// events also of what became of inputs and decisions. It reports that an allocation failed, for
-    /// which something is not there that happened; then nothing is put.
+    /// trace with this number: of each frame of a selected flow and each request that the receiver
+    /// gave, and with events also of what became of inputs and decisions. It reports that an
+    /// allocation failed, for which something is not there that happened; then nothing is put.
     pub fn put_happened<O: PutText>(
         &mut self,
         line: u64,
-        events: bool,
+        settings: &FollowSettings,
         out: &mut O,
     ) -> Result<(), AllocError>
-        ensures put { OnOk result (PutsHappened O.after line events
+        ensures put { OnOk result (PutsHappened O.after line settings.now
             self.old.width self.old.rule self.old.setup self.old.taker out.old
             self.new.width self.new.rule self.new.setup self.new.taker out.new) }
         ensures unchanged { OnErr result (out.new ≡ out.old) }
     {
         match &mut self.taker {
-            Some(following) => following.put_happened(line, events, out),
+            Some(following) => following.put_happened(line, settings, out),
             None => Ok(()),
         }
     }
@@ -77,10 +79,10 @@ pub fn finish_follow(alloc: Global, lines: FollowInput) -> Result<Followed, Allo
 }
 
 /// Puts what is left to be put at the end of a trace that is followed, whose last line has this
-/// number: the lines of what happened, with events or without, and those of what was counted.
-pub fn put_end<O: PutText>(out: &mut O, line: u64, events: bool, end: &Followed)
-    ensures { Puts O.after out.old (end_text events line end.now) out.new }
+/// number: the lines of what happened and of what was counted that these settings ask for.
+pub fn put_end<O: PutText>(out: &mut O, line: u64, settings: &FollowSettings, end: &Followed)
+    ensures { Puts O.after out.old (end_text settings.now line end.now) out.new }
 {
-    put_happened(out, line, events, &end.happened);
-    put_closed(out, &end.setup, &end.closed);
+    put_happened(out, line, settings, &end.happened);
+    put_closed(out, &settings.selected, &end.setup, &end.closed);
 }

@@ -14,7 +14,7 @@ ghost use Rattle.docsis_wire.specs.declared.pieces.Piece.{Piece};
 ghost use Rattle.docsis_wire.specs.declared.segment.Segment.{Segment};
 ghost use Rattle.flow_records.specs.Limits.{flows_max};
 ghost use Rattle.flow_selection.specs.declared.selection.Selection.{Selection};
-ghost use Rattle.flow_selection.specs.Lines.{text_of_lines};
+ghost use Rattle.flow_selection.specs.Lines.{FlowLine, text_of_lines, text_left};
 ghost use Rattle.flow_records.specs.declared.record.FlowRecord.{FlowRecord};
 ghost use Rattle.lane.specs.Limits.{channel_limit};
 ghost use Rattle.loss_rule.specs.declared.rule.LossRule.{LossRule};
@@ -32,7 +32,8 @@ ghost use Rattle.text_lines.specs.declared.fault.ParseFault.{ParseFault};
 ghost use Rattle.text_lines.specs.declared.fault.TextFault.{TextFault};
 ghost use Rattle.texts.specs.declared.trace.Trace.{Trace};
 ghost use Rattle.texts.specs.AnyHeader.{any_header};
-ghost use Rattle.texts.specs.Follow.{IsFollowed};
+ghost use Rattle.texts.specs.Follow.{of_all_flows, IsFollowed};
+ghost use Rattle.texts.specs.declared.follow.settings.FollowSettings.{FollowSettings};
 ghost use Rattle.texts.specs.FollowedReport.{given_in, followed_flow, came_of_trace};
 ghost use Rattle.texts.specs.FollowedReport.{IsGivenAsReported};
 ghost use Rattle.texts.specs.Happened.{happening_of};
@@ -179,13 +180,14 @@ pub fn report_of_all_flows_is_the_report()
 /// of each flow its frames and of each channel its requests, in order, and what is counted of both.
 /// Of what it gave, just that is told before the receiver is closed which was given till then.
 pub fn followed_trace_gives_its_report()
-    ensures told { (rule : LossRule) (width : Width) (events : Bool) (input text : List ℕ)
-        → (is : IsFollowed rule width events input text)
+    ensures told { (rule : LossRule) (width : Width) (settings : FollowSettings)
+        (input text : List ℕ)
+        → (is : IsFollowed rule width settings input text)
         → filter_map given_in (map happening_of is.told) ≡ is.given }
-    ensures reported { (rule : LossRule) (width : Width) (events : Bool)
+    ensures reported { (rule : LossRule) (width : Width) (settings : FollowSettings)
         (input text report : List ℕ)
         → channel_limit ≤ width.channels → flows_max ≤ width.flows
-        → (is : IsFollowed rule width events input text)
+        → (is : IsFollowed rule width settings input text)
         → (by : IsReplayedBy rule input report)
         → IsGivenAsReported by.outcome is.setup (is.given ++ is.rest) is.closed }
 {
@@ -196,15 +198,26 @@ pub fn followed_trace_gives_its_report()
     bonded_flows::laws::what_came_to_a_flow_has_one_answer();
 }
 
+/// **The text of a trace that is followed for some flows is the whole one, line by line, but for
+/// the lines of the flows that aren't selected.** Of all flows there is a whole text of the same
+/// trace, and both are of the same lines.
+pub fn followed_flows_have_the_lines_of_the_whole()
+    ensures { (rule : LossRule) (width : Width) (settings : FollowSettings) (input text : List ℕ)
+        → IsFollowed rule width settings input text
+        → (whole : List ℕ) × (lines : List FlowLine)
+        × IsFollowed rule width (of_all_flows settings.events) input whole
+        × (whole ≡ text_of_lines lines) × (text ≡ text_left settings.selected lines) }
+{}
+
 /// **What a flow gives of a trace that is followed is exactly the modem's frames all of whose
 /// segments came in**, in the modem's order: by a loss rule, and where what comes to the flow is of
 /// one lawful cut of the modem's frames, none twice, comes on each channel in the modem's order and
 /// falls into the window, and the decisions of the trace lose nothing that still comes.
 pub fn followed_flow_gives_the_frames_that_all_came()
-    ensures { (rule : LossRule) (width : Width) (events : Bool) (input text : List ℕ) (k : ℕ)
-        (flow_record : FlowRecord) (frames : List (List ℕ))
+    ensures { (rule : LossRule) (width : Width) (settings : FollowSettings) (input text : List ℕ)
+        (k : ℕ) (flow_record : FlowRecord) (frames : List (List ℕ))
         → rule ≢ LossRule.Decided
-        → (is : IsFollowed rule width events input text)
+        → (is : IsFollowed rule width settings input text)
         → slice_get is.setup.flows.items k ≡ Some flow_record
         → (modem : ComeFromAModem rule any_header (followed_flow rule width is.setup k flow_record)
         frames (came_of_trace rule width is.setup is.handed k flow_record))

@@ -20,7 +20,8 @@
 //!   alone.
 //! - [`FollowInput`] follows a trace of up to 16 channels and 16,384 flows: what a receiver gives
 //!   for its lines is put as they are taken, and with events also what became of each input and
-//!   each decision; [`put_end`] puts what is left at its end. It and `ReplayInput` are each a
+//!   each decision, of all flows or of some ([`FollowSettings`]); [`put_end`] puts what is left at
+//!   its end. It and `ReplayInput` are each a
 //!   [`TraceInput`].
 //!
 //! The lines and fields of all these formats, and the faults of a line, are those of `text_lines`;
@@ -44,8 +45,8 @@ mod trace;
 
 pub use cut::{CutInput, cut_lines, put_cut};
 pub use follow::{
-    FollowInput, Followed, Following, Happening, HappeningList, InputKind, InputName,
-    finish_follow, put_end,
+    FollowInput, FollowSettings, Followed, Following, Happening, HappeningList, InputKind,
+    InputName, finish_follow, put_end,
 };
 pub use join::{JoinInput, join_lines};
 pub use replay::{ReplayInput, UnderWay, finish_replay, replay_lines, replay_lines_by};

@@ -2,7 +2,7 @@
 //! at one place of each call. Each test takes out of memory as lawful there, says so by the word
 //! `refused`, and calls again; where nothing failed it says nothing. Where the name of a test ends
 //! in `without_memory` all later allocations fail, too.
-use crate::followed::FOLLOWED;
+use crate::followed::{FOLLOWED, all_flows};
 use commands::{program, run_text, run_text_by};
 use docsis_wire::FillByte;
 use engines::{
@@ -145,7 +145,15 @@ fn follow_into(alloc: Global, text: &mut [u8]) -> Result<(), EngineFault> {
     let mut reader = Device::new(TRACE.as_bytes());
     let mut writer = Device::new(text);
     let rule = LossRule::Decided;
-    let done = follow_text(rule, Width::PROFILE, false, alloc, &mut reader, &mut writer);
+    let settings = all_flows(false);
+    let done = follow_text(
+        rule,
+        Width::PROFILE,
+        settings,
+        alloc,
+        &mut reader,
+        &mut writer,
+    );
     reader.into_inner();
     writer.into_inner();
     done
@@ -347,6 +355,22 @@ fn mapping_program_is_refused(rt: HostRuntime) -> Result<(), Fail> {
     run_program(rt, &words, &CAPTURE, SEEN, &mut [0u8; 168])
 }
 
+/// Whether a trace of two channels is followed by the last rule, with events, for flows 0, 2 and 3.
+fn asks_to_follow(command: &Command) -> bool {
+    match command {
+        Command::Follow {
+            rule,
+            channels,
+            events,
+            flows,
+        } => {
+            let is_asked = *rule == LossRule::PassedOrSlid && *channels == 2 && *events;
+            is_asked && flows.has(0) && !flows.has(1) && flows.has(3)
+        }
+        _ => false,
+    }
+}
+
 #[test]
 fn words_of_follow_are_refused(rt: HostRuntime) -> Result<(), Fail> {
     let words = [
@@ -356,26 +380,17 @@ fn words_of_follow_are_refused(rt: HostRuntime) -> Result<(), Fail> {
         "--channels",
         "2",
         "--events",
+        "--flows=0,2-3",
     ];
     let mut read = read_words(rt.alloc(), &words);
     if let Err(UsageFault::OutOfMemory) = read {
         println!(rt; "refused")?;
         read = read_words(rt.alloc(), &words);
     }
-    match read {
-        Ok(
-            Command::Follow {
-                rule,
-                channels,
-                events,
-            },
-        ) => {
-            assert_eq!(rt; rule, LossRule::PassedOrSlid);
-            assert_eq!(rt; channels, 2);
-            assert!(rt; events);
-        }
-        _ => assert!(rt; false, "no follow"),
-    }
+    let Ok(command) = read else {
+        return Err("no command".into());
+    };
+    assert!(rt; asks_to_follow(&command), "no follow");
     Ok(())
 }
 

@@ -2,12 +2,13 @@
 use crate::fitful::{FitfulReader, FitfulWriter, Full};
 use crate::pieces::InPieces;
 use engines::{Device, EngineFault, follow_text};
+use flow_selection::{FlowList, FlowRange, Selection, Shard};
 use loss_rule::LossRule;
 use receiver::Width;
 use std::alloc::Global;
 use std::io::{ErrorKind, Read};
 use std::test::Fail;
-use texts::{TraceFault, TraceKind};
+use texts::{FollowSettings, TraceFault, TraceKind};
 use worked_texts::samples::TRACE;
 
 /// What is printed of the trace where it may have four channels.
@@ -34,21 +35,29 @@ struct Followed {
 
 /// Follows what a reader gives, of so many channels and two flows, by decisions alone.
 fn follow<R: Read + Drop>(alloc: Global, channels: u8, reader: R) -> Result<Followed, Fail> {
-    follow_by(alloc, channels, LossRule::Decided, false, reader)
+    follow_by(alloc, channels, LossRule::Decided, all_flows(false), reader)
 }
 
-/// Follows what a reader gives by this rule, with events or without.
+/// All flows are selected, with events or without.
+pub(crate) fn all_flows(events: bool) -> FollowSettings {
+    FollowSettings {
+        events,
+        selected: Selection::All,
+    }
+}
+
+/// Follows what a reader gives by this rule and these settings.
 fn follow_by<R: Read + Drop>(
     alloc: Global,
     channels: u8,
     rule: LossRule,
-    events: bool,
+    settings: FollowSettings,
     reader: R,
 ) -> Result<Followed, Fail> {
     let width = Width::new(channels, 2)?;
     let mut reader = Device::new(reader);
     let mut writer = Device::new(Vec::<u8>::new(alloc));
-    let done = follow_text(rule, width, events, alloc, &mut reader, &mut writer);
+    let done = follow_text(rule, width, settings, alloc, &mut reader, &mut writer);
     reader.into_inner();
     Ok(Followed {
         done,
@@ -142,7 +151,7 @@ fn writer_that_fails_is_reported(rt: HostRuntime) -> Result<(), Fail> {
         let done = follow_text(
             LossRule::Decided,
             Width::PROFILE,
-            false,
+            all_flows(false),
             rt.alloc(),
             &mut reader,
             &mut writer,
@@ -172,7 +181,7 @@ fn last_line_is_flushed_before_the_flows_are_closed(rt: HostRuntime) -> Result<(
     let done = follow_text(
         rule,
         Width::PROFILE,
-        false,
+        all_flows(false),
         rt.alloc(),
         &mut reader,
         &mut writer,
@@ -187,8 +196,8 @@ fn last_line_is_flushed_before_the_flows_are_closed(rt: HostRuntime) -> Result<(
     Ok(())
 }
 
-/// The first of three segments is lost, which channel 1 passes and then channel 0; a line that is no
-/// input stands between. One grant is refused, one burst has none, and one segment comes twice.
+/// The first of three segments is lost, which channel 1 passes and then channel 0; a line that is
+/// no input stands between. One grant is refused, one burst has none, and one segment comes twice.
 const LOSSY: &str = "\
 flow 100 8190 16 2
 sid 0 1 0
@@ -235,12 +244,131 @@ fn events_say_what_became_of_each_line(rt: HostRuntime) -> Result<(), Fail> {
     for most in 1..=LOSSY.len() {
         let rest = LOSSY.as_bytes();
         let pieces = InPieces { rest, most };
-        let Followed { done, text } = follow_by(rt.alloc(), 2, LossRule::Passed, true, pieces)?;
+        let Followed { done, text } = follow_by(
+            rt.alloc(),
+            2,
+            LossRule::Passed,
+            all_flows(true),
+            pieces,
+        )?;
         assert_eq!(rt; done, Ok(()));
         assert!(rt;
             text.as_slice() == LOSSY_EVENTS.as_bytes(),
             "pieces of {most}"
         );
+    }
+    Ok(())
+}
+
+/// Three flows, two of which have segments, on two channels: grants, bursts that come to a flow and
+/// to none, a request of flow 2 and decisions of each flow.
+const SOME: &str = "\
+flow 100 0 16 1
+flow 101 0 16 1
+flow 102 0 16 1
+sid 0 1 0
+sid 0 3 2
+sid 1 3 2
+grant 0 1 1 16
+grant 0 2 3 16
+grant 1 1 3 16
+burst 0 1 ok 8000000000000000000000021111aabb
+burst 0 2 ok 8000000000070000000000021111ccdd
+burst 1 9 ok -
+burst 1 1 ok 8000000800000000000000021111eeff
+gap 0
+gap 1
+gap 2
+";
+
+/// What is printed of it with events: each line, and the flow whose line it is, if it is one's.
+const SOME_LINES: [(Option<usize>, &str); 24] = [
+    (None, "line 7 grant 0 1 granted\n"),
+    (None, "line 8 grant 0 2 granted\n"),
+    (None, "line 9 grant 1 1 granted\n"),
+    (Some(0), "frame 0 000000021111aabb\n"),
+    (Some(0), "line 10 flow 0 number 0 kept\n"),
+    (Some(0), "line 10 flow 0 expects 1 holds 0\n"),
+    (None, "request 0 2 0 7 0\n"),
+    (Some(2), "frame 2 000000021111ccdd\n"),
+    (Some(2), "line 11 flow 2 number 0 kept\n"),
+    (Some(2), "line 11 flow 2 expects 1 holds 0\n"),
+    (None, "line 12 burst 1 9 refused 6 no grant\n"),
+    (Some(2), "frame 2 000000021111eeff\n"),
+    (Some(2), "line 13 flow 2 number 1 kept\n"),
+    (Some(2), "line 13 flow 2 expects 2 holds 0\n"),
+    (Some(0), "line 14 flow 0 gap lost none\n"),
+    (Some(0), "line 14 flow 0 expects 1 holds 0\n"),
+    (Some(1), "line 15 flow 1 gap lost none\n"),
+    (Some(1), "line 15 flow 1 expects 0 holds 0\n"),
+    (Some(2), "line 16 flow 2 gap lost none\n"),
+    (Some(2), "line 16 flow 2 expects 2 holds 0\n"),
+    (
+        Some(0),
+        "flow 0 100 kept 1 late 0 repeat 0 beyond 0 lost 0 frames 1 skipped 0\n",
+    ),
+    (
+        Some(1),
+        "flow 1 101 kept 0 late 0 repeat 0 beyond 0 lost 0 frames 0 skipped 0\n",
+    ),
+    (
+        Some(2),
+        "flow 2 102 kept 2 late 0 repeat 0 beyond 0 lost 0 frames 2 skipped 0\n",
+    ),
+    (
+        None,
+        "lane 0 admitted 2 refusals 0\nlane 1 admitted 1 refusals 1\n",
+    ),
+];
+
+/// What is left of these lines where the flows of a selection are asked for, with events or
+/// without.
+fn lines_left(alloc: Global, events: bool, selected: &Selection) -> Result<Vec<u8>, Fail> {
+    let mut left = Vec::new(alloc);
+    for (flow, line) in &SOME_LINES {
+        let is_told = events || !line.starts_with("line ");
+        if is_told && selected.leaves(*flow) {
+            left.extend_from_slice(line.as_bytes())?;
+        }
+    }
+    Ok(left)
+}
+
+/// What is printed where these flows are asked for, with events or without.
+fn follow_some(alloc: Global, events: bool, selected: Selection) -> Result<Vec<u8>, Fail> {
+    let settings = FollowSettings { events, selected };
+    let width = Width::new(2, 3)?;
+    let mut reader = Device::new(SOME.as_bytes());
+    let mut writer = Device::new(Vec::<u8>::new(alloc));
+    let rule = LossRule::Decided;
+    let done = follow_text(rule, width, settings, alloc, &mut reader, &mut writer);
+    reader.into_inner();
+    let text = writer.into_inner();
+    match done {
+        Ok(()) => Ok(text),
+        Err(_) => Err("a fault".into()),
+    }
+}
+
+#[test]
+fn lines_of_other_flows_are_left_out(rt: HostRuntime) -> Result<(), Fail> {
+    let alloc = rt.alloc();
+    for events in [false, true] {
+        let text = follow_some(alloc, events, Selection::All)?;
+        let all = lines_left(alloc, events, &Selection::All)?;
+        assert_eq!(rt; std::str::from_utf8(&text), std::str::from_utf8(&all));
+        for (remainder, count) in [(0, 1), (0, 2), (1, 2), (0, 3), (1, 3), (2, 3), (3, 4)] {
+            let shard = Selection::Shard(Shard { remainder, count });
+            let left = lines_left(alloc, events, &shard)?;
+            assert!(rt;
+                follow_some(alloc, events, shard)? == left,
+                "{remainder} of {count}"
+            );
+        }
+        let ranges = vec![in alloc; FlowRange { first: 1, last: 2 }]?;
+        let listed = Selection::Listed(FlowList::new(alloc, ranges)?);
+        let left = lines_left(alloc, events, &listed)?;
+        assert!(rt; follow_some(alloc, events, listed)? == left);
     }
     Ok(())
 }

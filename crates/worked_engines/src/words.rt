@@ -15,6 +15,8 @@ enum Asked {
     ReplayFlows(LossRule, u64),
     Run(LossRule, u16, u16),
     Follow(LossRule, u8, bool),
+    /// So where a trace of 16 channels is followed without events.
+    FollowFlows(LossRule, u64),
     Map,
     Help,
     Fault(UsageFault),
@@ -53,8 +55,18 @@ fn what_is_asked(alloc: Global, words: &[&str]) -> Asked {
                 rule,
                 channels,
                 events,
+                flows: Selection::All,
             },
         ) => Asked::Follow(rule, channels, events),
+        Ok(
+            Command::Follow {
+                rule,
+                channels: 16,
+                events: false,
+                flows,
+            },
+        ) => Asked::FollowFlows(rule, first_flows(&flows)),
+        Ok(Command::Follow { .. }) => Asked::Fault(UsageFault::OutOfMemory),
         Ok(Command::Map) => Asked::Map,
         Ok(Command::Help(_)) => Asked::Help,
         Err(fault) => Asked::Fault(fault),
@@ -270,7 +282,7 @@ const WORDS: [(&str, &[&str], Asked); 56] = [
 ];
 
 /// Words that ask for some flows, and the first that ask for none.
-const FLOW_WORDS: [(&str, &[&str], Asked); 15] = [
+const FLOW_WORDS: [(&str, &[&str], Asked); 19] = [
     (
         "a shard of replay",
         &["segrx", "replay", "--shard", "1/4"],
@@ -306,6 +318,26 @@ const FLOW_WORDS: [(&str, &[&str], Asked); 15] = [
             "passed",
         ],
         Asked::ReplayFlows(LossRule::Passed, 0xf000_0000_0000_0000),
+    ),
+    (
+        "a shard of follow",
+        &["segrx", "follow", "--shard", "1/4"],
+        Asked::FollowFlows(LossRule::Decided, 0x2222_2222_2222_2222),
+    ),
+    (
+        "a list of follow, up to the last flow, behind a rule",
+        &["segrx", "follow", "--losses=slid", "--flows=0-3,16383"],
+        Asked::FollowFlows(LossRule::PassedOrSlid, 0xf),
+    ),
+    (
+        "a flow of follow behind the last",
+        &["segrx", "follow", "--flows=16384"],
+        USAGE,
+    ),
+    (
+        "a shard and a list of follow",
+        &["segrx", "follow", "--shard=0/2", "--flows=0"],
+        USAGE,
     ),
     ("shard 4 of 4", &["segrx", "replay", "--shard=4/4"], USAGE),
     ("shard 0 of 0", &["segrx", "replay", "--shard=0/0"], USAGE),

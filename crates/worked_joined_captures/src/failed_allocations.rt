@@ -3,12 +3,14 @@
 use crate::joined::{InPieces, settings};
 use crate::one_map::{MAP_PATH, OneMap};
 use crate::samples::{FRAMES_APART, REQUESTS_APART, frames_apart, map_of_two_channels};
+use crate::words::is_path;
 use capture_command::{CaptureWords, capture_program, read_capture_words};
 use capture_rules::Arrival;
 use captured_flows::{CaptureConsumer, SoundBurst};
 use command_line::UsageFault;
 use docsis_wire::Bytes;
 use engines::{Device, EngineFault};
+use flow_selection::Selection;
 use frame_engine::{CaptureTally, FrameReading, join_capture};
 use frame_records::FrameLink;
 use receiver::SetupError;
@@ -32,7 +34,7 @@ fn try_to_join(alloc: Global, frames: &mut [u8], lines: &mut [u8]) -> Result<Joi
     let (room, room_of_lines) = (frames.len(), lines.len());
     let bytes = frames_apart(alloc)?;
     let capture_map = map_of_two_channels(alloc)?;
-    let mut tally = CaptureTally::new(alloc, &capture_map, true)?;
+    let mut tally = CaptureTally::new(alloc, &capture_map, &Selection::All, true)?;
     let reading = match FrameReading::new(alloc, settings(FrameLink::Docsis), capture_map) {
         Ok(reading) => reading,
         Err(SetupError::OutOfMemory) => return Err(EngineFault::OutOfMemory),
@@ -211,8 +213,7 @@ fn words_of_capture_are_refused(rt: HostRuntime) -> Result<(), Fail> {
     match read {
         Ok(CaptureWords::Capture(asked)) => {
             assert!(rt; asked.map.as_str() == "m");
-            assert!(rt; asked.report.is_some_and(|path| path.as_str() == "r"));
-            assert!(rt; asked.requests.is_some_and(|path| path.as_str() == "q"));
+            assert!(rt; is_path(&asked.files.report, "r") && is_path(&asked.files.requests, "q"));
         }
         _ => return Err("another answer".into()),
     }

@@ -2,8 +2,10 @@
 use crate::samples::{
     frames_apart, joined_file, map_of_two_channels, segments_at, still_segments, two_segments,
 };
+use capture_map::CaptureMap;
 use captured_flows::Waits;
 use engines::{Device, EngineFault};
+use flow_selection::Selection;
 use frame_engine::{CaptureSettings, CaptureTally, FrameReading, InnerCheck, join_capture};
 use frame_records::FrameLink;
 use loss_rule::LossRule;
@@ -53,23 +55,40 @@ pub(crate) fn settings(link: FrameLink) -> CaptureSettings {
         },
         check: InnerCheck::Sequence,
         link,
+        selected: Selection::All,
     }
 }
 
 /// What came of a capture.
 #[derive(Drop)]
-struct Joined {
-    done: Result<(), EngineFault>,
-    frames: Vec<u8>,
-    requests: Vec<u8>,
-    tally: CaptureTally,
+pub(crate) struct Joined {
+    pub(crate) done: Result<(), EngineFault>,
+    pub(crate) frames: Vec<u8>,
+    pub(crate) requests: Vec<u8>,
+    pub(crate) tally: CaptureTally,
 }
 
 /// Joins a capture that is read in pieces of this size.
 fn join(alloc: Global, bytes: &[u8], size: usize, link: FrameLink) -> Result<Joined, Fail> {
-    let capture_map = map_of_two_channels(alloc)?;
-    let mut tally = CaptureTally::new(alloc, &capture_map, true)?;
-    let Ok(reading) = FrameReading::new(alloc, settings(link), capture_map) else {
+    join_by(
+        alloc,
+        bytes,
+        size,
+        settings(link),
+        map_of_two_channels(alloc)?,
+    )
+}
+
+/// The same by other settings and another map.
+pub(crate) fn join_by(
+    alloc: Global,
+    bytes: &[u8],
+    size: usize,
+    settings: CaptureSettings,
+    capture_map: CaptureMap,
+) -> Result<Joined, Fail> {
+    let mut tally = CaptureTally::new(alloc, &capture_map, &settings.selected, true)?;
+    let Ok(reading) = FrameReading::new(alloc, settings, capture_map) else {
         return Err("the map can't be set up".into());
     };
     let mut frames = Vec::new(alloc);
@@ -184,7 +203,7 @@ fn times_are_told_where_a_read_fails(rt: HostRuntime) -> Result<(), Fail> {
     let alloc = rt.alloc();
     let bytes = segments_at(alloc, [2, 1])?;
     let capture_map = map_of_two_channels(alloc)?;
-    let mut tally = CaptureTally::new(alloc, &capture_map, false)?;
+    let mut tally = CaptureTally::new(alloc, &capture_map, &Selection::All, false)?;
     let Ok(reading) = FrameReading::new(alloc, settings(FrameLink::Xra), capture_map) else {
         return Err("the map can't be set up".into());
     };
@@ -248,7 +267,7 @@ fn a_fault_is_told_behind_the_frames_before_it(rt: HostRuntime) -> Result<(), Fa
 fn kept_without_room(alloc: Global, room: &mut [u8]) -> Result<u64, Fail> {
     let bytes = two_segments(alloc)?;
     let capture_map = map_of_two_channels(alloc)?;
-    let mut tally = CaptureTally::new(alloc, &capture_map, false)?;
+    let mut tally = CaptureTally::new(alloc, &capture_map, &Selection::All, false)?;
     let Ok(reading) = FrameReading::new(alloc, settings(FrameLink::Xra), capture_map) else {
         return Err("the map can't be set up".into());
     };

@@ -14,4 +14,6 @@ mod one_map;
 #[cfg(test)]
 mod samples;
 #[cfg(test)]
+mod shards;
+#[cfg(test)]
 mod words;

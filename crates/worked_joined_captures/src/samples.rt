@@ -4,41 +4,55 @@ use docsis_wire::check_sequence;
 use frame_records::{FrameLink, FrameOrigin, put_file_header, put_frame};
 use std::alloc::{AllocError, Global};
 
-/// The map of one flow, which begins at 0, with a service identifier, 7, on the upstream channels 100
-/// and 101.
+/// The map of one flow, which begins at 0, with a service identifier, 7, on the upstream channels
+/// 100 and 101.
 pub(crate) fn map_of_two_channels(alloc: Global) -> Result<CaptureMap, AllocError> {
-    let flow = MapFlow {
-        sfid: 1,
-        first: Some(0),
-        window: 64,
-        clusters: 1,
-    };
+    map_of_flows(alloc, 1)
+}
+
+/// The map of so many such flows, each with a service identifier of its own from 7 on.
+pub(crate) fn map_of_flows(alloc: Global, count: u8) -> Result<CaptureMap, AllocError> {
     let mut capture_map = CaptureMap {
-        flows: vec![in alloc; flow]?,
+        flows: Vec::new(alloc),
         channels: Vec::new(alloc),
         sids: Vec::new(alloc),
     };
+    for flow in 0..count {
+        capture_map.flows.push(MapFlow {
+            sfid: 1 + u32::from(flow),
+            first: Some(0),
+            window: 64,
+            clusters: 1,
+        })?;
+    }
     for channel in 0..2_u8 {
         let id = 100 + u32::from(channel);
         capture_map.channels.push(MapChannel { channel, id })?;
-        capture_map.sids.push(MapSid {
-            channel,
-            sid: 7,
-            flow: 0,
-        })?;
+        for flow in 0..count {
+            capture_map.sids.push(MapSid {
+                channel,
+                sid: 7 + u16::from(flow),
+                flow: u16::from(flow),
+            })?;
+        }
     }
     Ok(capture_map)
 }
 
 /// A frame of eight bytes, whose header check sequence is right.
 pub(crate) fn frame() -> [u8; 8] {
-    let [low, high] = check_sequence(&[0, 0, 0, 2]).to_le_bytes();
-    [0, 0, 0, 2, low, high, 0xaa, 0xbb]
+    frame_with(0xaa, 0xbb)
 }
 
-/// The header of the segment with this number, in which a frame begins at its front or none does, and
-/// which asks for so many units.
-fn header(number: u8, begins: bool, units: u8) -> [u8; 8] {
+/// The same with these two bytes behind its header.
+pub(crate) fn frame_with(first: u8, second: u8) -> [u8; 8] {
+    let [low, high] = check_sequence(&[0, 0, 0, 2]).to_le_bytes();
+    [0, 0, 0, 2, low, high, first, second]
+}
+
+/// The header of the segment with this number, in which a frame begins at its front or none does,
+/// and which asks for so many units.
+pub(crate) fn header(number: u8, begins: bool, units: u8) -> [u8; 8] {
     let first = if begins { 0x80 } else { 0 };
     let front = [first, 0, 0, number.wrapping_mul(8), 0, units];
     let [low, high] = check_sequence(&front).to_le_bytes();
@@ -47,12 +61,23 @@ fn header(number: u8, begins: bool, units: u8) -> [u8; 8] {
     ]
 }
 
-/// Appends a record of a packet with a burst on this upstream channel, which came at this second. Its
-/// payload has at most 100 bytes.
+/// Appends a record of a packet with a burst of the first flow on this upstream channel, which came
+/// at this second. Its payload has at most 100 bytes.
 fn put_burst(
     out: &mut Vec<u8>,
     second: u8,
     channel: u8,
+    header: [u8; 8],
+    payload: &[u8],
+) -> Result<(), AllocError> {
+    put_burst_of(out, second, (channel, 7), header, payload)
+}
+
+/// So of the flow that has this service identifier on the channel.
+pub(crate) fn put_burst_of(
+    out: &mut Vec<u8>,
+    second: u8,
+    (channel, sid): (u8, u8),
     header: [u8; 8],
     payload: &[u8],
 ) -> Result<(), AllocError> {
@@ -64,20 +89,20 @@ fn put_burst(
     out.extend_from_slice(&[
         0, 0, 0, second, 0, 0, 0, 1, 0, 0, 0, length, 0, 0, 0, length,
     ])?;
-    out.extend_from_slice(&[1, 0x41, 0, 10, 10, 1, channel, 11, 2, 0, 7, 18, 1, 1])?;
+    out.extend_from_slice(&[1, 0x41, 0, 10, 10, 1, channel, 11, 2, 0, sid, 18, 1, 1])?;
     out.extend_from_slice(&header)?;
     out.extend_from_slice(payload)
 }
 
 /// Appends the header of a pcap file in nanoseconds, of link type 273.
-fn put_file(out: &mut Vec<u8>) -> Result<(), AllocError> {
+pub(crate) fn put_file(out: &mut Vec<u8>) -> Result<(), AllocError> {
     out.extend_from_slice(&[
         0xa1, 0xb2, 0x3c, 0x4d, 0, 2, 0, 4, 0, 0, 0, 0, 0, 0, 0, 0, 0, 4, 0, 0, 0, 0, 1, 0x11,
     ])
 }
 
-/// A capture of the frame in two segments, the second a second after the first, and between them of a
-/// burst on an upstream channel that the map doesn't have.
+/// A capture of the frame in two segments, the second a second after the first, and between them of
+/// a burst on an upstream channel that the map doesn't have.
 pub(crate) fn two_segments(alloc: Global) -> Result<Vec<u8>, AllocError> {
     segments_at(alloc, [1, 2])
 }

@@ -1,6 +1,7 @@
 //! What words ask of a capture.
 use capture_command::{CaptureWords, asks_to_capture, read_capture_words};
 use command_line::UsageFault;
+use flow_selection::Selection;
 use frame_engine::InnerCheck;
 use frame_records::FrameLink;
 use loss_rule::LossRule;
@@ -19,7 +20,8 @@ fn words_without_options_are_the_usual(rt: HostRuntime) -> Result<(), Fail> {
             assert!(rt; asked.settings.waits.reorder == 2_000_000);
             assert!(rt; asked.settings.check == InnerCheck::Sequence);
             assert!(rt; asked.settings.link == FrameLink::Docsis);
-            assert!(rt; asked.report.is_none() && asked.requests.is_none());
+            assert!(rt; asked.files.report.is_none() && asked.files.requests.is_none());
+            assert!(rt; matches!(asked.settings.selected, Selection::All));
         }
         CaptureWords::Help(_) => return Err("help".into()),
     }
@@ -27,7 +29,7 @@ fn words_without_options_are_the_usual(rt: HostRuntime) -> Result<(), Fail> {
 }
 
 /// Whether this path was read.
-fn is_path(path: &Option<String>, text: &str) -> bool {
+pub(crate) fn is_path(path: &Option<String>, text: &str) -> bool {
     match path {
         Some(path) => path.as_str() == text,
         None => false,
@@ -61,8 +63,30 @@ fn options_are_read(rt: HostRuntime) -> Result<(), Fail> {
             assert!(rt; asked.settings.waits.reorder == 3_600_000_000_000);
             assert!(rt; asked.settings.check == InnerCheck::Nothing);
             assert!(rt; asked.settings.link == FrameLink::Xra);
-            assert!(rt; is_path(&asked.report, "r") && is_path(&asked.requests, "q"));
-            assert!(rt; is_path(&asked.json, "j") && is_path(&asked.picture, "p"));
+            assert!(rt; is_path(&asked.files.report, "r") && is_path(&asked.files.requests, "q"));
+            assert!(rt; is_path(&asked.files.json, "j") && is_path(&asked.files.picture, "p"));
+        }
+        CaptureWords::Help(_) => return Err("help".into()),
+    }
+    Ok(())
+}
+
+#[test]
+fn flows_are_asked_for(rt: HostRuntime) -> Result<(), Fail> {
+    let words = ["segrx", "capture", "m", "--flows=16383,0-7"];
+    match read_capture_words(rt.alloc(), &words)? {
+        CaptureWords::Capture(asked) => {
+            let selected = &asked.settings.selected;
+            assert!(rt; selected.has(16_383) && selected.has(0) && selected.has(7));
+            assert!(rt; !selected.has(8) && !selected.has(16_382));
+        }
+        CaptureWords::Help(_) => return Err("help".into()),
+    }
+    let words = ["segrx", "capture", "--shard", "1/3", "m"];
+    match read_capture_words(rt.alloc(), &words)? {
+        CaptureWords::Capture(asked) => {
+            let selected = &asked.settings.selected;
+            assert!(rt; selected.has(1) && selected.has(4) && !selected.has(0) && !selected.has(2));
         }
         CaptureWords::Help(_) => return Err("help".into()),
     }
@@ -92,6 +116,14 @@ fn words_that_are_not_understood(rt: HostRuntime) -> Result<(), Fail> {
     );
     assert!(rt; is_refused(alloc, &["segrx", "capture", "m", "--channels", "4"]));
     assert!(rt; is_refused(alloc, &["segrx", "capture", "m", "--report"]));
+    assert!(rt; is_refused(alloc, &["segrx", "capture", "m", "--flows", "16384"]));
+    assert!(rt; is_refused(alloc, &["segrx", "capture", "m", "--shard", "2/2"]));
+    assert!(rt;
+        is_refused(
+            alloc,
+            &["segrx", "capture", "m", "--shard", "0/2", "--flows=1"]
+        )
+    );
     Ok(())
 }
 

@@ -1,6 +1,6 @@
 //! Selections of flows, on all small cases: each flow is of exactly one of so many shards, and of a
 //! list just where one of its ranges has it.
-use flow_selection::{FlowRange, Selection, Shard};
+use flow_selection::{FlowList, FlowRange, Selection, Shard};
 use std::test::Fail;
 
 #[test]
@@ -59,12 +59,40 @@ fn list_has_the_flows_of_each_range(rt: HostRuntime) -> Result<(), Fail> {
     for (first, last) in [(0, 0), (3, 3), (8, 15), (14, 16)] {
         ranges.push(FlowRange { first, last })?;
     }
-    let selected = Selection::Listed(ranges);
+    let selected = Selection::Listed(FlowList::new(rt.alloc(), ranges)?);
     for flow in 0..20usize {
         let listed = matches!(flow, 0 | 3 | 8..=16);
         assert_eq!(rt; selected.has(flow), listed, "{flow}");
     }
-    assert!(rt; !Selection::Listed(Vec::new(rt.alloc())).has(0));
+    let none = FlowList::new(rt.alloc(), Vec::new(rt.alloc()))?;
+    assert!(rt; !Selection::Listed(none).has(0));
     assert!(rt; Selection::All.has(16_383));
+    Ok(())
+}
+
+/// Each two ranges of the first six flows, also such that have no flows.
+#[test]
+fn list_has_what_one_of_its_ranges_has(rt: HostRuntime) -> Result<(), Fail> {
+    let ends = || (0..6u16).flat_map(|first| (0..6u16).map(move |last| FlowRange { first, last }));
+    for one in ends() {
+        for other in ends() {
+            let list = FlowList::new(rt.alloc(), vec![in rt.alloc(); one, other]?)?;
+            for flow in 0..8usize {
+                let listed = one.has(flow) || other.has(flow);
+                assert_eq!(rt; list.has(flow), listed, "{list:?}: {flow}");
+            }
+        }
+    }
+    Ok(())
+}
+
+#[test]
+fn list_prints_its_ranges(rt: HostRuntime) -> Result<(), Fail> {
+    let ranges = vec![in rt.alloc(); FlowRange { first: 3, last: 5 }]?;
+    let printed = format!(in rt.alloc(); "{:?}", FlowList::new(rt.alloc(), ranges)?)?;
+    assert_eq!(rt;
+        printed.as_str(),
+        "FlowList { ranges: [FlowRange { first: 3, last: 5 }], flags: .. }"
+    );
     Ok(())
 }

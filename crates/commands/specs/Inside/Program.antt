@@ -23,17 +23,18 @@ Performs remaining contents (Replay rule selected) reader reader' writer writer'
     RunsEngine remaining contents (IsReplayedOf selected rule) IsReplayFault reader reader' writer writer' result
 Performs remaining contents (Run rule mailbox ring) reader reader' writer writer' result =
     RunsEngine remaining contents (IsRunTextBy rule ring mailbox) (IsReportFault ring) reader reader' writer writer' result
-Performs remaining contents (Follow rule channels events) reader reader' writer writer' result =
-    RunsFollowBy rule channels events remaining contents reader reader' writer writer' result
+Performs remaining contents (Follow rule channels events selected) reader reader' writer writer' result =
+    RunsFollowBy rule channels (record { events = events; selected = selected }) remaining contents reader reader' writer writer' result
 Performs remaining contents Map reader reader' writer writer' result = MapsCapture remaining contents reader reader' writer writer' result
 Performs remaining contents (Help text) reader reader' writer writer' result = WritesHelp contents (string_bytes text) reader reader' writer writer' result
 
--- a cut begins with the number of a segment, a run has room in its mailboxes and rings, and a trace that is followed has a channel, and not too many
+-- a cut begins with the number of a segment, a run has room in its mailboxes and rings, and a trace
+-- that is followed has a channel, and not too many
 abbrev pub IsInRange : Command → Type 0
 IsInRange Join = Unit {0}
 IsInRange (Cut first fill) = first < sequence_modulus
 IsInRange (Replay rule selected) = Unit {0}
 IsInRange (Run rule mailbox ring) = (1 ≤ mailbox) × (1 ≤ ring)
-IsInRange (Follow rule channels events) = (1 ≤ channels) × (channels ≤ channels_max)
+IsInRange (Follow rule channels events selected) = (1 ≤ channels) × (channels ≤ channels_max)
 IsInRange Map = Unit {0}
 IsInRange (Help text) = Unit {0}

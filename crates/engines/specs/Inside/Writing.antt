@@ -12,8 +12,8 @@ use Rattle.engines.specs.Transfer.{AppendsBefore, AppendsFront}
 use Rattle.engines.specs.Writing.{IsWritten}
 
 module _ {W : Type 0} (contents : W → Option (List ℕ)) where
-  -- how far a text has come: nothing was put, and the device is as it was; or a front went out and the rest is held back; or a write failed, and
-  -- a front went out
+  -- how far a text has come: nothing was put, and the device is as it was; or a front went out and
+  -- the rest is held back; or a write failed, and a front went out
   abbrev pub HasCome : Stage → Device W → List ℕ → Device W → List ℕ → Type 0
   HasCome Unused writer text writer' held = (text ≡ []) × (held ≡ []) × (writer' ≡ writer)
   HasCome Writing writer text writer' held =

@@ -9,7 +9,7 @@ use crate::fault::{EngineFault, WriteFault};
 use crate::text_writer::TextWriter;
 use std::alloc::{AllocError, Global};
 use std::io::Write;
-use texts::{FollowInput, Followed, finish_follow, put_end};
+use texts::{FollowInput, FollowSettings, Followed, finish_follow, put_end};
 
 /// A trace that is followed, of which all lines were taken.
 #[derive(Drop)]
@@ -17,8 +17,8 @@ pub(super) struct EndedTrace {
     pub(super) input: FollowInput,
     /// The number of the last line.
     pub(super) line: u64,
-    /// Whether what became of inputs and decisions is told.
-    pub(super) events: bool,
+    /// What is told.
+    pub(super) settings: FollowSettings,
 }
 
 impl EndedTrace {
@@ -34,7 +34,9 @@ impl EndedTrace {
             self.new writer.new result.0 result.1 }
     {
         let mut text = TextWriter::new(writer, room);
-        let put = self.input.put_happened(self.line, self.events, &mut text);
+        let put = self
+            .input
+            .put_happened(self.line, &self.settings, &mut text);
         (text.finish(), put)
     }
 
@@ -65,11 +67,11 @@ impl EndedTrace {
         let EndedTrace {
             input,
             line,
-            events,
+            settings,
         } = self;
         let end = finish_follow(alloc, input)?;
         room.clear();
-        write_end(line, events, &end, room, writer)?;
+        write_end(line, &settings, &end, room, writer)?;
         Ok(())
     }
 }
@@ -78,15 +80,16 @@ impl EndedTrace {
 /// this number. The room is empty.
 fn write_end<W: Write>(
     line: u64,
-    events: bool,
+    settings: &FollowSettings,
     end: &Followed,
     room: &mut Vec<u8>,
     writer: &mut Device<W>,
 ) -> Result<(), WriteFault>
     requires { room.old.items ≡ [] }
-    ensures { IsWritten W.contents (end_text events line end.now) writer.old writer.new result }
+    ensures { IsWritten W.contents (end_text settings.now line end.now)
+        writer.old writer.new result }
 {
     let mut text = TextWriter::new(writer, room);
-    put_end(&mut text, line, events, end);
+    put_end(&mut text, line, settings, end);
     text.finish()
 }

@@ -23,14 +23,15 @@ use Rattle.frame_engine.specs.declared.joining.Joining.{Joining}
 use Rattle.frame_engine.specs.declared.frame_reading.FrameReading.{FrameReading}
 use Rattle.frame_engine.specs.Settings.{inner_accepts}
 use Rattle.frame_engine.specs.Records.{AreBurstsOf, counted}
-use Rattle.frame_engine.specs.Written.{written_in}
+use Rattle.frame_engine.specs.Written.{left_in}
 use Rattle.frame_engine.specs.Joined.{made, check, none_handed_in, file_of, ComesOf, ComesAtEnd, AreFramesSoFar, AreFramesAtEnd, AreAllFrames, IsJoinedSoFar, IsJoinedFile}
 use Rattle.frame_engine.specs.Joining.{AreInFront, IsBehindThem, IsJoinedTill}
 
--- a file's link type and channels stay, and so what isn't written of it yet
+-- a file's link type, channels and selection stay, and so what isn't written of it yet
 pub record KeepsFile (old new : FrameFile) : Type 0 where
   pub link : new.link ≡ old.link
   pub channels : new.channels ≡ old.channels
+  pub selected : new.selected ≡ old.selected
   pub bytes : new.bytes.items ≡ old.bytes.items
 
 -- all that waited came into the file, and nothing waits any more
@@ -41,7 +42,8 @@ pub record PutsCame (timed : TimedFrames) (file : FrameFile) (timed' : TimedFram
   pub none_waits : timed'.waiting.items ≡ []
   pub link : file'.link ≡ file.link
   pub channels : file'.channels ≡ file.channels
-  pub bytes : file'.bytes.items ≡ file.bytes.items ++ written_in file.link file.channels.items timed.waiting.items
+  pub selected : file'.selected ≡ file.selected
+  pub bytes : file'.bytes.items ≡ file.bytes.items ++ left_in file.selected file.link file.channels.items timed.waiting.items
 
 module _ (settings : CaptureSettings) (capture_map : CaptureMap) where
   -- what came of these steps is in the file, of which this was written
@@ -52,6 +54,7 @@ module _ (settings : CaptureSettings) (capture_map : CaptureMap) where
     pub none_waits : timed.waiting.items ≡ []
     pub link : file.link ≡ settings.link
     pub channels : file.channels.items ≡ capture_map.channels.items
+    pub selected : file.selected ≡ settings.selected
     pub text : file_of settings capture_map came ≡ written ++ file.bytes.items
 
   -- these bursts came, and what came of them is in the file
@@ -133,7 +136,8 @@ IsJoinFault bytes (Capture fault) = (records : List CaptureParts) × HasCaptureF
 IsJoinFault bytes OutOfMemory = Unit {0}
 IsJoinFault bytes _ = ⊥
 
--- whatever bytes were read, they and the piece are at fault, and what is in the file is that of the records before
+-- whatever bytes were read, they and the piece are at fault, and what is in the file is that of the
+-- records before
 abbrev pub CannotJoin : FrameReading → List ℕ → FrameReading → EngineFault → Type 0
 CannotJoin old piece new fault =
     (settings : CaptureSettings) (capture_map : CaptureMap) (bytes written : List ℕ) → HasReadBytes settings capture_map bytes written old

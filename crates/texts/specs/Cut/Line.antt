@@ -60,8 +60,9 @@ pub record HasBadHex (fields : List (List ℕ)) : Type 0 where
   pub are : fields ≡ frame_word ∷ field ∷ []
   pub no_bytes : ¬ IsHex field
 
--- The faults of a line's fields. No line has two of them, so that the least is the one that it has: after an unknown word nothing is looked
--- for, with a wrong number of fields there is no field to look at, and a frame has no numbers and a piece no hexadecimal field.
+-- The faults of a line's fields. No line has two of them, so that the least is the one that it has:
+-- after an unknown word nothing is looked for, with a wrong number of fields there is no field to
+-- look at, and a frame has no numbers and a piece no hexadecimal field.
 abbrev pub HasFault : List (List ℕ) → TraceKind → Type 0
 HasFault fields UnknownLine = IsUnknown fields
 HasFault fields SetupLate = ⊥
@@ -97,7 +98,8 @@ pub record AddsPiece (before : FramesAndPieces) (fields : List (List ℕ)) (afte
   pub carries : CarriesPiece fields piece
   pub added : after ≡ record before { pieces = before.pieces ++ piece ∷ [] }
 
--- Lines say the frames and the pieces that they carry, mixed at will. The faults of a line don't depend on the lines above it.
+-- Lines say the frames and the pieces that they carry, mixed at will. The faults of a line don't
+-- depend on the lines above it.
 abbrev pub cut_format : Format FramesAndPieces
 cut_format = record {
   Takes = λ before fields after. AddsFrame before fields after ⊎ AddsPiece before fields after;

@@ -19,8 +19,9 @@ use Rattle.text_lines.specs.Putting.{Puts}
 use Rattle.texts.specs.declared.follow.happening.Happening.{Happening}
 use Rattle.texts.specs.declared.follow.happening.Happening.TheVariants.{Gave, Stands}
 use Rattle.texts.specs.declared.follow.happening_list.HappeningList.{HappeningList}
+use Rattle.texts.specs.declared.follow.settings.FollowSettings.{FollowSettings}
 use Rattle.texts.specs.AnyHeader.{any_header, no_check}
-use Rattle.texts.specs.Happening.{happening_lines}
+use Rattle.texts.specs.Follow.{lines_told}
 use Rattle.texts.specs.Happened.{AreHandedIn, HasHappened}
 use Rattle.texts.specs.Inside.SetupLines.{SetupSoFar}
 use Rattle.texts.specs.Inside.TraceInput.{TraceState, HasTakenLines}
@@ -54,7 +55,7 @@ pub record ReceiverUnderWay : Type 0 where
   pub receiver : Receiver NoCheck
   pub pending : HappeningList
 
--- These entries were handed in, nothing is left to be done, and all that happened was told or is pending.
+-- These entries were handed in, nothing is left to do, and all that happened is told or pending.
 pub record HasFollowed (told : List Happening) (rule : LossRule) (width : Width) (setup : Setup) (entries : List Entry) (now : ReceiverUnderWay) : Type 0 where
   pub handed : List HandedIn
   pub given : List Given
@@ -67,7 +68,8 @@ pub record HasFollowed (told : List Happening) (rule : LossRule) (width : Width)
 abbrev pub IsNonePending : ReceiverUnderWay → Type 0
 IsNonePending now = (now.pending.happened.items ≡ []) × (now.pending.whole ≡ true)
 
--- what is known of a receiver that is closed, where all of this was told or is pending: what happened before, and then what it gave as it was closed
+-- what is known of a receiver that is closed, where all of this was told or is pending: what
+-- happened before, and then what it gave as it was closed
 pub record IsClosedAfter (told : List Happening) (rule : LossRule) (width : Width) (setup : Setup) (handed : List HandedIn) (pending : List Happening) (closed : Closed) : Type 0 where
   pub given : List Given
   pub receiver : Receiver NoCheck
@@ -98,11 +100,12 @@ abbrev pub IsAllPut : Option ReceiverUnderWay → Type 0
 IsAllPut None = Unit {0}
 IsAllPut (Some now) = IsNonePending now
 
--- What was pending was put, the lines of each thing, of this line with events or without; whatever was told, this was told besides.
-pub record PutsHappened {T : Type 0} (after : T → List ℕ → T → Type 0) (line : ℕ) (events : Bool) (width : Width) (rule : LossRule) (so_far : SetupSoFar)
+-- What was pending was put, the lines of each thing that the settings ask for, of this line;
+-- whatever was told, this was told besides.
+pub record PutsHappened {T : Type 0} (after : T → List ℕ → T → Type 0) (line : ℕ) (settings : FollowSettings) (width : Width) (rule : LossRule) (so_far : SetupSoFar)
     (taker : Option ReceiverUnderWay) (out : T) (width' : Width) (rule' : LossRule) (so_far' : SetupSoFar) (taker' : Option ReceiverUnderWay) (out' : T) : Type 0 where
   pub happened : List Happening
-  pub put : Puts after out (flat_map (happening_lines events line) happened) out'
+  pub put : Puts after out (flat_map (lines_told settings line) happened) out'
   pub none : IsAllPut taker'
   pub told : (state : TraceState (List Happening)) → HasFollowedLines state width rule so_far taker
       → HasFollowedLines (with_told state happened) width' rule' so_far' taker'

@@ -25,7 +25,8 @@ pub record SetupSoFar : Type 0 where
 abbrev pub setup_said : TraceShape → Setup → Said
 setup_said shape setup = record { shape = shape; flows = setup.flows.items; sids = setup.sids.items; entries = [] }
 
--- a receiver of that width can be set up with it, if the rings have room, and its service identifiers and service flow identifiers are those that were seen
+-- a receiver of that width can be set up with it, if the rings have room, and its service
+-- identifiers and service flow identifiers are those that were seen
 pub record HoldsSetup (shape : TraceShape) (setup : Setup) (seen_sids : SidTable) (seen_sfids : BTreeSet ℕ) : Type 0 where
   pub can_receive : 1 ≤ shape.ring → CanReceiveWithin shape.channels shape.flows setup
   pub channels : seen_sids.channels ≡ shape.channels
@@ -53,7 +54,7 @@ pub record HasMore (Has : Said → Type 0) (said : Said) (line : TraceLine) : Ty
   pub faultless : (kind : TraceKind) → ¬ (HasFaultAmong said line kind)
   pub has : Has (with_line said line)
 
--- Whatever lines something has: what a line says is added to it, or the least of its faults is reported.
+-- Whatever lines something has: what a line says is added, or the least of its faults is reported.
 abbrev pub AddsTo : {T : Type 0} → (Said → T → Type 0) → T → TraceLine → Result (Unit {0}) LineFault → T → Type 0
 AddsTo Has before line result after =
     (said : Said) → Has said before

@@ -1,4 +1,4 @@
--- What was handed in so far of a trace whose inputs and decisions are handed in as its lines are read.
+-- What was handed in so far of a trace whose inputs and decisions are handed in as lines are read.
 use Rattle.std.specs.Prelude.{◌≡◌, ◌<◌, Option, Some, None, List, [], length}
 use Rattle.loss_rule.specs.declared.rule.LossRule.{LossRule}
 use Rattle.receiver.specs.declared.setup.Setup.{Setup}
@@ -10,8 +10,8 @@ use Rattle.texts.specs.Trace.Line.{shape_of}
 use Rattle.texts.specs.Trace.Place.{Said, nothing_said_in, trace_format}
 use Rattle.texts.specs.Inside.SetupLines.{SetupSoFar, HasSetup}
 
--- What is known of lines that are handed in: what is known of what takes their entries, by which rule and for which width they are handed in, and what
--- they say.
+-- What is known of lines that are handed in: what is known of what takes their entries, by which
+-- rule and for which width they are handed in, and what they say.
 pub record TraceState (State : Type 0) : Type 0 where
   pub state : State
   pub rule : LossRule

@@ -39,8 +39,9 @@ pub record PointsPast (fields : List (List ℕ)) : Type 0 where
   pub spelled : OnlySpells fields bytes
   pub past : segment.PointsPast bytes
 
--- The faults of a line's fields. No line has two of them, so that the least is the one that it has: with a wrong number of fields there is no
--- field to look at, what is no hexadecimal field has no bytes, and too few bytes have no header.
+-- The faults of a line's fields. No line has two of them, so that the least is the one that it has:
+-- with a wrong number of fields there is no field to look at, what is no hexadecimal field has no
+-- bytes, and too few bytes have no header.
 abbrev pub HasFault : List (List ℕ) → TraceKind → Type 0
 HasFault fields UnknownLine = ⊥
 HasFault fields SetupLate = ⊥
@@ -61,7 +62,7 @@ pub record AddsSegment (before : List Segment) (fields : List (List ℕ)) (after
   pub carries : Carries fields segment
   pub added : after ≡ before ++ segment ∷ []
 
--- Lines say the segments that they carry, in order. The faults of a line don't depend on the lines above it.
+-- Lines say the segments that they carry, in order. A line's faults don't depend on lines above it.
 abbrev pub join_format : Format (List Segment)
 join_format = record {
   Takes = AddsSegment;

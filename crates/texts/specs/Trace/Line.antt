@@ -13,7 +13,8 @@ use Rattle.texts.specs.declared.trace.line.TraceLine.TheVariants.{Flow, Sid, Inp
 
 -- ---- what no line says
 
--- The shape of a trace, which is given before it is read: how many channels and flows it may have, and the capacity of each flow's ring.
+-- The shape of a trace, which is given before it is read: how many channels and flows it may have,
+-- and the capacity of each flow's ring.
 pub record TraceShape : Type 0 where
   pub channels : ℕ
   pub flows : ℕ
@@ -28,7 +29,8 @@ profile_shape ring = record { channels = channel_limit; flows = flows_max; ring 
 
 -- ---- the forms of lines and of their fields
 
--- what a field is to be: a number from the first to the second, one of the words for a burst's check, or hexadecimal
+-- what a field is to be: a number from the first to the second, one of the words for a burst's
+-- check, or hexadecimal
 pub data FieldForm : Type 0 where
   number_in : ℕ → ℕ → FieldForm
   check_word : FieldForm
@@ -52,7 +54,8 @@ word_of burst_line = codes "burst"
 word_of gap_line = codes "gap"
 word_of gap_to_line = codes "gap"
 
--- numbers of 32 bits, of a segment, of a channel, of a service identifier, and of a flow's place among the flows
+-- numbers of 32 bits, of a segment, of a channel, of a service identifier, and of a flow's place
+-- among the flows
 abbrev pub any_number : FieldForm
 any_number = number_in 0 4294967295
 

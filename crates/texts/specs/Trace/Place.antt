@@ -11,8 +11,8 @@ use Rattle.texts.specs.declared.trace.line.TraceLine.{TraceLine}
 use Rattle.texts.specs.declared.trace.line.TraceLine.TheVariants as line
 use Rattle.texts.specs.Trace.Line.{TraceShape, profile_shape, LineForm, flow_line, sid_line, word_of, Carries, HasFaultByItself}
 
--- What some lines say: the flows, the rows of service identifiers, and what the input lines say, each in their order. The shape of the trace
--- is given before, and no line says it.
+-- What some lines say: the flows, the rows of service identifiers, and what the input lines say,
+-- each in their order. The shape of the trace is given before, and no line says it.
 pub record Said : Type 0 where
   pub shape : TraceShape
   pub flows : List FlowRecord
@@ -94,8 +94,8 @@ pub record SaysFaulty (said : Said) (fields : List (List ℕ)) (kind : TraceKind
   pub carries : Carries said.shape fields line
   pub faulty : HasFaultAmong said line kind
 
--- The faults that a line with these fields has after lines that say this. A line with a fault by itself says nothing; its fault has a lesser
--- number than those of what a line says.
+-- The faults that a line with these fields has after lines that say this. A line with a fault by
+-- itself says nothing; its fault has a lesser number than those of what a line says.
 abbrev pub HasLineFault : Said → List (List ℕ) → TraceKind → Type 0
 HasLineFault said fields UnknownLine = HasFaultByItself said.shape fields UnknownLine
 HasLineFault said fields SetupLate = IsSetupLine fields × (0 < length said.entries)
@@ -118,7 +118,8 @@ pub record AddsLine (before : Said) (fields : List (List ℕ)) (after : Said) : 
   pub carries : Carries before.shape fields line
   pub added : after ≡ with_line before line
 
--- The lines of a trace. A line is taken if it has no fault; of its faults the one of the least kind is reported.
+-- The lines of a trace. A line is taken if it has no fault; of its faults the one of the least kind
+-- is reported.
 abbrev pub trace_format : Format Said
 trace_format = record {
   Takes = λ before fields after. AddsLine before fields after × ((kind : TraceKind) → ¬ (HasLineFault before fields kind));

@@ -173,8 +173,8 @@ fn put_stands<O: PutText>(out: &mut O, line: u64, flow: usize, expected: u16, he
     put_word(out, "\n");
 }
 
-/// Puts the lines that say what became of an input or of a decision that a trace has in the line with
-/// this number; of what a receiver gave there are none.
+/// Puts the lines that say what became of an input or of a decision that a trace has in the line
+/// with this number; of what a receiver gave there are none.
 pub fn put_event<O: PutText>(out: &mut O, line: u64, one: &Happening)
     ensures { Puts O.after out.old (event_lines line one.now) out.new }
 {

@@ -8,7 +8,7 @@ ghost use Rattle.receiver.specs.declared.setup.Setup.{Setup};
 ghost use Rattle.receiver.specs.declared.width.Width.{Width};
 ghost use Rattle.text_lines.specs.Putting.{Puts};
 ghost use Rattle.texts.specs.AnyHeader.{no_check};
-ghost use Rattle.texts.specs.Happening.{happening_lines};
+ghost use Rattle.texts.specs.Follow.{lines_told};
 ghost use Rattle.texts.specs.Inside.Followed.{HasFollowed, EndsFollowing, IsNonePending};
 ghost use Rattle.texts.specs.Happened.{flow_admitted, flow_decided};
 ghost use Rattle.texts.specs.Inside.Followed.{HasAdded, TellsStandingOf, TellsStandingIfAny};
@@ -16,6 +16,7 @@ ghost use Rattle.texts.specs.declared.follow.happening.Happening.{Happening};
 
 use super::happening::{Happening, InputName};
 use super::happening_list::HappeningList;
+use super::settings::FollowSettings;
 use crate::trace::TakeEntries;
 use bonded_flows::FlowDecision;
 use docsis_wire::NoCheck;
@@ -63,22 +64,22 @@ impl Model for Following {
 }
 
 impl Following {
-    /// Puts the lines of all that happened and wasn't put yet, which was by the line with this number,
-    /// with events or without.
+    /// Puts the lines that these settings ask for of all that happened and wasn't put yet, which
+    /// was by the line with this number.
     pub fn put_happened<O: PutText>(
         &mut self,
         line: u64,
-        events: bool,
+        settings: &FollowSettings,
         out: &mut O,
     ) -> Result<(), AllocError>
         ensures put { OnOk result (Puts O.after out.old
-            (flat_map (happening_lines events line) self.old.pending.happened.items) out.new) }
+            (flat_map (lines_told settings.now line) self.old.pending.happened.items) out.new) }
         ensures was_whole { OnOk result (self.old.pending.whole ≡ true) }
         ensures none { OnOk result (IsNonePending self.new) }
         ensures receiver { OnOk result (self.new.receiver ≡ self.old.receiver) }
         ensures unchanged { OnErr result (out.new ≡ out.old) }
     {
-        self.happened.put(line, events, out)
+        self.happened.put(line, settings, out)
     }
 
     /// Closes the receiver: what happened that wasn't put yet, and what was counted.
@@ -119,7 +120,7 @@ fn add_standing(receiver: &Receiver<NoCheck>, flow: usize, happened: &mut Happen
 }
 
 /// The flow to which a segment was admitted, if one was.
-fn flow_admitted(reply: &Reply) -> Option<usize>
+pub(super) fn flow_admitted(reply: &Reply) -> Option<usize>
     ensures { result ≡ flow_admitted reply.now }
 {
     match reply {

@@ -1,19 +1,20 @@
 //! What happened, kept in order.
 ghost use Rattle.std.specs.Prelude.{◌≡◌, [], ◌∷◌, ◌++◌, flat_map, true, IfOk, OnOk, OnErr};
 ghost use Rattle.text_lines.specs.Putting.{Puts};
-ghost use Rattle.texts.specs.Happening.{happening_lines};
+ghost use Rattle.texts.specs.Follow.{lines_told};
 ghost use Rattle.texts.specs.Inside.Followed.{HasAdded};
 
 use super::happening::Happening;
 use super::lines::put_happened;
+use super::settings::FollowSettings;
 use consumer::{Consumer, Given};
 use docsis_wire::Bytes;
 use lane::Request;
 use std::alloc::{AllocError, Global};
 use text_lines::PutText;
 
-/// Keeps what happens, in order, and what a receiver gives with it. It is whole as long as everything
-/// was kept.
+/// Keeps what happens, in order, and what a receiver gives with it. It is whole as long as
+/// everything was kept.
 #[derive(Debug, Drop)]
 pub struct HappeningList {
     happened: Vec<Happening>,
@@ -41,16 +42,17 @@ impl HappeningList {
         }
     }
 
-    /// Puts the lines of all that happened, which was by the line with this number, and has none of
-    /// it any more. Where it isn't whole nothing is put, and nothing changes.
+    /// Puts the lines that these settings ask for of all that happened, which was by the line with
+    /// this number, and has none of it any more. Where it isn't whole nothing is put, and nothing
+    /// changes.
     pub fn put<O: PutText>(
         &mut self,
         line: u64,
-        events: bool,
+        settings: &FollowSettings,
         out: &mut O,
     ) -> Result<(), AllocError>
         ensures put { OnOk result (Puts O.after out.old
-            (flat_map (happening_lines events line) self.old.happened.items) out.new) }
+            (flat_map (lines_told settings.now line) self.old.happened.items) out.new) }
         ensures was_whole { OnOk result (self.old.whole ≡ true) }
         ensures none { OnOk result (self.new.happened.items ≡ []) }
         ensures whole { OnOk result (self.new.whole ≡ true) }
@@ -59,7 +61,7 @@ impl HappeningList {
         if !self.whole {
             return Err(AllocError);
         }
-        put_happened(out, line, events, &self.happened);
+        put_happened(out, line, settings, &self.happened);
         self.happened.clear();
         Ok(())
     }

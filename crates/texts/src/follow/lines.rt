@@ -1,14 +1,18 @@
 //! The lines of what is followed.
-ghost use Rattle.std.specs.Prelude.{flat_map};
+ghost use Rattle.std.specs.Prelude.{◌≡◌, flat_map};
 ghost use Rattle.text_lines.specs.Putting.{Puts, numbered_texts};
-ghost use Rattle.texts.specs.Follow.{tally_line, closed_flow, closed_lines};
+ghost use Rattle.texts.specs.Follow.{tally_line, closed_flow, closed_told, closed_lines};
+ghost use Rattle.texts.specs.Follow.{flow_of_happening, lines_told};
 ghost use Rattle.texts.specs.Happening.{given_line, happening_lines};
 
 use super::event_lines::put_event;
+use super::following::flow_admitted;
 use super::happening::Happening;
+use super::settings::FollowSettings;
 use crate::report_lines::{put_flow_line, put_frame_line, put_named, put_request_line};
 use consumer::Given;
 use flow_core::{FlowCounts, FlowRecord};
+use flow_selection::Selection;
 use receiver::{Closed, LaneTally, Setup};
 use text_lines::{PutText, put_spaced, put_word};
 
@@ -19,6 +23,19 @@ fn put_given<O: PutText>(out: &mut O, given: &Given)
     match given {
         Given::Frame { flow, frame } => put_frame_line(out, *flow, frame.as_slice()),
         Given::Asked(request) => put_request_line(out, request),
+    }
+}
+
+/// The flow of which something is told, if it is told of one.
+fn flow_of(one: &Happening) -> Option<usize>
+    ensures { result ≡ flow_of_happening one.now }
+{
+    match one {
+        Happening::Gave(Given::Frame { flow, .. }) => Some(*flow),
+        Happening::Gave(Given::Asked(_)) => None,
+        Happening::Took { reply, .. } => flow_admitted(reply),
+        Happening::Decided { flow, .. } => Some(*flow),
+        Happening::Stands { flow, .. } => Some(*flow),
     }
 }
 
@@ -34,16 +51,30 @@ fn put_one<O: PutText>(out: &mut O, line: u64, events: bool, one: &Happening)
     }
 }
 
-/// Puts the lines of all that happened by the line with this number, with events or without.
-pub fn put_happened<O: PutText>(out: &mut O, line: u64, events: bool, happened: &[Happening])
+/// Puts the lines of what happened by the line with this number, if these settings ask for it.
+fn put_if_told<O: PutText>(out: &mut O, line: u64, settings: &FollowSettings, one: &Happening)
+    ensures { Puts O.after out.old (lines_told settings.now line one.now) out.new }
+{
+    if settings.selected.leaves(flow_of(one)) {
+        put_one(out, line, settings.events, one);
+    }
+}
+
+/// Puts the lines that these settings ask for of all that happened by the line with this number.
+pub fn put_happened<O: PutText>(
+    out: &mut O,
+    line: u64,
+    settings: &FollowSettings,
+    happened: &[Happening],
+)
     ensures { Puts O.after out.old
-        (flat_map (happening_lines events line) happened.now) out.new }
+        (flat_map (lines_told settings.now line) happened.now) out.new }
 {
     for one in happened {
         if out.is_closed() {
             return;
         }
-        put_one(out, line, events, one);
+        put_if_told(out, line, settings, one);
     }
 }
 
@@ -56,13 +87,34 @@ fn put_flow<O: PutText>(out: &mut O, records: &[FlowRecord], k: usize, counts: &
     }
 }
 
-/// Puts the lines of what was counted of flows.
-fn put_flows<O: PutText>(out: &mut O, records: &[FlowRecord], flows: &[FlowCounts])
+/// The same, if the flow is selected.
+fn put_selected<O: PutText>(
+    out: &mut O,
+    selected: &Selection,
+    records: &[FlowRecord],
+    k: usize,
+    counts: &FlowCounts,
+)
     ensures { Puts O.after out.old
-        (numbered_texts (closed_flow records.now) flows.now) out.new }
+        (closed_told selected.now records.now k counts.now) out.new }
+{
+    if selected.has(k) {
+        put_flow(out, records, k, counts);
+    }
+}
+
+/// Puts the lines of what was counted of the flows that are selected.
+fn put_flows<O: PutText>(
+    out: &mut O,
+    selected: &Selection,
+    records: &[FlowRecord],
+    flows: &[FlowCounts],
+)
+    ensures { Puts O.after out.old
+        (numbered_texts (closed_told selected.now records.now) flows.now) out.new }
 {
     for (k, counts) in flows.iter().enumerate() {
-        put_flow(out, records, k, counts);
+        put_selected(out, selected, records, k, counts);
     }
 }
 
@@ -86,10 +138,11 @@ fn put_tallies<O: PutText>(out: &mut O, tallies: &[LaneTally])
     }
 }
 
-/// Puts the lines of what was counted of each flow, and of each channel.
-pub fn put_closed<O: PutText>(out: &mut O, setup: &Setup, closed: &Closed)
-    ensures { Puts O.after out.old (closed_lines setup.now closed.now) out.new }
+/// Puts the lines of what was counted of each flow that is selected, and of each channel.
+pub fn put_closed<O: PutText>(out: &mut O, selected: &Selection, setup: &Setup, closed: &Closed)
+    ensures { Puts O.after out.old
+        (closed_lines selected.now setup.now closed.now) out.new }
 {
-    put_flows(out, &setup.flows, &closed.flows);
+    put_flows(out, selected, &setup.flows, &closed.flows);
     put_tallies(out, &closed.lanes);
 }

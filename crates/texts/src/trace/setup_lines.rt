@@ -45,8 +45,8 @@ impl Model for SetupLines {
 }
 
 impl SetupLines {
-    /// What no lines give of a trace for a receiver of this width, where each flow is to have a ring
-    /// of this capacity, and the mailboxes have that one.
+    /// What no lines give of a trace for a receiver of this width, where each flow is to have a
+    /// ring of this capacity, and the mailboxes have that one.
     pub fn new(
         alloc: Global,
         width: Width,

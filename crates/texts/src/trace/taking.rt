@@ -11,8 +11,8 @@ use loss_rule::LossRule;
 use receiver::{Decision, Setup, Width};
 use std::alloc::{AllocError, Global};
 
-/// Takes the inputs and the decisions of a trace, one after another, as its lines are read. Where an
-/// allocation fails it is freed.
+/// Takes the inputs and the decisions of a trace, one after another, as its lines are read. Where
+/// an allocation fails it is freed.
 pub trait TakeEntries: Sized {
     // What is known of it besides what was handed in.
     ghost State: { Type 0 };

@@ -17,7 +17,7 @@ returns-in_err-joined g c =
       capture_map = c.in_ok-capture_map.capture_map;
       map_is = c.in_ok-capture_map.ensures;
       joined = c.join_capture-joined.result;
-      joins = c.join_capture-joined.ensures c.args.asked.now.settings c.in_ok-capture_map.capture_map c.in_ok-reading.ensures.begun;
+      joins = c.join_capture-joined.ensures c.args.asked.settings c.in_ok-capture_map.capture_map c.in_ok-reading.ensures.begun;
       told = rw c.in_err-joined.was (record { fault = refl; done = tt });
     }))
 
@@ -27,6 +27,6 @@ returns g c =
       capture_map = c.in_ok-capture_map.capture_map;
       map_is = c.in_ok-capture_map.ensures;
       joined = c.join_capture-joined.result;
-      joins = c.join_capture-joined.ensures c.args.asked.now.settings c.in_ok-capture_map.capture_map c.in_ok-reading.ensures.begun;
+      joins = c.join_capture-joined.ensures c.args.asked.settings c.in_ok-capture_map.capture_map c.in_ok-reading.ensures.begun;
       told = rw c.in_ok-joined.was (record { fault = tt; done = always c.write_counts-counted.result (Ok c.in_ok-joined.field-0 ≡ Ok tt) refl });
     })

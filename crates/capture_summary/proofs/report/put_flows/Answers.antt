@@ -1,9 +1,10 @@
+use Rattle.std.proofs.Common.{false}
 use Rattle.capture_summary.specs.Counting.{new_flow}
 use Rattle.capture_summary.specs.Report.{flow_lines}
-use Rattle.text_lines.proofs.PutTexts.{puts-then, puts-one-more-numbered}
+use Rattle.text_lines.proofs.PutTexts.{puts-one-more-numbered}
 use Rattle.capture_summary.proofs.report.put_flows.Goals as goal
 
 pub loop-k-preserved : goal.loop-k-preserved
 loop-k-preserved g c =
-    puts-one-more-numbered g.O.PutText.after c.args.flows.now c.loop-k.k (new_flow 0) c.loop-k-test.true flow_lines c.args.out.now c.loop-k.out c.put_joined_line.new.out
-    c.loop-k.invariant (puts-then g.O.PutText.after c.put_flow_line.ensures c.put_joined_line.ensures)
+    puts-one-more-numbered g.O.PutText.after c.args.flows.now c.loop-k.k (record (new_flow 0) { is_selected = false }) c.loop-k-test.true flow_lines c.args.out.now c.loop-k.out c.put_flow.new.out
+    c.loop-k.invariant c.put_flow.ensures

@@ -4,5 +4,5 @@ use Rattle.capture_summary.proofs.summary_text.put_flow.Goals as goal
 
 pub returns : goal.returns
 returns g c =
-    rw (sym c.is_quiet.ensures ∙ c.if-is_quiet.false)
+    rw (c.if-not-flow.false, sym c.is_quiet.ensures ∙ c.if-is_quiet.false)
     (puts-then g.O.PutText.after (puts-then g.O.PutText.after c.put_segments_line.ensures c.put_frames_line.ensures) c.put_requests_line.ensures)

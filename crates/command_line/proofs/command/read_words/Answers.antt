@@ -3,18 +3,19 @@ use Rattle.std.proofs.Common.{◌≡◌, Bool, Ok, inl, sym, ap, ◌∙◌, arit
 use Rattle.std.proofs.lemmas.Option.{same_Some}
 use Rattle.std.specs.Prelude.{map, not, codes}
 use Rattle.loss_rule.specs.declared.rule.LossRule.{LossRule}
+use Rattle.flow_selection.specs.declared.selection.Selection.TheVariants.{All}
 use Rattle.command_line.specs.declared.command.Command.TheVariants.{Follow}
 use Rattle.command_line.specs.Channels.{channels_max}
-use Rattle.command_line.specs.Command.{options_in}
+use Rattle.command_line.specs.Command.{options_in, last_followed}
 use Rattle.command_line.proofs.AskedRules.{AskForRule-alone}
 use Rattle.command_line.proofs.AskedEvents.{AskForRule-follow, AskForEvents-alone}
 use Rattle.command_line.proofs.AskedChannels.{AskForChannels-alone}
-use Rattle.command_line.proofs.AskedFlows.{AsksToReplayFlows-alone}
+use Rattle.command_line.proofs.AskedFlows.{AsksToReplayFlows-alone, AskForFlows-follow}
 use Rattle.command_line.proofs.AskedWithoutHelp.{replays_without_help, runs_without_help, follows_without_help}
 use Rattle.command_line.proofs.CommandsApart.{commands_apart, replay_is_not_run, follow_is_not_replay, follow_is_not_run}
 use Rattle.command_line.proofs.AskedWords.{AsksForAnEngine-with_options}
 use Rattle.command_line.proofs.command.read_words.Goals as goal
-use Rattle.command_line.proofs.command.read_words.Goals.{then-not-asks_alone+in_ok-read_with_options+in-Help-1, then-not-asks_alone+in_ok-read_with_options+in-Join-1, then-not-asks_alone+in_ok-read_with_options+in-Replay+in-Listed-1, then-not-asks_alone+in_ok-read_with_options+in-Replay+in-All-1, else-not-asks_alone}
+use Rattle.command_line.proofs.command.read_words.Goals.{then-not-asks_alone+in_ok-read_with_options+in-Help-1, then-not-asks_alone+in_ok-read_with_options+in-Join-1, then-not-asks_alone+in_ok-read_with_options+in-Replay+in-Listed-1, then-not-asks_alone+in_ok-read_with_options+in-Replay+in-All-1, then-not-asks_alone+in_ok-read_with_options+in-Follow+in-Listed-1, then-not-asks_alone+in_ok-read_with_options+in-Follow+in-All-1, else-not-asks_alone}
 
 pub returns-in-Some-clause-asked : goal.returns-in-Some-clause-asked
 returns-in-Some-clause-asked g c =
@@ -73,6 +74,10 @@ returns-clause-asked g c =
           (before, c.in-Some-before_help.ensures, AsksForAnEngine-with_options before w.in_ok-read_with_options.field-0 w.in_ok-read_with_options.ensures)
       | then-not-asks_alone+in_ok-read_with_options+in-Replay+in-All-1 w ↦
           (before, c.in-Some-before_help.ensures, AsksForAnEngine-with_options before w.in_ok-read_with_options.field-0 w.in_ok-read_with_options.ensures)
+      | then-not-asks_alone+in_ok-read_with_options+in-Follow+in-Listed-1 w ↦
+          (before, c.in-Some-before_help.ensures, AsksForAnEngine-with_options before w.in_ok-read_with_options.field-0 w.in_ok-read_with_options.ensures)
+      | then-not-asks_alone+in_ok-read_with_options+in-Follow+in-All-1 w ↦
+          (before, c.in-Some-before_help.ensures, AsksForAnEngine-with_options before w.in_ok-read_with_options.field-0 w.in_ok-read_with_options.ensures)
       | else-not-asks_alone w ↦
           (before, c.in-Some-before_help.ensures, c.asks_alone.ensures w.if-not-asks_alone.false)
     ]
@@ -96,6 +101,7 @@ returns-in-Some-asked_follow_alone-clause-asked g c =
       (follows.0, AskForRule-follow rule events (options_in words) follows.1, AskForChannels-alone rule events (options_in words) follows.1),
       follows_without_help rule events words follows,
       AskForEvents-alone rule events (options_in words) follows.1,
+      AskForFlows-follow last_followed rule events (options_in words) follows.1,
     )
 
 pub returns-in-Some-asked_follow_alone-clause-replay : goal.returns-in-Some-asked_follow_alone-clause-replay
@@ -108,7 +114,7 @@ pub returns-in-Some-asked_follow_alone-clause-follow : goal.returns-in-Some-aske
 returns-in-Some-asked_follow_alone-clause-follow g c = λ rule events asks.
     let found = c.in-Some-asked_follow_alone in
     let same = same_Some (found.rule, found.events) (rule, events) (sym found.is ∙ (c.asked_follow_alone.ensures rule events).1 asks) in
-    ap (λ (asked : LossRule × Bool). Ok (Follow asked.0 channels_max asked.1)) same
+    ap (λ (asked : LossRule × Bool). Ok (Follow asked.0 channels_max asked.1 All)) same
 
 pub returns-in_default-before_help-clause-follow : goal.returns-in_default-before_help-clause-follow
 returns-in_default-before_help-clause-follow g c = λ rule events asks.

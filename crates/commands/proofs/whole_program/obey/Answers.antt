@@ -21,7 +21,7 @@ returns g c =
     let runs : (rule : LossRule) → AsksToRunByAlone rule words → c.in_ok-command.command ≡ Run rule default_capacity default_capacity =
     λ rule asks. cc (c.in_ok-command.was, c.read_words.ensures.run rule asks)
     in
-    let follows : (rule : LossRule) (events : Bool) → AsksToFollowAlone rule events words → c.in_ok-command.command ≡ Follow rule channels_max events =
+    let follows : (rule : LossRule) (events : Bool) → AsksToFollowAlone rule events words → c.in_ok-command.command ≡ Follow rule channels_max events All =
     λ rule events asks. cc (c.in_ok-command.was, c.read_words.ensures.follow rule events asks)
     in
     Obeys-performed g.R.Read.remaining g.W.Write.contents words c.args.reader.now c.perform.new.reader c.args.out.now c.perform.new.out

@@ -3,73 +3,76 @@ use Rattle.std.specs.Io.KnownBytes.{Consumes}
 use Rattle.std.proofs.KnownBytes.{Keeps-refl}
 use Rattle.std.proofs.lemmas.Result.{err_from_is_err_and}
 use Rattle.engines.specs.Device.{inner_of}
-use Rattle.engines.proofs.FollowedDevices.{far_more, trace_refused, trace_unread, trace_stopped, trace_finished}
+use Rattle.engines.proofs.FollowedDevices.{stays_flushed, far_more, trace_refused, trace_unread, trace_stopped, trace_finished}
 use Rattle.engines.proofs.ReadLines.{of_room}
 use Rattle.engines.proofs.follow.follow_text.Goals as goal
 
 pub returns-in_err-piece : goal.returns-in_err-piece
 returns-in_err-piece g c =
     let p = err_from_is_err_and c.from_residual.result c.from_residual.ensures.1 in
-    rw (p.1, p.2) (trace_refused g.R.Read.remaining g.W.Write.contents c.args.rule c.args.width c.args.events c.args.reader.now c.args.writer.now)
+    rw (p.1, p.2) (trace_refused g.R.Read.remaining g.W.Write.contents c.args.rule c.args.width c.args.settings c.args.reader.now c.args.writer.now)
 
 pub returns-in_err-room : goal.returns-in_err-room
 returns-in_err-room g c =
     let p = err_from_is_err_and c.from_residual-in_err-room.result c.from_residual-in_err-room.ensures.1 in
-    rw (p.1, p.2) (trace_refused g.R.Read.remaining g.W.Write.contents c.args.rule c.args.width c.args.events c.args.reader.now c.args.writer.now)
+    rw (p.1, p.2) (trace_refused g.R.Read.remaining g.W.Write.contents c.args.rule c.args.width c.args.settings c.args.reader.now c.args.writer.now)
 
 pub returns-in_err-follower : goal.returns-in_err-follower
 returns-in_err-follower g c =
     let p = err_from_is_err_and c.from_residual-in_err-follower.result c.from_residual-in_err-follower.ensures.1 in
-    rw (p.1, p.2) (trace_refused g.R.Read.remaining g.W.Write.contents c.args.rule c.args.width c.args.events c.args.reader.now c.args.writer.now)
+    rw (p.1, p.2) (trace_refused g.R.Read.remaining g.W.Write.contents c.args.rule c.args.width c.args.settings c.args.reader.now c.args.writer.now)
+
+pub read_behind-requires-clause-flushed : goal.read_behind-requires-clause-flushed
+read_behind-requires-clause-flushed g c = stays_flushed _ _ c.requires.writer.2 c.loop.invariant.far.flushed
 
 pub returns-in_err-count : goal.returns-in_err-count
 returns-in_err-count g c =
     let p = err_from_is_err_and c.from_residual-in_err-count.result c.from_residual-in_err-count.ensures.1 in
     rw (p.1, p.2 ∙ c.in_err-count.ensures.only)
-    (trace_unread g.R.Read.remaining g.W.Write.contents c.args.rule c.args.width c.args.events c.args.reader.now c.args.writer.now c.loop.reader c.loop.writer c.loop.follower
-    c.loop.invariant.far c.read_some.new.reader c.in_err-count.ensures.kept (inl c.in_err-count.ensures.failed))
+    (trace_unread g.R.Read.remaining g.W.Write.contents c.args.rule c.args.width c.args.settings c.args.reader.now c.args.writer.now c.loop.reader c.loop.writer c.loop.follower
+    c.loop.invariant.far c.read_behind.new.reader c.in_err-count.ensures.kept (inl c.in_err-count.ensures.failed))
 
 pub returns-then-count-eq0 : goal.returns-then-count-eq0
 returns-then-count-eq0 g c =
     let far = c.loop.invariant.far in
     let none : c.in_ok-count.count ≡ 0 = search rules in
     let read =
-    subst (λ n. Consumes (g.R.Read.remaining (inner_of c.loop.reader)) (g.R.Read.remaining (inner_of c.read_some.new.reader)) (take n c.read_some.new.room)) none
+    subst (λ n. Consumes (g.R.Read.remaining (inner_of c.loop.reader)) (g.R.Read.remaining (inner_of c.read_behind.new.reader)) (take n c.read_behind.new.room)) none
     c.in_ok-count.ensures.taken in
-    trace_finished g.R.Read.remaining g.W.Write.contents c.args.rule c.args.width c.args.events c.args.reader.now c.args.writer.now c.loop.reader c.loop.writer c.loop.follower far
-    c.read_some.new.reader read (c.in_ok-count.ensures.end none) c.finish.new.writer c.finish.result c.requires.reader.0 c.requires.writer.0 c.in_ok-count.ensures.sound
-    (c.finish.ensures c.args.rule c.args.width c.args.events far.bytes far.told far.followed)
+    trace_finished g.R.Read.remaining g.W.Write.contents c.args.rule c.args.width c.args.settings c.args.reader.now c.args.writer.now c.loop.reader c.loop.writer c.loop.follower far
+    c.read_behind.new.reader read (c.in_ok-count.ensures.end none) c.finish.new.writer c.finish.result c.requires.reader.0 c.requires.writer.0 c.in_ok-count.ensures.sound
+    (c.finish.ensures c.args.rule c.args.width c.args.settings far.bytes far.told far.followed)
 
 pub returns-in_err-take_piece : goal.returns-in_err-take_piece
 returns-in_err-take_piece g c =
     let far = c.loop.invariant.far in
-    let front = c.read_some.new.room in
+    let front = c.read_behind.new.room in
     let long : length front ≡ c.loop.piece.len = search rules in
     let piece = c.deref.ensures.value in
     let front_is = of_room c.in_ok-count.count c.loop.piece.len front _ c.in_ok-count.ensures.within long in
     let p = err_from_is_err_and c.from_residual-in_err-take_piece.result c.from_residual-in_err-take_piece.ensures.1 in
-    let followed = c.in_err-take_piece.ensures c.args.rule c.args.width c.args.events far.bytes far.told far.followed in
+    let followed = c.in_err-take_piece.ensures c.args.rule c.args.width c.args.settings far.bytes far.told far.followed in
     let few : length (take c.in_ok-count.count c.deref.result.now) ≤ 262144 =
     omega (arith, length-take c.in_ok-count.count c.deref.result.now, c.in_ok-count.ensures.within, long, c.loop.invariant.room) in
     rw (p.1, p.2)
-    (trace_stopped g.R.Read.remaining g.W.Write.contents c.args.rule c.args.width c.args.events c.args.reader.now c.args.writer.now c.loop.reader c.loop.writer c.loop.follower far
-    c.read_some.new.reader (take c.in_ok-count.count c.deref.result.now)
-    (subst (Consumes (g.R.Read.remaining (inner_of c.loop.reader)) (g.R.Read.remaining (inner_of c.read_some.new.reader))) (sym (ap (take c.in_ok-count.count) piece ∙ front_is))
+    (trace_stopped g.R.Read.remaining g.W.Write.contents c.args.rule c.args.width c.args.settings c.args.reader.now c.args.writer.now c.loop.reader c.loop.writer c.loop.follower far
+    c.read_behind.new.reader (take c.in_ok-count.count c.deref.result.now)
+    (subst (Consumes (g.R.Read.remaining (inner_of c.loop.reader)) (g.R.Read.remaining (inner_of c.read_behind.new.reader))) (sym (ap (take c.in_ok-count.count) piece ∙ front_is))
     c.in_ok-count.ensures.taken) few c.take_piece.new.writer followed.0 _ followed.1.0 followed.1.1 followed.1.2)
 
 pub loop-preserved : goal.loop-preserved
 loop-preserved g c =
     let far = c.loop.invariant.far in
-    let front = c.read_some.new.room in
+    let front = c.read_behind.new.room in
     let long : length front ≡ c.loop.piece.len = search rules in
     let piece = c.deref.ensures.value in
     let front_is = of_room c.in_ok-count.count c.loop.piece.len front _ c.in_ok-count.ensures.within long in
-    let followed = c.in_ok-take_piece.ensures c.args.rule c.args.width c.args.events far.bytes far.told far.followed in
+    let followed = c.in_ok-take_piece.ensures c.args.rule c.args.width c.args.settings far.bytes far.told far.followed in
     record {
       far =
-          far_more g.R.Read.remaining g.W.Write.contents c.args.rule c.args.width c.args.events c.args.reader.now c.args.writer.now c.loop.reader c.loop.writer c.loop.follower far
-          c.read_some.new.reader (take c.in_ok-count.count c.deref.result.now)
-          (subst (Consumes (g.R.Read.remaining (inner_of c.loop.reader)) (g.R.Read.remaining (inner_of c.read_some.new.reader)))
+          far_more g.R.Read.remaining g.W.Write.contents c.args.rule c.args.width c.args.settings c.args.reader.now c.args.writer.now c.loop.reader c.loop.writer c.loop.follower far
+          c.read_behind.new.reader (take c.in_ok-count.count c.deref.result.now)
+          (subst (Consumes (g.R.Read.remaining (inner_of c.loop.reader)) (g.R.Read.remaining (inner_of c.read_behind.new.reader)))
           (sym (ap (take c.in_ok-count.count) piece ∙ front_is)) c.in_ok-count.ensures.taken)
           c.take_piece.new.writer c.take_piece.new.self followed.0 c.in_ok-count.ensures.sound followed.1.0 followed.1.1 followed.1.2 followed.1.3;
       counted = search rules;
@@ -78,5 +81,5 @@ loop-preserved g c =
 
 pub returns : goal.returns
 returns g c =
-    trace_unread g.R.Read.remaining g.W.Write.contents c.args.rule c.args.width c.args.events c.args.reader.now c.args.writer.now c.loop.reader c.loop.writer c.loop.follower
+    trace_unread g.R.Read.remaining g.W.Write.contents c.args.rule c.args.width c.args.settings c.args.reader.now c.args.writer.now c.loop.reader c.loop.writer c.loop.follower
     c.loop.invariant.far c.loop.reader (Keeps-refl (g.R.Read.remaining (inner_of c.loop.reader))) (inr (search rules))

@@ -6,7 +6,7 @@ use Rattle.engines.proofs.follow.follow_text.Given as goal
 
 abbrev pub invariant-loop : goal.invariant-loop
 invariant-loop g l = record {
-  far : FollowsSoFar g.R.Read.remaining g.W.Write.contents l.fn.rule l.fn.width l.fn.events l.fn.reader l.reader l.fn.writer l.writer l.follower;
+  far : FollowsSoFar g.R.Read.remaining g.W.Write.contents l.fn.rule l.fn.width l.fn.settings l.fn.reader l.reader l.fn.writer l.writer l.follower;
   counted : l.counter ≤ given_of l.reader;
   room : vec_len l.piece ≡ 262144;
 }

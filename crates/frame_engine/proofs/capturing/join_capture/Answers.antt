@@ -4,6 +4,7 @@ use Rattle.std.specs.Io.KnownBytes.{Consumes}
 use Rattle.std.proofs.KnownBytes.{Keeps-refl}
 use Rattle.std.proofs.lemmas.Result.{err_from_is_err_and}
 use Rattle.engines.specs.Device.{inner_of}
+use Rattle.engines.proofs.FollowedDevices.{stays_flushed}
 use Rattle.engines.proofs.ReadLines.{of_room}
 use Rattle.frame_engine.specs.declared.frame_reading.FrameReading.{FrameReading}
 use Rattle.frame_engine.proofs.Devices.{capture-refused, capture-unheaded, far-begun, capture-unread, far-more, capture-stopped, capture-finished}
@@ -29,9 +30,10 @@ loop-init g c =
     record {
       far = λ settings capture_map begun.
           far-begun g.R.Read.remaining g.W.Write.contents settings capture_map c.args.reader.now c.args.writer.now c.write.new.writer old new begun refl c.write.ensures.link
-          c.write.ensures.channels wrote.none_left wrote.written wrote.left_flushed wrote.sound;
+          c.write.ensures.channels c.write.ensures.selected wrote.none_left wrote.written wrote.left_flushed wrote.sound;
       ready = c.requires.reading;
       empty = wrote.none_left;
+      flushed = stays_flushed _ _ c.requires.writer.2 wrote.left_flushed;
       counted = search rules;
       room = search rules;
     }
@@ -40,35 +42,35 @@ pub returns-in-Err : goal.returns-in-Err
 returns-in-Err g c = λ settings capture_map begun.
     rw c.in-Err.ensures.only
     (capture-unread g.R.Read.remaining g.W.Write.contents settings capture_map c.args.reader.now c.args.writer.now c.loop.reader c.loop.writer c.loop.reading
-    (c.loop.invariant.far settings capture_map begun) c.read_some.new.reader c.in-Err.ensures.kept (inl c.in-Err.ensures.failed))
+    (c.loop.invariant.far settings capture_map begun) c.read_behind.new.reader c.in-Err.ensures.kept (inl c.in-Err.ensures.failed))
 
 pub returns-then-count-eq0 : goal.returns-then-count-eq0
 returns-then-count-eq0 g c = λ settings capture_map begun.
     let far = c.loop.invariant.far settings capture_map begun in
     let none : c.in-Ok.count ≡ 0 = search rules in
     let read =
-    subst (λ n. Consumes (g.R.Read.remaining (inner_of c.loop.reader)) (g.R.Read.remaining (inner_of c.read_some.new.reader)) (take n c.read_some.new.room)) none
+    subst (λ n. Consumes (g.R.Read.remaining (inner_of c.loop.reader)) (g.R.Read.remaining (inner_of c.read_behind.new.reader)) (take n c.read_behind.new.room)) none
     c.in-Ok.ensures.taken in
     capture-finished g.R.Read.remaining g.W.Write.contents settings capture_map c.args.reader.now c.args.writer.now c.loop.reader c.loop.writer c.loop.reading far
-    c.read_some.new.reader read (c.in-Ok.ensures.end none) c.finish-ended.new.writer c.finish-ended.result c.requires.reader.0 c.requires.writer.0 c.in-Ok.ensures.sound
+    c.read_behind.new.reader read (c.in-Ok.ensures.end none) c.finish-ended.new.writer c.finish-ended.result c.requires.reader.0 c.requires.writer.0 c.in-Ok.ensures.sound
     (c.finish-ended.ensures settings capture_map far.bytes far.text far.has)
 
 pub returns-in-Err-join_piece : goal.returns-in-Err-join_piece
 returns-in-Err-join_piece g c = λ settings capture_map begun.
     let far = c.loop.invariant.far settings capture_map begun in
-    let front = c.read_some.new.room in
+    let front = c.read_behind.new.room in
     let long : length front ≡ c.loop.piece.len = search rules in
     let piece = c.deref.ensures.value in
     let front_is = of_room c.in-Ok.count c.loop.piece.len front _ c.in-Ok.ensures.within long in
     let joined = c.in-Err-join_piece.ensures.joins settings capture_map far.bytes far.text far.has in
     (capture-stopped g.R.Read.remaining g.W.Write.contents settings capture_map c.args.reader.now c.args.writer.now c.loop.reader c.loop.writer c.loop.reading far
-    c.read_some.new.reader (take c.in-Ok.count c.deref.result.now)
-    (subst (Consumes (g.R.Read.remaining (inner_of c.loop.reader)) (g.R.Read.remaining (inner_of c.read_some.new.reader))) (sym (ap (take c.in-Ok.count) piece ∙ front_is))
+    c.read_behind.new.reader (take c.in-Ok.count c.deref.result.now)
+    (subst (Consumes (g.R.Read.remaining (inner_of c.loop.reader)) (g.R.Read.remaining (inner_of c.read_behind.new.reader))) (sym (ap (take c.in-Ok.count) piece ∙ front_is))
     c.in-Ok.ensures.taken) c.join_piece.new.writer joined.0 _ joined.1.0 joined.1.1 joined.1.2)
 
 pub loop-preserved : goal.loop-preserved
 loop-preserved g c =
-    let front = c.read_some.new.room in
+    let front = c.read_behind.new.room in
     let long : length front ≡ c.loop.piece.len = search rules in
     let piece = c.deref.ensures.value in
     let front_is = of_room c.in-Ok.count c.loop.piece.len front _ c.in-Ok.ensures.within long in
@@ -77,12 +79,13 @@ loop-preserved g c =
           let far = c.loop.invariant.far settings capture_map begun in
           let joined = c.in-Ok-join_piece.ensures.joins settings capture_map far.bytes far.text far.has in
           far-more g.R.Read.remaining g.W.Write.contents settings capture_map c.args.reader.now c.args.writer.now c.loop.reader c.loop.writer c.loop.reading far
-          c.read_some.new.reader (take c.in-Ok.count c.deref.result.now)
-          (subst (Consumes (g.R.Read.remaining (inner_of c.loop.reader)) (g.R.Read.remaining (inner_of c.read_some.new.reader)))
+          c.read_behind.new.reader (take c.in-Ok.count c.deref.result.now)
+          (subst (Consumes (g.R.Read.remaining (inner_of c.loop.reader)) (g.R.Read.remaining (inner_of c.read_behind.new.reader)))
           (sym (ap (take c.in-Ok.count) piece ∙ front_is)) c.in-Ok.ensures.taken)
           c.join_piece.new.writer c.join_piece.new.self joined.0 c.in-Ok.ensures.sound joined.1.0 c.in-Ok-join_piece.ensures.empty joined.1.1 joined.1.2 joined.1.3;
       ready = c.in-Ok-join_piece.ensures.ready;
       empty = c.in-Ok-join_piece.ensures.empty;
+      flushed = stays_flushed _ _ c.loop.invariant.flushed c.in-Ok-join_piece.ensures.flushed;
       counted = search rules;
       room = c.loop.invariant.room;
     }

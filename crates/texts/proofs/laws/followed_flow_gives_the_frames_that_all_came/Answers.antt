@@ -17,7 +17,7 @@ use Rattle.texts.proofs.TraceChecks.{read_passes_in}
 use Rattle.texts.proofs.laws.followed_flow_gives_the_frames_that_all_came.Goals as goal
 
 pub returns : goal.returns
-returns c rule width events input text k flow_record frames asks is of_flow modem safe =
+returns c rule width settings input text k flow_record frames asks is of_flow modem safe =
     let made = made_of rule width.channels is.setup in
     let given = frames_of k (is.given ++ is.rest) in
     let within = slice_get_within is.setup.flows.items k flow_record of_flow in

@@ -16,10 +16,10 @@ use Rattle.texts.proofs.WiderTrace.{said_the_same}
 use Rattle.texts.proofs.laws.followed_trace_gives_its_report.Goals as goal
 
 pub returns-clause-told : goal.returns-clause-told
-returns-clause-told c rule width events input text is = given_told is.happened
+returns-clause-told c rule width settings input text is = given_told is.happened
 
 pub returns-clause-reported : goal.returns-clause-reported
-returns-clause-reported c rule width events input text report channels flows is by =
+returns-clause-reported c rule width settings input text report channels flows is by =
     let said = by.said in
     let same = said_the_same (profile_shape default_capacity) (shape_of width default_capacity) channels flows refl (lines_of input) said is.said by.read is.read in
     let setup = is.setup in

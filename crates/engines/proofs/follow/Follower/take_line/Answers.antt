@@ -2,7 +2,8 @@
 use Rattle.std.proofs.Common.{ℕ, Bool, [], List, refl, sym, subst}
 use Rattle.std.specs.Prelude.{map, flat_map}
 use Rattle.text_lines.specs.Putting.{Puts}
-use Rattle.texts.specs.Happening.{happening_lines}
+use Rattle.texts.specs.declared.follow.settings.FollowSettings.{FollowSettings}
+use Rattle.texts.specs.Follow.{lines_told}
 use Rattle.texts.specs.Happened.{happening_of}
 use Rattle.std.proofs.lemmas.Result.{err_from_is_err_and}
 use Rattle.engines.specs.declared.fault.EngineFault.TheVariants.{OutOfMemory}
@@ -13,7 +14,7 @@ use Rattle.text_lines.proofs.PutTexts.{puts-nothing}
 use Rattle.engines.proofs.follow.Follower.take_line.Goals as goal
 
 pub returns-in_err-take_piece : goal.returns-in_err-take_piece
-returns-in_err-take_piece g c = λ rule width events bytes told has.
+returns-in_err-take_piece g c = λ rule width settings bytes told has.
     let p = err_from_is_err_and c.from_residual.result c.from_residual.ensures.1 in
     let fault =
     fault_of_piece _ c.args.self.now.input rule width bytes c.args.piece.now (map happening_of told) c.args.self.now.lines _
@@ -22,29 +23,29 @@ returns-in_err-take_piece g c = λ rule width events bytes told has.
       [],
       puts-nothing g.O.PutText.after c.args.out.now,
       (
-        told_above rule width events bytes c.args.piece.now told _ _ has c.requires fault,
+        told_above rule width settings bytes c.args.piece.now told _ _ has c.requires fault,
         fault,
       ),
     )
 
 pub returns-in_err-put_happened : goal.returns-in_err-put_happened
-returns-in_err-put_happened g c = λ rule width events bytes told has.
+returns-in_err-put_happened g c = λ rule width settings bytes told has.
     let p = err_from_is_err_and c.from_residual-in_err-put_happened.result c.from_residual-in_err-put_happened.ensures.1 in
     rw (p.1, p.2) (
       [],
       rw c.in_err-put_happened.ensures.unchanged (puts-nothing g.O.PutText.after c.args.out.now),
-      (told_above rule width events bytes c.args.piece.now told _ OutOfMemory has c.requires tt, tt),
+      (told_above rule width settings bytes c.args.piece.now told _ OutOfMemory has c.requires tt, tt),
     )
 
 pub returns : goal.returns
-returns g c = λ rule width events bytes told has.
+returns g c = λ rule width settings bytes told has.
     let put = c.in_ok-put_happened.ensures.put in
     let line = c.line_count-line.result in
     let was = retaken _ _ HasFollowedSoFar _ c.args.self.now c.args.self.now.input (λ state stands. stands) c.args.self.now.lines bytes has.taken in
     let taken = c.in_ok-take_piece.ensures.taken _ bytes was in (
       all_at line put.happened,
-      subst (λ (text : List ℕ). Puts g.O.PutText.after c.args.out.now text c.put_happened.new.out) (sym (lines_at events line put.happened))
-          (subst (λ (told_of : Bool). Puts g.O.PutText.after c.args.out.now (flat_map (happening_lines told_of line) put.happened) c.put_happened.new.out) has.events_are put.put),
-      followed_line rule width events bytes c.args.piece.now told c.args.self.now _ put.happened line has c.requires refl c.line_count-line.ensures
+      subst (λ (text : List ℕ). Puts g.O.PutText.after c.args.out.now text c.put_happened.new.out) (sym (lines_at settings line put.happened))
+          (subst (λ (told_of : FollowSettings). Puts g.O.PutText.after c.args.out.now (flat_map (lines_told told_of line) put.happened) c.put_happened.new.out) has.settings_are put.put),
+      followed_line rule width settings bytes c.args.piece.now told c.args.self.now _ put.happened line has c.requires refl c.line_count-line.ensures
           (taken_told rule width (map happening_of told) put.happened _ _ _ _ (λ state stands. put.told state stands) _ _ taken) put.none,
     )

@@ -44,6 +44,7 @@ returns-clause-begun c =
           none_waits = seen.waiting;
           link = c.in_ok-file.ensures.link;
           channels = c.in_ok-file.ensures.channels ∙ search rules;
+          selected = c.in_ok-file.ensures.selected;
           text = append-nil (header_bytes (file_header settings.link)) ∙ sym c.in_ok-file.ensures.bytes;
         };
       };
