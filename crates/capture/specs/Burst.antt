@@ -40,7 +40,8 @@ pub record Values : Type 0 where
   pub grant : Option (List ℕ)
   pub burst_id : Option (List ℕ)
 
--- TLV 18 says whether there is a segment header, 10 is the channel, 11 the SID, 17 the grant's size in bits, 13 the burst's id
+-- TLV 18 says whether there is a segment header, 10 is the channel, 11 the SID, 17 the grant's size
+-- in bits, 13 the burst's id
 abbrev pub values_of : List Field → Values
 values_of fields = record {
   segment_header = last_value 18 fields;

@@ -75,7 +75,8 @@ pub record TakesCapture (old new : CaptureReader) (given : List CaptureParts) (p
   pub piece_is : piece ≡ used ++ rest
   pub captures : (records : List CaptureParts) (bytes : List ℕ) → HasCaptured old records bytes → HasCaptured new (records ++ given) (bytes ++ used)
 
--- that a file is no pcap file, or no pcapng file, says that it is no capture; all other faults are those of the format
+-- that a file is no pcap file, or no pcapng file, says that it is no capture; all other faults are
+-- those of the format
 abbrev pub fault_of_pcap : PcapFault → CaptureFault
 fault_of_pcap NotPcap = NoCapture
 fault_of_pcap fault = Pcap fault

@@ -13,7 +13,7 @@ pub record Parts : Type 0 where
 abbrev pub two_bytes : ℕ → List ℕ
 two_bytes n = n / 256 ∷ n % 256 ∷ []
 
--- Version, type, the length of all TLVs in two bytes, the most significant first; the TLVs, and the payload.
+-- Version, type, the length of all TLVs in two bytes, the most significant first; TLVs; payload.
 abbrev pub packet_bytes : Parts → List ℕ
 packet_bytes parts =
     parts.version ∷ parts.kind ∷ two_bytes (length (fields_bytes parts.fields)) ++ fields_bytes parts.fields ++ parts.payload

@@ -8,8 +8,8 @@ use Rattle.capture.specs.declared.pcap_fault.PcapFault.{PcapFault}
 use Rattle.capture.specs.declared.pcap_fault.PcapFault.TheVariants.{NotPcap, RecordTooLong, EndsInside, OutOfMemory}
 use Rattle.capture.specs.Pcap.{header_bytes, head_bytes, RecordParts, file_bytes, IsRecord, FitsHead, FitsHeader, longest_record}
 
--- what a reader knows: the file's header once it was read, the bytes after the last whole record, or all bytes before the header is
--- whole, and the fault that ended it, if one did
+-- what a reader knows: the file's header once it was read, the bytes after the last whole record,
+-- or all bytes before the header is whole, and the fault that ended it, if one did
 pub record PcapState : Type 0 where
   pub header : Option PcapHeader
   pub pending : List ℕ
@@ -75,8 +75,8 @@ Reports bytes OutOfMemory = Unit {0}
 abbrev pub MovesOn : List ℕ → List ℕ → Type 0
 MovesOn piece rest = 0 < length piece → length rest < length piece
 
--- From what a reader has given and holds back to what it then has given and holds back: it took bytes from the front of the piece, and
--- gave these records.
+-- From what a reader has given and holds back to what it then has given and holds back: it took
+-- bytes from the front of the piece, and gave these records.
 pub record GoesOn (header : Option PcapHeader) (pending : List ℕ) (header' : Option PcapHeader) (pending' : List ℕ) (given : List RecordParts)
     (piece rest : List ℕ) : Type 0 where
   pub used : List ℕ

@@ -70,7 +70,8 @@ block_bytes block = block_head_bytes (head_of block) ++ block.body ++ number_byt
 abbrev pub blocks_bytes : List Block → List ℕ
 blocks_bytes blocks = flat_map block_bytes blocks
 
--- both numbers have 32 bits, and the length is a multiple of four that is neither too small nor too great for the type
+-- both numbers have 32 bits, and the length is a multiple of four that is neither too small nor too
+-- great for the type
 pub record IsLawfulHead (head : BlockHead) : Type 0 where
   pub number : head.number < 2 ^ 32
   pub total : head.total < 2 ^ 32

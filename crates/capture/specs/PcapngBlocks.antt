@@ -79,7 +79,8 @@ captured_packet interface head bytes = record {
   bytes = bytes;
 }
 
--- a packet: its head, the bytes that were captured, at most 1 MiB, and padding and options, which aren't looked at
+-- a packet: its head, the bytes that were captured, at most 1 MiB, and padding and options, which
+-- aren't looked at
 pub record GivesPacket (before : Option SectionParts) (block : Block) (after : SectionParts) (given : List CaptureParts) : Type 0 where
   pub section : SectionParts
   pub before_is : before ≡ Some section

@@ -111,7 +111,8 @@ IsFaultOf PacketOverruns section part = HasBadBlock PacketOverruns section part
 IsFaultOf EndsInside section part = ⊥
 IsFaultOf OutOfMemory section part = Unit {0}
 
--- what a fault says of all bytes that came, the piece among them: whole blocks that tell of the packets that were given, then the fault
+-- what a fault says of all bytes that came, the piece among them: whole blocks that tell of the
+-- packets that were given, then the fault
 pub record HasFault (given : List CaptureParts) (bytes : List ℕ) (fault : PcapngFault) : Type 0 where
   pub blocks : List Block
   pub section : Option SectionParts

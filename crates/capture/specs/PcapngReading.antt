@@ -12,15 +12,17 @@ use Rattle.capture.specs.declared.pcapng_fault.PcapngFault.{PcapngFault}
 use Rattle.capture.specs.Pcapng.{Block, block_kind, section_header, byte_order_magic, block_head_bytes, blocks_bytes, IsLawfulHead, IsBlock}
 use Rattle.capture.specs.PcapngBlocks.{SectionParts, CaptureParts, Tell}
 
--- what a reader knows: what the section has said, of a block that it passes over its head and how many bytes come before the last
--- four, the bytes that it keeps of the block that isn't whole, and the fault that ended it, if one did
+-- what a reader knows: what the section has said, of a block that it passes over its head and how
+-- many bytes come before the last four, the bytes that it keeps of the block that isn't whole, and
+-- the fault that ended it, if one did
 pub record PcapngState : Type 0 where
   pub section : Option SectionParts
   pub passing : Option (BlockHead × ℕ)
   pub pending : List ℕ
   pub fault : Option PcapngFault
 
--- the order of a block's numbers: a section header says it after its head, all other blocks have their section's
+-- the order of a block's numbers: a section header says it after its head, all other blocks have
+-- their section's
 abbrev pub HasOrder : BlockKind → Option SectionParts → Endian → List ℕ → Type 0
 HasOrder SectionHeader section endian bytes = (more : List ℕ) × (bytes ≡ number_bytes endian w32 byte_order_magic ++ more)
 HasOrder InterfaceDescription section endian bytes = option_map (λ parts. parts.endian) section ≡ Some endian
@@ -46,13 +48,15 @@ pub record IsPartOfSectionHead (part : List ℕ) : Type 0 where
 abbrev pub IsPart : Option SectionParts → List ℕ → Type 0
 IsPart section part = (length part < 8) ⊎ (IsPartOfSectionHead part ⊎ IsPartOfBlock section part)
 
--- what is held back of these bytes: all of them, or, of a block that is passed over, its head and the last ones
+-- what is held back of these bytes: all of them, or, of a block that is passed over, its head and
+-- the last ones
 abbrev pub IsHeld : Option (BlockHead × ℕ) → List ℕ → List ℕ → Type 0
 IsHeld None pending part = part ≡ pending
 IsHeld (Some at) pending part =
     (passed : List ℕ) × (part ≡ block_head_bytes at.0 ++ passed ++ pending) × (length passed + at.1 + 12 ≡ at.0.total)
 
--- A reader that knows this and gave these records has taken these bytes: whole blocks that say so, and less than one more.
+-- A reader that knows this and gave these records has taken these bytes: whole blocks that say so,
+-- and less than one more.
 pub record HasReadTo (section : Option SectionParts) (passing : Option (BlockHead × ℕ)) (pending : List ℕ) (given : List CaptureParts) (bytes : List ℕ) : Type 0 where
   pub blocks : List Block
   pub part : List ℕ
@@ -65,7 +69,8 @@ pub record HasReadTo (section : Option SectionParts) (passing : Option (BlockHea
 abbrev pub HasRead : PcapngState → List CaptureParts → List ℕ → Type 0
 HasRead state given bytes = (state.fault ≡ None) × HasReadTo state.section state.passing state.pending given bytes
 
--- From what a reader knows to what it then knows: it took bytes from the front of the piece, and gave these records.
+-- From what a reader knows to what it then knows: it took bytes from the front of the piece, and
+-- gave these records.
 pub record ReadsOn (section : Option SectionParts) (passing : Option (BlockHead × ℕ)) (pending : List ℕ) (section' : Option SectionParts) (passing' : Option (BlockHead × ℕ))
     (pending' : List ℕ) (given : List CaptureParts) (piece rest : List ℕ) : Type 0 where
   pub used : List ℕ

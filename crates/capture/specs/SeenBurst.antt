@@ -43,7 +43,7 @@ pub record SpellsBurst (bytes : List ℕ) (burst : Burst) : Type 0 where
   pub spelled : bytes ≡ packet_bytes parts
   pub burst_is : burst_of parts ≡ Ok (burst_parts burst)
 
--- what was read of the bytes of a packet: what the list of its TLVs says, or that they spell no packet
+-- what was read of a packet's bytes: what the list of its TLVs says, or that they spell no packet
 pub record IsAnswer (bytes : List ℕ) (answer : Result Burst Passed) : Type 0 where
   pub spelled : (parts : Parts) → bytes ≡ packet_bytes parts → Gives burst_parts answer (burst_of parts)
   pub unspelled : ((parts : Parts) → bytes ≡ packet_bytes parts → ⊥) → answer ≡ Err Malformed

@@ -3,7 +3,7 @@ ghost use Rattle.std.specs.Prelude.{◌≡◌, ℕ, List, IfOk};
 
 use crate::numbers::number;
 use crate::packet::{Packet, read_packet};
-use crate::tlv::last_value;
+use crate::tlv::{newer, split_tlv};
 
 /// The type of a packet that holds a TDMA burst.
 const TDMA_BURST: u8 = 65;
@@ -60,8 +60,8 @@ pub struct Burst<'a> {
     pub channel: u32,
     /// TLV 11, of 1 to 4 bytes.
     pub sid: u32,
-    /// The grant's size in bits, below 2^24: the low 24 bits of TLV 17, of 1 to 4 bytes, where it is
-    /// there.
+    /// The grant's size in bits, below 2^24: the low 24 bits of TLV 17, of 1 to 4 bytes, where it
+    /// is there.
     pub grant_bits: Option<u32>,
     /// The analyser's number of the burst: TLV 13, of 1 to 8 bytes, where it is there.
     pub burst_id: Option<u64>,
@@ -96,8 +96,8 @@ ghost use Rattle.capture.specs.Seen.{value_seen};
 ghost use Rattle.capture.specs.SeenBurst.{SpellsBurst, burst_parts, numbers_seen, values_seen};
 
 /// The burst that the bytes of a packet of link type 273 hold. What is asked first is the first
-/// that [`Passed`] tells: whether the bytes are a packet, its type, the size of each number, TLV 18,
-/// the length of the burst, and at last its channel and SID.
+/// that [`Passed`] tells: whether the bytes are a packet, its type, the size of each number, TLV
+/// 18, the length of the burst, and at last its channel and SID.
 pub fn read_burst(bytes: &[u8]) -> Result<Burst<'_>, Passed>
     // Of bytes that spell a packet: what the list of its TLVs says.
     ensures spelled { (parts : Parts) → bytes.now ≡ packet_bytes parts
@@ -122,18 +122,35 @@ fn burst_in<'a>(packet: &Packet<'a>) -> Result<Burst<'a>, Passed>
     burst_of_values(packet.kind, last_values(packet.tlvs), packet.payload)
 }
 
-/// The last value of each type that matters.
+/// The last value of each type that matters, by one pass over the TLVs.
 fn last_values(tlvs: &[u8]) -> LastValues<'_>
     ensures { (fields : List Field) → tlvs.now ≡ fields_bytes fields
         → values_seen result ≡ values_of fields }
 {
-    LastValues {
-        segment_header: last_value(tlvs, SEGMENT_HEADER_PRESENT),
-        channel: last_value(tlvs, CHANNEL),
-        sid: last_value(tlvs, SID),
-        grant: last_value(tlvs, GRANT_SIZE),
-        burst_id: last_value(tlvs, BURST_ID),
+    let mut values = LastValues {
+        segment_header: None,
+        channel: None,
+        sid: None,
+        grant: None,
+        burst_id: None,
+    };
+    let mut rest = tlvs;
+    while let Some((tlv, after)) = split_tlv(rest) {
+        let segment_header = newer(values.segment_header, SEGMENT_HEADER_PRESENT, tlv);
+        let channel = newer(values.channel, CHANNEL, tlv);
+        let sid = newer(values.sid, SID, tlv);
+        let grant = newer(values.grant, GRANT_SIZE, tlv);
+        let burst_id = newer(values.burst_id, BURST_ID, tlv);
+        values = LastValues {
+            segment_header,
+            channel,
+            sid,
+            grant,
+            burst_id,
+        };
+        rest = after;
     }
+    values
 }
 
 /// The burst that a packet of this type holds, by the last values of its TLVs.

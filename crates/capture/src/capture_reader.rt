@@ -19,8 +19,8 @@ use std::alloc::Global;
 const FIRST_OF_PCAPNG: u8 = 0x0A;
 
 /// Reads a capture that comes in pieces of any size: a pcapng file if its first byte is 0A, as that
-/// of each pcapng file and of no pcap file is, and a pcap file otherwise. It holds what the one that
-/// it is then holds.
+/// of each pcapng file and of no pcap file is, and a pcap file otherwise. It holds what the one
+/// that it is then holds.
 #[derive(Debug, Drop)]
 pub enum CaptureReader {
     /// Nothing has come yet.
@@ -90,8 +90,9 @@ impl CaptureReader {
         }
     }
 
-    /// Takes bytes from the front of the piece, at most up to the end of the record or block that is
-    /// next, and gives its packet if it is one. Call it again with the rest until nothing is left.
+    /// Takes bytes from the front of the piece, at most up to the end of the record or block that
+    /// is next, and gives its packet if it is one. Call it again with the rest until nothing is
+    /// left.
     ///
     /// After a fault each call reports the same one.
     pub fn take<'a>(

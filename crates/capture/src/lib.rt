@@ -17,16 +17,16 @@
 //! 3. [`CaptureReader`] takes a file of either format, is one of the two by its first byte, and
 //!    gives [`CaptureRecord`]s.
 //! 4. [`burst_in_record`] and [`burst_in_capture`] make a [`Burst`] of a record, with its channel,
-//!    its SID, its grant and the bytes of its segment, or say by [`Passed`] why the record is passed
-//!    over. [`read_burst`] does so for the bytes of a packet.
+//!    its SID, its grant and the bytes of its segment, or say by [`Passed`] why the record is
+//!    passed over. [`read_burst`] does so for the bytes of a packet.
 //! 5. [`read_packet`] is its first half: version, type, TLVs and payload of a packet of any type.
 //!    [`split_tlv`] takes the TLVs one after another, [`last_value`] looks one up, and [`are_tlvs`]
 //!    tells whether bytes are whole TLVs.
 //! 6. [`write_pcap_header`] and [`write_record`] write a file.
 //!
 //! What matters most: whatever bytes a reader had taken, with those of a piece it has given exactly
-//! the records of all of them (`StandsFor`, `HasRead`, `HasCaptured`), and of a whole file its records
-//! and no others ([`laws::a_whole_file_is_given`], [`laws::whole_blocks_are_given`],
+//! the records of all of them (`StandsFor`, `HasRead`, `HasCaptured`), and of a whole file its
+//! records and no others ([`laws::a_whole_file_is_given`], [`laws::whole_blocks_are_given`],
 //! [`laws::a_whole_capture_is_given`]); whole blocks of a pcapng file are never refused
 //! ([`laws::whole_blocks_have_no_fault`]). A packet is read exactly if its bytes spell one, and the
 //! burst is the one that the definition `burst_of` looks up in the list of its TLVs.

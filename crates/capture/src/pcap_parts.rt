@@ -1,8 +1,9 @@
 //! What a reader of pcap takes from a piece of a file: bytes of the part that is next, which is the
 //! file's header, a record's header or a record's bytes.
-ghost use Rattle.std.specs.Prelude.{◌≡◌, ◌≤◌, ◌<◌, [], ◌++◌, length, option_map, IfOk, IfErr};
+ghost use Rattle.std.specs.Prelude.{◌≡◌, ◌≤◌, ◌<◌, [], ◌++◌, length, option_map, IfOk, IfErr, IfSome};
+ghost use Rattle.capture.specs.Pcap.{head_bytes, FitsHead};
 ghost use Rattle.capture.specs.PcapReading.{MovesOn};
-ghost use Rattle.capture.specs.Inside.PcapParts.{Completes, TakesHeader, TakesHead, TakesBytes, HeaderFault, HeadFault};
+ghost use Rattle.capture.specs.Inside.PcapParts.{Completes, TakesHeader, TakesHead, ReadsHead, TakesBytes, HeaderFault, HeadFault};
 
 use crate::endian::Endian;
 use crate::pcap::{
@@ -16,8 +17,8 @@ use std::mem;
 /// A record has at most so many bytes.
 pub const LONGEST_RECORD: u32 = 1 << 20;
 
-/// Moves bytes from the front of the piece to those that are pending, until these are as many as are
-/// wanted, and answers the rest of the piece.
+/// Moves bytes from the front of the piece to those that are pending, until these are as many as
+/// are wanted, and answers the rest of the piece.
 pub(crate) fn fill<'a>(
     pending: &mut Vec<u8>,
     wanted: usize,
@@ -61,7 +62,42 @@ pub(crate) fn take_header<'a>(
     }
 }
 
-/// The header of a record, once its sixteen bytes are there, and the rest of the piece.
+/// The header of a record at the front of a piece that has all of it, and what is behind it.
+fn split_head(endian: Endian, piece: &[u8]) -> Option<(RecordHead, &[u8])>
+    ensures found { IfSome result (λ split. piece.now ≡ head_bytes endian split.0 ++ split.1.now) }
+    ensures fits { IfSome result (λ split. FitsHead split.0) }
+{
+    let (head, rest) = piece.split_at_checked(RECORD_HEADER_BYTES)?;
+    Some((read_record_head(endian, head), rest))
+}
+
+/// The header of a record, once its sixteen bytes are there, and the rest of the piece. Where the
+/// piece has all of them they are read where they stand, and no memory is asked for.
+fn next_head<'a>(
+    endian: Endian,
+    pending: &mut Vec<u8>,
+    piece: &'a [u8],
+) -> Result<(Option<RecordHead>, &'a [u8]), AllocError>
+    requires { length pending.old.items < 16 }
+    ensures part { IfOk result (λ taken. ReadsHead endian pending.old.items pending.new.items
+        piece.now taken.0 taken.1.now) }
+    ensures some { IfOk result (λ taken. MovesOn piece.now taken.1.now) }
+{
+    if pending.is_empty()
+        && let Some((head, rest)) = split_head(endian, piece)
+    {
+        return Ok((Some(head), rest));
+    }
+    let rest = fill(pending, RECORD_HEADER_BYTES, piece)?;
+    if pending.len() < RECORD_HEADER_BYTES {
+        return Ok((None, rest));
+    }
+    let head = read_record_head(endian, pending);
+    pending.clear();
+    Ok((Some(head), rest))
+}
+
+/// The header of a record of at most 1 MiB, once it is there, and the rest of the piece.
 pub(crate) fn take_head<'a>(
     endian: Endian,
     pending: &mut Vec<u8>,
@@ -73,16 +109,11 @@ pub(crate) fn take_head<'a>(
     ensures some { IfOk result (λ taken. MovesOn piece.now taken.1.now) }
     ensures fault { IfErr result (HeadFault endian (pending.old.items ++ piece.now)) }
 {
-    let rest = fill(pending, RECORD_HEADER_BYTES, piece)?;
-    if pending.len() < RECORD_HEADER_BYTES {
-        return Ok((None, rest));
+    let (head, rest) = next_head(endian, pending, piece)?;
+    match head {
+        Some(head) if head.captured > LONGEST_RECORD => Err(PcapFault::RecordTooLong),
+        head => Ok((head, rest)),
     }
-    let head = read_record_head(endian, pending);
-    if head.captured > LONGEST_RECORD {
-        return Err(PcapFault::RecordTooLong);
-    }
-    pending.clear();
-    Ok((Some(head), rest))
 }
 
 /// The bytes of a record, once as many are there as were captured, and the rest of the piece.

@@ -9,8 +9,8 @@ use std::alloc::Global;
 use std::marker::Model;
 
 /// Reads a pcapng file that comes in pieces of any size. It holds one block at most, of 2 MiB or
-/// less, and up to 4,096 interfaces. Contracts see what it knows: what the section has said, what it
-/// holds back of the block that isn't whole, and the fault that ended it.
+/// less, and up to 4,096 interfaces. Contracts see what it knows: what the section has said, what
+/// it holds back of the block that isn't whole, and the fault that ended it.
 #[derive(Debug, Drop)]
 pub struct PcapngReader {
     stage: BlockStage,
@@ -60,8 +60,8 @@ impl PcapngReader {
         }
     }
 
-    /// Takes bytes from the front of the piece, at most up to the end of the block that is next, and
-    /// gives its packet if it is one. Call it again with the rest until nothing is left.
+    /// Takes bytes from the front of the piece, at most up to the end of the block that is next,
+    /// and gives its packet if it is one. Call it again with the rest until nothing is left.
     ///
     /// After a fault each call reports the same one.
     pub fn take<'a>(
@@ -75,7 +75,7 @@ impl PcapngReader {
             (captured_by taken.record) piece.now taken.rest.now) }
         // Of a piece that isn't empty it takes something.
         ensures some { IfOk result (λ taken. MovesOn piece.now taken.rest.now) }
-        // A fault that is new is one of all bytes that came, right behind the blocks of what it gave.
+        // A new fault is one of all bytes that came, right behind the blocks of what it gave.
         ensures fault { IfErr result (λ fault. (records : List CaptureParts) (bytes : List ℕ)
             → HasRead self.old records bytes → HasFault records (bytes ++ piece.now) fault) }
         ensures kept { IfErr result (λ fault. self.new.fault ≡ Some fault) }

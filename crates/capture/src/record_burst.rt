@@ -6,8 +6,8 @@ use crate::burst::{Burst, Passed, read_burst};
 use crate::capture_record::CaptureRecord;
 use crate::record::Record;
 
-/// The burst that a record holds. A record that was cut short by the capture, which kept fewer bytes
-/// than the packet had, is no burst.
+/// The burst that a record holds. A record that was cut short by the capture, which kept fewer
+/// bytes than the packet had, is no burst.
 pub fn burst_in_record(record: &Record) -> Result<Burst<'_>, Passed>
     ensures cut { length «record».now.bytes.items < «record».now.head.original
         → result ≡ Err Passed.CutShort }

@@ -10,7 +10,8 @@ pub struct Tlv<'a> {
 }
 
 ghost use Rattle.capture.specs.Fields.{Field, field_bytes, fields_bytes, AreFields, last_value};
-ghost use Rattle.capture.specs.Seen.{field};
+ghost use Rattle.capture.specs.Inside.Newer.{value_with};
+ghost use Rattle.capture.specs.Seen.{field, value_seen};
 
 /// The TLV at the front, and the bytes after it. `None` where no whole TLV stands at the front: the
 /// bytes end in its type, its length or its value.
@@ -36,6 +37,17 @@ pub fn are_tlvs(bytes: &[u8]) -> bool
     rest.is_empty()
 }
 
+/// The last value of a type, once this TLV was passed too.
+pub(crate) fn newer<'a>(last: Option<&'a [u8]>, kind: u8, tlv: Tlv<'a>) -> Option<&'a [u8]>
+    ensures { value_seen result ≡ value_with kind (field tlv.entry) (value_seen last.entry) }
+{
+    if tlv.kind == kind {
+        Some(tlv.value)
+    } else {
+        last
+    }
+}
+
 /// The value of the last TLV of a type. Where a type stands twice the last one counts, as in
 /// Wireshark's reader. TLVs within a value are not looked at.
 pub fn last_value(tlvs: &[u8], kind: u8) -> Option<&[u8]>
@@ -45,9 +57,7 @@ pub fn last_value(tlvs: &[u8], kind: u8) -> Option<&[u8]>
     let mut last = None;
     let mut rest = tlvs;
     while let Some((tlv, after)) = split_tlv(rest) {
-        if tlv.kind == kind {
-            last = Some(tlv.value);
-        }
+        last = newer(last, kind, tlv);
         rest = after;
     }
     last

@@ -119,7 +119,8 @@ IsFaultOfHead OutOfMemory head = ⊥
 abbrev pub IsFaultHere : BlockStage → Option SectionParts → List ℕ → PcapngFault → Type 0
 IsFaultHere stage section pending fault = (part : List ℕ) → IsHeld (passing_of stage) pending part → IsFaultOf fault section part
 
--- from a stage with what is kept to the next one, with the records that were given and what is left of the piece
+-- from a stage with what is kept to the next one, with the records that were given and what is left
+-- of the piece
 pub record PassesOn (stage : BlockStage) (section : Option SectionParts) (pending : List ℕ) (stage' : BlockStage) (section' : Option SectionParts) (pending' : List ℕ)
     (given : List CaptureParts) (piece rest : List ℕ) : Type 0 where
   pub in_block : IsInBlock stage' section' pending'

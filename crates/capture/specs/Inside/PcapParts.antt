@@ -29,6 +29,16 @@ abbrev pub TakesHeader : List ℕ → List ℕ → List ℕ → Option PcapHeade
 TakesHeader old new piece None rest = Waits 24 old new piece rest
 TakesHeader old new piece (Some header) rest = FindsHeader old new piece rest header
 
+-- a header was read, of whatever length
+pub record SeesHead (endian : Endian) (old new piece rest : List ℕ) (head : RecordHead) : Type 0 where
+  pub completes : Completes old (head_bytes endian head) piece rest
+  pub none : new ≡ []
+  pub fits : FitsHead head
+
+abbrev pub ReadsHead : Endian → List ℕ → List ℕ → List ℕ → Option RecordHead → List ℕ → Type 0
+ReadsHead endian old new piece None rest = Waits 16 old new piece rest
+ReadsHead endian old new piece (Some head) rest = SeesHead endian old new piece rest head
+
 pub record FindsHead (endian : Endian) (old new piece rest : List ℕ) (head : RecordHead) : Type 0 where
   pub completes : Completes old (head_bytes endian head) piece rest
   pub none : new ≡ []

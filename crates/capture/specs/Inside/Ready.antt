@@ -8,7 +8,8 @@ use Rattle.capture.specs.Captures.{captured_records, BeginsOtherwise, BeginsAsPc
 use Rattle.capture.specs.declared.capture_reader.CaptureReader.{CaptureReader}
 use Rattle.capture.specs.declared.capture_reader.CaptureReader.TheVariants.{Unread, OfPcap, OfPcapng}
 
--- A reader that gave these records, has taken these bytes and knows by them and this piece which of the two it is.
+-- A reader that gave these records, has taken these bytes and knows by them and this piece which of
+-- the two it is.
 pub record IsReadyPcap (state : PcapState) (piece : List ℕ) (given : List CaptureParts) (bytes : List ℕ) : Type 0 where
   pub records : List RecordParts
   pub stands : StandsFor state records bytes

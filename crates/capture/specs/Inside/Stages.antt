@@ -24,7 +24,8 @@ IsInStep Header size = size < 24
 IsInStep (Head header) size = size < 16
 IsInStep (Bytes header head) size = (size < head.captured) × (head.captured ≤ longest_record) × FitsHead head
 
--- from a stage with what is pending to the next one, with the records that were given and what is left of the piece
+-- from a stage with what is pending to the next one, with the records that were given and what is
+-- left of the piece
 pub record Passes (stage : Stage) (pending : List ℕ) (stage' : Stage) (pending' : List ℕ) (given : List RecordParts) (piece rest : List ℕ) : Type 0 where
   pub in_step : IsInStep stage' (length pending')
   pub moves : MovesOn piece rest

@@ -73,7 +73,7 @@ fn files_that_are_refused(rt: HostRuntime) {
     }
 }
 
-/// A name, what follows a section header and an interface, most significant byte first, and its fault.
+/// A name, what follows a section header and an interface, most significant byte first, its fault.
 fn refused_behind_an_interface() -> &'static [(&'static str, &'static [u8], PcapngFault)] {
     &[
         (

@@ -4,8 +4,8 @@ use capture::PcapngReader;
 use std::test::Fail;
 
 /// Least significant byte first: a section with an option, an interface of link type 1 whose times
-/// are nanoseconds by the second of its options, another of link type 147 whose times are 1024ths of
-/// a second, and a packet of each, the later interface's first.
+/// are nanoseconds by the second of its options, another of link type 147 whose times are 1024ths
+/// of a second, and a packet of each, the later interface's first.
 fn two_interfaces() -> &'static [u8] {
     &[
         0x0a, 0x0d, 0x0d, 0x0a, 36, 0, 0, 0, 0x4d, 0x3c, 0x2b, 0x1a, 1, 0, 2, 0, //

@@ -20,8 +20,8 @@ fn file_at(alloc: Global, resolution: u8, high: u32, low: u32) -> Result<Vec<u8>
     Ok(file)
 }
 
-/// Resolution, the time's halves, and its nanoseconds: 10^9 times the time, divided by 10 or 2 to the
-/// resolution's power, the rest cut off.
+/// Resolution, the time's halves, and its nanoseconds: 10^9 times the time, divided by 10 or 2 to
+/// the resolution's power, the rest cut off.
 fn times() -> &'static [(u8, u32, u32, u64)] {
     &[
         (0, 0, 3, 3_000_000_000),

@@ -1,4 +1,4 @@
--- Powers of up to 38 and 127 have a place in 128 bits, and no time of 64 bits has a nanosecond beyond them.
+-- Powers of up to 38 and 127 fit in 128 bits, and no time of 64 bits has a nanosecond beyond them.
 use Rattle.std.proofs.Common.{◌≡◌, ◌^◌, ◌*◌, ◌/◌, min, arith, sym, ap, ◌∙◌}
 use Rattle.capture.specs.Pcapng.{units_per_second}
 use Rattle.capture.proofs.Powers.{ten-fits, two-fits, some-pow, ten-beyond, two-beyond}

@@ -1,20 +1,11 @@
 -- One TLV after another, and none at the end.
-use Rattle.std.proofs.Common.{[], ◌∷◌, ◌++◌, ◌==◌, Some, sym, ap, ◌∙◌}
-use Rattle.std.proofs.lemmas.Bool.{cond-true, cond-false, eq-eqb, ne_eqb, false≢true}
+use Rattle.std.proofs.Common.{[], ◌∷◌, ◌++◌, sym, ap, ◌∙◌}
+use Rattle.std.proofs.lemmas.Bool.{false≢true}
 use Rattle.capture.specs.Fields.{last_value}
 use Rattle.capture.specs.Seen.{field}
 use Rattle.capture.proofs.FieldLists.{passed, all_passed}
-use Rattle.capture.proofs.LastValues.{last_value-push}
+use Rattle.capture.proofs.LastValues.{newer_of}
 use Rattle.capture.proofs.tlv.last_value.Goals as goal
-
-pub loop-tlv-preserved-then-tlv-kind : goal.loop-tlv-preserved-then-tlv-kind
-loop-tlv-preserved-then-tlv-kind c =
-    let front = c.loop-tlv.invariant.0 in
-    let tlv = field c.in-Some.tlv in (
-      front ++ tlv ∷ [],
-      passed _ _ _ front tlv c.loop-tlv.invariant.1 c.in-Some.ensures.found,
-      sym (last_value-push c.args.kind front tlv ∙ cond-true (tlv.kind == c.args.kind) (Some tlv.value) (last_value c.args.kind front) (eq-eqb _ _ c.if-tlv-kind.true)),
-    )
 
 pub loop-tlv-preserved : goal.loop-tlv-preserved
 loop-tlv-preserved c =
@@ -22,8 +13,7 @@ loop-tlv-preserved c =
     let tlv = field c.in-Some.tlv in (
       front ++ tlv ∷ [],
       passed _ _ _ front tlv c.loop-tlv.invariant.1 c.in-Some.ensures.found,
-      c.loop-tlv.invariant.2
-          ∙ sym (last_value-push c.args.kind front tlv ∙ cond-false (tlv.kind == c.args.kind) (Some tlv.value) (last_value c.args.kind front) (ne_eqb _ _ c.if-tlv-kind.false)),
+      newer_of c.args.kind front tlv _ _ c.loop-tlv.invariant.2 c.newer-last.ensures,
     )
 
 pub returns : goal.returns

@@ -1,0 +1,30 @@
+-- One TLV after another, and none at the end.
+use Rattle.std.proofs.Common.{[], ◌∷◌, ◌++◌, sym, ap, ◌∙◌}
+use Rattle.std.proofs.lemmas.Bool.{false≢true}
+use Rattle.capture.specs.Burst.{values_of}
+use Rattle.capture.specs.Seen.{field}
+use Rattle.capture.proofs.FieldLists.{passed, all_passed}
+use Rattle.capture.proofs.LastValues.{newer_of, same_values}
+use Rattle.capture.proofs.burst.last_values.Goals as goal
+
+pub loop-tlv-preserved : goal.loop-tlv-preserved
+loop-tlv-preserved c =
+    let front = c.loop-tlv.invariant.0 in
+    let tlv = field c.in-Some.tlv in
+    let before = c.loop-tlv.invariant.2 in (
+      front ++ tlv ∷ [],
+      passed _ _ _ front tlv c.loop-tlv.invariant.1 c.in-Some.ensures.found,
+      same_values _ _
+          (newer_of 18 front tlv _ _ (ap (λ v. v.segment_header) before) c.newer-segment_header.ensures)
+          (newer_of 10 front tlv _ _ (ap (λ v. v.channel) before) c.newer-channel.ensures)
+          (newer_of 11 front tlv _ _ (ap (λ v. v.sid) before) c.newer-sid.ensures)
+          (newer_of 17 front tlv _ _ (ap (λ v. v.grant) before) c.newer-grant.ensures)
+          (newer_of 13 front tlv _ _ (ap (λ v. v.burst_id) before) c.newer-burst_id.ensures),
+    )
+
+pub returns : goal.returns
+returns c =
+    let found = c.loop-tlv.invariant in
+    λ fields e.
+    let all = all_passed fields found.0 c.args.tlvs.now c.loop-tlv.rest.now e found.1 (λ any after h. false≢true (c.in_default.ensures.only any after h)) in
+    found.2 ∙ ap values_of (sym all.0)
