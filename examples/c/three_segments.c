@@ -1,5 +1,5 @@
-/* Two frames in three segments on three channels, received out of order: the frames, the request in a
- * segment's header, and the counts. */
+/* Two frames in three segments on three channels, received out of order: the frames, the request in
+ * a segment's header, and the counts. */
 #include <inttypes.h>
 #include <stdio.h>
 
@@ -7,9 +7,9 @@
 
 #define COUNT(list) (sizeof(list) / sizeof *(list))
 
-/* The segments of 000000021111aabb and 01010003e02222ccdd, each in a grant of its channel. The header
- * has 8 bytes: of the first a frame begins at once, of the second after one byte, of the third none
- * does. The second asks for 4 units. */
+/* The segments of 000000021111aabb and 01010003e02222ccdd, each in a grant of its channel. The
+ * header has 8 bytes: of the first a frame begins at once, of the second after one byte, of the
+ * third none does. The second asks for 4 units. */
 static uint8_t first[] = {0x80, 0, 0, 0, 0, 0, 0, 0, 0, 0, 0, 2, 0x11, 0x11, 0xaa};
 static uint8_t second[] = {0x80, 1, 0, 8, 0, 4, 0, 0, 0xbb, 1, 1, 0, 3, 0xe0};
 static uint8_t third[] = {0, 0, 0, 16, 0, 0, 0, 0, 0x22, 0x22, 0xcc, 0xdd};

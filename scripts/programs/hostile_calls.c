@@ -1,6 +1,7 @@
-/* Calls the functions of segrx.h at random, with arguments by chance, good and bad, on eight receivers that are made and freed
- * at any moment: `hostile_calls COUNT SEED`. It ends with status 1, and says why, where a function answers a status that it
- * may not, writes past the room, or writes a frame of another length than it tells; or where memory is kept at the end. Else it
+/* Calls the functions of segrx.h at random, with arguments by chance, good and bad, on eight
+ * receivers that are made and freed at any moment: `hostile_calls COUNT SEED`. It ends with status
+ * 1, and says why, where a function answers a status that it may not, writes past the room, or
+ * writes a frame of another length than it tells; or where memory is kept at the end. Else it
  * prints how often each status was answered. It takes no memory itself. */
 #include <malloc.h>
 #include <stdbool.h>
@@ -235,7 +236,7 @@ int main(int given, char **words) {
     if (given != 3) return 2;
     unsigned long count = strtoul(words[1], NULL, 10);
     state = strtoul(words[2], NULL, 10) * 2654435769u + 1;
-    /* The C library takes memory of its own with the first block, which may be the one that is refused. */
+    /* The C library takes memory of its own with the first block, which may be the refused one. */
     for (int k = 0; k < 2; k++) {
         void *volatile block = malloc(1);
         free(block);

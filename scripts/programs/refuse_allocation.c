@@ -1,7 +1,8 @@
-/* Loaded before the C library, refuses one request for memory or for the start of a thread: the one whose number
- * REFUSE_ALLOCATION gives, counted from 1. Where REFUSE_LATER is set, to anything but nothing, it refuses all later ones
- * too. When it refuses one it writes into the file that REFUSE_MET names whether it was in the first thread or in
- * another. Number 0 refuses none; in the end the file that REFUSE_COUNTED names has how many requests there were. */
+/* Loaded before the C library, refuses one request for memory or for the start of a thread: the one
+ * whose number REFUSE_ALLOCATION gives, counted from 1. Where REFUSE_LATER is set, to anything but
+ * nothing, it refuses all later ones too. When it refuses one it writes into the file that
+ * REFUSE_MET names whether it was in the first thread or in another. Number 0 refuses none; in the
+ * end the file that REFUSE_COUNTED names has how many requests there were. */
 #define _GNU_SOURCE
 #include <dlfcn.h>
 #include <errno.h>

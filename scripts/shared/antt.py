@@ -1,4 +1,5 @@
-"""What .antt files import: `use Rattle.CRATE.PART.MODULE.{names}` and `use Rattle.CRATE.PART.MODULE as name`."""
+"""What .antt files import: `use Rattle.CRATE.PART.MODULE.{names}` and
+`use Rattle.CRATE.PART.MODULE as name`."""
 
 import functools
 import os
@@ -12,8 +13,8 @@ USE = re.compile(r"^\s*(?:pub )?(?:ghost )?use ([\w.·-]+?)(?:\.?\{([^}]*)\})?(?
 
 @functools.cache
 def imports(file):
-    """What a file imports: for each line the path, the names that are taken out of it, each with the name it is given, and
-    the name that the path itself is given."""
+    """What a file imports: for each line the path, the names that are taken out of it, each with
+    the name it is given, and the name that the path itself is given."""
     found = []
     for module, names, given in USE.findall(re.sub(r"\n[ \t]+", " ", read(file))):
         words = [name.strip() for name in names.split(",") if name.strip()]
@@ -51,7 +52,8 @@ Place = namedtuple("Place", "file first last")
 
 
 def name_begun(words, now):
-    """The name of the definition that a line with these words begins, or None where it goes on with the one before it."""
+    """The name of the definition that a line with these words begins, or None where it goes on with
+    the one before it."""
     said = [word for word in words if word not in ("pub", "abbrev", "unfoldable", "opaque", "private")]
     if len(said) > 1 and said[0] in ("record", "data"):
         return said[1]
@@ -62,7 +64,8 @@ def name_begun(words, now):
 
 @functools.cache
 def definitions(file):
-    """The definitions of a file of specs/, by their names: from the remark above each to its last line, counted from 1."""
+    """The definitions of a file of specs/, by their names: from the remark above each to its last
+    line, counted from 1."""
     lines = read(file).splitlines()
     found, now, start, begun, indent = {}, None, None, None, 0
     for at, line in enumerate([*lines, "end of the file"]):
@@ -100,7 +103,8 @@ def text_of(place, with_remarks=True):
 
 @functools.cache
 def defined(file):
-    """The definition in which each name of a file is defined: itself, or the one whose constructor it is."""
+    """The definition in which each name of a file is defined: itself, or the one whose constructor
+    it is."""
     names = {name: name for name in definitions(file)}
     for name, place in definitions(file).items():
         text = text_of(place, with_remarks=False)
@@ -110,15 +114,18 @@ def defined(file):
 
 
 def bound_in(text):
-    """The names that a definition binds: its parameters, those of its functions and patterns, and its fields."""
+    """The names that a definition binds: its parameters, those of its functions and patterns, and
+    its fields."""
     binders = re.findall(r"[({]([\w'-]+(?: [\w'-]+)*) :", text) + re.findall(r"λ ([^.]+)\.", text)
     patterns = re.findall(r"^ *[^\s=]+ ([^=\n{]*) =", text, re.M)
     return set(re.findall(r"[^\s(){}:,;]+", " ".join(binders + patterns))) | set(re.findall(r"^ +pub (\S+) :", text, re.M))
 
 
 def words_of(text):
-    """The names that occur in a text: of a dotted one what stands before its first dot, and between that and the next."""
-    plain = re.sub(r"([{;]\s*)\S+ = ", r"\1", re.sub(r"--.*", "", text))  # without the fields of a record's value
+    """The names that occur in a text: of a dotted one what stands before its first dot, and between
+    that and the next."""
+    # Without the fields of a record's value.
+    plain = re.sub(r"([{;]\s*)\S+ = ", r"\1", re.sub(r"--.*", "", text))
     for word in re.findall(r"[^\s(){}\[\];,]+", plain):
         parts = word.strip(".").split(".")
         yield parts[0], parts[1] if len(parts) > 1 else None

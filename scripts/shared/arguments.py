@@ -33,7 +33,7 @@ def add_crates(to):
 
 
 def of_bench(head, count, size=None):
-    """The arguments of a bench: how often everything is measured and, of one that reads a text, its size."""
+    """The arguments of a bench: how often all is measured and, where it reads a text, its size."""
     to = parser(head)
     add_count(to, count, "how often everything is measured")
     if size is not None:

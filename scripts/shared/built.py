@@ -22,8 +22,9 @@ def build():
 
 
 def program():
-    """The program that SEGRX names, or the one that was built last, or a build of it where there is none. Where a
-    source is newer it is built anew, unless SEGRX_AS_IT_IS is set. It says on standard error which one it is."""
+    """The program that SEGRX names, or the one that was built last, or a build of it where there is
+    none. Where a source is newer it is built anew, unless SEGRX_AS_IT_IS is set. It says on
+    standard error which one it is."""
     named = os.environ.get("SEGRX")
     if named:
         return os.path.abspath(named)
@@ -36,7 +37,8 @@ def program():
 
 
 def tests(crate):
-    """The tests of a crate that were built last, or a build of them where there is none or a source is newer."""
+    """The tests of a crate that were built last, or a build of them where there is none or a source
+    is newer."""
     built = path("crates", crate, "out", f"{crate}_tests")
     if not os.path.exists(built) or is_older(built, [crate]):
         ran = subprocess.run(["rt", "test"], cwd=path("crates", crate), capture_output=True, text=True)

@@ -15,8 +15,8 @@ VALGRIND = ["valgrind", "-q", "--leak-check=full", "--show-leak-kinds=all", "--e
 
 
 def library():
-    """The library that was built last, or a build of it where there is none or a source is newer. Of scripts side by side one
-    builds it, and the others wait."""
+    """The library that was built last, or a build of it where there is none or a source is newer.
+    Of scripts side by side one builds it, and the others wait."""
     with open(path("crates", "segrx_c", "src", "lib.rt")) as source:
         fcntl.flock(source, fcntl.LOCK_EX)
         if not os.path.exists(LIBRARY) or built.is_older(LIBRARY, ["segrx_c"]):
@@ -34,7 +34,7 @@ def make_archive():
 
 
 def compile_program(source, program, options=()):
-    """Compiles a C program, which stands at this path from the top, and links it with the library."""
+    """Compiles a C program, at this path from the top, and links it with the library."""
     command = ["gcc", "-std=gnu11", "-O2", "-g", *WARNINGS, *options, "-I", path("include"), "-o", program, path(*source.split("/"))]
     ran = subprocess.run([*command, make_archive()], capture_output=True, text=True)
     if ran.returncode != 0:

@@ -1,5 +1,7 @@
-"""What `segrx capture` writes: a pcap file of frames, the report of its summary, the same as a JSON object on one line, and
-requests as CSV. A time for which a pcap file has no place, in the year 2106 or later, is written as the greatest one.
+"""What `segrx capture` writes: a pcap file of frames, the report of its summary, the same as a JSON
+object on one line, and requests as CSV. Where some flows are selected, the frames of the others and
+what was counted of them is left out. A time for which a pcap file has no place, in the year 2106 or
+later, is written as the greatest one.
 
 The report has the lines of replay's report but for those of frames and requests, and more:
 
@@ -11,8 +13,8 @@ The report has the lines of replay's report but for those of frames and requests
     records <n> earlier <n>
     clock set_back <n> crowded <n>
 
-In the list of refusals stands behind each number, after an `x`, how often it came, since a list of all would grow. CSV begins
-with a line of names, and its times are seconds with nine decimals.
+In the list of refusals stands behind each number, after an `x`, how often it came, since a list of
+all would grow. CSV begins with a line of names, and its times are seconds with nine decimals.
 """
 
 import collections
@@ -23,7 +25,7 @@ from shared.plain_packets import BURST_INFO_TLV, CHANNEL_TLV, SID_TLV, XRA, Reco
 from shared.written_captures import GREATEST_PCAP_TIME, NANOSECONDS, number, pcap_file, short_number, tlv, xra_packet
 
 LINKS = {"docsis": DOCSIS, "xra": XRA}
-# The refusals of a lane, by their numbers, and the kinds of records that are passed over, as JSON has them.
+# A lane's refusals, by number, and the kinds of records that are passed over, as JSON has them.
 REFUSED_GRANT_NAMES = ["out_of_range", "known", "unknown_sid", "too_many", "out_of_memory"]
 REFUSED_BURST_NAMES = ["no_grant", "too_long", "bad_check", "too_short", "pointer_past_the_end", "out_of_memory"]
 PASSED_NAMES = [
@@ -44,25 +46,30 @@ def frame_as_packet(burst, frame):
     return xra_packet(UPSTREAM_FRAME, address + tlv(BURST_INFO_TLV, reference + address), frame)
 
 
-def written_file(reading, link):
+def frames_left(reading, is_selected):
+    """The frames of a reading that are of selected flows."""
+    return [given for given in reading.frames if is_selected(given.flow)]
+
+
+def written_file(reading, link, is_selected):
     """The file of the frames of a reading."""
     records = []
-    for given in reading.frames:
+    for given in frames_left(reading, is_selected):
         data = frame_as_packet(given.coming.burst, given.frame) if link == "xra" else given.frame
         records.append(Record(LINKS[link], given.time, len(data), data))
     return pcap_file(NANOSECONDS, LINKS[link], records)
 
 
-def wanted_frames(reading, link):
+def wanted_frames(reading, link, is_selected):
     """The frames of a reading as a file of this link type has them."""
-    for given in reading.frames:
+    for given in frames_left(reading, is_selected):
         burst = given.coming.burst
         address = (burst.channel, burst.sid) if link == "xra" else (None, None)
         yield WrittenFrame(min(given.time, GREATEST_PCAP_TIME), given.frame, *address)
 
 
 def read_frame(record, link):
-    """The frame in a record of a file that was written, or None where there is none as there should be."""
+    """The frame in a record of a file that was written, or None where none is as it should be."""
     if record.link_type != LINKS[link] or record.original != len(record.bytes):
         return None
     if link == "docsis":
@@ -83,9 +90,14 @@ def line_of(*words, **counts):
     return " ".join(map(str, [*words, *(word for pair in counts.items() for word in pair)]))
 
 
-def report_of(reading):
+def flows_left(reading, is_selected):
+    """The flows of a reading that are selected, by their indexes."""
+    return [(index, flow) for index, flow in enumerate(reading.captured) if is_selected(index)]
+
+
+def report_of(reading, is_selected):
     """The lines of the report of a reading."""
-    for index, flow in enumerate(reading.captured):
+    for index, flow in flows_left(reading, is_selected):
         yield line_of("flow", index, flow.setup.sfid, **flow.counts())
         known = {name: reading.sequences[index, name] for name in (RIGHT, WRONG, ENCRYPTED)}
         requests = [request.units for request in reading.requests if request.flow == index]
@@ -131,7 +143,7 @@ def channel_as_json(reading, channel, lane):
     }
 
 
-def json_of(reading):
+def json_of(reading, is_selected):
     """The line of JSON of a reading."""
     passed = {why.lower().replace(" ", "_"): count for why, count in reading.passed.items()}
     told = {
@@ -139,7 +151,7 @@ def json_of(reading):
         "earlier": reading.earlier_times,
         "clock_set_back": sum(flow.set_back for flow in reading.captured),
         "clock_crowded": sum(flow.crowded for flow in reading.captured),
-        "flows": [flow_as_json(reading, index, flow) for index, flow in enumerate(reading.captured)],
+        "flows": [flow_as_json(reading, index, flow) for index, flow in flows_left(reading, is_selected)],
         "channels": [channel_as_json(reading, channel, lane) for channel, lane in sorted(reading.lanes.items())],
         "passed": dict.fromkeys(PASSED_NAMES, 0) | passed,
     }

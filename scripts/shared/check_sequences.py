@@ -1,8 +1,9 @@
 """Check sequences of headers and of Ethernet frames, as a division of polynomials leaves them.
 
-The standards have it so: the bits of the message as they are sent are coefficients, the highest power of x first; as many
-zeros as the degree of the generator follow, and as many coefficients are inverted from the first on; the remainder is
-inverted. A generator is its degree and its powers of x.
+The standards have it so: the bits of the message as they are sent are coefficients, the highest
+power of x first; as many zeros as the degree of the generator follow, and as many coefficients are
+inverted from the first on; the remainder is inverted. A generator is its degree and its powers of
+x.
 """
 
 import functools
@@ -33,8 +34,8 @@ def header_sequence(header):
 
 
 def frame_sequence(frame):
-    """The four bytes that follow an Ethernet frame. A division takes long for many bytes, so this is the library's, which
-    scripts/plain-checks compares with it."""
+    """The four bytes that follow an Ethernet frame. A division takes long for many bytes, so this
+    is the library's, which scripts/plain-checks compares with it."""
     return zlib.crc32(frame).to_bytes(4, "little")
 
 

@@ -1,4 +1,4 @@
-"""Runs programs none of which outlives the script, also where the script is interrupted or told to end."""
+"""Runs programs, none of which outlives the script, also where it is interrupted or told to end."""
 
 import contextlib
 import os
@@ -31,7 +31,8 @@ def send(child, number):
 
 
 def end_all():
-    """Ends all that runs, and has nothing more run. A script among it has some seconds to end what it runs itself."""
+    """Ends all that runs, and has nothing more run. A script among it has some seconds to end what
+    it runs itself."""
     with lock:
         state["ends"] = True
         left = list(running)
@@ -46,7 +47,8 @@ def end_all():
 
 @contextlib.contextmanager
 def guarded():
-    """While this is entered a signal that ends the script raises SystemExit, and at its end all that was run is killed."""
+    """While this is entered a signal that ends the script raises SystemExit, and at its end all
+    that was run is killed."""
     state["ends"] = False
     before = {ending: signal.signal(ending, end_with) for ending in ENDING}
     try:
@@ -59,8 +61,8 @@ def guarded():
 
 @contextlib.contextmanager
 def started(words, **how):
-    """A program that runs, with what it prints as text, standard error among it. It is killed, with all that it started,
-    where the block is left before it has ended."""
+    """A program that runs, with what it prints as text, standard error among it. It is killed, with
+    all that it started, where the block is left before it has ended."""
     how = {"stdout": subprocess.PIPE, "stderr": subprocess.STDOUT, "text": True, "errors": "replace", **how}
     with lock:
         if state["ends"]:
@@ -81,8 +83,8 @@ def started(words, **how):
 
 
 def run(words, seconds=None, **how):
-    """As subprocess.run of a started program. One that takes longer than these seconds is killed, and
-    subprocess.TimeoutExpired is raised."""
+    """As subprocess.run of a started program. One that takes longer than these seconds is killed,
+    and subprocess.TimeoutExpired is raised."""
     with started(words, **how) as child:
         said, _ = child.communicate(timeout=seconds)
     return subprocess.CompletedProcess(words, child.returncode, said)

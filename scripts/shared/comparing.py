@@ -1,4 +1,4 @@
-"""Compares the program with a plain reading of what it answers, on many inputs and several at once."""
+"""Compares the program with a plain reading of its answers, on many inputs and several at once."""
 
 import collections
 import itertools
@@ -20,8 +20,8 @@ def read_arguments(head, count, jobs, what="trace", add_more=None):
 
 
 def compare_all(label, given, compare_fixed, fixed, compare_generated, generated, what="trace"):
-    """Compares fixed and generated inputs, each by such a function, which returns the input's name and either what is wrong
-    or what the input shows. Returns the sum of what they show."""
+    """Compares fixed and generated inputs, each by such a function, which returns the input's name
+    and either what is wrong or what the input shows. Returns the sum of what they show."""
     seen = collections.Counter()
     with multiprocessing.Pool(given.jobs) as pool:
         of_fixed, of_generated = pool.imap(compare_fixed, fixed), pool.imap(compare_generated, generated, 20)
@@ -33,7 +33,7 @@ def compare_all(label, given, compare_fixed, fixed, compare_generated, generated
 
 
 def print_seen(label, seen, names, is_whole):
-    """Prints what was seen, by these names. Where the comparison is a whole one, all of them have to be there."""
+    """Prints what was seen, by these names. Where the comparison is whole all have to be there."""
     unseen = [name for name in names if not seen[name]]
     if unseen and is_whole:
         sys.exit(f"{label}: the inputs show none of {unseen}")

@@ -1,4 +1,5 @@
-"""Contracts in .rt files: where a function stands, its clauses, and what its names stand for; and where a Rust type stands."""
+"""Contracts in .rt files: where a function stands, its clauses, and what its names stand for; and
+where a Rust type stands."""
 
 import functools
 import os
@@ -38,7 +39,7 @@ def clauses_after(text, at):
 
 @functools.cache
 def contracts(file):
-    """The functions of a file that have a contract: each with its type, if it is a method, and its clauses."""
+    """The functions of a file with a contract: each with its type, if a method, and its clauses."""
     text, found = read(file), []
     owners = [(it.start(), closing(text, text.index("{", it.start())), it[1]) for it in OWNER.finditer(text)]
     for function in re.finditer(r'^ *(pub )?(?:pub\([a-z]+\) )?(?:unsafe )?(?:extern "C" )?fn (\w+)', text, re.M):
@@ -59,8 +60,8 @@ OWNER = re.compile(r"^(?:pub )?(?:impl(?:<[^{]*?>)? (?:[\w<>, ]+ for )?|trait )(
 
 
 def contracts_named(crate, name):
-    """The contracts of a crate with this name: a function's, a method's as `Type::name`, or those of all public methods of a
-    type."""
+    """The contracts of a crate with this name: a function's, a method's as `Type::name`, or those
+    of all public methods of a type."""
     all_of_crate = [it for file in sorted(sources([crate])) if "/tests" not in shown(file) for it in contracts(file)]
     exact = [it for it in all_of_crate if it.name == name]
     return exact or [it for it in all_of_crate if it.name.split("::")[0] == name and "::" in it.name and it.is_public]
@@ -68,7 +69,8 @@ def contracts_named(crate, name):
 
 @functools.cache
 def ghost_uses(file):
-    """What the clauses of a file import: for each line the path, the names taken out of it, and the name that it is given."""
+    """What the clauses of a file import: for each line the path, the names taken out of it, and the
+    name that it is given."""
     found = []
     for module, names, given in re.findall(r"ghost use ([\w.]+?)(?:\.?\{([^}]*)\})?(?: as (\w+))?;", read(file)):
         words = [name.strip() for name in names.split(",") if name.strip()]
@@ -93,7 +95,8 @@ def rust_item(file, kind, name):
 
 
 def rust_type(module):
-    """Where the Rust type of a module `Rattle.CRATE.specs.declared.MODULE.Type` stands, and its name."""
+    """Where the Rust type of a module `Rattle.CRATE.specs.declared.MODULE.Type` stands, and its
+    name."""
     parts = module.split(".")
     own = parts[4:]
     at = next(k for k, part in enumerate(own) if part[:1].isupper())
@@ -107,7 +110,7 @@ def rust_type(module):
 
 @functools.cache
 def type_named(file, name):
-    """Where the struct or enum of these crates stands that a file of code means by a name, or None."""
+    """Where the struct or enum of these crates is that a file of code means by a name, or None."""
     own = shown(file).split(os.sep)[1]
     imported = re.findall(r"^(?:pub )?use (\w+)::([\w:{}, \n]+);", read(file), re.M)
     crate = next((first for first, names in imported if re.search(rf"\b{name}\b", names)), own)

@@ -1,5 +1,6 @@
-"""Edits that plant a mistake: files with a line `file: PATH`, of a crate's folder, and then pairs of lines `old: TEXT` and
-`new: TEXT`. Each old text has to stand in its file just once, after the pairs before it."""
+"""Edits that plant a mistake: files with a line `file: PATH`, of a crate's folder, and then pairs
+of lines `old: TEXT` and `new: TEXT`. Each old text has to stand in its file just once, after the
+pairs before it."""
 
 import glob
 import os

@@ -1,5 +1,5 @@
-"""Traces for `segrx follow`, and how much memory the program holds on the way. Of the one without end one flow sends frames of 64
-to 1,518 bytes in segments of 1,500 on four channels.
+"""Traces for `segrx follow`, and how much memory the program holds on the way. Of the one without
+end one flow sends frames of 64 to 1,518 bytes in segments of 1,500 on four channels.
 """
 
 import itertools
@@ -15,7 +15,7 @@ SEGMENTS, SIZE = 8192, 1500
 AT_ONCE = 512
 # The most channels that the program takes, with which it takes the most flows.
 WIDEST = 16
-# Of the flows that lose the rest of a longest frame: how many they are, and how many bytes of it come.
+# Of the flows that lose the rest of a longest frame: how many, and how many bytes of it come.
 LOSING, FRONT = 512, 16384
 
 
@@ -31,8 +31,8 @@ def frames_of(length, rng):
 
 
 def round_of_numbers():
-    """The lines of as many segments as there are numbers, so many at once. The last one ends with a frame, so they may be given
-    again and again."""
+    """The lines of as many segments as there are numbers, so many at once. The last one ends with a
+    frame, so they may be given again and again."""
     lines = []
     for number, segment in enumerate(segments(frames_of(SEGMENTS * SIZE, random.Random(20)), SIZE)):
         lines.append(grant(number % CHANNELS, number, 0, segment) + burst(number % CHANNELS, number, segment))
@@ -48,8 +48,8 @@ def resident(process):
 
 
 def given(command, chunks):
-    """Gives the program these chunks of a text through a pipe, and yields behind each how many bytes were given, and the process
-    that takes them."""
+    """Gives the program these chunks of a text through a pipe, and yields behind each how many
+    bytes were given, and the process that takes them."""
     passed = 0
     with open(os.devnull, "wb") as taken:
         child = subprocess.Popen(command, stdin=subprocess.PIPE, stdout=taken)
@@ -74,8 +74,9 @@ def trace_of(size):
 
 
 def held_on_the_way(segrx, options, size, marks):
-    """Gives the program that many MiB of the trace through a pipe, and yields once each of these hundredths was given, of which the
-    last is all: the mark, how many bytes that were, the resident memory, and the greatest so far."""
+    """Gives the program that many MiB of the trace through a pipe, and yields once each of these
+    hundredths was given, of which the last is all: the mark, how many bytes that were, the resident
+    memory, and the greatest so far."""
     marks = list(marks)
     for passed, process in given([segrx, "follow", "--channels", str(CHANNELS), *options], trace_of(size * MIB)):
         if marks and passed * 100 >= marks[0] * size * MIB:
@@ -83,7 +84,8 @@ def held_on_the_way(segrx, options, size, marks):
 
 
 def flows_that_lose():
-    """The lines of flows that send, one after another, the front of a longest frame, whose rest is lost, and a whole frame."""
+    """The lines of flows that send, one after another, the front of a longest frame, whose rest is
+    lost, and a whole frame."""
     rng = random.Random(20)
     long, short = frame(65541, rng), frame(64, rng)
     yield b"".join(flow_lines(LOSING, 16))
@@ -94,8 +96,8 @@ def flows_that_lose():
 
 
 def held_after_losses(segrx):
-    """How many flows the program takes that send the front of a longest frame, whose rest is lost, and a whole frame, and the
-    greatest resident memory at the end."""
+    """How many flows the program takes that send the front of a longest frame, whose rest is lost,
+    and a whole frame, and the greatest resident memory at the end."""
     command = [segrx, "follow", "--channels", str(WIDEST)]
     for _, process in given(command, flows_that_lose()):
         _, greatest = resident(process)

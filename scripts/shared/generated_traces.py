@@ -1,4 +1,5 @@
-"""Generated traces for `segrx replay` and `segrx run`: lawful ones, the same in another dress, and faulty ones."""
+"""Generated traces for `segrx replay` and `segrx run`: lawful ones, the same in another dress, and
+faulty ones."""
 
 from shared.plain_reading import AHEAD, MODULUS, Cut, some_frame
 from shared.plain_receiver import CHANNELS, CHECK, FORMS, HEX, MOST_FLOWS, MOST_GRANTS
@@ -21,8 +22,8 @@ def header_of(words):
 
 
 class SentFlow:
-    """A flow whose segments are sent: those of a cut, some of them spoiled or not, or any segments. One that is calm sends
-    each segment once at most, and they fit into its window."""
+    """A flow whose segments are sent: those of a cut, some of them spoiled or not, or any segments.
+    One that is calm sends each segment once at most, and they fit into its window."""
 
     def __init__(self, rng, index, calm=False):
         self.rng, self.index, self.calm = rng, index, calm
@@ -36,7 +37,7 @@ class SentFlow:
         return (self.first + index) % MODULUS
 
     def some_index(self):
-        """The next index, or one before it again, or one after it with some skipped, or one far off."""
+        """The next index, one before it again, one after it with some skipped, or one far off."""
         far = [] if self.calm else [-1, -1, -2, self.window, -self.window, AHEAD - 1, AHEAD, -AHEAD]
         skip = self.rng.choice([0] * 24 + [1, 1, 2, *far])
         if 0 <= skip <= 2:
@@ -63,15 +64,16 @@ class SentFlow:
 
 
 class Uplink:
-    """Flows, SIDs and what comes in on the channels, as the words of lines. In a calm one there are no decisions, and
-    each flow is calm or comes on one channel alone."""
+    """Flows, SIDs and what comes in on the channels, as the words of lines. In a calm one there are
+    no decisions, and each flow is calm or comes on one channel alone."""
 
     def __init__(self, rng, crowded=0.01, calm=False, channels=CHANNELS):
         self.rng, self.calm, self.channels = rng, calm, channels
         count = MOST_FLOWS if rng.random() < crowded else rng.choice([0, *[1] * 12, 2, 2, 2, 2, 3, 5])
         self.flows = [SentFlow(rng, index, calm and rng.random() < 0.7) for index in range(count)]
         self.sids = [{} for _ in range(channels)]  # the flow of each SID of a channel
-        self.granted = [{} for _ in range(channels)]  # the flow, the size and what is to come of each outstanding grant
+        # The flow, the size and what is to come of each outstanding grant.
+        self.granted = [{} for _ in range(channels)]
         self.lines = []
         self.add_setup()
 
@@ -135,7 +137,8 @@ class Uplink:
         self.grant(channel, number, sid, rng.choice([len(segment), 8, 65535, *NO_SIZES]), segment)
 
     def unfit_burst(self):
-        """A burst that by chance is too long or too short or has a bad check, a pointer past its end or no grant."""
+        """A burst that by chance is too long or too short or has a bad check, a pointer past its
+        end or no grant."""
         rng, channel = self.rng, self.channel_with(self.granted)
         number = rng.choice([*NUMBERS[:2], *self.granted[channel], *self.granted[channel]])
         flow, size, segment = self.granted[channel].get(number, (None, 0, bytes(8)))
@@ -155,8 +158,9 @@ class Uplink:
 
 
 class DealtFlow:
-    """A flow whose segments a modem deals over one to four channels, each channel's in order. Some are lost on the way, a few
-    come once more on another channel, and there may be outages, channels that fall silent and decisions."""
+    """A flow whose segments a modem deals over one to four channels, each channel's in order. Some
+    are lost on the way, a few come once more on another channel, and there may be outages, channels
+    that fall silent and decisions."""
 
     def __init__(self, rng, index, count):
         self.rng, self.index = rng, index
@@ -172,7 +176,7 @@ class DealtFlow:
         return (self.first + index) % MODULUS
 
     def jump(self):
-        """How many segments an outage takes, in most cases none. A cut has too few segments for a long one."""
+        """How many segments an outage takes, mostly none. A cut has too few for a long one."""
         far = [] if self.cut else [self.window - 1, self.window, self.window + 1, 70, 4000, AHEAD - 1]
         return self.rng.choice([*[0] * 60, 2, 5, *far])
 
@@ -259,7 +263,7 @@ def some_field(rng, form, near):
 
 
 def some_line(rng, uplink):
-    """A line that may have any faults: one that stands there or a new one, with some of its words changed."""
+    """A line that may have any faults: one that is there or a new one, with some words changed."""
     kinds = ["flow"] if len(uplink.flows) == MOST_FLOWS else [kind.decode() for kind in FORMS]
     kind, *words = rng.choice(uplink.lines) if uplink.lines and rng.random() < 0.5 else [rng.choice(kinds)]
     form = rng.choice(FORMS[kind.encode()])
@@ -356,7 +360,8 @@ def some_small_dealt_trace(rng):
 
 
 def a_window_of_all_numbers(rng):
-    """As many segments as a window holds, in any order, on all channels, each with a frame and most with a request."""
+    """As many segments as a window holds, in any order, on all channels, each with a frame and most
+    with a request."""
     lines = [["flow", 7, 8190, AHEAD, 8], *(["sid", channel, 5, 0] for channel in range(CHANNELS))]
     for at, index in enumerate(rng.sample(range(AHEAD), AHEAD)):
         words = [0x8000, (8190 + index) % MODULUS << 3 | at % 8, at % 5, 0]
@@ -382,7 +387,7 @@ def numbers_that_go_round(rng):
 
 
 def as_many_grants_as_may_be():
-    """All that can be answered to a grant and to a burst while as many grants are outstanding as may be."""
+    """All that can be answered to a grant and a burst while the most grants are outstanding."""
     lines = [["flow", 0, 0, 16, 1], ["sid", 2, 1, 0]] + [["grant", 2, number, 1, 8] for number in range(MOST_GRANTS)]
     new = MOST_GRANTS
     lines += [["grant", 2, new, 1, 8], ["grant", 2, new, 2, 8], ["grant", 2, 5, 2, 8], ["grant", 2, 5, 1, 7]]

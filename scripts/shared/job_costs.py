@@ -1,5 +1,5 @@
-"""What the jobs of the benchmark cost, in figures that other work on the machine doesn't change: instructions by function, and
-requests for memory. Each job is done on one 256th part of its input.
+"""What the jobs of the benchmark cost, in figures that other work on the machine doesn't change:
+instructions by function, and requests for memory. Each job is done on one 256th part of its input.
 """
 
 import collections
@@ -11,8 +11,8 @@ import sys
 from shared.children import run
 from shared.tree import path, read
 
-# Which forms the C library takes of what it has several of, as copying, and by which sizes of caches, so that another processor
-# counts the same.
+# Which forms the C library takes of what it has several of, as copying, and by which sizes of
+# caches, so that another processor counts the same.
 SAME_EVERYWHERE = ":".join(
     [
         "glibc.cpu.hwcaps=-AVX,-AVX2,-AVX512F,-AVX512VL,-ERMS,-FSRM,-AVX_Fast_Unaligned_Load,Fast_Unaligned_Copy",
@@ -23,14 +23,14 @@ SAME_EVERYWHERE = ":".join(
 )
 # The functions of the crate that makes inputs and digests, which are no part of what a job costs.
 MAKER = "workloads::"
-# The job whose threads wait by trying again, and the functions of its two ends, which read and write text: these alone take as
-# many instructions in each run.
+# The job whose threads wait by trying again, and the functions of its two ends, which read and
+# write text: these alone take as many instructions in each run.
 WITH_THREADS, ENDS = "run", ("text_lines::", "texts::")
 SECONDS = 300
 
 
 class Job:
-    """A job of bench/workloads.txt: its name, its crate, and the words that ask for one part of it."""
+    """A job of bench/workloads.txt: its name, its crate, and the words that ask for a part."""
 
     def __init__(self, line):
         self.name, self.crate, *words = line.split()
@@ -48,7 +48,8 @@ class Job:
         return int(self.digest().split()[3])
 
     def do(self, before, **environment):
-        """Does it behind these words, and answers what was said on standard error. Its digest has to be the wanted one."""
+        """Does it behind these words, and answers what was said on standard error. Its digest has
+        to be the wanted one."""
         command = [*before, self.program(), *self.words]
         done = subprocess.run(
             command, cwd=path("bench"), env={**os.environ, **environment}, capture_output=True, text=True, timeout=SECONDS
@@ -64,7 +65,7 @@ def jobs():
 
 
 def build_missing(todo):
-    """Proves and builds those programs of jobs that aren't there. The merge gate leaves them there."""
+    """Proves and builds those programs of jobs that aren't there. The merge gate leaves them."""
     for job in {job.crate: job for job in todo}.values():
         if not os.path.exists(job.program()):
             built = run(["rt", "run", "--", "trial", "1", path("bench", "workloads.map")], cwd=path("crates", job.crate))
@@ -97,8 +98,8 @@ def instructions_by_function(file):
 
 
 def instructions(job, room):
-    """How many instructions each function of a job took itself, but for those of the maker of inputs, and where threads wait only
-    those of its two ends.
+    """How many instructions each function of a job took itself, but for those of the maker of
+    inputs, and where threads wait only those of its two ends.
     """
     file = os.path.join(room, f"{job.name}.callgrind")
     job.do(["valgrind", "--tool=callgrind", f"--callgrind-out-file={file}"], GLIBC_TUNABLES=SAME_EVERYWHERE)

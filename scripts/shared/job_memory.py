@@ -1,5 +1,5 @@
-"""How much memory is resident at most while the program takes inputs of several shapes, each of one size and of four times that
-size. One flow sends on four channels in turn, in segments of one size.
+"""How much memory is resident at most while the program takes inputs of several shapes, each of one
+size and of four times that size. One flow sends on four channels in turn, in segments of one size.
 """
 
 import itertools
@@ -9,30 +9,19 @@ import subprocess
 import sys
 import tempfile
 
-from shared.long_captures import HEADER, SIZE, frame_of, map_lines, packed
+from shared.long_captures import SIZE, map_lines, of_pool, ordinary, packed
 from shared.long_texts import CHANNELS, MIB, burst, flow_lines, grant, header, segments
 
 SMALL, TIMES = 8 * MIB, 4
 # Of so many turns the least counts: where the system puts things makes some of them larger.
 TURNS = 3
 MAP = "one_flow.map"
-# The commands whose memory may not grow with their input, and those that hold it and may take so much for each frame.
+# The commands whose memory may not grow with their input, and those that hold it and may take so
+# much for each frame.
 FLAT, HOLDING = ("capture", "follow"), ("replay", "join")
 # How the line of a frame begins.
 FRAME_LINES = {"replay": b"frame ", "join": b""}
 SHORT = 200  # bytes of the frames that have fill behind them
-
-
-def of_pool(sizes, rng):
-    """Frames of such sizes, without end."""
-    pool = [frame_of(rng, size - HEADER) for size in sizes]
-    while True:
-        yield rng.choice(pool)
-
-
-def ordinary(rng):
-    """Segments of frames of 70 to 1,524 bytes, which are cut anywhere."""
-    return segments(of_pool([rng.randint(70, 1524) for _ in range(256)], rng), SIZE)
 
 
 def whole(rng):
@@ -77,8 +66,8 @@ def write_input(command, shape, size, file):
 
 
 def resident(segrx, command, room, given, taken):
-    """The most bytes that were resident while the program took an input. GNU time starts it, since Linux counts for a child what its
-    parent held when it began."""
+    """The most bytes that were resident while the program took an input. GNU time starts it, since
+    Linux counts for a child what its parent held when it began."""
     told = os.path.join(room, f"resident-{os.path.basename(given.name)}")
     timed = ["time", "-f", "%M", "-o", told, segrx, *words_of(command, room)]
     for file in given, taken:
@@ -97,7 +86,8 @@ def frames_in(command, taken):
 
 
 def held(segrx, command, shape, size, room):
-    """The most bytes that were resident while the program took an input, and how many frames it gave, where it holds them."""
+    """The most bytes that were resident while the program took an input, and how many frames it
+    gave, where it holds them."""
     with open(os.path.join(room, f"{command}-{shape}-{size}"), "w+b") as given, tempfile.TemporaryFile() as taken:
         write_input(command, shape, size, given)
         most = min(resident(segrx, command, room, given, taken) for _ in range(TURNS))
@@ -105,8 +95,8 @@ def held(segrx, command, shape, size, room):
 
 
 def growth(segrx, command, shape, room):
-    """How many bytes more are resident with the large input: of a command whose memory may not grow for each byte more of it, and of
-    one that holds its input for each frame more."""
+    """How many bytes more are resident with the large input: of a command whose memory may not grow
+    for each byte more of it, and of one that holds its input for each frame more."""
     small, few = held(segrx, command, shape, SMALL, room)
     large, many = held(segrx, command, shape, SMALL * TIMES, room)
     return (large - small) / (SMALL * (TIMES - 1) if command in FLAT else many - few)

@@ -1,5 +1,5 @@
-"""What the programs that a script runs leave behind when they end: processes that they started, of which this process becomes the
-parent then.
+"""What the programs that a script runs leave behind when they end: processes that they started, of
+which this process becomes the parent then.
 """
 
 import contextlib
@@ -27,8 +27,8 @@ def adopted():
 
 
 def bury():
-    """Takes leave of adopted processes that ended: until then the groups in which they ran aren't empty. What was run by
-    `children` has its own look at how it ended."""
+    """Takes leave of adopted processes that ended: until then the groups in which they ran aren't
+    empty. What was run by `children` has its own look at how it ended."""
     with children.lock:
         own = {child.pid for child in children.running}
     for number, _ in adopted():

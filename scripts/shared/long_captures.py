@@ -1,7 +1,9 @@
-"""A capture of any length for `segrx capture`, and its map. One flow sends Ethernet frames of 64 to 1,518 bytes in segments of
-1,500 on four channels, one segment each 100 microseconds.
+"""A capture of any length for `segrx capture`, and its map. Flows, one in most captures, send
+Ethernet frames of 64 to 1,518 bytes in segments of 1,500 on four channels: one flow a segment each
+100 microseconds, several in turn one each 10.
 """
 
+import itertools
 import random
 
 from shared.check_sequences import header_sequence
@@ -11,14 +13,20 @@ from shared.plain_packets import CHANNEL_TLV, GRANT_TLV, SEGMENT_HEADER_TLV, SID
 from shared.written_captures import NANOSECONDS, number, pcap_header, pcap_record, tlv, xra_packet
 
 SEGMENTS, SIZE = 8192, 1500
-APART = 100_000  # nanoseconds
+APART, APART_OF_SEVERAL = 100_000, 10_000  # nanoseconds
 HEADER = 6  # bytes of a MAC frame before its Ethernet frame
 
 
-def map_lines():
-    channels = "".join(f"channel {channel} {channel + 1}\n" for channel in range(CHANNELS))
-    sids = "".join(f"sid {channel} {channel + 1} 0\n" for channel in range(CHANNELS))
-    return f"flow 1 auto 1024 1\n{channels}{sids}"
+def map_lines(flows=1, channels=CHANNELS):
+    lines = [f"flow {flow + 1} auto 1024 1\n" for flow in range(flows)]
+    lines += [f"channel {channel} {channel + 1}\n" for channel in range(channels)]
+    sids = itertools.product(range(flows), range(channels))
+    lines += [f"sid {channel} {sid_of(flow, channel, channels)} {flow}\n" for flow, channel in sids]
+    return "".join(lines)
+
+
+def sid_of(flow, channel, channels=CHANNELS):
+    return flow * channels + channel + 1
 
 
 def frame_of(rng, size):
@@ -34,6 +42,18 @@ def frames_of(rng, length):
         yield one
     yield frame_of(rng, length // 2 - HEADER)
     yield frame_of(rng, length - length // 2 - HEADER)
+
+
+def of_pool(sizes, rng):
+    """Frames of such sizes, without end."""
+    pool = [frame_of(rng, size - HEADER) for size in sizes]
+    while True:
+        yield rng.choice(pool)
+
+
+def ordinary(rng):
+    """Segments of frames of 70 to 1,524 bytes, which are cut anywhere."""
+    return segments(of_pool([rng.randint(70, 1524) for _ in range(256)], rng), SIZE)
 
 
 def packet_of(place, segment):
@@ -60,7 +80,8 @@ def packed(sent):
 
 
 def packets_of_a_round():
-    """As many packets as there are numbers. The last one ends with a frame, so they may come again and again."""
+    """As many packets as there are numbers. The last one ends with a frame, so they may come again
+    and again."""
     cut = segments(frames_of(random.Random(20), SEGMENTS * SIZE), SIZE)
     packets = [packet_of(place, segment) for place, segment in enumerate(cut)]
     assert len(packets) == SEGMENTS
@@ -79,3 +100,16 @@ def pieces_of_capture(size):
         piece = b"".join(records)
         given += len(piece)
         yield piece
+
+
+def pieces_of_flows(flows):
+    """A pcap file without end, piece by piece: flows take turns, each with a segment on each
+    channel."""
+    sent = [ordinary(random.Random(flow)) for flow in range(flows)]
+    times = itertools.count(0, APART_OF_SEVERAL)
+    yield pcap_header(NANOSECONDS, XRA)
+    for flow in itertools.cycle(range(flows)):
+        at_once = enumerate(itertools.islice(sent[flow], CHANNELS))
+        packets = [packet_on(channel + 1, sid_of(flow, channel), segment) for channel, segment in at_once]
+        records = [Record(XRA, next(times), len(packet), packet) for packet in packets]
+        yield b"".join(pcap_record(NANOSECONDS, record) for record in records)

@@ -85,7 +85,7 @@ def burst(channel, number, segment):
 
 
 def ordinary_lines(flows, window=16):
-    """Each flow in turn sends four segments at once, one on each channel, which come in any order."""
+    """Each flow in turn sends four segments at once, one a channel, which come in any order."""
     rng = random.Random(20)
     yield from flow_lines(flows, window)
     sent = [segments(ordinary(rng), 1500) for _ in range(flows)]

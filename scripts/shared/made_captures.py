@@ -1,7 +1,9 @@
-"""Captures made by chance, with what is true of them: flows of modems as packets of link type 273 among others, in files of
-all forms, with the map that is to be used and the registrations that give one.
+"""Captures made by chance, with what is true of them: flows of modems as packets of link type 273
+among others, in files of all forms, with the map that is to be used and the registrations that give
+one.
 
-Each burst is recorded well or spoiled in one way. What came in, what is passed over and what lanes refuse is known before.
+Each burst is recorded well or spoiled in one way. What came in, what is passed over and what lanes
+refuse is known before.
 """
 
 import collections
@@ -38,18 +40,20 @@ REFUSALS = {
     GRANT_RANGE: [Lane.GRANT_RANGE, Lane.NO_GRANT],
 }
 
-# A record, and what it is: GOOD, or how it was spoiled or why it is passed over; of a burst its flow and its arrival.
+# A record, and what it is: GOOD, or how it was spoiled or why it is passed over; of a burst its
+# flow and its arrival.
 Made = collections.namedtuple("Made", "record what flow arrival", defaults=(None, None))
-# How many flows, from how many segments up to how many each, on how many channels, and how many segments the outages of each
-# take.
+# How many flows, from how many segments up to how many each, on how many channels, and how many
+# segments the outages of each take.
 Shape = collections.namedtuple("Shape", "flows segments channels outages")
 
 
 class MadeCapture:
-    """A capture of flows that send in some way, with registrations or without. Its map says more than these: first numbers and
-    windows."""
+    """A capture of flows that send in some way, with registrations or without, by this clock or by
+    some. Its map says more than these: first numbers and windows.
+    """
 
-    def __init__(self, rng, is_calm, shape):
+    def __init__(self, rng, is_calm, shape, clock=None):
         self.rng, self.is_calm = rng, is_calm
         channels = rng.sample(range(CHANNELS), shape.channels)
         self.way = Way(rng, channels, is_calm)
@@ -61,7 +65,7 @@ class MadeCapture:
         self.flows = [ModemFlow(rng, index, self.way, rng.randrange(*shape.segments)) for index in range(shape.flows)]
         self.sfids = rng.sample(range(1, 1 << 32), shape.flows)
         self.next_sid = dict.fromkeys(channels, rng.randrange(1, 3000))
-        self.spoils, self.clock = rng.choice([0, 0.02, 0.1]), some_clock(rng)
+        self.spoils, self.clock = rng.choice([0, 0.02, 0.1]), clock or some_clock(rng)
         self.told, self.sids, self.changes = [], {}, {}
         for flow in self.flows:
             self.give_sids(flow)
@@ -72,7 +76,8 @@ class MadeCapture:
         return self.next_sid[channel]
 
     def give_sids(self, flow):
-        """Gives a flow a SID on each of its channels for each of its clusters, and now and then another one later."""
+        """Gives a flow a SID on each of its channels for each of its clusters, and now and then
+        another one later."""
         for cluster, channel in itertools.product(range(flow.clusters), flow.channels):
             told = ToldSid(self.sfids[flow.index], cluster, self.channel_ids[channel], self.new_sid(channel), ADD)
             self.told.append(told)
@@ -149,8 +154,8 @@ class MadeCapture:
         return made
 
     def registrations(self):
-        """What tells the modems of the SIDs of their flows: once before all, some of them once more, and each change at its
-        time."""
+        """What tells the modems of the SIDs of their flows: once before all, some of them once
+        more, and each change at its time."""
         if not self.has_registrations:
             return []
         rng, modems, sfids = self.rng, [], list(self.sfids)
@@ -169,7 +174,8 @@ class MadeCapture:
         return made
 
     def told_changes(self, modems):
-        """When which modem is told to change which SIDs: each by itself, or all of its flows' with the first of them."""
+        """When which modem is told to change which SIDs: each by itself, or all of its flows' with
+        the first of them."""
         for modem in modems:
             own = sorted((time, changed_sid(old, new)) for time, old, new in self.changes.values() if old in modem.told)
             if own and self.rng.random() < 0.5:
@@ -195,8 +201,9 @@ class MadeCapture:
         self.data = b"".join(parts)
 
     def other_blocks(self, form, count):
-        """Blocks that are passed over, by the places of the records before which they stand: no names, statistics of the first
-        interface, and blocks for local use; and in a capture that isn't calm also simple packets and such of no sense."""
+        """Blocks that are passed over, by the places of the records before which they stand: no
+        names, statistics of the first interface, and blocks for local use; and in a capture that
+        isn't calm also simple packets and such of no sense."""
         rng = self.rng
         kinds = {4: bytes(4), 5: bytes(12), 0x80000001: rng.randbytes(rng.randrange(40))}
         if not self.is_calm:

@@ -1,4 +1,5 @@
-"""Packets of link type 273 made by chance: those of bursts, recorded well or spoiled in one way, and those of other types."""
+"""Packets of link type 273 made by chance: those of bursts, recorded well or spoiled in one way,
+and those of other types."""
 
 from shared.check_sequences import header_sequence
 from shared.plain_packets import BURST_ID_TLV, BURST_INFO_TLV, CHANNEL_TLV, GRANT_TLV, SEGMENT_HEADER_TLV, SID_TLV
@@ -22,7 +23,8 @@ def burst_info(rng):
 
 
 def some_grant(rng, size):
-    """The bits of a grant, in most cases of so many bytes or more. What stands above the low 24 bits means nothing."""
+    """The bits of a grant, in most cases of so many bytes or more. What stands above the low 24
+    bits means nothing."""
     bits = rng.choice([8 * size, 8 * size, 8 * size + rng.randrange(900), 8 * max(0, size - rng.randrange(20)), 0])
     return bits + (rng.randrange(256) << 24 if rng.random() < 0.1 else 0)
 
@@ -40,7 +42,7 @@ def values_of(rng, channel_id, sid, size):
 
 
 def tlvs_of(rng, values):
-    """The TLVs of these values in any order, among others. Of one that stands twice the last one counts."""
+    """The TLVs of these values in any order, among others. Of one that is twice the last counts."""
     tlvs = [tlv(kind, value) for kind, value in values.items()]
     if rng.random() < 0.5:
         tlvs += [tlv(USAGE_TLV, rng.randbytes(1)), burst_info(rng)]
@@ -51,7 +53,8 @@ def tlvs_of(rng, values):
 
 
 def with_bad_number_before(rng, packet):
-    """A packet with a TLV before all others that is no number. Where it stands once more that doesn't matter."""
+    """A packet with a TLV before all others that is no number. Where it stands once more that
+    doesn't matter."""
     bad = tlv(rng.choice([CHANNEL_TLV, SID_TLV]), rng.choice([b"", rng.randbytes(5), rng.randbytes(9)]))
     return packet[:2] + number(int.from_bytes(packet[2:4], "big") + len(bad), 2) + bad + packet[4:]
 

@@ -1,5 +1,6 @@
-"""Registrations made by chance: what modems are told of the SIDs of their flows, in messages that are whole or in parts, as
-packets of the downstream. Some are damaged or repeated, some let no modem in, and some change SIDs later."""
+"""Registrations made by chance: what modems are told of the SIDs of their flows, in messages that
+are whole or in parts, as packets of the downstream. Some are damaged or repeated, some let no modem
+in, and some change SIDs later."""
 
 import collections
 import itertools
@@ -60,7 +61,7 @@ class Modem:
         self.sid = rng.randrange(1, 16384)
 
     def registration(self):
-        """A registration: the TLV 24 of each flow, and its TLV 47 right behind it or behind those of all flows."""
+        """A registration: the TLV 24 of each flow, its TLV 47 behind it or behind those of all."""
         sfids = sorted({one.sfid for one in self.told})
         flows = [flow_tlv(place, sfid, self.sid, self.rng.randbytes(4)) for place, sfid in enumerate(sfids, 1)]
         sids = [sids_tlvs([one for one in self.told if one.sfid == sfid]) for sfid in sfids]
@@ -88,8 +89,9 @@ def damaged(rng, frame):
 
 
 def with_strays(rng, message, count, frames):
-    """The frames of a message among others that don't make it another one: those of an earlier try, of which one is damaged,
-    its last part before the first one, one that is there twice, and one of another message of the modem."""
+    """The frames of a message among others that don't make it another one: those of an earlier try,
+    of which one is damaged, its last part before the first one, one that is there twice, and one of
+    another message of the modem."""
     kind = rng.choice(["again", "early", "twice", "other"])
     if kind == "again":
         return [*frames[: rng.randrange(count)], damaged(rng, rng.choice(frames)), *frames]
@@ -104,7 +106,8 @@ def with_strays(rng, message, count, frames):
 
 
 def dealt_packets(rng, messages, spoils):
-    """The packets of messages of different modems: each message's parts in turn, some among strays, and all mixed."""
+    """The packets of messages of different modems: each message's parts in turn, some among strays,
+    and all mixed."""
     queues = []
     for message in messages:
         count = rng.choice([1, 1, 2, 2, 3, 5])

@@ -20,8 +20,8 @@ def load():
 
 
 def once(program, words, file, cores=None, told=None):
-    """The seconds that the program takes with these words, on these cores or all, and what the system says of it. What it says
-    on standard error goes there."""
+    """The seconds that the program takes with these words, on these cores or all, and what the
+    system says of it. What it says on standard error goes there."""
     with open(file, "rb") as given, open(os.devnull, "wb") as taken:
         began = time.monotonic()
         bound = [] if cores is None else ["taskset", "-c", cores]
@@ -40,12 +40,12 @@ def measure(program, command, file, runs):
     return statistics.median(seconds for seconds, _ in made), memory, statistics.median(usage.ru_minflt for _, usage in made)
 
 
-# Of how large a front of a text instructions are counted, which takes some fifty times as long as a run.
+# Of how large a front of a text instructions are counted, which takes some fifty times a run.
 COUNTED = 4 * MIB
 
 
 def instructions(program, words, file):
-    """How many instructions the program takes with these words, which other load of the machine doesn't change."""
+    """How many instructions the program takes with these words, whatever else the machine does."""
     counting = ["valgrind", "--tool=callgrind", "--callgrind-out-file=/dev/null", program, *words]
     with open(file, "rb") as given:
         ran = subprocess.run(counting, stdin=given, stdout=subprocess.DEVNULL, stderr=subprocess.PIPE, text=True)
@@ -56,8 +56,8 @@ def instructions(program, words, file):
 
 
 def show(name, program, command, lines, size, runs):
-    """Prints the speed and memory of a command on a text of that size, how the time grows with twice as much, and the
-    instructions of a front of it."""
+    """Prints the speed and memory of a command on a text of that size, how the time grows with
+    twice as much, and the instructions of a front of it."""
     with tempfile.TemporaryDirectory() as folder:
         file = os.path.join(folder, "input")
         write_up_to(COUNTED, file, lines)
@@ -77,8 +77,9 @@ SENT = "docsis_wire flow_core"
 
 
 def prove_and_build(room, runner, uses, layers):
-    """The program of a bench, whose sources are beside its runner, proved and built over copies of these crates, over
-    what earlier checks of them kept. Of these it uses some, libraries of the toolchain and `sent` where it names that."""
+    """The program of a bench, whose sources are beside its runner, proved and built over copies of
+    these crates, over what earlier checks of them kept. Of these it uses some, libraries of the
+    toolchain and `sent` where it names that."""
     folder = os.path.dirname(os.path.abspath(runner))
     name = f"{os.path.basename(folder)}_bench"
     scratch.copy_crates(room, layers, with_kept=True)
@@ -99,8 +100,9 @@ def built_rates(runner, uses, layer, forms, cases, runs):
 
 
 def median_rates(program, forms, cases, runs):
-    """The median of how many a second went through, for each form and case. Each run is a process of its own, so that
-    all begin with the same memory; the forms of a case run one after another, in one order and then in the other."""
+    """The median of how many a second went through, for each form and case. Each run is a process
+    of its own, so that all begin with the same memory; the forms of a case run one after another,
+    in one order and then in the other."""
     rates = collections.defaultdict(list)
     for run in range(runs):
         for case in cases:

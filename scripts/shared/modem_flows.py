@@ -1,7 +1,9 @@
-"""Flows of modems that are made by chance: their frames, how they are cut into segments, and when each segment comes on which
-channel. Some are lost, neighbours on a channel may be recorded the other way round, and there are silences and outages.
+"""Flows of modems that are made by chance: their frames, how they are cut into segments, and when
+each segment comes on which channel. Some are lost, neighbours on a channel may be recorded the
+other way round, and there are silences and outages.
 
-`broken_premises` says why a flow need not give exactly its frames all of whose segments came in: nothing where it has to.
+`broken_premises` says why a flow need not give exactly its frames all of whose segments came in:
+nothing where it has to.
 """
 
 import bisect
@@ -18,15 +20,17 @@ from shared.plain_reading import AHEAD, MODULUS, Cut
 
 # When a segment comes, on which channel, and its index.
 Arrival = collections.namedtuple("Arrival", "time channel index")
-# How many bytes of the stream of frames a segment has, also where many segments are made of which few come.
+# How many bytes of the stream of frames a segment has, also where many segments are made of which
+# few come.
 SIZES, SHORT_SIZES, LONG_SIZES = (0, 20, 40, 60, 100, 250), (8, 20, 40), (60, 400, 900, 1500, 2000)
-# How many milliseconds a rest lasts: in most cases longer than a bound in time, and now and then about as long as one.
+# How many milliseconds a rest lasts: in most cases longer than a bound in time, and now and then
+# about as long as one.
 RESTS, NEAR_BOUNDS = range(25, 400), [9, 10, 11, 19, 20, 21, 22]
 
 
 class Way:
-    """How segments get from modems into a capture: how much later each channel is, how many are lost, and so on. A calm way
-    keeps the premises, but for what can happen by chance."""
+    """How segments get from modems into a capture: how much later each channel is, how many are
+    lost, and so on. A calm way keeps the premises, but for what can happen by chance."""
 
     def __init__(self, rng, channels, is_calm):
         self.is_calm, self.channels = is_calm, channels
@@ -38,7 +42,8 @@ class Way:
         self.rests = rng.choice([0, 0, 0.01, 0.05])
         self.repeats, self.delays = (0, 0) if is_calm else (rng.choice([0, 0, 0.02]), rng.choice([0, 0, 0.02]))
         self.pace = rng.choice([0.03, 0.1, 0.3, 1]) * MILLISECOND
-        self.grid = rng.choice([1, 1, 1, MILLISECOND // 2])  # times are its multiples, so that bounds in time are just met
+        # Times are its multiples, so that bounds in time are just met.
+        self.grid = rng.choice([1, 1, 1, MILLISECOND // 2])
         self.outages = []  # how many segments each outage takes
         self.sizes, self.new_frame = (LONG_SIZES, some_long_frame) if rng.random() < 0.1 else (SIZES, some_modem_frame)
         self.has_spoiled_frames = not is_calm and rng.random() < 0.3
@@ -86,7 +91,8 @@ class ModemFlow:
         return arrivals
 
     def swap_neighbours(self, channel):
-        """Some neighbours on a channel, not more than 1.9 ms from one another, come in each other's place."""
+        """Some neighbours on a channel, not more than 1.9 ms from one another, come in each other's
+        place."""
         places = [place for place, one in enumerate(self.arrivals) if one.channel == channel]
         most, at = 1.9 * MILLISECOND, 0
         while at + 1 < len(places):
@@ -142,7 +148,7 @@ class GreatestIndex:
 
 
 def broken_premises(flow, came, wait=20, reorder=2):
-    """The premises that arrivals break, which came in this order at these times and were admitted."""
+    """The premises broken by arrivals that came in this order at these times and were admitted."""
     wait, reorder = wait * MILLISECOND, reorder * MILLISECOND
     if flow.way.has_spoiled_frames:
         return {"right headers"}
@@ -161,23 +167,26 @@ def broken_premises(flow, came, wait=20, reorder=2):
 
 
 def broken_by_outages(flow, came, wait, reorder, greatest):
-    """The same of silences and outages, where the others hold. What lies below `base` is settled, or hasn't been the flow's
-    since it began or began anew."""
+    """The same of silences and outages, where the others hold. What lies below `base` is settled,
+    or hasn't been the flow's since it began or began anew."""
     base = min(one.index for one in came) if flow.is_auto and came else 0
     least_from = list(itertools.accumulate((one.index for one in reversed(came)), min))[::-1]
     for place, one in enumerate(came):
         gap = one.time - came[place - 1].time if place > 0 else 0
-        # Each burst is handed on up to `reorder` before it came, so gaps may be longer or shorter by as much.
+        # Each burst is handed on up to `reorder` before it came, so gaps may be longer or shorter
+        # by as much.
         if gap + reorder > wait:
             expected = greatest.until(came[place - 1].time, 0) + 1
-            # One of these is handed on first: it shows how many rounds of numbers have gone by, and whether the flow goes on.
+            # One of these is handed on first: it shows how many rounds of numbers have gone by, and
+            # whether the flow goes on.
             firsts = [it.index for it in came[place:] if it.time <= one.time + reorder]
             rounds = {(first - expected) // MODULUS for first in firsts}
             goes_on = {(first - expected) % MODULUS < flow.window for first in firsts}
             if len(rounds) > 1 or len(goes_on) > 1 or (gap - reorder <= wait and goes_on != {True}):
                 return {"an outage that can be told"}
             passed = expected + MODULUS * rounds.pop()
-            # Where rounds have gone by and the flow goes on, the expected number must be missing, and none before it come.
+            # Where rounds have gone by and the flow goes on, the expected number must be missing,
+            # and none before it come.
             if goes_on == {True} and passed > expected and least_from[place] <= passed:
                 return {"an outage that can be told"}
             if gap - reorder > wait:

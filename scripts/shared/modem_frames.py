@@ -1,5 +1,5 @@
-"""Frames as a modem sends them, with right check sequences: those of packets, with Ethernet frames in them, with extended
-headers or not, encrypted or not, and those of MAC management messages."""
+"""Frames as a modem sends them, with right check sequences: those of packets, with Ethernet frames
+in them, with extended headers or not, encrypted or not, and those of MAC management messages."""
 
 from shared.check_sequences import frame_sequence, header_sequence
 from shared.written_captures import number

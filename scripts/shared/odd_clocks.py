@@ -1,7 +1,9 @@
-"""What the clock of an analyser can do to the times of a recording: it may be right, stand still, as where a file's times were
-lost, count whole milliseconds, be set back once by a second, or be off by up to a millisecond now and then.
+"""What the clock of an analyser can do to the times of a recording: it may be right, stand still,
+as where a file's times were lost, count whole milliseconds, be set back once by a second, or be off
+by up to a millisecond now and then.
 
-`broken_premises_by` says of a flow that was recorded so why it need not give exactly its frames all of whose segments came in.
+`broken_premises_by` says of a flow that was recorded so why it need not give exactly its frames all
+of whose segments came in.
 """
 
 import itertools
@@ -48,7 +50,8 @@ def stays_within_half(came, most):
 
 
 def crosses(came, place):
-    """Whether on some channel a segment stands before this place and one with a lower index behind it."""
+    """Whether on some channel a segment stands before this place and one with a lower index behind
+    it."""
     before, behind = came[:place], came[place:]
     channels = {one.channel for one in came}
     greatest = {channel: max((one.index for one in before if one.channel == channel), default=-1) for channel in channels}
@@ -56,7 +59,8 @@ def crosses(came, place):
 
 
 def broken_premises_by(clock, flow, came, times, wait=20, reorder=2):
-    """The premises that arrivals break, which came in this order, with their true times, and have these in the recording."""
+    """The premises that arrivals break, which came in this order, with their true times, and have
+    these in the recording."""
     if clock in (STILL, SET_BACK):
         return broken_premises(flow, came, wait, reorder) or broken_without_silences(flow, came, times)
     going_on = list(itertools.accumulate(times, max))
@@ -66,7 +70,8 @@ def broken_premises_by(clock, flow, came, times, wait=20, reorder=2):
 
 
 def broken_without_silences(flow, came, times):
-    """The same where no silence is seen, nor what is held for long: then numbers alone have to say what is missing."""
+    """The same where no silence is seen, nor what is held for long: then numbers alone have to say
+    what is missing."""
     if any(stride + flow.window > AHEAD for stride in strides(came)) or not stays_within_half(came, MOST_WAITING + 1):
         return {"an outage that can be told by numbers"}
     back = [place for place, (before, after) in enumerate(itertools.pairwise(times), 1) if after < before]

@@ -1,4 +1,5 @@
-"""The pixels of a picture in PNG, as a browser writes it: eight bits a colour, with opacity or without, not interlaced."""
+"""The pixels of a picture in PNG, as a browser writes it: eight bits a colour, with opacity or
+without, not interlaced."""
 
 import struct
 import zlib
@@ -36,7 +37,7 @@ def unfiltered(filter_kind, line, above, step):
 
 
 def lines_of(data):
-    """The lines of a picture from above, each a list of pixels, which are their red, green and blue."""
+    """The lines of a picture from above, each a list of pixels: their red, green and blue."""
     found = list(chunks(data))
     width, height, depth, colours, _, _, interlaced = struct.unpack(">IIBBBBB", found[0][1])
     assert depth == 8 and colours in (RGB, RGBA) and not interlaced

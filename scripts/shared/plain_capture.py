@@ -1,24 +1,28 @@
 """A plain, slow reading of what `segrx capture` answers to a capture with a map.
 
-A burst is a grant and its burst on its channel: the grant has as many bytes as the greatest of 8, its size in TLV 17 and the
-burst's length, and one number does for all of them, since each is spent at once. What a lane refuses, it refuses as the burst
-comes, and its flow never sees it. With what it will admit this is done:
+A burst is a grant and its burst on its channel: the grant has as many bytes as the greatest of 8,
+its size in TLV 17 and the burst's length, and one number does for all of them, since each is spent
+at once. What a lane refuses, it refuses as the burst comes, and its flow never sees it. With what
+it will admit this is done:
 
-1. It waits. A flow has a clock of its own: a burst that is earlier than the one before it counts as of that one's time, and
-   where it is earlier by more than `reorder`, the clock is set back to it and all that waits is handed on first. Before a burst
-   is taken in, each that has waited for longer than `reorder` has its turn: in the oldest one's place and at its time that one
-   of its channel with the least number is handed on. With one more than 2,048 that wait the next is handed on, too.
-2. It may stand in a beginning. One is kept for 10 ms, and for 2,048 bursts at most, where the flow's first number isn't known,
-   and where after a silence of `wait` a number comes that doesn't lie ahead within the window; then the flow begins, or begins
-   anew, at the least number in it.
-3. It is handed in. Before that all that is missing is skipped before those that were handed in more than `wait` earlier and
-   are still held.
+1. It waits. A flow has a clock of its own: a burst that is earlier than the one before it counts as
+   of that one's time, and where it is earlier by more than `reorder`, the clock is set back to it
+   and all that waits is handed on first. Before a burst is taken in, each that has waited for
+   longer than `reorder` has its turn: in the oldest one's place and at its time that one of its
+   channel with the least number is handed on. With one more than 2,048 that wait the next is handed
+   on, too.
+2. It may stand in a beginning. One is kept for 10 ms, and for 2,048 bursts at most, where the
+   flow's first number isn't known, and where after a silence of `wait` a number comes that doesn't
+   lie ahead within the window; then the flow begins, or begins anew, at the least number in it.
+3. It is handed in. Before that all that is missing is skipped before those that were handed in more
+   than `wait` earlier and are still held.
 
-Time passes for a flow as its own bursts come and are handed on. A frame has the time of that burst of its flow that was
-handed in last when it was given, as it stands in the file. At the end of a file all flows hand on what waits, one after
-another, and are then closed, one after another; where the file has a fault neither is done.
+Time passes for a flow as its own bursts come and are handed on. A frame has the time of that burst
+of its flow that was handed in last when it was given, as it stands in the file. At the end of a
+file all flows hand on what waits, one after another, and are then closed, one after another; where
+the file has a fault neither is done.
 
-The flows are those of plain_reading.py, with true indexes, and the lanes those of plain_receiver.py.
+The flows are those of plain_reading.py, with true indexes, the lanes those of plain_receiver.py.
 """
 
 import collections
@@ -42,7 +46,8 @@ PRIVACY = (3, 7)
 RIGHT, WRONG, ENCRYPTED, NO_SEQUENCE = "right", "wrong", "encrypted", "no frame check sequence"
 
 Settings = collections.namedtuple("Settings", "rule wait reorder check", defaults=(SLID, 20, 2, True))
-# A burst that its lane will admit: when it came, on which channel, as what packet, and its segment's number.
+# A burst that its lane will admit: when it came, on which channel, as what packet, and its
+# segment's number.
 Coming = collections.namedtuple("Coming", "time channel burst number")
 GivenFrame = collections.namedtuple("GivenFrame", "flow time frame coming")
 GivenRequest = collections.namedtuple("GivenRequest", "time channel sid flow cluster units")
@@ -54,7 +59,7 @@ def ahead(number, expected):
 
 
 def place_near(number, other):
-    """By how much a number lies after another one, from 4096 before it up to, not including, 4096 after it."""
+    """By how much a number lies after another one: from 4096 before it to 4095 after it."""
     return ahead(number, other - AHEAD) - AHEAD
 
 
@@ -82,7 +87,7 @@ def is_encrypted(frame):
 
 
 def sequence_of(frame):
-    """What is known of the frame check sequence of the Ethernet frame in a frame: only a packet's frame has one."""
+    """What is known of the Ethernet check sequence in a frame: only a packet's frame has one."""
     if frame[0] not in (0x00, 0x01):
         return NO_SEQUENCE
     if is_encrypted(frame):
@@ -102,13 +107,15 @@ class CapturedFlow:
         wait, reorder = reading.settings.wait, reading.settings.reorder
         self.wait, self.reorder = wait * MILLISECOND, reorder * MILLISECOND
         self.clock = None  # of this flow: when the last burst came
-        self.waiting = []  # bursts and when they came by that clock, in the order in which they came
-        self.beginning, self.until = [], None  # what was handed on while the first number isn't known, and how long it isn't
+        self.waiting = []  # bursts and when they came by that clock, in the order they came in
+        # What was handed on while the first number isn't known, and how long it isn't.
+        self.beginning, self.until = [], None
         self.handed_on_at = None  # when the last one was
         self.handed_in = None  # the last one that was
         self.kept_at = {}  # when the held ones were handed on, by their indexes
         self.live, self.earlier, self.restarts = None, collections.Counter(), 0
-        self.set_back, self.crowded = 0, 0  # how often the clock was set back, and how often too many would have waited
+        # How often the clock was set back, and how often too many would have waited.
+        self.set_back, self.crowded = 0, 0
         if setup.first != AUTO:
             self.begin_at(setup.first)
 
@@ -153,8 +160,8 @@ class CapturedFlow:
             self.hand_in(time, coming)
 
     def falls_out_after_silence(self, time, number):
-        """Whether a silence is over and this number doesn't lie ahead within the window. After a silence all that is held
-        has been held for long."""
+        """Whether a silence is over and this number doesn't lie ahead within the window. After a
+        silence all that is held has been held for long."""
         if self.handed_on_at is None or time - self.handed_on_at <= self.wait:
             return False
         self.skip_to_the_old(time)

@@ -1,10 +1,11 @@
-"""A plain reading of maps of captures, as docs/FORMATS.md says them: of the text of a map, and of the map that `segrx map`
-makes of the registrations in a capture.
+"""A plain reading of maps of captures, as docs/FORMATS.md says them: of the text of a map, and of
+the map that `segrx map` makes of the registrations in a capture.
 
-A flow has a line once a SID of it was added, in the order in which this was told first; a channel is numbered in the order in
-which it was named first. What was added stays, also where it is deleted later, since the map is one for the whole capture: a
-`sid` line says what its bursts are, whenever they come. Where a SID of a channel is added to a second flow, the first one
-keeps it. Messages that don't let a modem in tell nothing.
+A flow has a line once a SID of it was added, in the order in which this was told first; a channel
+is numbered in the order in which it was named first. What was added stays, also where it is deleted
+later, since the map is one for the whole capture: a `sid` line says what its bursts are, whenever
+they come. Where a SID of a channel is added to a second flow, the first one keeps it. Messages that
+don't let a modem in tell nothing.
 """
 
 import collections
@@ -86,7 +87,8 @@ class CaptureMap:
 
 
 def value_in_map(form, word):
-    """What a word says, or None where it isn't of its form: a first number is a sequence number or `auto`."""
+    """What a word says, or None where it isn't of its form: a first number is a sequence number or
+    `auto`."""
     if form == AUTO:
         return AUTO if word == b"auto" else value_of(range(8192), word)
     return value_of(form, word)
@@ -114,7 +116,7 @@ def read_map(text):
 
 
 def messages_in(records):
-    """The messages that are complete, each with the place and the time of the record with its last part."""
+    """The messages that are complete, with the place and time of the record of the last part."""
     unfinished = Unfinished()
     for place, record in enumerate(records):
         part = part_in(record)
@@ -142,8 +144,8 @@ def sids_added(records):
 
 
 def registered_map(records):
-    """The map that the registrations among these records give. What a map can't say is left out: a seventeenth channel, a
-    cluster above 7, a SID above 16,383 and a flow above the most."""
+    """The map that the registrations among these records give. What a map can't say is left out: a
+    seventeenth channel, a cluster above 7, a SID above 16,383 and a flow above the most."""
     made, places = CaptureMap(), {}
     for told in sids_added(records):
         channel = made.channel_of(told.channel)

@@ -1,10 +1,12 @@
-"""A plain, slow reading of what `segrx run` may answer to a trace. Each channel and the decisions have a sender of their
-own, whose items are taken in its order; what is taken first of different senders is left to the schedule. So each merge
-of the senders' items is a lawful order, and a report is lawful that one of them gives.
+"""A plain, slow reading of what `segrx run` may answer to a trace. Each channel and the decisions
+have a sender of their own, whose items are taken in its order; what is taken first of different
+senders is left to the schedule. So each merge of the senders' items is a lawful order, and a report
+is lawful that one of them gives.
 
-What a channel admits, refuses and requests is the same in all of them. So is what a flow gives whose items come from one
-sender, or whose segments each have one verdict wherever they come. For the other flows all merges are tried, and where
-two of them stand alike after the same items they are followed once.
+What a channel admits, refuses and requests is the same in all of them. So is what a flow gives
+whose items come from one sender, or whose segments each have one verdict wherever they come. For
+the other flows all merges are tried, and where two of them stand alike after the same items they
+are followed once.
 """
 
 import copy
@@ -20,15 +22,16 @@ MOST_STANDINGS = 1500
 
 
 def items_of_senders(trace, lanes):
-    """The items of each sender: a flow, and a segment or the number up to which a decision is meant."""
+    """The items of each sender: a flow, and a segment or the number that a decision is up to."""
     return [[item for item in lane.admitted() if item is not None] for lane in lanes] + [list(map(tuple, trace.decisions))]
 
 
 def has_one_verdict_each(first, window, segments):
-    """Whether each of these segments, with no decision among them, has the same verdict wherever it comes. Those of
-    different numbers inside the window of the first number are kept: the window moves on over kept ones alone, so that
-    such a number is passed only once it has come. Its front then is `passed` further at most, and what lies behind or
-    beyond both the first and the last of these windows is late or beyond."""
+    """Whether each of these segments, with no decision among them, has the same verdict wherever it
+    comes. Those of different numbers inside the window of the first number are kept: the window
+    moves on over kept ones alone, so that such a number is passed only once it has come. Its front
+    then is `passed` further at most, and what lies behind or beyond both the first and the last of
+    these windows is late or beyond."""
     offsets = [(header(segment).number - first) % MODULUS for segment in segments]
     far = [offset for offset in offsets if offset >= window]
     near = {offset for offset in offsets if offset < window}
@@ -38,9 +41,9 @@ def has_one_verdict_each(first, window, segments):
 
 
 def are_all_kept(first, window, lanes):
-    """Whether each of these segments of channels, with no decision among them, is kept by any rule wherever it comes: they
-    have different numbers inside the window of the first number, and those of a channel come in their order, so that no
-    rule loses one that comes."""
+    """Whether each of these segments of channels, with no decision among them, is kept by any rule
+    wherever it comes: they have different numbers inside the window of the first number, and those
+    of a channel come in their order, so that no rule loses one that comes."""
     offsets = [[(header(segment).number - first) % MODULUS for segment in lane] for lane in lanes]
     flat = [offset for lane in offsets for offset in lane]
     return all(lane == sorted(lane) for lane in offsets) and len(set(flat)) == len(flat) and max(flat) < window
@@ -70,7 +73,7 @@ def copied(flow):
 
 
 class Standing:
-    """How flows stand after some of the items of each sender, and what is to be told apart of each of them."""
+    """How flows stand after some items of each sender, and what is to be told apart of each."""
 
     def __init__(self, taken, flows, marks):
         self.taken, self.flows, self.marks = taken, flows, marks
@@ -94,7 +97,8 @@ class Standing:
 
 
 def standings_in_the_end(trace, rule, items):
-    """How the flows of these items may stand once all were taken, or None where that is too long to find out."""
+    """How the flows of these items may stand once all were taken, or None where that is too long to
+    find out."""
     if math.prod(len(of_sender) + 1 for of_sender in items) > MOST_STANDINGS:
         return None
     concerned = sorted({index for of_sender in items for index, _ in of_sender})
@@ -110,8 +114,8 @@ def standings_in_the_end(trace, rule, items):
 
 
 def possible_parts(trace, rule, items):
-    """What the flows of these items may report: for each lawful order the lines of each flow. None where that is too long
-    to find out."""
+    """What the flows of these items may report: for each lawful order the lines of each flow. None
+    where that is too long to find out."""
     standings = standings_in_the_end(trace, rule, items)
     if standings is None:
         return None
@@ -133,7 +137,7 @@ def parts_of(report):
 
 
 class Answers:
-    """What the reports of a trace by a rule may say. `outcome` is what comes of its lines taken in their order."""
+    """What the reports of a trace by a rule may say. `outcome` is that of its lines in order."""
 
     def __init__(self, trace, rule, outcome):
         items = items_of_senders(trace, outcome.lanes)

@@ -1,5 +1,5 @@
-"""A plain reading of captures, as docs/FORMATS.md says them: of pcap and pcapng files, of the packets of link type 273 in
-them, and of the bursts that such packets hold."""
+"""A plain reading of captures, as docs/FORMATS.md says them: of pcap and pcapng files, of the
+packets of link type 273 in them, and of the bursts that such packets hold."""
 
 import collections
 
@@ -11,7 +11,8 @@ Record = collections.namedtuple("Record", "link_type nanoseconds original bytes"
 Packet = collections.namedtuple("Packet", "version kind tlvs payload")
 CapturedBurst = collections.namedtuple("CapturedBurst", "kind channel sid grant_bits burst_id bytes")
 
-# The magic numbers of pcap: the order of all numbers of the file, and how many nanoseconds the unit of a fraction has.
+# The magic numbers of pcap: the order of all numbers of the file, and how many nanoseconds the unit
+# of a fraction has.
 PCAP_MAGICS = {
     bytes.fromhex("a1b2c3d4"): ("big", 1000),
     bytes.fromhex("a1b23c4d"): ("big", 1),
@@ -47,7 +48,7 @@ def numbers(order, data, sizes):
 
 
 def records_of(data):
-    """The records of a file, one after another. Then the fault is raised that the file has, if it has one."""
+    """The records of a file, one after another. Then its fault is raised, if it has one."""
     if not data:
         raise CaptureFault(NO_CAPTURE)
     yield from records_of_pcapng(data) if data[0] == 0x0A else records_of_pcap(data)
@@ -93,8 +94,8 @@ def records_of_pcapng(data):
 
 
 def block_at(data, place, order):
-    """The order of the block at this place, its type and what lies between its lengths. Blocks have the order of their
-    section, of which this is that of the one before."""
+    """The order of the block at this place, its type and what lies between its lengths. Blocks have
+    the order of their section, of which this is that of the one before."""
     if len(data) - place < 8:
         raise CaptureFault(ENDS_IN_BLOCK)
     if int.from_bytes(data[place : place + 4], "big") == SECTION_HEADER:

@@ -1,8 +1,10 @@
-"""A plain, slow reading of frames, of how segments are joined, of what becomes of a flow's segments and of the rule by
-which a receiver decides itself what is lost, and a modem's cut, for the scripts that compare them with the code.
+"""A plain, slow reading of frames, of how segments are joined, of what becomes of a flow's segments
+and of the rule by which a receiver decides itself what is lost, and a modem's cut, for the scripts
+that compare them with the code.
 
-A frame is known only by its grammar: every length is tried for a whole frame in front of some bytes. Of its header, from FC
-to the end of HCS, a check may be asked too. A segment is its bytes, of which the first eight are its header.
+A frame is known only by its grammar: every length is tried for a whole frame in front of some
+bytes. Of its header, from FC to the end of HCS, a check may be asked too. A segment is its bytes,
+of which the first eight are its header.
 """
 
 import bisect
@@ -11,8 +13,8 @@ import itertools
 
 MODULUS, AHEAD = 8192, 4096
 Header = collections.namedtuple("Header", "pfi pointer number cluster request")
-# By what is decided what is lost: by what is handed in alone, besides by what every channel has passed, and besides by
-# what lies too far behind a segment that comes.
+# By what is decided what is lost: by what is handed in alone, besides by what every channel has
+# passed, and besides by what lies too far behind a segment that comes.
 RULES = DECIDED, PASSED, SLID = "decided", "passed", "slid"
 
 
@@ -40,13 +42,13 @@ def is_frame(text, check=any_header):
 
 
 def whole_frame(text, check=any_header):
-    """The whole frame in front of the bytes, or None. No frame is the front of another, so the first is the only."""
+    """The whole frame in front of the bytes, or None. No frame is the front of another one."""
     return next((text[:n] for n in range(6, len(text) + 1) if is_frame(text[:n], check)), None)
 
 
 def waits(text, check=any_header):
-    """Whether bytes without a whole frame in front wait for more: they are the front of some frame, whose header passes the
-    check if all of it is there."""
+    """Whether bytes without a whole frame in front wait for more: they are the front of some frame,
+    whose header passes the check if all of it is there."""
     if len(text) < 4:
         return text[:1] != b"\xff"
     is_front = is_frame(text[:4] + bytes(2 + text[2] * 256 + text[3]))
@@ -80,8 +82,8 @@ def feed(unfinished, segment, check=any_header):
 
 
 class Flow:
-    """What became of the segments of a flow. An index is a segment's true place in its flow and never goes round; the
-    number in its header is the first number plus the index, modulo 8192."""
+    """What became of the segments of a flow. An index is a segment's true place in its flow and
+    never goes round; the number in its header is the first number plus the index, modulo 8192."""
 
     def __init__(self, first, window):
         self.first, self.window = first, window
@@ -90,7 +92,7 @@ class Flow:
         self.expected = 0  # the least index in neither
 
     def index(self, number):
-        """The one index with this number from 4096 before the expected one up to, not including, 4096 after it."""
+        """The one index with this number from 4096 before the expected one to 4095 after it."""
         least = self.expected - AHEAD
         return least + (number - self.first - least) % MODULUS
 
@@ -107,8 +109,9 @@ class Flow:
         return "kept"
 
     def gap(self, number=None):
-        """Declares the expected index lost or, with a number, all that is missing before the index that has it, but only
-        what lies before a kept index. Answers whether anything was declared."""
+        """Declares the expected index lost or, with a number, all that is missing before the index
+        that has it, but only what lies before a kept index. Answers whether anything was
+        declared."""
         end = self.expected + 1 if number is None else self.index(number)
         last = max(self.kept, default=-1)
         lost = [index for index in range(self.expected, min(end, last)) if index not in self.kept]
@@ -117,7 +120,7 @@ class Flow:
         return bool(lost)
 
     def skip(self, number):
-        """Skips all that is missing before the index that has the number, and answers whether anything was."""
+        """Skips all that is missing before the number's index, and answers whether anything was."""
         lost = [index for index in range(self.expected, self.index(number)) if index not in self.kept]
         self.declared.update(lost)
         self.pass_settled()
@@ -128,7 +131,7 @@ class Flow:
             self.expected += 1
 
     def joined(self):
-        """The frames of what is settled, in the order of the indexes, and what is unfinished then."""
+        """The frames of what is settled, in the order of indexes, and what is then unfinished."""
         frames, unfinished = [], b""
         for index in range(self.expected):
             given, unfinished = feed(unfinished, self.kept[index]) if index in self.kept else ([], b"")
@@ -137,8 +140,9 @@ class Flow:
 
 
 class RuledFlow(Flow):
-    """A flow that decides besides by a rule what is lost. Of each channel of the flow it knows the true index of the last
-    segment that came there: None where none came yet, or where its number lay behind."""
+    """A flow that decides besides by a rule what is lost. Of each channel of the flow it knows the
+    true index of the last segment that came there: None where none came yet, or where its number
+    lay behind."""
 
     def __init__(self, first, window, rule, channels):
         super().__init__(first, window)
@@ -146,8 +150,8 @@ class RuledFlow(Flow):
         self.lost_by_rule = frozenset()
 
     def come(self, channel, segment):
-        """A segment comes on this channel of the flow. It is noted, then the rule loses what it does, and then it
-        arrives."""
+        """A segment comes on this channel of the flow. It is noted, then the rule loses what it
+        does, and then it arrives."""
         number = header(segment).number
         if self.rule != DECIDED:
             index = self.index(number)
@@ -159,11 +163,12 @@ class RuledFlow(Flow):
         return self.arrive(segment)
 
     def is_passed(self, index):
-        """Whether the last segment of each of the flow's channels lies after the index, so that it can't come any more."""
+        """Whether the last segment of each of the flow's channels lies after the index, so that it
+        can't come any more."""
         return all(last is not None and index < last for last in self.lasts.values())
 
     def lose(self, is_lost):
-        """Declares all that is missing from the expected index on, up to the first index that isn't lost."""
+        """Declares all that is missing from the expected index on, up to the first one not lost."""
         lost = {index for index in itertools.takewhile(is_lost, itertools.count(self.expected)) if index not in self.kept}
         if lost:
             self.declared |= lost
@@ -172,7 +177,8 @@ class RuledFlow(Flow):
 
 
 class LiveFlow(RuledFlow):
-    """A flow whose settled segments are joined once, with what it gave and counted since it was begun or began anew."""
+    """A flow whose settled segments are joined once, with what it gave and counted since it was
+    begun or began anew."""
 
     def __init__(self, first, window, rule, channels, check=any_header):
         super().__init__(first, window, rule, channels)
@@ -192,7 +198,8 @@ class LiveFlow(RuledFlow):
         super().lose(is_lost)
 
     def told(self, channel, segment):
-        """What is told of a segment that comes: the verdict, and up to which number the rule skipped before it."""
+        """What is told of a segment that comes: the verdict, and up to which number the rule
+        skipped before it."""
         self.skipped_to = None
         verdict = self.come(channel, segment)
         self.verdicts[verdict] += 1
@@ -229,7 +236,7 @@ class LiveFlow(RuledFlow):
 
 
 class Cut:
-    """A modem's frames, cut into segments. Each segment has the places of its chunk in the stream of frames."""
+    """A modem's frames, cut into segments, each with the places of its chunk in the stream."""
 
     def __init__(self, rng, first, count, new_frame=None, sizes=(0, 0, 1, 2, 3, 5, 8, 13, 21)):
         self.frames, self.chunks, self.segments = [], [], []
@@ -241,7 +248,8 @@ class Cut:
                 self.frames.append(new_frame(rng))
                 stream += self.frames[-1]
                 ends.append(len(stream))
-            begun = ends[bisect.bisect_left(ends, place)] - place  # so far from here a frame ends and the next one begins
+            # So far from here a frame ends and the next one begins.
+            begun = ends[bisect.bisect_left(ends, place)] - place
             if rng.random() < 0.3:
                 size = begun
             chunk = bytes(stream[place : place + size])
@@ -268,7 +276,7 @@ class Cut:
             low, start = high, end
 
     def delivered(self, flow):
-        """The frames that lie wholly in the cut and of which each segment was kept, below the expected index."""
+        """The frames wholly in the cut whose segments were each kept, below the expected index."""
         return self.frames_over(lambda index: index in flow.kept and index < flow.expected)
 
 

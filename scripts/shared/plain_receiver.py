@@ -1,7 +1,8 @@
-"""A plain, slow reading of what `segrx replay` answers: of traces, of what a channel admits, and of reports.
+"""A plain, slow reading of what `segrx replay` answers: of traces, of what a channel admits, and of
+reports.
 
-The joining of segments, what becomes of a flow's segments and the rule by which some are lost are in plain_reading.py, and
-what `segrx run` may answer in plain_orders.py.
+The joining of segments, what becomes of a flow's segments and the rule by which some are lost are
+in plain_reading.py, and what `segrx run` may answer in plain_orders.py.
 """
 
 import collections
@@ -19,7 +20,7 @@ HEX = re.compile(rb"-|([0-9A-Fa-f][0-9A-Fa-f])+")
 
 
 def forms_of(channels, flows):
-    """The words that may follow the first one of a line, where there may be so many channels and flows."""
+    """The words that may follow the first of a line, with so many channels and flows."""
     channel, flow = range(channels), range(flows)
     return {
         b"flow": [[UNITS_32, NUMBER, range(1, 4097), range(1, 9)]],
@@ -111,7 +112,8 @@ def faults_in_setup(trace, kind, values):
 
 
 def read_line(trace, kind, words):
-    """The values of a line after those that gave the trace, and its faults: all of them that can be seen."""
+    """The values of a line after those that gave the trace, and its faults: all of them that can be
+    seen."""
     if kind not in trace.forms:
         return [], {"unknown line"}
     late = {"setup after input"} if kind in (b"flow", b"sid") and trace.tags else set()
@@ -124,7 +126,8 @@ def read_line(trace, kind, words):
 
 
 def worded_lines(text):
-    """The lines of a text that aren't skipped, each with its number, its first word and those that follow."""
+    """The lines of a text that aren't skipped, each with its number, its first word and those that
+    follow."""
     for place, line in enumerate(text.split(b"\n"), 1):
         words = [word for word in re.split(rb"[ \t\r]", line) if word]
         if words and not words[0].startswith(b"#"):
@@ -143,8 +146,8 @@ def read_trace(text):
 
 
 class Lane:
-    """The inputs of a channel, in order, each with its answer: ACCEPTED for a grant, ADMITTED for a burst, or the number
-    of the refusal, which is the first that fits."""
+    """The inputs of a channel, in order, each with its answer: ACCEPTED for a grant, ADMITTED for a
+    burst, or the number of the refusal, which is the first that fits."""
 
     ACCEPTED, ADMITTED = "accepted", "admitted"
     GRANT_RANGE, GRANT_KNOWN, UNKNOWN_SID, TOO_MANY_GRANTS = 1, 2, 3, 4
@@ -153,7 +156,7 @@ class Lane:
     def __init__(self, channel, trace):
         self.channel, self.sids, self.flows = channel, trace.sids, trace.flows
         self.answers = []
-        # The same by the number of the grant, since nothing is said of a number by the inputs of others.
+        # The same by the grant's number, since the inputs of others say nothing of a number.
         self.inputs_of = collections.defaultdict(list)
         for one in trace.inputs[channel]:
             self.take(one)
@@ -161,13 +164,14 @@ class Lane:
     def take(self, one):
         """The answer to an input more, which is noted."""
         answer = self.answer_to_grant(one) if isinstance(one, Grant) else self.answer_to_burst(one)
-        self.answers.append((one, answer, self.outstanding(one.number)))  # the grant before this input
+        # With the grant before this input.
+        self.answers.append((one, answer, self.outstanding(one.number)))
         self.inputs_of[one.number].append((one, answer))
         return answer
 
     def outstanding(self, number):
-        """The grant of this number that was accepted and behind which no burst on it was admitted or refused, but for
-        want of a grant."""
+        """The grant of this number that was accepted and behind which no burst on it was admitted
+        or refused, but for want of a grant."""
         for one, answer in reversed(self.inputs_of[number]):
             if answer == self.ACCEPTED:
                 return one
@@ -239,7 +243,7 @@ class FlowOutcome:
         self.frames, self.skipped = [], 0
 
     def take(self, sender, what):
-        """Takes an item: a segment from a channel, or the number up to which a decision is meant."""
+        """Takes an item: a segment from a channel, or the number that a decision is up to."""
         if sender == DECISION:
             self.gaps[self.flow.gap(what)] += 1
         else:
@@ -288,8 +292,8 @@ def text_of(lines):
 
 
 def replay(text, rule=DECIDED):
-    """What the program has to answer to a text by this rule: its standard output, its standard error and its exit status.
-    The outcome, or the line's fault, stands behind them."""
+    """What the program has to answer to a text by this rule: its standard output, its standard
+    error and its exit status. The outcome, or the line's fault, stands behind them."""
     try:
         outcome = Outcome(read_trace(text), rule)
     except LineFault as fault:

@@ -1,5 +1,6 @@
-"""A plain reading of what modems are told of their service flows, as docs/FORMATS.md says it: of the parts of the messages
-REG-RSP-MP and DBC-REQ in a recording of the downstream, of the messages that they make, and of the SIDs in these."""
+"""A plain reading of what modems are told of their service flows, as docs/FORMATS.md says it: of
+the parts of the messages REG-RSP-MP and DBC-REQ in a recording of the downstream, of the messages
+that they make, and of the SIDs in these."""
 
 import collections
 
@@ -83,8 +84,8 @@ class Unfinished:
 
 
 class Malformed(Exception):
-    """A TLV overruns what it stands in, a number has another length than it has, one that has to be there isn't, or an
-    action is neither 1 nor 2."""
+    """A TLV overruns what it stands in, a number has another length than it has, one that has to be
+    there isn't, or an action is neither 1 nor 2."""
 
 
 def whole_tlvs(data):

@@ -1,4 +1,5 @@
-"""Scratch workspaces: folders that are gone once the script has ended, however it ends, with copies of crates in them."""
+"""Scratch workspaces: folders that are gone once the script has ended, however it ends, with copies
+of crates in them."""
 
 import contextlib
 import os
@@ -48,7 +49,8 @@ def with_those_below(crates):
 
 
 def copy_crates(room, crates, with_kept=False):
-    """Makes a repository of these crates and those that they stand on. What earlier checks kept is copied only on demand."""
+    """Makes a repository of these crates and those that they stand on. What earlier checks kept is
+    copied only on demand."""
     lines = crate_lines()
     shutil.copy(path("HANDLES"), room)
     with open(os.path.join(room, "crates.txt"), "w") as to:
@@ -69,8 +71,9 @@ def copy_kept(room, crate):
 
 
 def add_crate(room, name, uses, sources):
-    """Adds a crate to the repository, and returns its folder. Of the files of the folder `sources`, NAME.rt.txt becomes the
-    source NAME.rt, and FOLDER.NAME.antt.txt the file proofs/FOLDER/NAME.antt."""
+    """Adds a crate to the repository, and returns its folder. Of the files of the folder `sources`,
+    NAME.rt.txt becomes the source NAME.rt, and FOLDER.NAME.antt.txt the file
+    proofs/FOLDER/NAME.antt."""
     crate = os.path.join(room, "crates", name)
     with open(os.path.join(room, "crates.txt"), "a") as lines:
         lines.write(f"{name}: {uses}\n")
@@ -87,8 +90,8 @@ def add_crate(room, name, uses, sources):
 
 
 def copy_tree(room, crates):
-    """Makes a copy of the work tree, without its planted mistakes, and with what earlier checks of these crates, and of those
-    that they stand on, kept."""
+    """Makes a copy of the work tree, without its planted mistakes, and with what earlier checks of
+    these crates, and of those that they stand on, kept."""
     words = ["git", "ls-files", "-co", "--exclude-standard"]
     listed = subprocess.run(words, cwd=path(), capture_output=True, text=True, check=True)
     for name in listed.stdout.splitlines():

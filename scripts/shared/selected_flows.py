@@ -1,4 +1,6 @@
-"""A plain reading of --flows and --shard: which flows are selected, and the lines of a report that are left."""
+"""A plain reading of --flows and --shard: which flows are selected, and the lines of a report, or
+of what `follow` writes, that are left.
+"""
 
 
 def flows_listed(value):
@@ -11,7 +13,7 @@ def flows_listed(value):
 
 
 def selected_by(flows=None, shard=None):
-    """Whether the flow with an index is selected, by the value of one of the two options or by none."""
+    """Whether the flow with an index is selected, by the value of one of two options or by none."""
     if flows is not None:
         return flows_listed(flows).__contains__
     if shard is not None:
@@ -21,27 +23,30 @@ def selected_by(flows=None, shard=None):
 
 
 def lines_left(text, is_selected):
-    """The bytes of a report without the `flow` and `frame` lines of the flows that aren't selected."""
+    """The bytes of a report, or of a trace that is followed, without lines of other flows."""
     return b"".join(line for line in text.splitlines(True) if is_left(line.split(), is_selected))
 
 
 def is_left(words, is_selected):
+    """Whether a line with these words is of no flow, or of one that is selected."""
+    words = words[2:] if words[0] == b"line" else words
     return words[0] not in (b"flow", b"frame") or is_selected(int(words[1]))
 
 
-def some_selection(rng, flows):
-    """Options by chance, and whether they select the flow with an index. So many flows are known of."""
+def some_selection(rng, flows, most=64):
+    """Options by chance, and whether they select the flow with an index. So many flows are known
+    of, and there may be at most so many."""
     if rng.random() < 0.5:
         count = rng.choice([1, 2, 3, 4, flows + 1, 16384])
         value = f"{rng.randrange(min(count, flows + 2))}/{count}"
         return some_words(rng, "--shard", value), selected_by(shard=value)
-    parts = [some_range(rng, flows) for _ in range(rng.randrange(1, 4))]
+    parts = [some_range(rng, min(flows + 2, most)) for _ in range(rng.randrange(1, 4))]
     value = ",".join(parts)
     return some_words(rng, "--flows", value), selected_by(flows=value)
 
 
-def some_range(rng, flows):
-    first, last = sorted(rng.randrange(min(flows + 2, 64)) for _ in range(2))
+def some_range(rng, bound):
+    first, last = sorted(rng.randrange(bound) for _ in range(2))
     return rng.choice([f"{first}", f"{first}-{last}", f"{first:03}-{last}"])
 
 

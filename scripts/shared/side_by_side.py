@@ -30,7 +30,8 @@ def run_part(part, environment):
 
 
 def run_parts(parts, jobs, environment=None):
-    """Runs parts side by side, as many as there are jobs, the first ones first. Returns what came of each, as they ended."""
+    """Runs parts side by side, as many as there are jobs, the first ones first. Returns what came
+    of each, as they ended."""
     done = []
     with children.guarded(), concurrent.futures.ThreadPoolExecutor(jobs) as pool:
         try:

@@ -1,5 +1,6 @@
-"""Slurm on this machine alone, in a folder of its own: munged, slurmctld and slurmd, which this process starts as root and ends,
-each by its own id. Nothing of the machine's own Slurm or munge is looked at or changed.
+"""Slurm on this machine alone, in a folder of its own: munged, slurmctld and slurmd, which this
+process starts as root and ends, each by its own id. Nothing of the machine's own Slurm or munge is
+looked at or changed.
 """
 
 import contextlib

@@ -11,7 +11,8 @@ from shared.plain_reading import DECIDED, RULES
 from shared.selected_flows import selected_by
 from shared.tree import path
 
-# A command whose report is known: what makes its input, the program's command, the rule, and what takes its output.
+# A command whose report is known: what makes its input, the program's command, the rule, and what
+# takes its output.
 ASKED = re.compile(
     r"(?:(?P<maker>.*) \| )?(?:taskset -c \d+ )?segrx (?P<command>\w+)"
     r"(?: --(?:mailbox|ring)[ =]\d+| --losses[ =](?P<rule>\w+)| --flows[ =](?P<flows>\S+)| --shard[ =](?P<shard>\S+))*"
@@ -28,7 +29,8 @@ class Run:
 
 
 def text_of(written):
-    """The bytes of a line of the table: {00*3} stands for 000000, and \\t, \\r, \\x0b and the like for such bytes."""
+    """The bytes of a line of the table: {00*3} stands for 000000, and \\t, \\r, \\x0b and the like
+    for such bytes."""
     repeated = re.sub(r"\{([^{}*]+)\*(\d+)\}", lambda m: m[1] * int(m[2]), written)
     return repeated.encode().decode("unicode_escape").encode("latin-1") if "\\" in repeated else repeated.encode()
 
@@ -83,7 +85,8 @@ def printed_by(command, given=b""):
 
 
 def taken_by(taker, answer):
-    """What a shell's command makes of the program's standard output, and then the exit status. Without one it stays."""
+    """What a shell's command makes of the program's standard output, and then the exit status.
+    Without one it stays."""
     if not taker:
         return answer
     ran = subprocess.run(["bash", "-c", taker], input=answer[0], stdout=subprocess.PIPE, check=False)
@@ -91,9 +94,9 @@ def taken_by(taker, answer):
 
 
 def reports_of(command):
-    """The runs of one of the program's commands that have an answer to their input: each with the rule that it asks for, its
-    input, and what is to be made of the program's standard output before it is compared. Of a report of some flows alone
-    that is the lines that are left."""
+    """The runs of one of the program's commands that have an answer to their input: each with the
+    rule that it asks for, its input, and what is to be made of the program's standard output before
+    it is compared. Of a report of some flows alone that is the lines that are left."""
     for run in read_table():
         asked = ASKED.fullmatch(run.command)
         if asked and asked["command"] == command and not run.parts and run.status in (0, 1):
@@ -102,8 +105,8 @@ def reports_of(command):
 
 
 def read_examples():
-    """Replays of the traces in examples/, whose reports stand beside them: NAME.report by decisions alone, and
-    NAME.RULE.report by this rule."""
+    """Replays of the traces in examples/, whose reports stand beside them: NAME.report by decisions
+    alone, and NAME.RULE.report by this rule."""
     commands = {f"{rule}.report": [f"segrx replay --losses {rule}"] for rule in RULES}
     commands["report"] = ["segrx replay"]
     commands[f"{DECIDED}.report"].append("segrx replay")

@@ -1,5 +1,6 @@
-"""What tshark reads of captures, beside what the plain readings read of them: segment headers, registrations, and frames that
-were written for it; and what editcap makes of files. Nothing of both is ours, so they judge from outside.
+"""What tshark reads of captures, beside what the plain readings read of them: segment headers,
+registrations, and frames that were written for it; and what editcap makes of files. Nothing of both
+is ours, so they judge from outside.
 
 Each comparison answers with how much agrees, or says in words what doesn't.
 """
@@ -47,7 +48,7 @@ def tshark(data, *words):
 
 
 def fields_of(data, names, *words):
-    """What tshark reads of these fields of each packet: the values of each, in the order in which they stand."""
+    """What tshark reads of these fields of each packet: the values of each, in their order."""
     asked = [word for name in names for word in ("-e", name)]
     for line in tshark(data, "-T", "fields", *asked, *words).decode().splitlines():
         yield [values.split(",") if values else [] for values in line.split("\t")]
@@ -63,8 +64,9 @@ def converted(data, *words):
 
 
 def compare_conversions(data):
-    """How many records are read as they are, where editcap writes a file in another format, and cuts its records short. Of a
-    second section of a pcapng file it writes times in the unit of the first one, so it writes none as pcapng."""
+    """How many records are read as they are, where editcap writes a file in another format, and
+    cuts its records short. Of a second section of a pcapng file it writes times in the unit of the
+    first one, so it writes none as pcapng."""
     records, count = list(records_of(data)), 0
     other = "nsecpcap" if data[0] == 0x0A else "pcapng"
     for form, words, most in ((other, [], None), ("nsecpcap", ["-s", "40"], 40)):
@@ -76,7 +78,7 @@ def compare_conversions(data):
 
 
 def header_as_tshark_says(segment):
-    """A segment's header and whether its check sequence is right, as numbers in the order of its fields."""
+    """A segment's header and whether its check is right, as numbers in the order of fields."""
     pfi, pointer, sequence, cluster, request = header(segment)
     is_right = ends_with_header_sequence(segment[:8])
     return [pfi, segment[0] >> 6 & 1, pointer, sequence, cluster, request, segment[6] * 256 + segment[7], int(is_right)]
@@ -97,7 +99,8 @@ def compare_headers(data):
 
 
 def told_as_read(data):
-    """The flows and SIDs that tshark reads in each packet that completes a message, by the packet's place, as they stand."""
+    """The flows and SIDs that tshark reads in each packet that completes a message, by the packet's
+    place, as they stand."""
     found, are_there = {}, f"{SID_FIELDS[0]} or {FLOW_FIELDS[0]}"
     for packet in ElementTree.fromstring(tshark(data, "-Y", are_there, "-T", "pdml")).iter("packet"):
         said, told = {}, []
@@ -114,8 +117,8 @@ def told_as_read(data):
 
 
 def compare_registrations(data):
-    """How many SIDs and how many flows tshark reads as the plain reading does, each message's in the same packet, or where it
-    doesn't."""
+    """How many SIDs and how many flows tshark reads as the plain reading does, each message's in
+    the same packet, or where it doesn't."""
     told = {place: told_by(message.tlvs) for place, _, message in messages_in(records_of(data))}
     told, read = {place: those for place, those in told.items() if those}, told_as_read(data)
     for place in sorted(told.keys() | read.keys()):
@@ -125,7 +128,8 @@ def compare_registrations(data):
 
 
 def compare_headers_of_frames(data):
-    """How many frames of a file tshark reads as they are, each with a good header check exactly if it is right."""
+    """How many frames of a file tshark reads as they are, each with a good header check exactly if
+    it is right."""
     names = ["docsis.hcs.status", "frame.len", "frame.time_epoch"]
     frames = [(record.nanoseconds, record.bytes) for record in records_of(data)]
     for (time, frame), read in zip(frames, fields_of(data, names), strict=True):
@@ -136,8 +140,8 @@ def compare_headers_of_frames(data):
 
 
 def compare_ethernet(data):
-    """How many frames of packets that aren't encrypted tshark reads of a file of frames, written anew as Ethernet frames, with
-    a good check sequence exactly if it is right."""
+    """How many frames of packets that aren't encrypted tshark reads of a file of frames, written
+    anew as Ethernet frames, with a good check sequence exactly if it is right."""
     frames = [record for record in records_of(data) if sequence_of(record.bytes) in (RIGHT, WRONG)]
     packets = [ethernet_in(record.bytes) for record in frames]
     records = [Record(ETHERNET, record.nanoseconds, len(packet), packet) for record, packet in zip(frames, packets)]

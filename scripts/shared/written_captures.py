@@ -1,11 +1,12 @@
-"""Writes what captures are made of: packets of link type 273 with their TLVs, and pcap and pcapng files of records."""
+"""Writes what captures are made of: packets of link type 273 with their TLVs, and pcap and pcapng
+files of records."""
 
 import collections
 
 from shared.plain_packets import INTERFACE, PACKET_BLOCK, SECTION_HEADER
 
-# A file's form: whether it is pcapng, the order of its numbers, and as how many units of a second times are written. A pcap
-# file has microseconds or nanoseconds.
+# A file's form: whether it is pcapng, the order of its numbers, and as how many units of a second
+# times are written. A pcap file has microseconds or nanoseconds.
 Form = collections.namedtuple("Form", "is_pcapng order units")
 NANOSECONDS = Form(False, "little", 10**9)
 GREATEST_PCAP_TIME = (1 << 32) * 10**9 - 1  # seconds have four bytes
@@ -84,8 +85,8 @@ def packet_block(form, interface, record):
 
 
 def pcapng_file(form, records, others=None):
-    """A file of one section, with an interface for each link type; others are blocks that a reader passes over, by the place of
-    the record before which each stands."""
+    """A file of one section, with an interface for each link type; others are blocks that a reader
+    passes over, by the place of the record before which each stands."""
     link_types = sorted({record.link_type for record in records})
     parts = [section_block(form.order), *(interface_block(form, link_type) for link_type in link_types)]
     for place, record in enumerate(records):
