@@ -18,7 +18,8 @@ use Rattle.loss_rule.proofs.RuledTurns.{ruled-reached, rules-lead, ruled-append}
 use Rattle.bonded_flows.specs.FlowSetup.{FlowSetup, ruled_flow}
 use Rattle.bonded_flows.specs.Stands.{SlidesNext}
 
--- What a segment makes of a flow that comes on a channel: what every channel has passed is skipped, then the window slides, then it arrives.
+-- What a segment makes of a flow that comes on a channel: what every channel has passed is skipped,
+-- then the window slides, then it arrives.
 pub record MakesSteps (setup : FlowSetup) (before : List Coming) (events : List FlowEvent) (channel : ℕ) (segment : Segment) (noted : Lasts) (passing sliding : List FlowEvent) : Type 0 where
   pub after : Fates
   pub ruled : AreRuled setup.rule (ruled_flow setup) (before ++ on_channel channel segment ∷ []) (events ++ ((passing ++ sliding) ++ arrives segment ∷ [])) noted after

@@ -24,7 +24,8 @@ use Rattle.bonded_flows.specs.FlowSetup.{FlowSetup}
 use Rattle.bonded_flows.specs.Stands.{HasTaken, HasTakenSome, IsPending, HasCome, IsUpToDate, IsUnderWay}
 use Rattle.bonded_flows.specs.Taking.{WasGiven, TakesGap, GivesMore, Takes, Closes}
 
--- whatever a flow had taken, it has taken so many gaps more, each of which lost a segment, and has given these frames more
+-- whatever a flow had taken, it has taken so many gaps more, each of which lost a segment, and has
+-- given these frames more
 abbrev pub LosesGaps : (List ℕ → Bool) → BondedFlow → ℕ → List (List ℕ) → BondedFlow → Type 0
 LosesGaps check bonded n more one =
     (setup : FlowSetup) (events : List FlowEvent) (lasts : Lasts) (given : List (List ℕ))

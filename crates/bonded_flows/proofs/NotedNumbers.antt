@@ -74,7 +74,8 @@ module _ (check : List ℕ → Bool) (setup : FlowSetup) (bonded : BondedFlow) (
       (subst (λ n. IsSlidTo n bonded.width number slid) (expects-number check setup bonded events lasts given has up.drained) to))).0
       (subst (λ k. IsSliding flow k number sliding) here slides)
 
--- A segment with this number comes on a channel: it is noted, and then what every channel has passed is skipped.
+-- A segment with this number comes on a channel: it is noted, and then what every channel has
+-- passed is skipped.
 module _ (bonded : BondedFlow) (channel number : ℕ) (lasts' : LastNumbers) (small : number < 8192) (up : IsUpToDate bonded)
     (carried : carried_of lasts' ≡ carried_of bonded.lasts) (stays : expected_of lasts' ≡ expected_of bonded.lasts)
     (wrote : distances_of lasts' ≡ slice_set (distances_of bonded.lasts) channel (ahead_distance (expected_of bonded.lasts) number)) where

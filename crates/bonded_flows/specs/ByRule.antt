@@ -1,4 +1,5 @@
--- What is told and given of a flow that decides by a rule which segments are lost: by the definitions alone, of what came to it.
+-- What is told and given of a flow that decides by a rule which segments are lost: by the
+-- definitions alone, of what came to it.
 use Rattle.std.specs.Prelude.{◌≡◌, ℕ, ◌<◌, nat_lt, Bool, true, false, Option, Some, None, List, [], ◌∷◌, ◌++◌, replicate}
 use Rattle.docsis_wire.specs.Limits.{sequence_modulus}
 use Rattle.docsis_wire.specs.declared.segment.Segment.{Segment}
@@ -53,7 +54,8 @@ abbrev pub IsLastSkip : Option ℕ → List FlowEvent → Type 0
 IsLastSkip None skips = skips ≡ []
 IsLastSkip (Some number) skips = (before : List FlowEvent) × (skips ≡ before ++ skip_to number ∷ [])
 
--- What is told of a segment that comes on a channel after all this came: up to which number the rule skips before it, and the verdict on it.
+-- What is told of a segment that comes on a channel after all this came: up to which number the
+-- rule skips before it, and the verdict on it.
 pub record IsTold (setup : FlowSetup) (comings : List Coming) (channel : ℕ) (segment : Segment) (told : Told) : Type 0 where
   pub events : List FlowEvent
   pub lasts : Lasts
@@ -66,7 +68,7 @@ pub record IsTold (setup : FlowSetup) (comings : List Coming) (channel : ℕ) (s
   pub skipped : IsLastSkip told.skipped_to skips
   pub verdict : EndInVerdict setup (events ++ (skips ++ arrives segment ∷ [])) told.verdict
 
--- What is told of a decision that is handed in after all this came: whether a segment is lost by it.
+-- What is told of a decision handed in after all this came: whether a segment is lost by it.
 pub record IsToldLost (setup : FlowSetup) (comings : List Coming) (event : FlowEvent) (lost : Bool) : Type 0 where
   pub events : List FlowEvent
   pub lasts : Lasts
@@ -77,7 +79,8 @@ pub record IsToldLost (setup : FlowSetup) (comings : List Coming) (event : FlowE
   pub answered : IsAfter setup.flow_record.first setup.flow_record.window events (answers ++ answer ∷ []) fates
   pub says : says_any_lost answer ≡ lost
 
--- What a flow has given to which all this came, as long as it isn't closed: the frames and counts of the events that by the rule come of it.
+-- What a flow has given to which all this came, as long as it isn't closed: the frames and counts
+-- of the events that by the rule come of it.
 pub record HasGivenByRule (check : List ℕ → Bool) (setup : FlowSetup) (comings : List Coming) (frames : List (List ℕ)) (counts : FlowCounts) : Type 0 where
   pub events : List FlowEvent
   pub lasts : Lasts
@@ -85,8 +88,8 @@ pub record HasGivenByRule (check : List ℕ → Bool) (setup : FlowSetup) (comin
   pub ruled : AreRuled setup.rule (ruled_flow setup) comings events lasts fates
   pub outcome : IsFlowOutcome check setup.flow_record events frames counts
 
--- **What a flow gave that is closed** and to which all this came: the frames and counts of the events that by the rule come of it, and then of its
--- close, as many gaps as still change anything.
+-- **What a flow gave that is closed** and to which all this came: the frames and counts of the
+-- events that by the rule come of it, and then of its close, as many gaps as still change anything.
 pub record GaveByRule (check : List ℕ → Bool) (setup : FlowSetup) (comings : List Coming) (frames : List (List ℕ)) (counts : FlowCounts) : Type 0 where
   pub events : List FlowEvent
   pub lasts : Lasts

@@ -4,8 +4,8 @@ use Rattle.flow_records.specs.declared.record.FlowRecord.{FlowRecord}
 use Rattle.loss_rule.specs.declared.rule.LossRule.{LossRule}
 use Rattle.loss_rule.specs.Rule.{RuledFlow}
 
--- The index under which its frames are given, the rule by which it decides that segments are lost, its record, and of each channel whether the flow has
--- a service identifier there.
+-- The index under which its frames are given, the rule by which it decides that segments are lost,
+-- its record, and of each channel whether the flow has a service identifier there.
 pub record FlowSetup : Type 0 where
   pub index : ℕ
   pub rule : LossRule

@@ -5,7 +5,7 @@ use Rattle.loss_rule.specs.Rule.{Coming}
 use Rattle.bonded_flows.specs.FlowSetup.{FlowSetup}
 use Rattle.bonded_flows.specs.ByRule.{GaveByRule}
 
--- What is handed in of one flow: something comes to it, or it is closed and begins anew at a number.
+-- What is handed in of a flow: something comes to it, or it is closed and begins anew at a number.
 pub data FlowInput : Type 0 where
   comes : Coming → FlowInput
   begins_anew : ℕ → FlowInput
@@ -15,7 +15,8 @@ pub record Part : Type 0 where
   pub first : ℕ
   pub comings : List Coming
 
--- The parts that are over, and the last one, where the first begins with this number and so much has come to it.
+-- The parts that are over, and the last one, where the first begins with this number and so much
+-- has come to it.
 abbrev pub parts_over_from : ℕ → List Coming → List FlowInput → List Part
 parts_over_from first came [] = []
 parts_over_from first came (comes coming ∷ rest) = parts_over_from first (came ++ coming ∷ []) rest
@@ -37,7 +38,8 @@ last_part setup inputs = last_part_from setup.flow_record.first [] inputs
 abbrev pub begun_at : FlowSetup → ℕ → FlowSetup
 begun_at setup first = record { index = setup.index; rule = setup.rule; flow_record = record setup.flow_record { first = first }; channels = setup.channels }
 
--- what these parts gave, one after another: each what by the rule comes of all that came to it and of its close
+-- what these parts gave, one after another: each what by the rule comes of all that came to it and
+-- of its close
 abbrev pub GaveInParts : (List ℕ → Bool) → FlowSetup → List Part → List (List ℕ) → Type 0
 GaveInParts check setup [] frames = frames ≡ []
 GaveInParts check setup (part ∷ parts) frames =

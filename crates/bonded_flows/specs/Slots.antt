@@ -38,7 +38,7 @@ abbrev pub EntryStands : (List ℕ → Bool) → FlowSetup → Option (Box Bonde
 EntryStands check setup None comings given = HasNotBegun setup comings given
 EntryStands check setup (Some flow) comings given = HasCome check setup (box_value flow) comings given
 
--- The slot's flow was made, or will be, with this, and so much came to it since it was begun or began anew.
+-- The slot's flow was made, or will be, with this, and so much came to it since it last began.
 pub record PartStands (check : List ℕ → Bool) (setup : FlowSetup) (slot : FlowSlot) (comings : List Coming) (given : List (List ℕ)) : Type 0 where
   pub index : slot.index ≡ setup.index
   pub rule : slot.rule ≡ setup.rule
@@ -48,7 +48,8 @@ pub record PartStands (check : List ℕ → Bool) (setup : FlowSetup) (slot : Fl
   pub in_range : IsInRange setup.flow_record
   pub entry : EntryStands check setup slot.flow comings given
 
--- **A slot stands for** all that was handed in of its flow: the parts that are over gave what they had to give, and the last one is under way.
+-- **A slot stands for** all that was handed in of its flow: the parts that are over gave what they
+-- had to give, and the last one is under way.
 pub record SlotStands (check : List ℕ → Bool) (setup : FlowSetup) (slot : FlowSlot) (inputs : List FlowInput) (given : List (List ℕ)) : Type 0 where
   pub earlier : List (List ℕ)
   pub own : List (List ℕ)
@@ -109,7 +110,8 @@ LeavesOf (NotTaken why) NotTakes Takes = NotTakes
 LeavesOf Unfinished NotTakes Takes = Takes
 
 module _ {O : Type 0} (after : O → List Given → O → Type 0) where
-  -- whatever came to its flow, these came to it besides, and what it has given more was given to the consumer, in order
+  -- whatever came to its flow, these came to it besides, and what it has given more was given to
+  -- the consumer, in order
   pub record SlotTakes (check : List ℕ → Bool) (slot : FlowSlot) (out : O) (comings : List Coming) (slot' : FlowSlot) (out' : O) : Type 0 where
     pub more : List (List ℕ)
     pub was_given : WasGiven after slot.index out more out'

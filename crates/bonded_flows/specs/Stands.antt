@@ -21,9 +21,10 @@ pub record IsMadeWith (setup : FlowSetup) (bonded : BondedFlow) : Type 0 where
   pub carried : carried_of bonded.lasts ≡ setup.channels
   pub in_range : IsInRange setup.flow_record
 
--- The flow has taken just these events, and has given these frames. What it knows of its channels by numbers is what these last indexes are, counted from
--- an index: the expected one when it was last drained. Since then it has taken one event at most, so the expected index lies no further on than numbers
--- lie ahead.
+-- The flow has taken just these events, and has given these frames. What it knows of its channels
+-- by numbers is what these last indexes are, counted from an index: the expected one when it was
+-- last drained. Since then it has taken one event at most, so the expected index lies no further on
+-- than numbers lie ahead.
 pub record HasTaken (check : List ℕ → Bool) (setup : FlowSetup) (bonded : BondedFlow) (events : List FlowEvent) (lasts : Lasts) (given : List (List ℕ)) : Type 0 where
   pub made : IsMadeWith setup bonded
   pub answers : List Applied
@@ -35,15 +36,17 @@ pub record HasTaken (check : List ℕ → Bool) (setup : FlowSetup) (bonded : Bo
   pub onward : from ≤ stands.x
   pub near : stands.x ≤ from + numbers_ahead
 
--- the skip by which, after these events, the window slides to a segment with this number, or none where it needn't
+-- the skip by which, after these events, the window slides to a segment with this number, or none
+-- where it needn't
 abbrev pub SlidesNext : FlowSetup → List FlowEvent → ℕ → List FlowEvent → Type 0
 SlidesNext setup taken number sliding =
     (answers : List Applied) × (fates : Fates) × (x : ℕ)
     × IsAfter setup.flow_record.first setup.flow_record.window taken answers fates × IsExpected fates x
     × IsSliding (ruled_flow setup) x number sliding
 
--- Of all these events a flow has taken the first ones, and knows what is left. Nothing. Or a segment has still to arrive; before it, the window may have
--- to slide. Or all are taken, the flow is being closed, and has taken some gaps.
+-- Of all these events a flow has taken the first ones, and knows what is left. Nothing. Or a
+-- segment has still to arrive; before it, the window may have to slide. Or all are taken, the flow
+-- is being closed, and has taken some gaps.
 abbrev pub IsPending : FlowSetup → Pending → List FlowEvent → List FlowEvent → Type 0
 IsPending setup Nothing events taken = taken ≡ events
 IsPending setup (Slide ready) events taken =
@@ -58,8 +61,8 @@ pub record IsTaking (check : List ℕ → Bool) (setup : FlowSetup) (bonded : Bo
   pub has_taken : HasTaken check setup bonded taken lasts given
   pub left : IsPending setup bonded.pending events taken
 
--- **Stands for.** All this came to the flow. Of the events that by the rule come of it the flow has taken all but what it knows is left, and it has given
--- these frames.
+-- **Stands for.** All this came to the flow. Of the events that by the rule come of it the flow has
+-- taken all but what it knows is left, and it has given these frames.
 pub record HasCome (check : List ℕ → Bool) (setup : FlowSetup) (bonded : BondedFlow) (comings : List Coming) (given : List (List ℕ)) : Type 0 where
   pub events : List FlowEvent
   pub lasts : Lasts

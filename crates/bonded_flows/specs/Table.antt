@@ -79,15 +79,17 @@ module _ {C : Type 0} where
   abbrev pub NoneBeginsToClose : FlowTable C → FlowTable C → Type 0
   NoneBeginsToClose table table' = (k : ℕ) → IsClosingAt table' k → IsClosingAt table k
 
-  -- **Whatever was handed in, this was handed in besides**, and the frames that flow k gave more were given to the consumer, in order.
+  -- **Whatever was handed in, this was handed in besides**, and the frames that flow k gave more
+  -- were given to the consumer, in order.
   pub record TakesMore {O : Type 0} (after : O → List Given → O → Type 0) (accepts : C → List ℕ → Bool) (table : FlowTable C) (out : O) (k : ℕ) (inputs : List TableInput) (table' : FlowTable C) (out' : O) : Type 0 where
     pub more : List (List ℕ)
     pub was_given : WasGiven after k out more out'
     pub stands : (check : List ℕ → Bool) (made : TableSetup) (history : List TableInput) (given : List Given)
         → StandsFor accepts table check made history given → StandsFor accepts table' check made (history ++ inputs) (given ++ map (Frame k) more)
 
-  -- **The flow is closed and begins anew** at this number. What there was left to give was given to the consumer, in order: of whatever came to the flow
-  -- since it was begun, it gave what by the rule comes of that. All other flows stay.
+  -- **The flow is closed and begins anew** at this number. What there was left to give was given to
+  -- the consumer, in order: of whatever came to the flow since it was begun, it gave what by the
+  -- rule comes of that. All other flows stay.
   pub record BeginsAnewAt {O : Type 0} (after : O → List Given → O → Type 0) (accepts : C → List ℕ → Bool) (table : FlowTable C) (out : O) (k first : ℕ) (counts : FlowCounts) (table' : FlowTable C) (out' : O) : Type 0 where
     pub more : List (List ℕ)
     pub was_given : WasGiven after k out more out'

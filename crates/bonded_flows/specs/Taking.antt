@@ -34,8 +34,8 @@ pub record IsRunning (check : List ℕ → Bool) (flow : Flow) : Type 0 where
   pub given : List (List ℕ)
   pub stands : StandsFor check flow_record flow events answers y given
 
--- Whatever it stood for, it stands for that, and for the skip up to what every channel has passed once a segment with this number is noted on a channel.
--- By decisions alone nothing is skipped.
+-- Whatever it stood for, it stands for that, and for the skip up to what every channel has passed
+-- once a segment with this number is noted on a channel. By decisions alone nothing is skipped.
 abbrev pub SkipsPassed : BondedFlow → ℕ → ℕ → Option ℕ → BondedFlow → Type 0
 SkipsPassed bonded channel number passed after =
     (check : List ℕ → Bool) (setup : FlowSetup) (taken : List FlowEvent) (lasts noted : Lasts) (given : List (List ℕ)) (answers : List Applied) (fates : Fates) (x : ℕ)
@@ -53,7 +53,8 @@ TakesEvent bonded event answer after =
     → (has : HasTaken check setup bonded taken lasts given)
     → (now : HasTaken check setup after (taken ++ event ∷ []) lasts given) × (now.answers ≡ has.answers ++ answer ∷ [])
 
--- Whatever it stood for, it stands for that and for the skip by which the window slides to a segment with this number.
+-- Whatever it stood for, it stands for that and for the skip by which the window slides to a
+-- segment with this number.
 abbrev pub SkipsSlid : BondedFlow → ℕ → Option ℕ → BondedFlow → Type 0
 SkipsSlid bonded number slid after =
     (check : List ℕ → Bool) (setup : FlowSetup) (taken sliding : List FlowEvent) (lasts : Lasts) (given : List (List ℕ))
@@ -66,7 +67,8 @@ pub record TakesDecision (bonded : BondedFlow) (event : FlowEvent) (lost : Bool)
   pub says : says_any_lost answer ≡ lost
   pub taken : TakesEvent bonded event answer after
 
--- Whatever it stood for, it stands for that and a gap, if the expected segment is lost by it; otherwise nothing changes, and the flow is closed.
+-- Whatever it stood for, it stands for that and a gap, if the expected segment is lost by it;
+-- otherwise nothing changes, and the flow is closed.
 pub record TakesGap (bonded : BondedFlow) (lost : Bool) (after : BondedFlow) : Type 0 where
   pub declared : Declared
   pub loses : IsTrue lost → IsLoss declared
@@ -80,7 +82,7 @@ module _ {O : Type 0} (after : O → List Given → O → Type 0) where
   abbrev pub WasGiven : ℕ → O → List (List ℕ) → O → Type 0
   WasGiven index out frames out' = (start : O) (given : List Given) → after start given out → after start (given ++ map (Frame index) frames) out'
 
-  -- a flow by itself: whatever it stood for, it still stands for it, and has given these frames more
+  -- a flow by itself: whatever it stood for it still stands for, and has given these frames more
   pub record Joins (check : List ℕ → Bool) (index : ℕ) (flow : Flow) (out : O) (flow' : Flow) (out' : O) : Type 0 where
     pub more : List (List ℕ)
     pub was_given : WasGiven index out more out'
@@ -112,14 +114,16 @@ module _ {O : Type 0} (after : O → List Given → O → Type 0) where
         → HasTaken check setup bonded taken lasts given → SlidesNext setup taken segment.head.sequence sliding
         → IsTaking check setup bonded' ((taken ++ sliding) ++ arrives segment ∷ []) lasts (given ++ more)
 
-  -- **Whatever came to it, these came to it besides**, and what it has given more was given to the consumer, in order.
+  -- **Whatever came to it, these came to it besides**, and what it has given more was given to the
+  -- consumer, in order.
   pub record Takes (check : List ℕ → Bool) (bonded : BondedFlow) (out : O) (comings : List Coming) (bonded' : BondedFlow) (out' : O) : Type 0 where
     pub more : List (List ℕ)
     pub was_given : WasGiven bonded.index out more out'
     pub has_come : (setup : FlowSetup) (before : List Coming) (given : List (List ℕ))
         → HasCome check setup bonded before given → HasCome check setup bonded' (before ++ comings) (given ++ more)
 
-  -- The flow is closed, and what it gave at last was given to the consumer: whatever came to it, it gave what by the rule comes of that.
+  -- The flow is closed, and what it gave at last was given to the consumer: whatever came to it, it
+  -- gave what by the rule comes of that.
   pub record Closes (check : List ℕ → Bool) (bonded : BondedFlow) (out : O) (counts : FlowCounts) (out' : O) : Type 0 where
     pub more : List (List ℕ)
     pub was_given : WasGiven bonded.index out more out'

@@ -201,8 +201,8 @@ impl<C: HeaderCheck + Drop> FlowTable<C> {
         self.slots[flow].restart(alloc, &self.check, first, out)
     }
 
-    /// The number that a flow expects, 0 to 8191. Where nothing of the flow is left to be done it is
-    /// that of its expected index.
+    /// The number that a flow expects, 0 to 8191. Where nothing of the flow is left to be done it
+    /// is that of its expected index.
     pub fn expected(&self, flow: usize) -> u16
         requires in_use { IsInUse C.accepts self.now }
         requires exists { flow < length self.now.slots.items }

@@ -15,9 +15,10 @@
 //! [`BondedFlow::expected`], [`BondedFlow::held`] and [`BondedFlow::counts`] say how a flow stands,
 //! and take no memory.
 //!
-//! A [`FlowTable`] has all flows of a receiver, up to 16,384 on up to 16 channels, of which each takes
-//! memory of its own once its first segment comes. [`FlowTable::prepare`] makes a flow ready before
-//! a segment is taken; [`FlowTable::restart`] closes one and begins it anew at another number.
+//! A [`FlowTable`] has all flows of a receiver, up to 16,384 on up to 16 channels, of which each
+//! takes memory of its own once its first segment comes. [`FlowTable::prepare`] makes a flow ready
+//! before a segment is taken; [`FlowTable::restart`] closes one and begins it anew at another
+//! number.
 //!
 //! Contracts say what came to a flow, whatever came to it before, and which frames its consumer was
 //! given. They hold after each call, whatever it answered. [`laws`] says what follows: where the

@@ -1,4 +1,5 @@
--- What a call of a held receiver does: what the receiver's own call does, with the queue as its consumer, and a status for what that answers.
+-- What a call of a held receiver does: what the receiver's own call does, with the queue as its
+-- consumer, and a status for what that answers.
 use Rattle.std.specs.Prelude.{◌≡◌, ◌≢◌, ◌↔◌, ℕ, ◌<◌, ◌≤◌, Bool, true, Option, Some, None, IfSome, Result, Ok, Err, IfOk, IfErr, OnErr, List, [], ◌∷◌, ◌++◌, length, drop, slice_get, ◌⊎◌}
 use Rattle.docsis_wire.specs.Limits.{sequence_modulus}
 use Rattle.docsis_wire.specs.declared.header_check.NoCheck.{NoCheck}
@@ -52,7 +53,7 @@ IfOpen (state.Open receiver) P Q = P receiver
 IfOpen (state.Closing closing) P Q = Q
 IfOpen (state.Closed closed) P Q = Q
 
--- what every call needs, and every call leaves: the receiver, or what is being closed, stands for something
+-- what every call needs and leaves: the receiver, or what is being closed, stands for something
 abbrev pub StateInUse : State → Type 0
 StateInUse (state.Open receiver) = IsReceiving no_check receiver
 StateInUse (state.Closing closing) = IsBeingClosed no_check closing
@@ -217,7 +218,8 @@ pub record IsCounted (receiver : Receiver NoCheck) (flow : ℕ) (result : Option
       → StandsFor no_check receiver check made handed given → slice_get made.records flow ≡ Some flow_record → IsSettledAt receiver flow
       → HasGivenSince check made flow flow_record handed given counts)
 
--- The counts of a flow: while the receiver is open what it says, once it is closed what the close answered; between the two nothing is told.
+-- The counts of a flow: while the receiver is open what it says, once it is closed what the close
+-- answered; between the two nothing is told.
 abbrev pub AnswersCounts : State → ℕ → Result FlowCounts Status → Type 0
 AnswersCounts (state.Open receiver) flow answer = (result : Option FlowCounts) × IsCounted receiver flow result × (answer ≡ found result)
 AnswersCounts (state.Closing closing) flow answer = answer ≡ Err status.Closed
@@ -246,7 +248,7 @@ pub record KeepsBytes (first : QueuedFrame) (held : HeldReceiver) (room : List �
   pub unchanged : held' ≡ held
   pub same_room : room' ≡ room
 
--- nothing waits, and nothing changed; or the first frame is told, and given where there is room for it
+-- nothing waits, and nothing changed; or the first frame is told, and given if there is room for it
 abbrev pub GivesFirst : List QueuedFrame → HeldReceiver → List ℕ → PlainFrame → Status → HeldReceiver → List ℕ → PlainFrame → Type 0
 GivesFirst [] held room frame answer held' room' frame' = (answer ≡ status.Nothing) × (held' ≡ held) × (room' ≡ room) × (frame' ≡ frame)
 GivesFirst (first ∷ rest) held room frame answer held' room' frame' =

@@ -26,7 +26,8 @@ pub data AreSomeOf : List Given → List Given → Type 0 where
   one_kept : {some all : List Given} (one : Given) → AreSomeOf some all → AreSomeOf (some ++ one ∷ []) (all ++ one ∷ [])
   one_missed : {some all : List Given} (one : Given) → AreSomeOf some all → AreSomeOf some (all ++ one ∷ [])
 
--- some of what was given waits besides; if nothing is missing at the end, nothing was at the start, and it is all
+-- some of what was given waits besides; if nothing is missing at the end, nothing was at the start,
+-- and it is all
 pub record HasQueued (start : Queue) (given : List Given) (end : Queue) : Type 0 where
   pub kept : List Given
   pub some : AreSomeOf kept given

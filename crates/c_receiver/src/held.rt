@@ -297,6 +297,6 @@ fn decision_of(kind: u32, number: u16) -> Option<FlowDecision>
     }
 }
 
-/// Lets a receiver go, with all that waits. Nothing of it is left for a clause to speak of: that its
-/// memory is given back is seen by valgrind (`scripts/c-library`, `scripts/hostile-c`).
+/// Lets a receiver go, with all that waits. Nothing of it is left for a clause to speak of: that
+/// its memory is given back is seen by valgrind (`scripts/c-library`, `scripts/hostile-c`).
 pub fn discard(_held: Box<HeldReceiver>) {}

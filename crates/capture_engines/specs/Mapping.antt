@@ -38,14 +38,16 @@ pub record IsMapText (input text : List ℕ) : Type 0 where
   pub whole : IsWholeCapture reader
   pub map : IsMapOf records text
 
--- Bytes are no capture: what comes behind so many records of them is at fault, whatever follows; or they end too early.
+-- Bytes are no capture: what comes behind so many records of them is at fault, whatever follows; or
+-- they end too early.
 pub data IsFaultyCapture (input : List ℕ) (fault : PlacedFault) : Type 0 where
   within : (records : List CaptureParts) (front back : List ℕ) → input ≡ front ++ back → HasCaptureFault records front fault.fault
       → fault.records ≡ counted records → IsFaultyCapture input fault
   at_end : (records : List CaptureParts) (reader : CaptureReader) → HasCaptured reader records input → ¬ IsWholeCapture reader
       → fault.records ≡ counted records → IsFaultyCapture input fault
 
--- why no map was written: the capture is at fault; an allocation failed; the reader, which failed or gave 2^64 − 1 bytes; the writer
+-- why no map was written: the capture is at fault; an allocation failed; the reader, which failed
+-- or gave 2^64 − 1 bytes; the writer
 abbrev pub HasMapCause : {R W : Type 0} → Option (List ℕ) → Device R → Device W → EngineFault → Type 0
 HasMapCause known reader writer (Capture fault) = IfSome known (λ input. IsFaultyCapture input fault)
 HasMapCause known reader writer OutOfMemory = Unit {0}
@@ -55,10 +57,12 @@ HasMapCause known reader writer (Trace fault) = ⊥
 HasMapCause known reader writer (Cut fault) = ⊥
 HasMapCause known reader writer Usage = ⊥
 
--- What the map of a capture promises: `remaining` are the bytes that a reader is known to have left, `contents` those that a writer is known to hold.
+-- What the map of a capture promises: `remaining` are the bytes that a reader is known to have
+-- left, `contents` those that a writer is known to hold.
 pub record MapsCapture {R W : Type 0} (remaining : R → Option (List ℕ)) (contents : W → Option (List ℕ))
     (reader reader' : Device R) (writer writer' : Device W) (result : Result (Unit {0}) EngineFault) : Type 0 where
-  -- where the reader's bytes are known, exactly the text of their map is written, a front of it where the writer fails, and nothing on any other fault
+  -- where the reader's bytes are known, exactly the text of their map is written, a front of it
+  -- where the writer fails, and nothing on any other fault
   pub written : OnOk result (IfSome (remaining (inner_of reader)) (WritesText IsMapText (contents (inner_of writer)) (contents (inner_of writer'))))
   pub write_fault : result ≡ Err Write → IfSome (remaining (inner_of reader)) (WritesFront IsMapText (contents (inner_of writer)) (contents (inner_of writer')))
   pub nothing_written : IfErr result (λ fault. fault ≢ Write → Keeps (contents (inner_of writer)) (contents (inner_of writer')))

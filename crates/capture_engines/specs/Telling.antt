@@ -47,8 +47,8 @@ completed (Some whole) nanoseconds place = record { whole = whole; nanoseconds =
 abbrev pub KeepsOthers : Unfinished → Unfinished → ℕ → Type 0
 KeepsOthers old new modem = (other : ℕ) → other ≢ modem → held_at new other ≡ held_at old other
 
--- What a record tells, by what was under way before it: its part is the next one of a message, which may be whole with it; or the part is refused;
--- or it has none.
+-- What a record tells, by what was under way before it: its part is the next one of a message,
+-- which may be whole with it; or the part is refused; or it has none.
 pub data Tells (one : CaptureParts) (place : ℕ) (old new : Unfinished) (told : List CapturedMessage) : Type 0 where
   no_part : ((part : PartParts) → ¬ HoldsPart one part) → new ≡ old → told ≡ [] → Tells one place old new told
   refused : (part : PartParts) (why : JoinFault) → HoldsPart one part → why ≢ OutOfMemory → Refused old new part why → KeepsOthers old new part.modem
@@ -66,7 +66,8 @@ pub record IsNew (unfinished : Unfinished) : Type 0 where
   pub none : (modem : ℕ) → held_at unfinished modem ≡ None
   pub count : count_of unfinished ≡ 0
 
--- **The messages that records tell**, one after another, what is under way behind them, and what they show of SIDs.
+-- **The messages that records tell**, one after another, what is under way behind them, and what
+-- they show of SIDs.
 pub data TellAll : List CaptureParts → Unfinished → List CapturedMessage → Seen → Type 0 where
   none_told : {begun : Unfinished} → IsNew begun → TellAll [] begun [] nothing_seen
   one_told : {records : List CaptureParts} {between end : Unfinished} {messages more : List CapturedMessage} {before seen : Seen} (one : CaptureParts)

@@ -69,10 +69,10 @@ fn write_reading<W: Write>(
     text.finish()
 }
 
-/// Reads a capture, pcap or pcapng, to its end, and writes the map that the registrations in it give;
-/// where they add no SID, above it as comments what was seen of SIDs. It reads without a limit, up to
-/// 2^64 - 1 bytes, and what it holds doesn't grow with them: a piece, one record or block, the
-/// messages that are under way, the map, and what was seen.
+/// Reads a capture, pcap or pcapng, to its end, and writes the map that the registrations in it
+/// give; where they add no SID, above it as comments what was seen of SIDs. It reads without a
+/// limit, up to 2^64 - 1 bytes, and what it holds doesn't grow with them: a piece, one record or
+/// block, the messages that are under way, the map, and what was seen.
 ///
 /// `Read`: the reader failed, or gave more. `Capture`: the capture is malformed behind so many
 /// records, or ends too early. `OutOfMemory`: an allocation failed. Up to here nothing was written.

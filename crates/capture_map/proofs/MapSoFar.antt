@@ -19,7 +19,8 @@ line_taken said fields given line after (Ok none) are says more = inr (record { 
 line_taken said fields given line after (Err (Kind kind)) are says fault = in_place line (subst (Says line) (sym are) says) fault
 line_taken said fields given line after (Err OutOfMemory) are says fault = tt
 
--- The lines down to this rest, whose first one has this number, were read: whatever the rest comes to after them, the text comes to.
+-- The lines down to this rest, whose first one has this number, were read: whatever the rest comes
+-- to after them, the text comes to.
 pub record MapSoFar (text rest : List ℕ) (number : ℕ) (reading : Reading) : Type 0 where
   pub said : Said
   pub read : HasRead said reading

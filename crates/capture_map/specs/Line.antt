@@ -62,7 +62,7 @@ pub record HasWrongCount (fields : List (List ℕ)) : Type 0 where
   pub are : fields ≡ word_of form ∷ after
   pub wrong : length after ≢ count_after form
 
--- as many fields follow it as in its form, and one of them isn't what it has to be: they say nothing
+-- as many fields follow it as in its form, and one isn't what it has to be: they say nothing
 pub record SaysNothing (fields : List (List ℕ)) : Type 0 where
   pub form : MapForm
   pub after : List (List ℕ)

@@ -55,17 +55,20 @@ fault_in_place said (Flow flow) = fault_of_flow said flow
 fault_in_place said (Channel channel) = fault_of_channel said channel
 fault_in_place said (Sid row) = fault_of_sid said row
 
--- the fault of a line with these fields after lines that say this: one that it has by itself, or one that what it says has there
+-- the fault of a line with these fields after lines that say this: one that it has by itself, or
+-- one that what it says has there
 pub data HasFault (said : Said) (fields : List (List ℕ)) (kind : MapKind) : Type 0 where
   by_itself : HasFaultByItself fields kind → HasFault said fields kind
   in_place : (line : MapLine) → Says line fields → fault_in_place said line ≡ Some kind → HasFault said fields kind
 
--- what comes of lines: what they say together, or the first faulty one, by its number, and the kind of its fault
+-- what comes of lines: what they say together, or the first faulty one, by its number, and the kind
+-- of its fault
 pub data Outcome : Type 0 where
   all_said : Said → Outcome
   faulty_line : ℕ → MapKind → Outcome
 
--- After lines that say this, lines whose first one has this number come to this; a line without fields changes nothing.
+-- After lines that say this, lines whose first one has this number come to this; a line without
+-- fields changes nothing.
 pub data Reads : Said → ℕ → List (List ℕ) → Outcome → Type 0 where
   no_lines : {said : Said} {number : ℕ} → Reads said number [] (all_said said)
   skipped : {said : Said} {number : ℕ} {line : List ℕ} {lines : List (List ℕ)} {outcome : Outcome}

@@ -8,12 +8,12 @@
 //! - `sid <channel> <sid> <flow>` gives a service identifier of a channel to a flow;
 //! - a comment begins with `#`.
 //!
-//! [`read_map`] reads a [`CaptureMap`], or reports the first faulty line by its number, and why by a
-//! [`MapKind`]. A map has at most 16 channels and 16,384 flows, as many as a receiver.
+//! [`read_map`] reads a [`CaptureMap`], or reports the first faulty line by its number, and why by
+//! a [`MapKind`]. A map has at most 16 channels and 16,384 flows, as many as a receiver.
 //!
 //! What matters most: a map is read exactly as its lines say one after another by the definition
-//! `Reads`, and a fault is one that the first faulty line has after the lines above it; a text comes
-//! to only one of these ([`laws::lines_come_to_one_thing`]).
+//! `Reads`, and a fault is one that the first faulty line has after the lines above it; a text
+//! comes to only one of these ([`laws::lines_come_to_one_thing`]).
 #![tactic(auto)]
 
 mod fault;

@@ -39,8 +39,8 @@ pub struct MapChannel {
     pub id: u32,
 }
 
-/// What the lines of a map say, each in its order. No two flows have one service flow identifier, no
-/// two rows one channel and service identifier, and no two channels one number or one id.
+/// What the lines of a map say, each in its order. No two flows have one service flow identifier,
+/// no two rows one channel and service identifier, and no two channels one number or one id.
 #[derive(Debug, Drop)]
 pub struct CaptureMap {
     pub flows: Vec<MapFlow>,

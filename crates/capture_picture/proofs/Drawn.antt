@@ -4,7 +4,8 @@ use Rattle.capture_picture.specs.ShownFlow.{ShownFlow}
 use Rattle.capture_picture.specs.Picture.{Picture, reached, changed_in_flow, drawn_at}
 use Rattle.capture_picture.proofs.Changed.{changed_at-set}
 
--- the columns were wide enough, and the flow there was read, changed in the column of the age, and written
+-- the columns were wide enough, and the flow there was read, changed in the column of the age, and
+-- written
 pub drawn_at-set : (place age column : ℕ) (change : ℕ → ShownFlow → ShownFlow) (was now : Picture) (flow changed : ShownFlow) → now ≡ reached age was
     → column ≡ age / now.column_width → place < length now.flows → flow ≡ get_or now.flows place flow → changed ≡ change column flow
     → record now { flows = set now.flows place changed } ≡ drawn_at place age change was

@@ -25,13 +25,15 @@ frame_end Behind = codes "' height='60' stroke='#999' stroke-width='1'/>\n"
 abbrev pub index_height : Span → ℕ → ℕ
 index_height whole index = scaled (index - whole.low) (whole.high - whole.low) 197
 
--- a stroke from the greatest index down to the least, and a bit further so that a single segment is seen: y runs downwards
+-- a stroke from the greatest index down to the least, and a bit further so that a single segment is
+-- seen: y runs downwards
 abbrev pub index_stroke : Span → ℕ → Span → List ℕ
 index_stroke whole left span =
     valued (codes "M") left ++ valued (codes " ") (197 - index_height whole span.high)
     ++ valued (codes "v") (kept_within (index_height whole span.high - index_height whole span.low + 3))
 
--- a short stroke as high as a segment lay behind the newest one, so that strokes of channels don't hide one another
+-- a short stroke as high as a segment lay behind the newest one, so that strokes of channels don't
+-- hide one another
 abbrev pub behind_stroke : Span → ℕ → Span → List ℕ
 behind_stroke whole left span = valued (codes "M") left ++ valued (codes " ") (57 - scaled span.behind whole.behind 57) ++ codes "v3"
 

@@ -14,7 +14,8 @@ first_index number = numbers + number % numbers
 abbrev pub ahead_of : ℕ → ℕ → ℕ
 ahead_of newest number = (numbers + number % numbers - newest % numbers) % numbers
 
--- **Of the indexes with this number the one that is nearest to the newest one**: below 4,096 a number lies ahead, otherwise behind
+-- **Of the indexes with this number the one that is nearest to the newest one**: below 4,096 a
+-- number lies ahead, otherwise behind
 abbrev pub nearest_index : ℕ → ℕ → ℕ
 nearest_index newest number =
     if nat_lt (ahead_of newest number) (numbers / 2) then kept_within (newest + ahead_of newest number)

@@ -78,7 +78,8 @@ axis_text grid end =
     valued (codes "<text x='0' y='396'>0 s</text><text text-anchor='end' y='396' x='") (plot_width grid) ++ codes "'>" ++ time_text end
     ++ codes " s</text>\n"
 
--- **What is drawn of a flow**, so far down: what was counted, the chart of indexes, the marks, and the chart of how far segments lay behind
+-- **What is drawn of a flow**, so far down: what was counted, the chart of indexes, the marks, and
+-- the chart of how far segments lay behind
 abbrev pub panel_text : Grid → ℕ → List PictureChannel → ℕ → ShownFlow → List ℕ
 panel_text grid end channels top flow =
     valued (codes "<g transform='translate(150,") top ++ codes ")'>\n" ++ heading_text flow.flow flow.sfid flow.bursts (all_marks flow.columns)

@@ -8,8 +8,9 @@ use Rattle.capture_picture.specs.declared.picture.PictureChannel.{PictureChannel
 use Rattle.capture_picture.specs.declared.picture.PictureBurst.{PictureBurst}
 use Rattle.capture_picture.specs.declared.picture.CapturePicture.{CapturePicture}
 
--- when the first burst came, how long a column is, how long after the first burst the last thing came, the flows that are shown, whether a burst
--- came of each that isn't, by its index, and the channels of the map. Times are in nanoseconds
+-- when the first burst came, how long a column is, how long after the first burst the last thing
+-- came, the flows that are shown, whether a burst came of each that isn't, by its index, and the
+-- channels of the map. Times are in nanoseconds
 pub record Picture : Type 0 where
   pub first : Option ℕ
   pub column_width : ℕ
@@ -45,8 +46,8 @@ doubled_within zero age picture = picture
 doubled_within (suc most) age picture =
     if nat_lt (age / columns_most) picture.column_width then picture else doubled_within most age (doubled picture)
 
--- **The columns are wide enough for so many nanoseconds after the first burst**: a width of 1 and more that doubles is above age / 256 after fewer
--- than age steps
+-- **The columns are wide enough for so many nanoseconds after the first burst**: a width of 1 and
+-- more that doubles is above age / 256 after fewer than age steps
 unfoldable pub reached : ℕ → Picture → Picture
 reached age picture =
     let wide = doubled_within age age picture in record wide { latest = max picture.latest age }
@@ -86,7 +87,7 @@ with_other flow picture =
 abbrev pub other_count : Picture → ℕ
 other_count picture = count_by (λ came. came) picture.others
 
--- **A burst is taken**: of a flow that is shown, of one that is shown from now on, or of one past the eighth
+-- **A burst is taken**: of a flow that is shown, or is from now on, or of one past the eighth
 abbrev pub with_burst_at : ℕ → PictureBurst → Picture → Picture
 with_burst_at place burst picture =
     if nat_lt place (length picture.flows) then with_segment_at place burst picture

@@ -48,7 +48,8 @@ opening_text height =
     ++ valued (codes "' font-family='sans-serif' font-size='12' shape-rendering='crispEdges'>\n<rect width='1200' height='") height
     ++ codes "' fill='white'/>\n<text x='20' y='28' font-size='18'>Segments of a capture</text>\n"
 
--- **The picture of a capture**: a title, a legend of the channels, what is drawn of each flow that is shown, and how many aren't
+-- **The picture of a capture**: a title, a legend of the channels, what is drawn of each flow that
+-- is shown, and how many aren't
 abbrev pub picture_text : Picture → List ℕ
 picture_text picture =
     opening_text (picture_height (length picture.channels) (length picture.flows)) ++ legend_text picture.channels

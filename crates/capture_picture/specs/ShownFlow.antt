@@ -10,7 +10,8 @@ use Rattle.capture_picture.specs.declared.column.Column.{Column}
 abbrev pub flows_most : ℕ
 flows_most = 8
 
--- its index in the map, its service flow identifier, its greatest index, how many bursts it had, and its columns
+-- its index in the map, its service flow identifier, its greatest index, how many bursts it had,
+-- and its columns
 pub record ShownFlow : Type 0 where
   pub flow : ℕ
   pub sfid : ℕ

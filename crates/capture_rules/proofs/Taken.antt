@@ -126,7 +126,8 @@ module _ {T : Type 0} where
       let own : once (number == number) ≡ 1 = ap once (eq-eqb number number refl) in
       omega (arith, popped, before, own, none)
 
-  -- **The one that is handed on next** is the first that has the number which comes first on the oldest one's channel.
+  -- **The one that is handed on next** is the first that has the number which comes first on the
+  -- oldest one's channel.
   module _ (numbers : WaitingNumbers) (waiting : List (Waiting T)) (oldest one : Waiting T) (number at : ℕ) (were : AreNumbersOf numbers waiting)
       (stands_first : slice_get waiting 0 ≡ Some oldest) (first : All (ComesFirst (number_ahead oldest.arrival.number 4096) number) (numbers_on numbers oldest.arrival.channel))
       (stands : slice_get waiting at ≡ Some one) (has_it : has oldest.arrival.channel number one ≡ true)

@@ -10,8 +10,8 @@ use Rattle.capture_rules.specs.Order.{most_waiting, place_from}
 abbrev pub beginning_length : ℕ
 beginning_length = 10000000
 
--- What is known of a flow: how long a silence is at least, whether its first number is known, when the last burst was handed on, and what is kept since the
--- flow is beginning.
+-- What is known of a flow: how long a silence is at least, whether its first number is known, when
+-- the last burst was handed on, and what is kept since the flow is beginning.
 pub record BeginningView (T : Type 0) : Type 0 where
   pub wait : ℕ
   pub is_begun : Bool
@@ -36,17 +36,20 @@ module _ {T : Type 0} where
   is_beginning [] = false
   is_beginning (first ∷ more) = true
 
-  -- and its beginning is over at this time: it has lasted long enough, or has as many bursts as wait at most
+  -- and its beginning is over at this time: it lasted long enough or has as many bursts as may wait
   abbrev pub is_over : List (HandedOn T) → ℕ → Bool
   is_over [] time = false
   is_over (first ∷ more) time = nat_lt beginning_length (time - first.time) || nat_le most_waiting (length (first ∷ more))
 
-  -- **A silence is over** at this time: the flow isn't beginning, and nothing was handed on for longer than `wait`.
+  -- **A silence is over** at this time: the flow isn't beginning, and nothing was handed on for
+  -- longer than `wait`.
   abbrev pub is_silent : BeginningView T → ℕ → Bool
   is_silent flow time = not (is_beginning flow.kept) && is_long_ago flow.wait flow.last time
 
-  -- **It is kept**, where this number is expected and the window has this width: the flow is beginning; or it begins with this one, since its first number
-  -- isn't known; or it begins anew with this one, since after a silence its number doesn't lie ahead within the window. Any other is handed in.
+  -- **It is kept**, where this number is expected and the window has this width: the flow is
+  -- beginning; or it begins with this one, since its first number isn't known; or it begins anew
+  -- with this one, since after a silence its number doesn't lie ahead within the window. Any other
+  -- is handed in.
   abbrev pub is_kept : BeginningView T → ℕ → ℕ → HandedOn T → Bool
   is_kept flow expected window one =
       is_beginning flow.kept || (not flow.is_begun || (is_silent flow one.time && nat_le window (offset expected one.arrival.number)))
@@ -63,7 +66,7 @@ module _ {T : Type 0} where
   abbrev pub after_end : BeginningView T → BeginningView T
   after_end flow = record flow { is_begun = true; kept = [] }
 
-  -- **The first number** of a flow with this beginning: the least one in it, going by the first one's.
+  -- **The first number** of a flow with this beginning: the least in it, going by the first one's.
   pub record IsFirstNumber (kept : List (HandedOn T)) (number : ℕ) : Type 0 where
     pub first : HandedOn T
     pub stands_first : slice_get kept 0 ≡ Some first

@@ -6,7 +6,8 @@ use Rattle.capture_rules.specs.declared.clock_counts.ClockCounts.{ClockCounts}
 abbrev pub is_set_back : ℕ → ℕ → ℕ → Bool
 is_set_back reorder clock time = nat_lt reorder (clock - time)
 
--- What the clock says then: the burst's time. A burst that is earlier by less, or by as much, leaves it as it is.
+-- What the clock says then: the burst's time. A burst that is earlier by less, or by as much,
+-- leaves it as it is.
 abbrev pub clock_at : ℕ → ℕ → ℕ → ℕ
 clock_at reorder clock time = if is_set_back reorder clock time then time else max clock time
 
@@ -18,7 +19,8 @@ together some more = min (some + more) (2 ^ 64 - 1)
 abbrev pub none_counted : ClockCounts
 none_counted = record { set_back = 0; crowded = 0 }
 
--- **What is counted** after a burst by which the clock was set back or wasn't, and with which too many would have waited or not
+-- **What is counted** after a burst by which the clock was set back or wasn't, and with which too
+-- many would have waited or not
 abbrev pub counts_after : ClockCounts → Bool → Bool → ClockCounts
 counts_after counts is_set_back is_crowded =
     record { set_back = together counts.set_back (if is_set_back then 1 else 0); crowded = together counts.crowded (if is_crowded then 1 else 0) }

@@ -24,7 +24,8 @@ is_old wait now one = nat_lt wait (now - one.time)
 abbrev pub still_ahead : ℕ → List HeldTime → List HeldTime
 still_ahead expected held = filter (lies_ahead expected) held
 
--- **The number to which a flow skips** that has held these: the last of the old ones, going from the expected number on; or none where none is old.
+-- **The number to which a flow skips** that has held these: the last of the old ones, going from
+-- the expected number on; or none where none is old.
 pub record IsLastOld (wait now expected : ℕ) (held : List HeldTime) (number : ℕ) : Type 0 where
   pub at : ℕ
   pub one : HeldTime

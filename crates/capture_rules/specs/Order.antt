@@ -8,7 +8,8 @@ use Rattle.capture_rules.specs.declared.arrival.Waiting.{Waiting}
 use Rattle.capture_rules.specs.declared.clock_counts.ClockCounts.{ClockCounts}
 use Rattle.capture_rules.specs.Clock.{is_set_back, clock_at, none_counted, counts_after}
 
--- **So many bursts of a flow wait at most**, and make a beginning: with one more the next is handed on, or the beginning is over.
+-- **So many bursts of a flow wait at most**, and make a beginning: with one more the next is handed
+-- on, or the beginning is over.
 abbrev pub most_waiting : ℕ
 most_waiting = 2048
 
@@ -16,7 +17,8 @@ most_waiting = 2048
 abbrev pub place_from : ℕ → ℕ → ℕ
 place_from other number = offset other (number_ahead number numbers_ahead)
 
--- What is known of a flow's order: how long bursts wait, what its clock says and how often times couldn't be gone by, and those that wait, in the order in which they came.
+-- What is known of a flow's order: how long bursts wait, what its clock says and how often times
+-- couldn't be gone by, and those that wait, in the order in which they came.
 pub record OrderView (T : Type 0) : Type 0 where
   pub reorder : ℕ
   pub clock : ℕ
@@ -28,8 +30,8 @@ module _ {T : Type 0} where
   abbrev pub nothing_waits : ℕ → OrderView T
   nothing_waits reorder = record { reorder = reorder; clock = 0; counts = none_counted; waiting = [] }
 
-  -- The oldest of those that wait, which stands first, goes before a burst of this time is taken in: the clock is set back then, or it has waited for longer
-  -- than `reorder`.
+  -- The oldest of those that wait, which stands first, goes before a burst of this time is taken
+  -- in: the clock is set back then, or it has waited for longer than `reorder`.
   abbrev pub is_due : OrderView T → ℕ → Bool
   is_due order time = any_due order.waiting
     where
@@ -40,8 +42,9 @@ module _ {T : Type 0} where
   abbrev pub place_of : Waiting T → Waiting T → ℕ
   place_of oldest one = place_from oldest.arrival.number one.arrival.number
 
-  -- **The one that is handed on next**, in the oldest one's place and at its time: of those of its channel the one of the least number, going by the oldest's,
-  -- and of several of one number the first. The others go on waiting.
+  -- **The one that is handed on next**, in the oldest one's place and at its time: of those of its
+  -- channel the one of the least number, going by the oldest's, and of several of one number the
+  -- first. The others go on waiting.
   pub record IsNext (waiting : List (Waiting T)) (next : HandedOn T) (rest : List (Waiting T)) : Type 0 where
     pub oldest : Waiting T
     pub stands_first : slice_get waiting 0 ≡ Some oldest
@@ -57,7 +60,7 @@ module _ {T : Type 0} where
         → place_of oldest one < place_of oldest other
     pub others : rest ≡ remove waiting at
 
-  -- what is handed on before a burst of this time is taken in, one after another, and what goes on waiting
+  -- what is handed on, in turn, before a burst of this time is taken in, and what goes on waiting
   pub data HandsOn (time : ℕ) : OrderView T → List (HandedOn T) → OrderView T → Type 0 where
     none_due : {order : OrderView T} → is_due order time ≡ false → HandsOn time order [] order
     one_due : {order left : OrderView T} {rest : List (Waiting T)} {next : HandedOn T} {later : List (HandedOn T)}

@@ -13,7 +13,8 @@ module _ {T : Type 0} where
   clocked reorder clock [] = []
   clocked reorder clock (one ∷ more) = record { came = clock_at reorder clock one.time; arrival = one } ∷ clocked reorder (clock_at reorder clock one.time) more
 
--- In what follows `place` says where a burst stands on its channel: its number, counted on where numbers begin again.
+-- In what follows `place` says where a burst stands on its channel: its number, counted on where
+-- numbers begin again.
 module _ {T : Type 0} (reorder : ℕ) (place : Arrival T → ℕ) where
   -- one stands no later than another of its channel
   abbrev pub InTurn : Arrival T → Arrival T → Type 0
@@ -22,15 +23,17 @@ module _ {T : Type 0} (reorder : ℕ) (place : Arrival T → ℕ) where
   abbrev pub HasPlace : Arrival T → Type 0
   HasPlace one = one.number ≡ place one % modulus
 
-  -- How one came before another, by the flow's clock: it isn't set back between them; in its turn, unless both came within `reorder`; and then they stand
-  -- within half of all numbers on their channel.
+  -- How one came before another, by the flow's clock: it isn't set back between them; in its turn,
+  -- unless both came within `reorder`; and then they stand within half of all numbers on their
+  -- channel.
   pub record CameBefore (earlier later : Waiting T) : Type 0 where
     pub times : earlier.came ≤ later.came
     pub turn : reorder < later.came - earlier.came → InTurn earlier.arrival later.arrival
     pub near : later.came - earlier.came ≤ reorder → later.arrival.channel ≡ earlier.arrival.channel
         → (place earlier.arrival < place later.arrival + numbers_ahead) × (place later.arrival < place earlier.arrival + numbers_ahead)
 
-  -- **Bursts that came nearly in order**: those of a channel in the order of their numbers, but for such as came within `reorder` of one another.
+  -- **Bursts that came nearly in order**: those of a channel in the order of their numbers, but for
+  -- such as came within `reorder` of one another.
   pub record CameNearlyInOrder (came : List (Arrival T)) : Type 0 where
     pub places : All (λ one. HasPlace one.arrival) (clocked reorder 0 came)
     pub pairs : AllPairs CameBefore (clocked reorder 0 came)

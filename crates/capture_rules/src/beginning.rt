@@ -19,10 +19,10 @@ pub const BEGINNING: u64 = 10_000_000;
 /// Says of each burst of a flow that is handed on whether it is kept, since the flow is beginning,
 /// or is to be handed in.
 ///
-/// A flow begins with the first burst where its first number isn't known, and begins anew where after
-/// a silence a number comes that doesn't lie ahead within the window. A silence is more than `wait`
-/// nanoseconds in which nothing was handed on. It holds what is handed on within 10 ms and, where
-/// [`Beginning::end_at`] is asked before each burst, no more than [`MOST_WAITING`] bursts.
+/// A flow begins with the first burst where its first number isn't known, and begins anew where
+/// after a silence a number comes that doesn't lie ahead within the window. A silence is more than
+/// `wait` nanoseconds in which nothing was handed on. It holds what is handed on within 10 ms and,
+/// where [`Beginning::end_at`] is asked before each burst, no more than [`MOST_WAITING`] bursts.
 #[derive(Drop)]
 pub struct Beginning<T> {
     wait: u64,
@@ -59,8 +59,8 @@ impl<T> Beginning<T> {
         }
     }
 
-    /// Whether a silence is over at this time. Then all that was held for long is to be given before
-    /// the number that is expected is looked at.
+    /// Whether a silence is over at this time. Then all that was held for long is to be given
+    /// before the number that is expected is looked at.
     pub fn is_silent(&self, time: u64) -> bool
         ensures { result ≡ is_silent (beginning_seen self.now) time }
     {

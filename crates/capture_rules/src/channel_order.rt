@@ -14,8 +14,8 @@ use std::collections::VecDeque;
 /// So many bursts of a flow wait at most, and as many make a beginning at most.
 pub const MOST_WAITING: usize = 2048;
 
-/// Lets the bursts of one flow wait for `reorder` nanoseconds, and hands them on, on each channel in
-/// the order of their numbers as far as they came within `reorder`.
+/// Lets the bursts of one flow wait for `reorder` nanoseconds, and hands them on, on each channel
+/// in the order of their numbers as far as they came within `reorder`.
 ///
 /// It goes by a clock of the flow's own, that doesn't go back: a burst that is earlier than the one
 /// before it counts as of that one's time. Only where it is earlier by more than `reorder` is the

@@ -11,8 +11,8 @@ use std::alloc::{AllocError, Global};
 /// Numbers and times of what one flow has kept while something is missing before it, and the number
 /// up to which the flow skips, once something has been held for longer than `wait` nanoseconds.
 ///
-/// It holds as many as lie ahead of the expected number: at most as many as the window is wide, where
-/// [`HeldTimes::pass`] is called whenever the flow has come further.
+/// It holds as many as lie ahead of the expected number: at most as many as the window is wide,
+/// where [`HeldTimes::pass`] is called whenever the flow has come further.
 #[derive(Drop)]
 pub struct HeldTimes {
     wait: u64,
@@ -42,8 +42,8 @@ impl HeldTimes {
         Ok(())
     }
 
-    /// The flow has come further, and expects this number, 0 to 8191: what doesn't lie ahead of it is
-    /// dropped. It looks once at each that is held.
+    /// The flow has come further, and expects this number, 0 to 8191: what doesn't lie ahead of it
+    /// is dropped. It looks once at each that is held.
     pub fn pass(&mut self, expected: u16)
         requires { expected < modulus }
         ensures ahead { held_by self.new ≡ still_ahead expected (held_by self.old) }
@@ -53,9 +53,9 @@ impl HeldTimes {
             .retain(|one| offset(expected, one.number) < NUMBERS_AHEAD);
     }
 
-    /// The number to which a flow skips that expects this number, 0 to 8191: of those that have been
-    /// held for longer than `wait` at this time the last one, going from the expected one on. It is
-    /// none where there is none. It looks once at each that is held.
+    /// The number to which a flow skips that expects this number, 0 to 8191: of those that have
+    /// been held for longer than `wait` at this time the last one, going from the expected one on.
+    /// It is none where there is none. It looks once at each that is held.
     pub fn skip_to(&self, now: u64, expected: u16) -> Option<u16>
         requires { expected < modulus }
         ensures number { IsSkip (wait_of self.now) now expected (held_by self.now) result }

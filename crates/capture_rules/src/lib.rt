@@ -4,9 +4,9 @@
 //! before it, each for one flow. All times are nanoseconds of the packets' clock, which may stand
 //! still, or go back.
 //!
-//! 1. [`ChannelOrder`]: an analyser may write two bursts of one channel the other way round. So each
-//!    [`Arrival`] waits for `reorder`, by a clock of the flow, and of those on one channel the one
-//!    of the least number is [`HandedOn`] first. No more than [`MOST_WAITING`] wait.
+//! 1. [`ChannelOrder`]: an analyser may write two bursts of one channel the other way round. So
+//!    each [`Arrival`] waits for `reorder`, by a clock of the flow, and of those on one channel the
+//!    one of the least number is [`HandedOn`] first. No more than [`MOST_WAITING`] wait.
 //! 2. [`Beginning`]: where the first number isn't known, and where after a silence a number comes
 //!    that doesn't lie ahead within the window, what is handed on is kept for 10 ms, and the flow
 //!    begins, or begins anew, at the least number of these ([`Begun`]).

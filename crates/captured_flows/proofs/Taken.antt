@@ -37,7 +37,7 @@ abbrev pub Just : List Act → Spelled
 Just list made handed more = more ≡ list
 
 module _ {O : Type 0} (after : O → List Given → O → Type 0) (saw : O → List CaptureStep → O → Type 0) where
-  -- what a consumer of captures promises: nothing given leaves it as it is, and what is given is seen
+  -- what a consumer of captures promises: nothing given leaves it as it is, what is given is seen
   abbrev pub Begins : Type 0
   Begins = (start : O) → after start [] start
 
@@ -198,7 +198,8 @@ module _ {C O : Type 0} (accepts : C → List ℕ → Bool) (after : O → List 
     all = refl;
   }
 
-  -- A grant, by such an act, and its burst, one after the other, behind steps in which nothing is given: what is seen of both is one move.
+  -- A grant, by such an act, and its burst, one after the other, behind steps in which nothing is
+  -- given: what is seen of both is one move.
   takes-two : Begins after saw → Sees after saw → (act : HandedIn → Act) → ((item : HandedIn) → item_of (act item) ≡ item)
       → (r r' r'' : Receiver C) (o' o'' o3 o4 : O) (channel : ℕ) (grant burst : Input) (granting answered : Reply) (heads : List CaptureStep)
       → given_in heads ≡ [] → IsShown after saw o' heads o''

@@ -4,8 +4,8 @@ use Rattle.receiver.specs.HandedIn.{HandedIn}
 use Rattle.capture_rules.specs.declared.arrival.Arrival.{Arrival}
 use Rattle.captured_flows.specs.declared.sound_burst.SoundBurst.{SoundBurst}
 
--- **One act**: an item is handed in to a receiver, and no burst is told; or this burst of the flow with this index is told, and then an item is handed in,
--- which is its grant.
+-- **One act**: an item is handed in to a receiver, and no burst is told; or this burst of the flow
+-- with this index is told, and then an item is handed in, which is its grant.
 pub data Act : Type 0 where
   alone : HandedIn → Act
   with_burst : ℕ → Arrival SoundBurst → HandedIn → Act

@@ -40,11 +40,12 @@ pub record IsRefused (channel : ℕ) (burst : CapturedBurst) (answered : Reply) 
   pub is_burst : IsInput alone channel (refused_burst burst) answered made (handed ++ granted) coming
   pub all : more ≡ granted ++ coming
 
--- **With this map**, where a receiver is made with this, and what is held for longer than `wait` is let go. In what follows
--- `handed` is what was handed in before, and `more` what is handed in then.
+-- **With this map**, where a receiver is made with this, and what is held for longer than `wait` is
+-- let go. In what follows `handed` is what was handed in before, and `more` what is handed in then.
 module _ (capture_map : CaptureMap) (made : TableSetup) (wait : ℕ) where
-  -- **A burst comes**: one of an upstream channel or a service identifier that the map doesn't have is passed over; one that its lane refuses is handed in
-  -- at once, and its flow never sees it; any other comes to its flow.
+  -- **A burst comes**: one of an upstream channel or a service identifier that the map doesn't have
+  -- is passed over; one that its lane refuses is handed in at once, and its flow never sees it; any
+  -- other comes to its flow.
   pub data SpellsBurst (flows : List FlowView) (burst : CapturedBurst) (handed : List Act) : BurstTaken → List Act → List FlowView → Type 0 where
     of_no_channel : channel_of capture_map.channels.items burst.channel ≡ None → SpellsBurst flows burst handed taken.UnknownChannel [] flows
     of_no_flow : (channel : ℕ) → channel_of capture_map.channels.items burst.channel ≡ Some channel → flow_of capture_map.sids.items channel burst.sid ≡ None
@@ -64,7 +65,8 @@ module _ (capture_map : CaptureMap) (made : TableSetup) (wait : ℕ) where
         → SpellsBursts flows handed (bursts ++ burst ∷ []) (first ++ later) flows'
 
 module _ (made : TableSetup) (wait : ℕ) where
-  -- **Nothing more comes** of the first n flows: of one after another all that waits is handed on, and its beginning ends.
+  -- **Nothing more comes** of the first n flows: of one after another all that waits is handed on,
+  -- and its beginning ends.
   pub data EndsAll (flows : List FlowView) (handed : List Act) : ℕ → List Act → List FlowView → Type 0 where
     none_ends : EndsAll flows handed 0 [] flows
     one_more_ends : {n : ℕ} {first later : List Act} {between : List FlowView} (flow flow' : FlowView)
@@ -73,7 +75,8 @@ module _ (made : TableSetup) (wait : ℕ) where
 
 -- ============ What a map is to a receiver ============
 
--- a flow's record: where its first number isn't known it is 0, which nothing comes of, since the flow begins before something is handed in
+-- a flow's record: where its first number isn't known it is 0, which nothing comes of, since the
+-- flow begins before something is handed in
 abbrev pub record_of : MapFlow → FlowRecord
 record_of flow = record { sfid = flow.sfid; first = unwrap_or flow.first 0; window = flow.window; clusters = flow.clusters; ring = 1 }
 

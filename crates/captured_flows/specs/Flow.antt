@@ -49,7 +49,8 @@ pub record IsInput (act : HandedIn → Act) (channel : ℕ) (input : Input) (ans
   pub told : IsToldRightly made (items_of handed) channel answer answered
   pub all : more ≡ act (came channel (record { input = input; answer = answer })) ∷ []
 
--- What is known of a flow: the window's width; the order of its bursts, and those that wait; its beginning; and what it holds, with times.
+-- What is known of a flow: the window's width; the order of its bursts, and those that wait; its
+-- beginning; and what it holds, with times.
 pub record FlowView : Type 0 where
   pub window : ℕ
   pub order : OrderView SoundBurst
@@ -69,8 +70,9 @@ pub data EndsIf (is_to_end : Bool) (beginning : BeginningView SoundBurst) : Opti
 abbrev pub Expects : TableSetup → ℕ → List Act → ℕ → Type 0
 Expects made k handed number = (flow_record : FlowRecord) → slice_get made.records k ≡ Some flow_record → IsNumberExpected made k flow_record (items_of handed) number
 
--- **Flow k of a receiver that is made with this**, where what is held for longer than `wait` is let go. In what follows `handed` is what was handed in before,
--- of all flows, and `more` what is handed in then.
+-- **Flow k of a receiver that is made with this**, where what is held for longer than `wait` is let
+-- go. In what follows `handed` is what was handed in before, of all flows, and `more` what is
+-- handed in then.
 module _ (made : TableSetup) (wait k : ℕ) where
   -- the flow skips to a number, and what then doesn't lie ahead is held no longer
   pub record Skips (number : ℕ) (held : List HeldTime) (handed more : List Act) (left : List HeldTime) : Type 0 where
@@ -90,7 +92,8 @@ module _ (made : TableSetup) (wait k : ℕ) where
     not_kept : Holds one held false held
     kept : (entry : HeldTime) → entry.number ≡ one.arrival.number → entry.time ≡ one.time → Holds one held true (held ++ entry ∷ [])
 
-  -- **A burst is handed in**, after what is let go: it is told, and then its grant and itself are handed in, each answered by its lane. If its segment is kept, it is held from then on, as long
+  -- **A burst is handed in**, after what is let go: it is told, and then its grant and itself are
+  -- handed in, each answered by its lane. If its segment is kept, it is held from then on, as long
   -- as it lies ahead.
   pub record HandsIn (one : Next) (held : List HeldTime) (handed more : List Act) (left : List HeldTime) : Type 0 where
     pub let_go : List Act
@@ -137,7 +140,8 @@ module _ (made : TableSetup) (wait k : ℕ) where
     is_kept_then : HandsInIf held handed None [] held
     is_handed_in : {one : Next} {more : List Act} {left : List HeldTime} → HandsIn one held handed more left → HandsInIf held handed (Some one) more left
 
-  -- **A burst is handed on**: a beginning that is over ends first; after a silence what is old is let go; and then it is kept, or handed in.
+  -- **A burst is handed on**: a beginning that is over ends first; after a silence what is old is
+  -- let go; and then it is kept, or handed in.
   pub record IsHandedOn (window : ℕ) (one : Next) (beginning : BeginningView SoundBurst) (held : List HeldTime) (handed more : List Act) (beginning' : BeginningView SoundBurst) (held' : List HeldTime) : Type 0 where
     pub begun : Option (Begun SoundBurst)
     pub ended : BeginningView SoundBurst

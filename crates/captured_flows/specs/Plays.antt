@@ -1,4 +1,4 @@
--- What a consumer sees of what is handed in to a receiver: which frames and requests come of which burst.
+-- What a consumer sees of what a receiver takes: which frames and requests come of which burst.
 use Rattle.std.specs.Prelude.{◌≡◌, ℕ, Bool, Some, List, [], ◌∷◌, ◌++◌, length, map, slice_get}
 use Rattle.flow_records.specs.declared.record.FlowRecord.{FlowRecord}
 use Rattle.flow_core.specs.declared.counts.FlowCounts.{FlowCounts}
@@ -25,28 +25,33 @@ use Rattle.captured_flows.specs.Steps.{CaptureStep, handed_in, gave, began_anew,
 abbrev pub came_on : ℕ → Input → Answer → HandedIn
 came_on channel input answer = came channel (record { input = input; answer = answer })
 
--- a flow is closed of which this was handed in and given: it gives these frames more, and has these counts since it was begun
+-- a flow is closed of which this was handed in and given: it gives these frames more, and has these
+-- counts since it was begun
 abbrev pub ClosesFlow : (List ℕ → Bool) → TableSetup → ℕ → List HandedIn → List Given → List (List ℕ) → FlowCounts → Type 0
 ClosesFlow check made flow handed given frames counts =
     (flow_record : FlowRecord) → slice_get made.records flow ≡ Some flow_record
     → GaveSince (λ own. GaveByRule check (begun_with made flow flow_record (flow_inputs (length made.records) handed))
     (came_since made flow flow_record (flow_inputs (length made.records) handed)) (own ++ frames) counts) (frames_of flow given)
 
--- A part of a move, in which something failed: what was handed in of it, and what is seen. If a burst was told, it was told first.
+-- A part of a move, in which something failed: what was handed in of it, and what is seen. If a
+-- burst was told, it was told first.
 pub data IsPart : List Act → List CaptureStep → Type 0 where
   none_told : (more : List Act) (gives : List Given) → IsPart more (map gave gives)
   one_told : (flow : ℕ) (one : Next) (more : List Act) (gives : List Given) → IsPart more (handed_in flow one.arrival ∷ map gave gives)
 
 module _ {C : Type 0} (accepts : C → List ℕ → Bool) (check : List ℕ → Bool) (made : TableSetup) where
-  -- Some receiver stands for what was handed in, has given this, and has nothing left to be done: so this is all that is given for it.
+  -- Some receiver stands for what was handed in, has given this, and has nothing left to be done:
+  -- so this is all that is given for it.
   pub record IsGivenFor (handed : List Act) (given : List Given) : Type 0 where
     pub receiver : Receiver C
     pub stands : StandsFor accepts receiver check made (items_of handed) given
     pub at_hand : IsAtHand accepts receiver
 
-  -- **One move**, after this was handed in and given: what is handed in, and what is seen. A flow skips, and what that gives is seen. The grant of a burst
-  -- and the burst itself, which its lane won't admit, are handed in, and no burst is told. A burst of a flow is told, and then its grant and itself are
-  -- handed in, and what each gives is seen. A flow is closed, what it then gives is seen, and then that it begins anew, with its counts.
+  -- **One move**, after this was handed in and given: what is handed in, and what is seen. A flow
+  -- skips, and what that gives is seen. The grant of a burst and the burst itself, which its lane
+  -- won't admit, are handed in, and no burst is told. A burst of a flow is told, and then its grant
+  -- and itself are handed in, and what each gives is seen. A flow is closed, what it then gives is
+  -- seen, and then that it begins anew, with its counts.
   pub data IsMove (handed : List Act) (given : List Given) : List Act → List CaptureStep → Type 0 where
     skips_to : (flow number : ℕ) (gives : List Given) → IsGivenFor (handed ++ alone (decided flow (SkipTo number)) ∷ []) (given ++ gives)
         → IsMove handed given (alone (decided flow (SkipTo number)) ∷ []) (map gave gives)

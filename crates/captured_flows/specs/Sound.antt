@@ -9,11 +9,13 @@ use Rattle.capture_rules.specs.declared.arrival.Arrival.{Arrival}
 use Rattle.captured_flows.specs.declared.sound_burst.SoundBurst.{SoundBurst}
 use Rattle.captured_flows.specs.declared.captured_burst.CapturedBurst.{CapturedBurst}
 
--- How many bytes a burst's grant is taken to have: as many as are said, as the burst has, and 8, at least.
+-- How many bytes a burst's grant is taken to have: as many as are said, as the burst has, and 8, at
+-- least.
 abbrev pub granted_to : ℕ → List ℕ → ℕ
 granted_to granted bytes = max (max granted header_length) (min (length bytes) 4294967295)
 
--- **A burst that its lane will admit**, as it waits: its check is right, its grant isn't too great, and its bytes spell a segment.
+-- **A burst that its lane will admit**, as it waits: its check is right, its grant isn't too great,
+-- and its bytes spell a segment.
 pub record IsSound (channel : ℕ) (burst : CapturedBurst) (one : Arrival SoundBurst) : Type 0 where
   pub check : burst.check ≡ true
   pub small : granted_to burst.granted burst.bytes ≤ grant_max

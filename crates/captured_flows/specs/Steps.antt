@@ -5,8 +5,8 @@ use Rattle.consumer.specs.declared.given.Given.{Given}
 use Rattle.capture_rules.specs.declared.arrival.Arrival.{Arrival}
 use Rattle.captured_flows.specs.declared.sound_burst.SoundBurst.{SoundBurst}
 
--- **One step**: a burst of the flow with this index is handed in; something is given; or the flow was closed and begins anew, and this was counted of it
--- since it was begun.
+-- **One step**: a burst of the flow with this index is handed in; something is given; or the flow
+-- was closed and begins anew, and this was counted of it since it was begun.
 pub data CaptureStep : Type 0 where
   handed_in : ℕ → Arrival SoundBurst → CaptureStep
   gave : Given → CaptureStep

@@ -8,22 +8,22 @@ use capture_rules::Arrival;
 use consumer::Consumer;
 use flow_core::FlowCounts;
 
-/// Takes what is given of a capture, and is told of each burst when it is handed in: so it knows when
-/// what it is given came. It is told, too, when a flow was closed and begins anew. Its relation
-/// `after` speaks of what is given while it is told of nothing, and `saw` of all of it.
+/// Takes what is given of a capture, and is told of each burst when it is handed in: so it knows
+/// when what it is given came. It is told, too, when a flow was closed and begins anew. Its
+/// relation `after` speaks of what is given while it is told of nothing, and `saw` of all of it.
 pub trait CaptureConsumer: Consumer {
     // The first became the second by these steps, in order.
     ghost saw: { Self → List CaptureStep → Self → Type 0 };
 
     /// This burst of the flow with this index is handed in now. A request that is given next is its
-    /// own, and the frames of the flow that are given from now on, until another burst of the flow is
-    /// handed in, are whole since it was.
+    /// own, and the frames of the flow that are given from now on, until another burst of the flow
+    /// is handed in, are whole since it was.
     fn hand_in(&mut self, flow: usize, burst: &Arrival<SoundBurst>)
         ensures { (start : Self) (steps : List CaptureStep) → saw start steps self.old
             → saw start (steps ++ handed_in flow burst.now ∷ []) self.new };
 
-    /// The flow with this index was closed, and has given all that there was left to give. It begins
-    /// anew now, and this was counted of it since it was begun or began anew.
+    /// The flow with this index was closed, and has given all that there was left to give. It
+    /// begins anew now, and this was counted of it since it was begun or began anew.
     fn begin_anew(&mut self, flow: usize, counts: FlowCounts)
         ensures { (start : Self) (steps : List CaptureStep) → saw start steps self.old
             → saw start (steps ++ began_anew flow counts ∷ []) self.new };

@@ -29,8 +29,8 @@ pub struct CapturedBurst {
     pub bytes: Bytes,
 }
 
-/// How many bytes the grant of a burst is taken to have: as many as are said, as the burst has, and 8,
-/// at least, and at most 2^32 - 1.
+/// How many bytes the grant of a burst is taken to have: as many as are said, as the burst has, and
+/// 8, at least, and at most 2^32 - 1.
 pub(crate) fn granted_to(burst: &CapturedBurst) -> u32
     ensures { result ≡ granted_to burst.now.granted burst.now.bytes }
 {

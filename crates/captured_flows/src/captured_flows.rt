@@ -159,8 +159,8 @@ impl<C: HeaderCheck + Drop> CapturedFlows<C> {
     ghost use Rattle.receiver.specs.HandedIn.{HandedIn};
     ghost use Rattle.receiver.specs.Receiving.{StandsFor, IsSettledAt, HasGivenSince};
 
-    /// The flows of this map, of which nothing came yet, before a receiver of 16 channels that goes by
-    /// this rule of losses. A fault is one of the setup that the map makes.
+    /// The flows of this map, of which nothing came yet, before a receiver of 16 channels that goes
+    /// by this rule of losses. A fault is one of the setup that the map makes.
     pub fn new(
         alloc: Global,
         capture_map: CaptureMap,
@@ -193,9 +193,9 @@ impl<C: HeaderCheck + Drop> CapturedFlows<C> {
         })
     }
 
-    /// A burst comes. It is passed over, handed in at once where its lane refuses it, or comes to its
-    /// flow. After a fault nothing more is to be taken, and [`CapturedFlows::into_receiver`] gives
-    /// the receiver to be closed.
+    /// A burst comes. It is passed over, handed in at once where its lane refuses it, or comes to
+    /// its flow. After a fault nothing more is to be taken, and [`CapturedFlows::into_receiver`]
+    /// gives the receiver to be closed.
     pub fn take<O: CaptureConsumer>(
         &mut self,
         alloc: Global,
@@ -285,8 +285,8 @@ impl<C: HeaderCheck + Drop> CapturedFlows<C> {
         Ok(())
     }
 
-    /// The flow to which a burst of this upstream channel with this service identifier comes, if the
-    /// map has one.
+    /// The flow to which a burst of this upstream channel with this service identifier comes, if
+    /// the map has one.
     pub fn flow_of(&self, channel: u32, sid: u16) -> Option<usize>
         ensures { IsCapturing C.accepts self.now
             → result ≡ flow_in_map self.now.map channel sid }
@@ -296,7 +296,7 @@ impl<C: HeaderCheck + Drop> CapturedFlows<C> {
         Some(usize::from(flow))
     }
 
-    /// What was counted of a flow since it was begun or began anew, or none if there is no such flow.
+    /// What was counted of a flow since it last began, or none if there is no such flow.
     pub fn counts(&self, flow: usize) -> Option<FlowCounts>
         ensures none { result ≡ None ↔ (length self.now.receiver.flows.slots.items ≤ flow) }
         ensures counts { IfSome result (λ counts. (check : List ℕ → Bool) (made : TableSetup)

@@ -286,7 +286,7 @@ fn hand_in_if<C: HeaderCheck + Drop, O: CaptureConsumer>(
 impl CapturedFlow {
     ghost use Rattle.captured_flows.specs.Seen.{flow_seen, KeepsWaits, HasWaits};
 
-    /// Nothing of the flow came yet. Its window has this width, and its first number is known or isn't.
+    /// Nothing of the flow came yet. Its window has this width; its first number is known or not.
     pub(crate) fn new(alloc: Global, window: u16, is_begun: bool, waits: Waits) -> CapturedFlow
         ensures seen { flow_seen result ≡ flow_begun window is_begun waits.reorder waits.wait }
         ensures waits { HasWaits waits result }

@@ -4,23 +4,24 @@
 //! time. [`CapturedFlows`] stands between them, for a [`capture_map::CaptureMap`]:
 //!
 //! 1. [`CapturedFlows::new`] makes the receiver of 16 channels, with the map's flows and rows.
-//! 2. [`CapturedFlows::take`] takes a [`CapturedBurst`]. One whose channel or service identifier the
-//!    map doesn't have is passed over. One that its lane refuses is handed in at once, its grant and
-//!    itself. Any other comes to its flow by the rules of `capture_rules`: it waits for its turn on its
-//!    channel; it is kept while its flow begins, or begins anew after a silence; and then it is handed
-//!    in, after a skip to the last segment that was held for longer than [`Waits::wait`].
+//! 2. [`CapturedFlows::take`] takes a [`CapturedBurst`]. One whose channel or service identifier
+//!    the map doesn't have is passed over. One that its lane refuses is handed in at once, its
+//!    grant and itself. Any other comes to its flow by the rules of `capture_rules`: it waits for
+//!    its turn on its channel; it is kept while its flow begins, or begins anew after a silence;
+//!    and then it is handed in, after a skip to the last segment that was held for longer than
+//!    [`Waits::wait`].
 //! 3. [`CapturedFlows::end_waiting`] hands on what waits, of one flow after another, and
 //!    [`CapturedFlows::into_receiver`] gives the receiver, to be closed.
 //!
-//! What is given goes to a [`CaptureConsumer`], which is told of each burst before it is handed in: so
-//! it knows which burst completed a frame. It is told, too, of each flow that begins anew, with what
-//! was counted of it.
+//! What is given goes to a [`CaptureConsumer`], which is told of each burst before it is handed in:
+//! so it knows which burst completed a frame. It is told, too, of each flow that begins anew, with
+//! what was counted of it.
 //!
 //! What matters most: what is handed in is what the definitions `SpellsBurst`, `SpellsBursts` and
 //! `EndsAll` say of the bursts, their times and the numbers that the receiver expects, and the
-//! receiver stands for it: so what was given is what the receiver's definitions give for it. And what
-//! the consumer saw stands beside it, move by move, by the definition `Plays`: what a burst gives
-//! stands behind that burst and before the next.
+//! receiver stands for it: so what was given is what the receiver's definitions give for it. And
+//! what the consumer saw stands beside it, move by move, by the definition `Plays`: what a burst
+//! gives stands behind that burst and before the next.
 #![tactic(auto)]
 
 mod burst_taken;

@@ -17,8 +17,8 @@ use loss_rule::LossRule;
 use receiver::{MOST_FLOWS, Receiver, Setup, SetupError, Width};
 use std::alloc::{AllocError, Global};
 
-/// The record of a flow. Where its first number isn't known it is 0: nothing is handed in before the
-/// flow begins, at another one.
+/// The record of a flow. Where its first number isn't known it is 0: nothing is handed in before
+/// the flow begins, at another one.
 fn record_of(flow: &MapFlow) -> FlowRecord
     ensures { result ≡ record_of flow.now }
 {

@@ -28,7 +28,7 @@ pub(crate) struct SidFlows {
 impl SidFlows {
     ghost use Rattle.captured_flows.specs.SidFlows.{HasFlowsOf};
 
-    /// The flows of these rows. Of two rows with one channel and service identifier the first counts.
+    /// The flows of these rows. Of two with one channel and service identifier the first counts.
     pub(crate) fn new(alloc: Global, rows: &[MapSid]) -> Result<SidFlows, AllocError>
         ensures { IfOk result (HasFlowsOf rows.now) }
     {

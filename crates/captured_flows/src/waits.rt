@@ -6,7 +6,7 @@
 pub struct Waits {
     /// How long a burst waits for its neighbours on its channel.
     pub reorder: u64,
-    /// How long a segment is held before what is missing before it is lost, and how long a silence is
-    /// at least.
+    /// How long a segment is held before what is missing before it is lost, and how long a silence
+    /// is at least.
     pub wait: u64,
 }

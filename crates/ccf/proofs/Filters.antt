@@ -54,7 +54,8 @@ neither : (P Q : Type 0) → (P → ⊥) → (Q → ⊥) → P ⊎ Q → ⊥
 neither P Q p q (inl h) = p h
 neither P Q p q (inr h) = q h
 
--- Where one fact holds only of earlier indexes than another, the items of either are those of the one and then those of the other.
+-- Where one fact holds only of earlier indexes than another, the items of either are those of the
+-- one and then those of the other.
 pub FiltersFrom-either : {X : Type 0} (P Q : ℕ → Type 0) (k : ℕ) (xs chosen more : List X) → ((i j : ℕ) → i ≤ j → Q i → P j → ⊥)
     → FiltersFrom P k xs chosen → FiltersFrom Q k xs more → FiltersFrom (λ j. P j ⊎ Q j) k xs (chosen ++ more)
 FiltersFrom-either P Q k [] chosen more apart h g = ap (λ t. t ++ more) h ∙ g

@@ -18,7 +18,8 @@ use Rattle.ccf.proofs.TwoSplits.{Splits, IsWithin, AllByRecursion-front, AllByRe
 use Rattle.ccf.proofs.Filters.{FiltersFrom-append, FiltersFrom-none, FiltersFrom-all}
 use Rattle.ccf.proofs.Waiting.{length-some, front_waits, fill_left, no_fill, no_fill_left}
 
--- The frames after these begin in chunk n or later, and the chunk has these bytes of them, which are split at its last frame.
+-- The frames after these begin in chunk n or later, and the chunk has these bytes of them, which
+-- are split at its last frame.
 pub record GoesOnward (frames chunks : List (List ℕ)) (n : ℕ) (done rest : List (List ℕ)) (bytes : List ℕ) : Type 0 where
   pub frames_are : frames ≡ done ++ rest
   pub from : place_of chunks n ≤ place_of frames (length done)

@@ -1,4 +1,4 @@
--- The segments of a cut, one after another: what is unfinished after them, and which frames they join to.
+-- The segments of a cut in turn: what is unfinished after them, and which frames they join to.
 use Rattle.std.proofs.Common.{Bool, ◌≡◌, ◌⊎◌, ℕ, suc, ◌+◌, ◌<◌, ◌≤◌, Option, Some, None, List, [], ◌∷◌, ◌++◌, length, take, drop, refl, sym, ap, ◌∙◌, subst, inl, inr, arith, length-append, append_assoc, append-nil}
 use Rattle.std.specs.List.{concat, slice_get}
 use Rattle.std.proofs.lemmas.Bool.{cases_lt}

@@ -2,7 +2,8 @@
 use Rattle.std.proofs.Common.{◌≡◌, ◌≢◌, ◌⊎◌, ℕ, List, [], ◌∷◌, ◌++◌, length, drop, refl, sym, ap, ◌∙◌, inl, inr, append_assoc, drop_at}
 use Rattle.std.specs.List.{concat, AllByRecursion}
 
--- Bytes split as xs ++ ys and as us ++ vs, where us reaches at least as far as xs: what it has more is the front of ys.
+-- Bytes split as xs ++ ys and as us ++ vs, where us reaches at least as far as xs: what it has more
+-- is the front of ys.
 pub record Reaches (xs ys us vs : List ℕ) : Type 0 where
   pub more : List ℕ
   pub front : us ≡ xs ++ more

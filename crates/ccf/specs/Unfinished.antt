@@ -3,15 +3,15 @@ use Rattle.docsis_wire.specs.declared.segment.Segment.{Segment}
 use Rattle.docsis_wire.specs.Stream.{place_of}
 use Rattle.docsis_wire.specs.Span.{IsKept}
 
--- What fill may leave unfinished after the end of a frame: up to three zeros, since a fourth one makes them fill. A fill byte that
--- is not zero leaves nothing.
+-- What fill may leave unfinished after the end of a frame: up to three zeros, since a fourth one
+-- makes them fill. A fill byte that is not zero leaves nothing.
 pub record IsFillLeft (fill : ℕ) (unfinished : List ℕ) : Type 0 where
   pub count : ℕ
   pub few : count ≤ 3
   pub zeros : unfinished ≡ replicate count 0
   pub zero_fill : 0 < count → fill ≡ 0
 
--- The first n chunks end where a frame ends, or where none has begun, and what is unfinished is fill.
+-- The first n chunks end where a frame ends, or none has begun, and what is unfinished is fill.
 pub record IsLeftBetween (frames chunks : List (List ℕ)) (fill n : ℕ) (unfinished : List ℕ) : Type 0 where
   pub before : List (List ℕ)
   pub behind : List (List ℕ)
@@ -19,8 +19,8 @@ pub record IsLeftBetween (frames chunks : List (List ℕ)) (fill n : ℕ) (unfin
   pub place : place_of frames (length before) ≡ place_of chunks n
   pub fill_left : IsFillLeft fill unfinished
 
--- The first n chunks end after this front of frame j. It is unfinished where each chunk was kept from the one on in which the frame begins;
--- where one of them was lost, nothing is.
+-- The first n chunks end after this front of frame j. It is unfinished where each chunk was kept
+-- from the one on in which the frame begins; where one of them was lost, nothing is.
 abbrev pub IsFrontLeft : List (List ℕ) → List (List ℕ) → List (Option Segment) → ℕ → ℕ → List ℕ → List ℕ → Type 0
 IsFrontLeft frames chunks settled n j front unfinished =
     (((i : ℕ) → i < n → place_of frames j < place_of chunks (i + 1) → IsKept settled i) × (unfinished ≡ front))

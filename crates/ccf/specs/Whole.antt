@@ -5,7 +5,8 @@ use Rattle.ccf.specs.declared.joiner.FedUnlessWhole.{FedUnlessWhole}
 use Rattle.ccf.specs.declared.joiner.FedUnlessWhole.TheVariants.{Whole, Fed}
 use Rattle.ccf.specs.Feed.{Feeds, IsOneFrame}
 
--- What becomes of a segment that is fed unless it is one whole frame by itself: it is one, and nothing changed; or it isn't, and it was fed.
+-- What becomes of a segment that is fed unless it is one whole frame by itself: it is one, and
+-- nothing changed; or it isn't, and it was fed.
 abbrev pub FeedsUnlessWhole : (List ℕ → Bool) → List ℕ → Segment → FedUnlessWhole → List ℕ → Type 0
 FeedsUnlessWhole check before segment Whole after = IsOneFrame check before segment × (after ≡ before)
 FeedsUnlessWhole check before segment (Fed fed) after =

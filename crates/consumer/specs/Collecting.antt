@@ -20,18 +20,18 @@ pub record HasNothing (flow_count channel_count : ℕ) (collected : Collected) :
   pub requests : AreEmpty channel_count collected.requests.items
   pub whole : IsTrue collected.whole
 
--- the item was appended to the list of this index, which is there, and the other lists are as they were
+-- the item was appended to the list of this index, which is there; other lists are as they were
 pub record Appends {A : Type 0} (lists : List (Vec A Global)) (index : ℕ) (item : A) (after : List (Vec A Global)) : Type 0 where
   pub many : length after ≡ length lists
   pub appended : (k : ℕ) → list_at after k ≡ list_at lists k ++ (if index == k then item ∷ [] else [])
 
--- of each flow the frames, and of each channel the requests, grew by just those that were given of it
+-- of each flow the frames and of each channel the requests grew by just those that were given of it
 pub record GrewBy (start : Collected) (given : List Given) (end : Collected) : Type 0 where
   pub flow_count : length end.frames.items ≡ length start.frames.items
   pub channel_count : length end.requests.items ≡ length start.requests.items
   pub frames : (k : ℕ) → list_at end.frames.items k ≡ list_at start.frames.items k ++ frames_of k given
   pub requests : (channel : ℕ) → list_at end.requests.items channel ≡ list_at start.requests.items channel ++ requests_given channel given
 
--- if nothing is left out at the end, nothing was at the start, and everything that was given is kept
+-- if nothing is left out at the end, nothing was at the start, and all that was given is kept
 abbrev pub HasCollected : Collected → List Given → Collected → Type 0
 HasCollected start given end = IsTrue end.whole → IsTrue start.whole × GrewBy start given end

@@ -31,8 +31,8 @@ closed_ring f = (f.producer.end.words, f.producer.end.slots, f.producer.end.name
 abbrev pub closed_offered : ClosedFeeder → List Frame
 closed_offered f = frames_of (sent f.producer)
 
--- a frame went into the ring, with no other before it in the backlog; or it went to the end of the backlog, since
--- frames were waiting there or no place was known to be free
+-- a frame went into the ring, with no other before it in the backlog; or it went to the end of the
+-- backlog, since frames were waiting there or no place was known to be free
 abbrev pub IsPlaced : Feeder → Feeder → Frame → Type 0
 IsPlaced old new frame =
     ((backlog old ≡ []) × (backlog new ≡ []) × (room old ≤ room new + 1))
@@ -44,7 +44,8 @@ pub record IsUnchanged (old new : Feeder) : Type 0 where
   pub backlog_same : backlog new ≡ backlog old
   pub room_kept : room old ≤ room new
 
--- frames went from the front of the backlog into the ring, until the backlog was empty or no place was known to be free
+-- frames went from the front of the backlog into the ring, until the backlog was empty or no place
+-- was known to be free
 pub record IsFlushed (old new : Feeder) : Type 0 where
   pub moved : List Frame
   pub front : backlog old ≡ moved ++ backlog new

@@ -1,4 +1,4 @@
--- A division, byte by byte, each by itself: what is left of a sum is the sum of what is left of its parts.
+-- A division byte by byte, each by itself: a sum leaves the sum of what its parts leave.
 use Rattle.std.proofs.Common.{◌≡◌, ℕ, zero, suc, ◌+◌, ◌*◌, ◌/◌, ◌%◌, ◌^◌, ◌<◌, List, [], ◌∷◌, length, ◌==◌, if◌then◌else◌, bit_xor, refl, sym, ap, ◌∙◌, arith}
 use Rattle.std.proofs.lemmas.Nat.{xor_comm, xor_shr, xor_mod}
 use Rattle.std.specs.Int.{from_le_bytes, w64}

@@ -1,4 +1,5 @@
--- A division in parts: what the first coefficients leave goes on, and the coefficients behind them come down unchanged.
+-- A division in parts: what the first coefficients leave goes on, and the coefficients behind them
+-- come down unchanged.
 use Rattle.std.proofs.Common.{◌≡◌, ℕ, zero, suc, ◌+◌, ◌*◌, ◌/◌, ◌-◌, ◌%◌, ◌^◌, ◌<◌, ◌≤◌, Bool, true, false, ◌==◌, if◌then◌else◌, List, [], ◌∷◌, length, get_or, take, drop, fold, bit_xor, refl, sym, ap, ◌∙◌, arith, zero-add, add-one, drop-cons, lit<, length-drop}
 use Rattle.std.proofs.Math.Nat.{pow-suc, mul_assoc, suc-add}
 use Rattle.std.proofs.lemmas.Nat.{xor_comm, xor_shr, xor_mod}

@@ -40,7 +40,7 @@ head_of-generic frame more h =
     ap (λ bytes. head_of (bytes ++ more)) h.spelled ∙ cond-false (h.fc == 255) _ _ (grind (arith, nat_tests, h.fc_is.not_ff)) in
     read ∙ ap (head_of_fields h.fc h.parm) (div-add-mod' h.len 256) ∙ front ∙ ap (Head (length h.ehdr)) (sym (length-frame frame h))
 
--- whatever follows a frame, its head is read, and its length with it, and the check says yes of its header
+-- whatever follows a frame, its head and its length are read, and the check says yes of its header
 pub head_of-frame : (check : List ℕ → Bool) (frame more : List ℕ) → IsFrame check frame → IsHeadOf check frame (head_of (frame ++ more))
 head_of-frame check frame more h = (length h.generic.ehdr, head_of-generic frame more h.generic, h.checked)
 

@@ -27,7 +27,8 @@ remainder_at divisor steps byte (entry ∷ table) all (suc i) within =
     let same : suc byte + i ≡ byte + suc i = omega arith in
     remainder_at divisor steps (suc byte) table parts.1 i (omega arith) ∙ ap (remainder_after divisor steps) same
 
--- whether each of these tables has 256 bytes, and what is left of them after eight steps more than in the one before
+-- whether each of these tables has 256 bytes, and what is left of them after eight steps more than
+-- in the one before
 are_tables : ℕ → ℕ → List (List ℕ) → Bool
 are_tables divisor steps [] = true
 are_tables divisor steps (table ∷ tables) =
@@ -84,7 +85,7 @@ by_table divisor dividend table all size =
     ap (λ entry. bit_xor entry (dividend / 256)) (remainder_at divisor 8 0 table all (dividend % 256) (omega arith) ∙ ap (remainder_after divisor 8) same)
     ∙ by_byte divisor dividend
 
--- the same as code reads it: the byte as a number of the remainder's width, and the place in the table
+-- the same as code reads it: the byte in the remainder's width, and the place in the table
 pub header_by_table : (remainder byte wide place : ℕ) → wide ≡ byte → place ≡ bit_xor remainder wide % 256
     → bit_xor (get_or HEADER_REMAINDERS place 0) (bit_xor remainder wide / 256) ≡ remainder_after header_generator 8 (bit_xor remainder byte)
 header_by_table remainder byte wide place same at =

@@ -18,7 +18,8 @@ IsInSpan-begins frames chunks j i h =
     let s = h.shares_later in
     omega (arith, place_of-le chunks i h.later h.to, s.chunk_from, s.frame_to)
 
--- a chunk that ends after the first byte of a frame and begins before its end is in its span, where the frame lies in the cut
+-- a chunk that ends after the first byte of a frame and begins before its end is in its span, where
+-- the frame lies in the cut
 pub IsInSpan-by_places : (frames chunks : List (List ℕ)) (j n i : ℕ) → place_of frames j < place_of frames (j + 1) → place_of frames (j + 1) ≤ place_of chunks n
     → place_of chunks i < place_of frames (j + 1) → place_of frames j < place_of chunks (i + 1) → IsInSpan frames chunks j i
 IsInSpan-by_places frames chunks j n i some within begins ends =

@@ -26,7 +26,8 @@ starts_before frames i j each within less =
       | inr h ↦ absurd (omega (arith, h.0))
     ]
 
--- The frame that starts next at or after a place: it starts so many bytes on, and each that starts there or later is no earlier one.
+-- The frame that starts next at or after a place: it starts so many bytes on, and each that starts
+-- there or later is no earlier one.
 pub record StartsNext (frames : List (List ℕ)) (place starting before : ℕ) : Type 0 where
   pub place_is : place_of frames starting ≡ place + before
   pub first : (i : ℕ) → i < length frames → place ≤ place_of frames i → starting ≤ i

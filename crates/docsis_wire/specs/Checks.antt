@@ -10,8 +10,9 @@ header_generator = polynomial 16 (16 ∷ 12 ∷ 5 ∷ 0 ∷ [])
 abbrev pub frame_generator : ℕ
 frame_generator = polynomial 32 (32 ∷ 26 ∷ 23 ∷ 22 ∷ 16 ∷ 12 ∷ 11 ∷ 10 ∷ 8 ∷ 7 ∷ 5 ∷ 4 ∷ 2 ∷ 1 ∷ 0 ∷ [])
 
--- The check sequence of some bytes by a generator of this degree. As many zeros follow the message, as many coefficients are inverted from the leading
--- one on, the whole is divided by the generator, one step for each bit of the message, and the remainder is inverted.
+-- The check sequence of some bytes by a generator of this degree. As many zeros follow the message,
+-- as many coefficients are inverted from the leading one on, the whole is divided by the generator,
+-- one step for each bit of the message, and the remainder is inverted.
 abbrev pub sequence_by : ℕ → ℕ → List ℕ → ℕ
 sequence_by degree generator bytes =
     let ones = 2 ^ degree - 1 in

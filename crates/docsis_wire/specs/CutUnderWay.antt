@@ -7,7 +7,8 @@ use Rattle.docsis_wire.specs.Stream.{place_of}
 use Rattle.docsis_wire.specs.Cut.{IsCutSegment}
 use Rattle.docsis_wire.specs.Pieces.{fill_byte, chunks_of, IsPieceSegment}
 
--- What is cut and into what, the number of the first segment, the byte of fill, and how many segments were made.
+-- What is cut and into what, the number of the first segment, the byte of fill, and how many
+-- segments were made.
 pub record CutUnderWay : Type 0 where
   pub frames : List (List ℕ)
   pub pieces : List Piece

@@ -2,8 +2,9 @@ use Rattle.std.specs.Prelude.{◌≡◌, ◌≢◌, ℕ, ◌+◌, ◌%◌, ◌�
 use Rattle.docsis_wire.specs.Limits.{extended_max}
 use Rattle.docsis_wire.specs.Words.{two_bytes}
 
--- Whether there is an extended header is FC's last bit, EHDR_ON. With it MAC_PARM is the extended header's length, which is at most
--- `extended_max` by this project's profile. Without it there is none.
+-- Whether there is an extended header is FC's last bit, EHDR_ON. With it MAC_PARM is the extended
+-- header's length, which is at most `extended_max` by this project's profile. Without it there is
+-- none.
 abbrev pub IsExtendedHeader : ℕ → ℕ → List ℕ → Type 0
 IsExtendedHeader fc parm ehdr =
     ((fc % 2 ≡ 1) × (parm ≡ length ehdr) × (length ehdr ≤ extended_max)) ⊎ ((fc % 2 ≡ 0) × (ehdr ≡ []))
@@ -16,8 +17,8 @@ pub record IsFrameControl (fc : ℕ) : Type 0 where
   pub not_c9 : fc ≢ 0xC9
   pub not_ff : fc ≢ 0xFF
 
--- A generic MAC header and what follows it: FC, MAC_PARM, LEN, EHDR, HCS and the rest, end to end. LEN counts EHDR and the rest, so the
--- whole has 6 + LEN bytes.
+-- A generic MAC header and what follows it: FC, MAC_PARM, LEN, EHDR, HCS and the rest, end to end.
+-- LEN counts EHDR and the rest, so the whole has 6 + LEN bytes.
 pub record IsGenericFrame (frame : List ℕ) : Type 0 where
   pub fc : ℕ
   pub parm : ℕ

@@ -21,7 +21,7 @@ head_of_fields fc parm len =
     else (if nat_lt extended_max (extended_len fc parm) || nat_lt len (extended_len fc parm) then Bad ExtendedTooLong
     else Head (extended_len fc parm) (6 + len)))
 
--- what the front of some bytes announces: the table of the generic MAC header, read from its first line on
+-- what the front of bytes announces: the generic MAC header's table, read from its first line on
 abbrev pub head_of : List ℕ → HeadRead
 head_of [] = Short
 head_of (fc ∷ []) = if fc == 255 then Fill else Short

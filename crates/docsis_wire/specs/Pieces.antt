@@ -16,7 +16,8 @@ abbrev pub fill_byte : FillByte → ℕ
 fill_byte Zero = 0
 fill_byte Ones = 255
 
--- Each piece in turn takes the bytes that it asks for from the front of what is left of a stream, or all that is left if that is less.
+-- Each piece in turn takes the bytes that it asks for from the front of what is left of a stream,
+-- or all that is left if that is less.
 abbrev pub chunks_from : List ℕ → List Piece → List (List ℕ)
 chunks_from stream [] = []
 chunks_from stream (piece ∷ pieces) = take piece.bytes stream ∷ chunks_from (drop piece.bytes stream) pieces
@@ -25,8 +26,8 @@ chunks_from stream (piece ∷ pieces) = take piece.bytes stream ∷ chunks_from 
 abbrev pub chunks_of : List (List ℕ) → List Piece → List (List ℕ)
 chunks_of frames pieces = chunks_from (concat frames) pieces
 
--- What a piece makes of its chunk: the chunk and then just the fill that the piece names. All fields of the header are 0 but for those that
--- a cut gives a meaning.
+-- What a piece makes of its chunk: the chunk and then just the fill that the piece names. All
+-- fields of the header are 0 but for those that a cut gives a meaning.
 pub record IsPieceSegment (fill : ℕ) (piece : Piece) (chunk : List ℕ) (segment : Segment) : Type 0 where
   pub payload : segment.payload ≡ chunk ++ replicate piece.fill fill
   pub no_pointer : segment.head.pfi ≡ false → segment.head.pointer ≡ 0
@@ -55,7 +56,8 @@ pub record FillsInsideFrame (frames : List (List ℕ)) (pieces : List Piece) (k 
   pub fills : 0 < piece.fill
   pub inside : ¬ IsBoundary frames (place_of (chunks_of frames pieces) (k + 1))
 
--- the first frame that starts in the chunk of piece k has more bytes of the chunk before it than a pointer can say
+-- the first frame that starts in the chunk of piece k has more bytes of the chunk before it than a
+-- pointer can say
 pub record PointsTooFar (frames : List (List ℕ)) (pieces : List Piece) (k : ℕ) : Type 0 where
   pub chunk : List ℕ
   pub chunk_is : slice_get (chunks_of frames pieces) k ≡ Some chunk
@@ -78,7 +80,8 @@ pub record IsFirstFillInsideFrame (check : List ℕ → Bool) (frames : List (Li
   pub here : FillsInsideFrame frames pieces k
   pub earlier : (i : ℕ) → i < k → ¬ IsUnlawful frames pieces i
 
--- all frames are well formed, and piece k is the first that makes no lawful segment, by its pointer and not by its fill
+-- all frames are well formed, and piece k is the first that makes no lawful segment, by its pointer
+-- and not by its fill
 pub record IsFirstPointerTooFar (check : List ℕ → Bool) (frames : List (List ℕ)) (pieces : List Piece) (k : ℕ) : Type 0 where
   pub each : AllByRecursion (IsFrame check) frames
   pub here : PointsTooFar frames pieces k

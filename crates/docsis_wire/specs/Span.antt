@@ -10,7 +10,8 @@ pub record SharesPlace (frames chunks : List (List ℕ)) (j i : ℕ) : Type 0 wh
   pub chunk_from : place_of chunks i ≤ place
   pub chunk_to : place < place_of chunks (i + 1)
 
--- Chunk i is in the span of frame j: from the first to the last chunk that has a byte of it, chunks without bytes between them included.
+-- Chunk i is in the span of frame j: from the first to the last chunk that has a byte of it, chunks
+-- without bytes between them included.
 pub record IsInSpan (frames chunks : List (List ℕ)) (j i : ℕ) : Type 0 where
   pub earlier : ℕ
   pub later : ℕ
@@ -19,7 +20,8 @@ pub record IsInSpan (frames chunks : List (List ℕ)) (j i : ℕ) : Type 0 where
   pub shares_earlier : SharesPlace frames chunks j earlier
   pub shares_later : SharesPlace frames chunks j later
 
--- A settled list has at each index the cut's segment, or the mark that it is lost. It may end before the cut does.
+-- A settled list has at each index the cut's segment, or the mark that it is lost. It may end
+-- before the cut does.
 pub record IsSettledOf (segments : List Segment) (settled : List (Option Segment)) : Type 0 where
   pub within : length settled ≤ length segments
   pub kept : (i : ℕ) (segment : Segment) → slice_get settled i ≡ Some (Some segment) → slice_get segments i ≡ Some segment

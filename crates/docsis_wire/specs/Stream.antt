@@ -1,8 +1,9 @@
 use Rattle.std.specs.Prelude.{◌≡◌, ℕ, ◌+◌, ◌<◌, ◌≤◌, List, length, take}
 use Rattle.std.specs.List.{concat}
 
--- Where the k-th of some byte strings begins when they stand end to end. A modem's frames, end to end, are its byte stream: frame j has
--- the places from place_of frames j up to, not including, place_of frames (j + 1). So have the chunks that a cut makes of the stream.
+-- Where the k-th of some byte strings begins when they stand end to end. A modem's frames, end to
+-- end, are its byte stream: frame j has the places from place_of frames j up to, not including,
+-- place_of frames (j + 1). So have the chunks that a cut makes of the stream.
 abbrev pub place_of : List (List ℕ) → ℕ → ℕ
 place_of pieces k = length (concat (take k pieces))
 

@@ -111,8 +111,8 @@ impl<'a> Cutter<'a> {
         })
     }
 
-    /// The next piece's segment, or `None` once all were given, however often it is called. It takes
-    /// no memory.
+    /// The next piece's segment, or `None` once all were given, however often it is called. It
+    /// takes no memory.
     ///
     /// The segments that it gives one after another are the cut that it began with:
     /// `laws::segments_made_one_by_one_are_the_cut`.

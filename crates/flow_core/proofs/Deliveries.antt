@@ -45,7 +45,7 @@ kept_in_settled fates n i settled segment below within kept =
     let at = found.1 in
     cc
 
--- where what is settled below an index is of the cut, a frame is wholly kept exactly if it is delivered
+-- where what is settled below an index is the cut's, a frame is wholly kept exactly if delivered
 pub delivered_of_settled : (check : List ℕ → Bool) (frames chunks : List (List ℕ)) (first fill n : ℕ) (segments : List Segment) (fates : Fates)
     (settled : List (Option Segment)) (joined : List (List ℕ))
     → IsLawfulCut check frames first fill chunks segments → IsSettledOf segments settled → IsSettledBelow fates n settled
@@ -65,8 +65,8 @@ delivered_of_settled check frames chunks first fill n segments fates settled joi
       kept = λ i in_span. let kept = p.kept i in_span in (kept.0, kept_in_settled fates n i settled kept.0 below (p.below i in_span) kept.1);
     })
 
--- Where a fact implies another, and what has the other one has the first too wherever it stands before one that has, the items of the first
--- are the front of the items of the other.
+-- Where a fact implies another, and what has the other one has the first too wherever it stands
+-- before one that has, the items of the first are the front of the items of the other.
 FiltersFrom-front : {X : Type 0} (P Q : ℕ → Type 0) (k : ℕ) (xs chosen more : List X) → ((j : ℕ) → P j → Q j)
     → ((i j : ℕ) → i < j → j < k + length xs → P j → Q i → P i)
     → FiltersFrom P k xs chosen → FiltersFrom Q k xs more → (rest : List X) × (more ≡ chosen ++ rest)

@@ -1,4 +1,4 @@
--- A flow to which no segment came: what is decided about it changes nothing, as long as nothing is skipped.
+-- What is decided of a flow to which no segment came changes nothing, if nothing is skipped.
 use Rattle.std.proofs.Common.{◌≡◌, ℕ, zero, suc, inl, inr, Bool, false, cond, Option, List, [], ◌∷◌, ◌++◌, replicate, refl, ap, sym, subst, ◌∙◌, arith, count_by}
 use Rattle.std.proofs.lemmas.List.Sums.{sum_by-cons}
 use Rattle.std.proofs.lemmas.Option.{slice_get_within}

@@ -31,11 +31,13 @@ use Rattle.flow_core.proofs.Standing.{stands, drained-sound, open-kept, kept-not
 use Rattle.flow_core.proofs.Losing.{HasComeTo, come-same, losses-pass, losses-window, losses-memory}
 use Rattle.flow_core.proofs.Stopping.{CanLose, CanLose-decided, number-in_range, Reaches-decided, Reaches-still, Stops, StopsEverywhere, nothing-kept, later-held, can-reach, reach-can, passed-reached, count-to, passed-free, reached-end}
 
--- The losses of a decision up to an index: from y on, exactly those before it are lost that were not kept and that the decision reaches.
+-- The losses of a decision up to an index: from y on, exactly those before it are lost that were
+-- not kept and that the decision reaches.
 abbrev pub AreLostTo : UpTo → Fates → ℕ → ℕ → Type 0
 AreLostTo u fates y end = (i : ℕ) → y ≤ i → IsLost fates i ↔ ((i < end) × ¬ (IsKept fates i) × Reaches u fates i)
 
--- What is left to do of a decision, where the flow may have reached its number: nothing, or the index of the number is y or after it.
+-- What is left to do of a decision, where the flow may have reached its number: nothing, or the
+-- index of the number is y or after it.
 abbrev pub IsToGoOn : ℕ → Fates → ℕ → Option UpTo → Type 0
 IsToGoOn first fates y None = (i : ℕ) → y ≤ i → ¬ (IsLost fates i)
 IsToGoOn first fates y (Some u) =
@@ -139,7 +141,8 @@ module _ (check : List ℕ → Bool) (r : FlowRecord) (flow : Flow) (events : Li
   not-kept-yet : ¬ (IsKept s.fates y)
   not-kept-yet kept = open-kept s.fates y (drained-sound check r flow events answers y given s drained).expected.open_itself kept
 
-  -- a drained flow remembers nothing: no index is lost from y on, in whatever fates with the same losses from y on
+  -- a drained flow remembers nothing: no index is lost from y on, in whatever fates with the same
+  -- losses from y on
   none-remembered : (going_on : Option UpTo) → IsRemembered r.first s.fates y going_on → going_on ≡ None
   none-remembered None remembered = refl
   none-remembered (Some u) remembered = absurd (not-kept-yet remembered.3)
@@ -223,7 +226,8 @@ answered-to : (u : UpTo) (any : Bool) (counts : FlowCounts) → answered counts 
 answered-to (Declare sequence) any counts = refl
 answered-to (Skip sequence) any counts = refl
 
--- What a flow remembers of a decision that passed so many numbers: the decision, if its number is not reached, and otherwise what it did.
+-- What a flow remembers of a decision that passed so many numbers: the decision, if its number is
+-- not reached, and otherwise what it did.
 abbrev pub IsMemory : WindowView ReadySegment → UpTo → ℕ → Option UpTo → Option UpTo → Type 0
 IsMemory w u count before after =
     ((0 < count) × (number_ahead w.expected count ≢ number_to u) × (after ≡ Some u))

@@ -1,4 +1,5 @@
--- What a flow gives by the definitions: it is one thing, a drained flow has it, and of near events it is the delivery sequence.
+-- What a flow gives by the definitions: it is one thing, a drained flow has it, and of near events
+-- it is the delivery sequence.
 use Rattle.std.proofs.Common.{◌≡◌, ℕ, zero, suc, ◌<◌, Bool, false, cond, Option, List, [], ◌++◌, length, get_or, replicate, refl, ap, sym, subst, ◌∙◌, arith, count_by}
 use Rattle.std.proofs.lemmas.List.{same_lists}
 use Rattle.std.proofs.lemmas.Option.{slice_get-get_or}

@@ -15,7 +15,8 @@ use Rattle.flow_core.specs.Closing.{HaveNoSkip, IsSkippedBy}
 use Rattle.flow_core.proofs.Deciding.{IsDeclaredTo-decided, IsSkippedTo-decided}
 use Rattle.flow_core.proofs.Outcome.{IsSound, expected-unique, sound-changes, sound-none, after-append, settled-stays}
 
--- What may be said of an index that an event loses, where x is the expected index: a skip loses it, or it has a later kept one.
+-- What may be said of an index that an event loses, where x is the expected index: a skip loses it,
+-- or it has a later kept one.
 abbrev pub IsLosing : ℕ → ℕ → FlowEvent → Fates → ℕ → Type 0
 IsLosing first x (arrives segment) fates i = HasLaterKept fates i
 IsLosing first x gap fates i = HasLaterKept fates i

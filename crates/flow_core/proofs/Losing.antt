@@ -23,7 +23,8 @@ use Rattle.flow_core.specs.Stands.{IsWindowFrom, AreLost}
 use Rattle.flow_core.proofs.Standing.{kept-not-lost}
 use Rattle.flow_core.proofs.Windows.{window-moves}
 
--- What a flow has at an index y, whatever it remembers: the window from y on, and what is settled below y joined and counted.
+-- What a flow has at an index y, whatever it remembers: the window from y on, and what is settled
+-- below y joined and counted.
 pub record HasComeTo (check : List ℕ → Bool) (r : FlowRecord) (fates : Fates) (answers : List Applied) (y : ℕ) (given : List (List ℕ)) (flow : Flow) : Type 0 where
   pub window : IsWindowFrom r fates y flow.window
   pub settled : List (Option Segment)

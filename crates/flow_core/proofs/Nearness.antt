@@ -41,7 +41,8 @@ numbered_of_cut check frames chunks first fill segments cut i segment at =
     let chunk = element_at chunks i (omega (arith, slice_get_within segments i segment at, cut.same_length)) in
     (cut.cut i chunk.0 segment chunk.1 at).number
 
--- what is kept after an event was kept before, or is the segment that arrives, at an index that its number has ahead
+-- what is kept after an event was kept before, or is the segment that arrives, at an index that its
+-- number has ahead
 kept-before : (first width x : ℕ) (event : FlowEvent) (answer : Applied) (fates after : Fates) → Changes first width x event answer fates after
     → (i : ℕ) (segment : Segment) → IsKeptAs after i segment
     → IsKeptAs fates i segment ⊎ ((event ≡ arrives segment) × IsAhead first x segment.head.sequence i)

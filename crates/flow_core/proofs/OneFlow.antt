@@ -27,7 +27,8 @@ same_last : {T : Type 0} (list : List T) (x y : T) → list ++ x ∷ [] ≡ list
 same_last {T = T} list x y same =
     same_Some x y (sym (slice_get-at list x []) ∙ ap (λ (l : List T). slice_get l (length list)) same ∙ slice_get-at list y [])
 
--- Where a gap declares no loss there is no later segment: with one, its answer would be a loss, and events have one outcome.
+-- Where a gap declares no loss there is no later segment: with one, its answer would be a loss, and
+-- events have one outcome.
 pub none-later : (flow after : Flow) (declared : Declared) → IsDrained flow → TakesEvent flow gap (Decision declared) after → ¬ (IsLoss declared) → HasNoneLater flow
 none-later flow after declared drained taken no_loss check r events answers y given s later =
     let t = taken check r events answers y given s in

@@ -49,8 +49,8 @@ expected-from fates bound n (suc left) e open_from settled =
 pub expected-exists : (fates : Fates) (bound : ℕ) → ((i : ℕ) → bound ≤ i → IsOpen fates i) → (x : ℕ) × IsExpected fates x × (x ≤ bound)
 expected-exists fates bound open_from = expected-from fates bound 0 bound (omega arith) open_from (λ i below. absurd (omega arith))
 
--- The fates after an event: what was settled stays, what is lost lies less than 4096 ahead and has no open index up to it, and what is kept
--- lies within the window.
+-- The fates after an event: what was settled stays, what is lost lies less than 4096 ahead and has
+-- no open index up to it, and what is kept lies within the window.
 record Grows (width x : ℕ) (fates after : Fates) : Type 0 where
   stays : (i : ℕ) (fate : Option Segment) → map.get fates i ≡ Some fate → map.get after i ≡ Some fate
   lost : (i j : ℕ) → IsLost after i → j ≤ i → IsSome (map.get after j)

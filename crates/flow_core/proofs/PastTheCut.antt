@@ -1,4 +1,5 @@
--- What is settled joins to the frames that are delivered, also where a skip has taken the expected index past the end of the cut.
+-- What is settled joins to the frames that are delivered, also where a skip has taken the expected
+-- index past the end of the cut.
 use Rattle.std.proofs.Common.{◌≡◌, ℕ, zero, suc, ◌≤◌, inl, inr, Bool, Option, Some, None, List, [], ◌∷◌, length, slice_get, take, refl, arith}
 use Rattle.std.proofs.lemmas.Bool.{cases_lt}
 use Rattle.std.proofs.lemmas.List.{length-take-le}

@@ -14,7 +14,7 @@ use Rattle.flow_core.specs.Delivery.{IsDelivered, IsDeliverySequence}
 use Rattle.flow_core.proofs.Deciding.{Decided, both, opposite, below-decided, le-decided, found-below, IsKept-decided}
 use Rattle.flow_core.proofs.Outcome.{expected-unique}
 
--- where it is decided of each index whether a fact holds, there are the items at whose index it does
+-- where it is decided of each index whether a fact holds there are the items at whose index it does
 FiltersFrom-some : {X : Type 0} (P : ℕ → Type 0) (k : ℕ) (xs : List X) → ((j : ℕ) → j < k + length xs → Decided (P j))
     → (chosen : List X) × FiltersFrom P k xs chosen
 FiltersFrom-some P k [] decide = ([], refl)

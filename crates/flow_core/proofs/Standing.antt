@@ -107,7 +107,8 @@ drained-sound check r flow events answers y given s drained =
     subst (λ x. IsSound r.window s.fates x) (sym (drained-at check r flow events answers y given s drained))
     (sound-after r.first r.window events answers s.fates s.x s.after s.expected)
 
--- One more event of a drained flow, with a window and a memory that fit what the event changes: the flow stands for it too.
+-- One more event of a drained flow, with a window and a memory that fit what the event changes: the
+-- flow stands for it too.
 pub stands-next : (check : List ℕ → Bool) (r : FlowRecord) (flow after : Flow) (events : List FlowEvent) (answers : List Applied) (y : ℕ) (given : List (List ℕ))
     (event : FlowEvent) (answer : Applied) (fates : Fates)
     → (s : StandsFor check r flow events answers y given) → IsDrained flow

@@ -14,8 +14,9 @@ pub record IsNextOneFrame (check : List ℕ → Bool) (flow : Flow) : Type 0 whe
   pub next : held_at flow.window flow.window.expected ≡ Some ready
   pub one : IsOneFrame check flow.joiner ready.segment
 
--- What such a step answers, and what becomes of the flow: the next segment was one whole frame, and just that is given; or another segment was
--- next, and these frames were given; or none was, and nothing changed.
+-- What such a step answers, and what becomes of the flow: the next segment was one whole frame, and
+-- just that is given; or another segment was next, and these frames were given; or none was, and
+-- nothing changed.
 abbrev pub AdvancesAsItIs : (List ℕ → Bool) → Flow → StepAsItIs → Flow → Type 0
 AdvancesAsItIs check flow (Whole frame) after = IsNextOneFrame check flow × Gives check flow (frame ∷ []) after
 AdvancesAsItIs check flow (Frames frames) after =

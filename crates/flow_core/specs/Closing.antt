@@ -13,7 +13,8 @@ use Rattle.flow_core.specs.Events.{FlowEvent, arrives, gap, skip_to, IsSkippedTo
 abbrev pub IsClosed : Fates → Type 0
 IsClosed fates = (x : ℕ) × IsExpected fates x × ¬ (HasLaterKept fates x)
 
--- Closing a flow with these fates leads to those: as many gaps as still change anything, and possibly some more.
+-- Closing a flow with these fates leads to those: as many gaps as still change anything, and
+-- possibly some more.
 abbrev pub Closes : ℕ → ℕ → Fates → Fates → Type 0
 Closes first width fates after = (n : ℕ) × (answers : List Applied) × Leads first width fates (replicate n gap) answers after × IsClosed after
 
@@ -35,7 +36,7 @@ HaveNoArrival events = (before behind : List FlowEvent) (segment : Segment) → 
 abbrev pub HaveNoSkip : List FlowEvent → Type 0
 HaveNoSkip events = (before behind : List FlowEvent) (number : ℕ) → ¬ (events ≡ before ++ skip_to number ∷ behind)
 
--- A skip among the events passed the index: it was open then, and lay before the one with the skip's number.
+-- A skip among the events passed the index: it was open, and before the one of the skip's number.
 pub record IsSkippedBy (first width : ℕ) (events : List FlowEvent) (i : ℕ) : Type 0 where
   pub before : List FlowEvent
   pub behind : List FlowEvent

@@ -8,7 +8,8 @@ use Rattle.flow_core.specs.declared.counts.FlowCounts.{FlowCounts}
 use Rattle.flow_core.specs.declared.event.Applied.{Applied}
 use Rattle.flow_core.specs.declared.event.Applied.TheVariants.{Arrival}
 
--- the answer is that a segment was kept; that it was late; that its index was kept already; that it lies beyond the window
+-- the answer is that a segment was kept; that it was late; that its index was kept already; that it
+-- lies beyond the window
 abbrev pub says_kept : Applied → Bool
 says_kept (Arrival Kept) = true
 says_kept _ = false
@@ -34,8 +35,9 @@ payload_bytes None = 0
 abbrev pub no_counts : FlowCounts
 no_counts = record { kept = 0; late = 0; repeat = 0; beyond = 0; lost = 0; frames = 0; skipped = 0 }
 
--- The counts of a flow whose events had these answers and whose settled segments are these, which gave these frames and left these bytes
--- unfinished. The bytes of the settled segments were given in frames, are unfinished, or were skipped.
+-- The counts of a flow whose events had these answers and whose settled segments are these, which
+-- gave these frames and left these bytes unfinished. The bytes of the settled segments were given
+-- in frames, are unfinished, or were skipped.
 pub record AreCounts (answers : List Applied) (settled : List (Option Segment)) (given : List (List ℕ)) (unfinished : List ℕ) (counts : FlowCounts) : Type 0 where
   pub kept : counts.kept ≡ counted (count_by says_kept answers)
   pub late : counts.late ≡ counted (count_by says_late answers)

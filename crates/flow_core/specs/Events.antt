@@ -11,23 +11,25 @@ use Rattle.flow_core.specs.declared.event.Applied.{Applied}
 use Rattle.flow_core.specs.declared.event.Applied.TheVariants.{Arrival, Decision, DecisionTo, DecisionSkip}
 use Rattle.flow_core.specs.Fates.{Fates, no_fates, number_of, IsKept, IsOpen, IsExpected, HasLaterKept}
 
--- What happens to one flow: a segment arrives, or a decision declares losses: a gap, which is of one index or of all up to a number, or a
--- skip up to a number.
+-- What happens to one flow: a segment arrives, or a decision declares losses: a gap, which is of
+-- one index or of all up to a number, or a skip up to a number.
 pub data FlowEvent : Type 0 where
   arrives : Segment → FlowEvent
   gap : FlowEvent
   gap_to : ℕ → FlowEvent
   skip_to : ℕ → FlowEvent
 
--- The index that a number has, where it lies ahead of the expected index x: from x up to, not including, x + 4096. Every other number lies
--- behind (this project's profile: half of the 8192 numbers).
+-- The index that a number has, where it lies ahead of the expected index x: from x up to, not
+-- including, x + 4096. Every other number lies behind (this project's profile: half of the 8192
+-- numbers).
 pub record IsAhead (first x number i : ℕ) : Type 0 where
   pub from : x ≤ i
   pub to : i < x + numbers_ahead
   pub numbered : number_of first i ≡ number
 
--- The verdict on a segment that arrives, where x is the expected index: it lies behind, it lies ahead beyond the window, its index was kept
--- already, or it is kept. All but the last hand it back.
+-- The verdict on a segment that arrives, where x is the expected index: it lies behind, it lies
+-- ahead beyond the window, its index was kept already, or it is kept. All but the last hand it
+-- back.
 abbrev pub IsVerdictOn : ℕ → ℕ → Fates → ℕ → Segment → Verdict Segment → Type 0
 IsVerdictOn first width fates x segment (Late back) =
     ((i : ℕ) → ¬ (IsAhead first x segment.head.sequence i)) × (back ≡ segment)
@@ -46,22 +48,23 @@ Keeps first x segment (Repeat _) fates after = after ≡ fates
 Keeps first x segment Kept fates after =
     (i : ℕ) → IsAhead first x segment.head.sequence i → after ≡ map.insert fates i (Some segment)
 
--- A gap decision: the expected index x is lost if a segment after it was kept, and otherwise nothing changes. (The segment of x itself is
--- never there, since x is open.)
+-- A gap decision: the expected index x is lost if a segment after it was kept, and otherwise
+-- nothing changes. (The segment of x itself is never there, since x is open.)
 abbrev pub Declares : ℕ → ℕ → Declared → Fates → Fates → Type 0
 Declares first x (Lost number) fates after =
     HasLaterKept fates x × (number ≡ number_of first x) × (after ≡ map.insert fates x None)
 Declares first x NothingHeld fates after = ¬ (HasLaterKept fates x) × (after ≡ fates)
 Declares first x NextIsHere fates after = ⊥
 
--- Exactly the indexes with this property are lost, and what became of all others stays. The answer says whether there is one.
+-- Exactly the indexes with this property are lost, and what became of all others stays. The answer
+-- says whether there is one.
 pub record LosesJust (P : ℕ → Type 0) (any : Bool) (fates after : Fates) : Type 0 where
   pub lost : (i : ℕ) → P i → map.get after i ≡ Some None
   pub others : (i : ℕ) → ¬ (P i) → map.get after i ≡ map.get fates i
   pub answer : IsTrue any ↔ ((i : ℕ) × P i)
 
--- the indexes that a gap decision up to a number declares lost: open ones from the expected one on, before the one with that number, with a kept
--- segment after them
+-- the indexes that a gap decision up to a number declares lost: open ones from the expected one on,
+-- before the one with that number, with a kept segment after them
 pub record IsDeclaredTo (first x number : ℕ) (fates : Fates) (i : ℕ) : Type 0 where
   pub end : ℕ
   pub ahead : IsAhead first x number end
@@ -74,7 +77,8 @@ pub record IsDeclaredTo (first x number : ℕ) (fates : Fates) (i : ℕ) : Type 
 abbrev pub DeclaresTo : ℕ → ℕ → ℕ → Bool → Fates → Fates → Type 0
 DeclaresTo first x number declared fates after = LosesJust (IsDeclaredTo first x number fates) declared fates after
 
--- the indexes that a skip up to a number loses: all open ones from the expected one on, before the one with that number
+-- the indexes that a skip up to a number loses: all open ones from the expected one on, before the
+-- one with that number
 pub record IsSkippedTo (first x number : ℕ) (fates : Fates) (i : ℕ) : Type 0 where
   pub end : ℕ
   pub ahead : IsAhead first x number end
@@ -95,8 +99,8 @@ Changes first width x (gap_to number) (DecisionTo declared) fates after = Declar
 Changes first width x (skip_to number) (DecisionSkip skipped) fates after = SkipsTo first x number skipped fates after
 Changes first width x _ _ fates after = ⊥
 
--- Events one after another lead from some fates to others, with an answer to each. Of a flow the first number and the window's width are
--- given.
+-- Events one after another lead from some fates to others, with an answer to each. Of a flow the
+-- first number and the window's width are given.
 abbrev pub Leads : ℕ → ℕ → Fates → List FlowEvent → List Applied → Fates → Type 0
 Leads first width fates [] answers after = (answers ≡ []) × (after ≡ fates)
 Leads first width fates (event ∷ events) answers after =

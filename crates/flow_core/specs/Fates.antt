@@ -1,7 +1,8 @@
 -- What became of the segments of a flow, by their indexes.
 --
--- The index of a segment is its place in its flow, counted from 0 and without bound. Its number is the 13 bits in its header: the first
--- segment's number plus the index, modulo 8192. Code sees numbers. All that is said of a flow is said by indexes.
+-- The index of a segment is its place in its flow, counted from 0 and without bound. Its number is
+-- the 13 bits in its header: the first segment's number plus the index, modulo 8192. Code sees
+-- numbers. All that is said of a flow is said by indexes.
 use Rattle.std.specs.Prelude.{◌≡◌, ℕ, ◌+◌, ◌%◌, ◌<◌, Option, Some, None, IsSome, List, length, slice_get}
 use Rattle.std.specs.Option.{option_flatten}
 use Rattle.std.specs.Ordering.{nat_cmp}
@@ -9,7 +10,8 @@ use Rattle.std.specs.FinMap as map
 use Rattle.docsis_wire.specs.Limits.{sequence_modulus}
 use Rattle.docsis_wire.specs.declared.segment.Segment.{Segment}
 
--- The indexes of which it is known what became of them: the segment of the index was kept, or the index was lost, which is `None`.
+-- The indexes of which it is known what became of them: the segment of the index was kept, or the
+-- index was lost, which is `None`.
 abbrev pub Fates : Type 0
 Fates = map.FinMap nat_cmp (Option Segment)
 

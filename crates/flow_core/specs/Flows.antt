@@ -58,8 +58,8 @@ module _ {C : Type 0} where
   AdvancesAt accepts core k step after =
       (flow : Flow) → HasFlow core k flow → (flow' : Flow) × HasFlow after k flow' × Advances (accepts core.check) flow step flow'
 
-  -- Flow k takes a gap, which declares the expected index lost exactly if the answer says so. Otherwise nothing changes, and no later segment
-  -- was kept, so that no loss can be declared.
+  -- Flow k takes a gap, which declares the expected index lost exactly if the answer says so.
+  -- Otherwise nothing changes, and no later segment was kept, so that no loss can be declared.
   pub record ClosesGapAt (core : Core C) (k : ℕ) (lost : Bool) (after : Core C) : Type 0 where
     pub declared : Declared
     pub answer : IsTrue lost ↔ IsLoss declared

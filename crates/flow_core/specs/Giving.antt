@@ -11,7 +11,8 @@ use Rattle.flow_core.specs.Flows.{HasFlow, IsDrainedAt}
 use Rattle.flow_core.specs.Stands.{StandsFor, IsDrained}
 
 module _ {C : Type 0} where
-  -- Flow k of the core stands for these events, and has given these frames. The headers that the core's check says yes of are these.
+  -- Flow k of the core stands for these events, and has given these frames. The headers that the
+  -- core's check says yes of are these.
   pub record HasGiven (accepts : C → List ℕ → Bool) (core : Core C) (k : ℕ) (accepted : List ℕ → Bool) (flow_record : FlowRecord) (events : List FlowEvent) (given : List (List ℕ)) : Type 0 where
     pub accepted_are : accepts core.check ≡ accepted
     pub flow : Flow
@@ -40,8 +41,8 @@ module _ {C : Type 0} where
     pub in_range : IsInRange flow_record
     pub has_given : HasGiven accepts core k accepted flow_record events given
 
-  -- All segments of flow k that were next are joined, and their frames are appended: whatever events it stood for, it stands for them, has given
-  -- these frames more, and is drained.
+  -- All segments of flow k that were next are joined, and their frames are appended: whatever
+  -- events it stood for, it stands for them, has given these frames more, and is drained.
   pub record Drains (accepts : C → List ℕ → Bool) (core : Core C) (k : ℕ) (frames : List (List ℕ)) (after : Core C) (frames' : List (List ℕ)) : Type 0 where
     pub more : List (List ℕ)
     pub appended : frames' ≡ frames ++ more
@@ -50,8 +51,9 @@ module _ {C : Type 0} where
         → IsInRange flow_record → HasGiven accepts core k accepted flow_record events given
         → HasDrained accepts after k accepted flow_record events (given ++ more)
 
-  -- Flow k is closed, and the frames that the close gives are appended: whatever events it stood for, it stands for them and then for gaps, as
-  -- many as still changed anything and possibly some more, has given these frames more, and is drained.
+  -- Flow k is closed, and the frames that the close gives are appended: whatever events it stood
+  -- for, it stands for them and then for gaps, as many as still changed anything and possibly some
+  -- more, has given these frames more, and is drained.
   pub record ClosesFlow (accepts : C → List ℕ → Bool) (core : Core C) (k : ℕ) (frames : List (List ℕ)) (after : Core C) (frames' : List (List ℕ)) : Type 0 where
     pub more : List (List ℕ)
     pub appended : frames' ≡ frames ++ more

@@ -6,14 +6,16 @@ use Rattle.flow_core.specs.declared.event.Applied.{Applied}
 use Rattle.flow_core.specs.Fates.{Fates, number_of, IsExpected}
 use Rattle.flow_core.specs.Events.{FlowEvent, arrives, skip_to, IsAfter}
 
--- a segment of the cut, with an index from 4096 before the expected index x up to, not including, 4096 after it
+-- a segment of the cut, with an index from 4096 before the expected index x up to, not including,
+-- 4096 after it
 pub record IsNearTo (segments : List Segment) (x : ℕ) (segment : Segment) : Type 0 where
   pub index : ℕ
   pub of_cut : slice_get segments index ≡ Some segment
   pub from : x ≤ index + numbers_ahead
   pub to : index < x + numbers_ahead
 
--- Near events: each segment that arrives is one of the cut's, and comes when the expected index is so near to its own.
+-- Near events: each segment that arrives is one of the cut's, and comes when the expected index is
+-- so near to its own.
 abbrev pub AreNear : ℕ → ℕ → List Segment → List FlowEvent → Type 0
 AreNear first width segments events =
     (before behind : List FlowEvent) (segment : Segment) (answers : List Applied) (fates : Fates) (x : ℕ)

@@ -9,8 +9,8 @@ use Rattle.flow_core.specs.Fates.{Fates, IsExpected, IsSettledBelow}
 use Rattle.flow_core.specs.Events.{FlowEvent, IsAfter}
 use Rattle.flow_core.specs.Counts.{AreCounts}
 
--- What a flow with this record gives after these events, once it is drained: these frames, and these counts. What is settled below the
--- expected index is joined.
+-- What a flow with this record gives after these events, once it is drained: these frames, and
+-- these counts. What is settled below the expected index is joined.
 pub record IsFlowOutcome (check : List ℕ → Bool) (flow_record : FlowRecord) (events : List FlowEvent) (frames : List (List ℕ)) (counts : FlowCounts) : Type 0 where
   pub answers : List Applied
   pub fates : Fates

@@ -44,8 +44,8 @@ pub struct Flow {
 }
 
 impl Flow {
-    /// A flow to which nothing happened yet, of a record that is in range. It asks for the memory of
-    /// a window of the record's width, all at once.
+    /// A flow to which nothing happened yet, of a record that is in range. It asks for the memory
+    /// of a window of the record's width, all at once.
     pub fn new(alloc: Global, flow_record: &FlowRecord) -> Result<Flow, AllocError>
         requires { IsInRange flow_record.now }
         ensures stands { IfOk result
@@ -87,8 +87,8 @@ impl Flow {
         }
     }
 
-    /// Declares the expected segment lost, if a later one was kept, and answers its number; otherwise
-    /// nothing changes, so that a close that goes on until then ends. It takes no memory.
+    /// Declares the expected segment lost, if a later one was kept, and answers its number;
+    /// otherwise nothing changes, so that a close that goes on until then ends. It takes no memory.
     pub fn gap(&mut self) -> Declared
         requires { IsDrained self.old }
         ensures taken { TakesEvent self.old gap (Applied.Decision result) self.new }

@@ -371,8 +371,8 @@ pub fn gaps_leave_what_was_kept()
 {}
 
 /// What is decided about a flow to which no segment came changes nothing, as long as nothing is
-/// skipped: no index is kept or lost, a new flow stands for such events as it is, and what they give,
-/// with any gaps after them, is no frame and no count, and the flow is closed.
+/// skipped: no index is kept or lost, a new flow stands for such events as it is, and what they
+/// give, with any gaps after them, is no frame and no count, and the flow is closed.
 pub fn decisions_about_an_empty_flow_change_nothing()
     ensures fates { (first width : ℕ) (events : List FlowEvent) (answers : List Applied)
         (fates : Fates)

@@ -19,10 +19,10 @@
 //!    lost, how many frames were given and how many bytes skipped; [`Core::flow_count`] how many
 //!    flows there are; [`Core::expected`] which number a flow expects.
 //!
-//! [`Flow`] is one flow by itself, for a caller that keeps its flows in a table of its own and makes
-//! each when it is needed; [`Flow::held`] also says how many segments wait, and
-//! [`Flow::advance_as_it_is`] gives a segment that is one whole frame as it is. A gap that is declared
-//! of a flow to which no segment came changes nothing, so it needn't be made for that
+//! [`Flow`] is one flow by itself, for a caller that keeps its flows in a table of its own and
+//! makes each when it is needed; [`Flow::held`] also says how many segments wait, and
+//! [`Flow::advance_as_it_is`] gives a segment that is one whole frame as it is. A gap that is
+//! declared of a flow to which no segment came changes nothing, so it needn't be made for that
 //! ([`laws::decisions_about_an_empty_flow_change_nothing`]); a skip does change it.
 //!
 //! Contracts say which list of events a flow stands for, whatever it stood for before, and [`laws`]

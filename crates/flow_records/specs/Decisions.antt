@@ -5,7 +5,8 @@ use Rattle.flow_records.specs.declared.decision.Decision.{Decision}
 use Rattle.flow_records.specs.declared.event.Event.{Event}
 use Rattle.flow_records.specs.declared.event.Event.TheVariants.{Gap, GapTo}
 
--- the decision names one of so many flows, and a sequence number if it names a number; any other is passed over
+-- the decision names one of so many flows, and a sequence number if it names a number; any other is
+-- passed over
 abbrev pub names_a_number : Option ℕ → Bool
 names_a_number None = true
 names_a_number (Some number) = nat_lt number sequence_modulus

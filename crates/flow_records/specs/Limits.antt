@@ -1,4 +1,4 @@
--- How many flows there are at most. The limits of segments and of windows are those of `docsis_wire` and `reorder`.
+-- How many flows there are at most. `docsis_wire` and `reorder` limit segments and windows.
 use Rattle.std.specs.Prelude.{ℕ}
 
 -- the greatest number of flows by the profile

@@ -30,7 +30,8 @@ IsRepeated records k =
 abbrev pub IsLeast : (ℕ → Type 0) → ℕ → Type 0
 IsLeast P k = P k × ((j : ℕ) → j < k → ¬ (P j))
 
--- The first fault of some records, of which there may be so many, in the order in which they are looked for.
+-- The first fault of some records, of which there may be so many, in the order in which faults are
+-- looked for.
 abbrev pub IsSetupFaultWithin : ℕ → List FlowRecord → SetupFault → Type 0
 IsSetupFaultWithin limit records TooManyFlows = limit < length records
 IsSetupFaultWithin limit records (BadFlow k) = (length records ≤ limit) × IsLeast (IsBad records) k
@@ -42,7 +43,8 @@ IsSetupFaultWithin limit records OutOfMemory = ⊥
 abbrev pub IsSetupFault : List FlowRecord → SetupFault → Type 0
 IsSetupFault = IsSetupFaultWithin flows_max
 
--- The records, of which there may be so many, have no fault: none is out of range, so each is in range.
+-- The records, of which there may be so many, have no fault: none is out of range, so each is in
+-- range.
 pub record CanBeSetUpWithin (limit : ℕ) (records : List FlowRecord) : Type 0 where
   pub few : length records ≤ limit
   pub in_range : (k : ℕ) → ¬ (IsBad records k)

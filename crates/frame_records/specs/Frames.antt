@@ -73,7 +73,7 @@ burst_field origin = record { kind = 14; value = fields_bytes (reference_fields 
 abbrev pub origin_fields : FrameOrigin → List Field
 origin_fields origin = address_fields origin ++ burst_field origin ∷ []
 
--- what a record holds: the frame, or a packet of type 80, an upstream MAC frame, with where it came from
+-- a record holds the frame, or a packet of type 80, an upstream MAC frame, with where it came from
 abbrev pub frame_data : FrameLink → FrameOrigin → List ℕ → List ℕ
 frame_data Docsis origin frame = frame
 frame_data Xra origin frame = packet_bytes (record { version = 1; kind = 80; fields = origin_fields origin; payload = frame })

@@ -10,7 +10,8 @@ use Rattle.lane.specs.declared.refusal.Refusal.TheVariants.{TooLong, BadCheck, T
 use Rattle.lane.specs.declared.grant.SidFlow.{SidFlow}
 use Rattle.lane.specs.declared.grant.OutstandingGrant.{OutstandingGrant}
 
--- The request in a segment's header that came on this channel: none if no units are asked for or the flow doesn't have the cluster.
+-- The request in a segment's header that came on this channel: none if no units are asked for or
+-- the flow doesn't have the cluster.
 abbrev pub IsRequestIn : ℕ → SidFlow → SegmentHeader → Option Request → Type 0
 IsRequestIn channel flow head None = (head.request ≡ 0) ⊎ (flow.clusters ≤ head.cluster)
 IsRequestIn channel flow head (Some request) =

@@ -20,7 +20,7 @@ pub record LaneSetup : Type 0 where
   pub rows : List SidRow
   pub records : List FlowRecord
 
--- what is answered to an input: nothing to a grant that is accepted, what is admitted of a burst, or a refusal
+-- the answer to an input: nothing to an accepted grant, what is admitted of a burst, or a refusal
 abbrev pub Answer : Type 0
 Answer = Result (Option Admitted) Refusal
 
@@ -93,8 +93,9 @@ abbrev pub number_of : Input → ℕ
 number_of (Grant number sid bytes) = number
 number_of (Burst number hcs_ok bytes) = number
 
--- A grant is outstanding after these inputs: one of them is a grant of this number, to this service identifier and of so many bytes, that was
--- accepted, and after it stands no burst on that number that spent it.
+-- A grant is outstanding after these inputs: one of them is a grant of this number, to this service
+-- identifier and of so many bytes, that was accepted, and after it stands no burst on that number
+-- that spent it.
 pub record IsOutstanding (taken : List AnsweredInput) (number sid bytes : ℕ) : Type 0 where
   pub at : ℕ
   pub stands : slice_get taken at ≡ Some (record { input = Grant number sid bytes; answer = Ok None })
@@ -130,7 +131,8 @@ pub record IsGrant (setup : LaneSetup) (taken : List AnsweredInput) (number : �
   pub outstanding : IsOutstanding taken number sid grant.bytes
   pub flow : IsFlowOf setup sid grant.flow
 
--- The answer to a burst after these inputs: it is refused if it names no outstanding grant, and otherwise it is what is made of it in its grant.
+-- The answer to a burst after these inputs: it is refused if it names no outstanding grant, and
+-- otherwise it is what is made of it in its grant.
 abbrev pub IsAnswerToBurst : LaneSetup → List AnsweredInput → ℕ → Bool → List ℕ → Result Admitted Refusal → Type 0
 IsAnswerToBurst setup taken number hcs_ok bytes (Err NoGrant) = ¬ (IsKnown taken number)
 IsAnswerToBurst setup taken number hcs_ok bytes answer =

@@ -1,4 +1,4 @@
--- How many channels, service identifiers, bytes of a grant and outstanding grants there are at most.
+-- How many channels, service identifiers, bytes of a grant and outstanding grants there may be.
 use Rattle.std.specs.Prelude.{ℕ}
 
 -- there are four channels

@@ -13,7 +13,8 @@ use Rattle.lane.specs.Inputs.{LaneSetup, Answer, AnsweredInput}
 use Rattle.lane.specs.declared.refusal.Refusal.{Refusal}
 use Rattle.lane.specs.declared.refusal.Refusal.TheVariants.{GrantRange, GrantKnown, UnknownSid, TooManyGrants, GrantOutOfMemory, NoGrant, TooLong, BadCheck, TooShort, PointerPast, BurstOutOfMemory}
 
--- the number of a refusal: grants' refusals are 1 to 5 and bursts' 6 to 11, each in the order in which they are looked for
+-- the number of a refusal: grants' refusals are 1 to 5 and bursts' 6 to 11, each in the order in
+-- which they are looked for
 abbrev pub refusal_number : Refusal → ℕ
 refusal_number GrantRange = 1
 refusal_number GrantKnown = 2
@@ -81,7 +82,8 @@ pub record AddsAnswer (report : LaneReport) (answer : Answer) (after : LaneRepor
   pub admitted : after.admitted ≡ (if is_some (admitted_by answer) then counted (report.admitted + 1) else report.admitted)
   pub refused : after.refused.items ≡ report.refused.items ++ filter_map refused_by (answer ∷ [])
 
--- Whatever inputs a report was of, with one more at the end that has this answer they have the report after it.
+-- Whatever inputs a report was of, with one more at the end that has this answer they have the
+-- report after it.
 abbrev pub Reports : LaneReport → Answer → LaneReport → Type 0
 Reports report answer after =
     (answered : List AnsweredInput) (input : Input)

@@ -34,7 +34,8 @@ abbrev pub IsOutOfMemory : Input → Answer → Type 0
 IsOutOfMemory (Grant number sid bytes) answer = answer ≡ Err GrantOutOfMemory
 IsOutOfMemory (Burst number hcs_ok bytes) answer = answer ≡ Err BurstOutOfMemory
 
--- Whatever inputs a lane stands for, no other refusal of this input applies: the grant would be accepted, or the burst fits its grant.
+-- Whatever inputs a lane stands for, no other refusal of this input applies: the grant would be
+-- accepted, or the burst fits its grant.
 abbrev pub CouldTake : Lane → Input → Type 0
 CouldTake lane (Grant number sid bytes) =
     (setup : LaneSetup) (taken : List AnsweredInput) → StandsFor setup lane taken → IsAnswerToGrant setup taken number sid bytes (Ok None)
@@ -52,7 +53,8 @@ TakesInput lane input answer after =
 abbrev pub StandsForTheSame : Lane → Lane → Type 0
 StandsForTheSame lane after = (setup : LaneSetup) (taken : List AnsweredInput) → StandsFor setup lane taken → StandsFor setup after taken
 
--- Whatever inputs a lane stands for, with rows that have no fault: what any answer to this one admits is of this flow, or it admits nothing.
+-- Whatever inputs a lane stands for, with rows that have no fault: what any answer to this one
+-- admits is of this flow, or it admits nothing.
 abbrev pub WouldAdmit : Lane → Input → Option ℕ → Type 0
 WouldAdmit lane input flow =
     (channels : ℕ) (setup : LaneSetup) (taken : List AnsweredInput) (answer : Answer)

@@ -85,8 +85,8 @@ impl Lane {
         Lane::open_within(alloc, PROFILE_CHANNELS, channel, rows, records)
     }
 
-    /// A lane of this channel, one of so many, with nothing outstanding, for rows of so many channels
-    /// that have no fault.
+    /// A lane of this channel, one of so many, with nothing outstanding, for rows of so many
+    /// channels that have no fault.
     pub fn open_within(
         alloc: Global,
         channels: u8,
@@ -171,8 +171,8 @@ impl Lane {
         }
     }
 
-    /// The flow of which a burst would be admitted, if one would be: of whatever is answered to this
-    /// input, the segment that is admitted is of this flow. It takes no memory.
+    /// The flow of which a burst would be admitted, if one would be: of whatever is answered to
+    /// this input, the segment that is admitted is of this flow. It takes no memory.
     pub fn look(&self, input: &Input) -> Option<usize>
         ensures flow { WouldAdmit self.now input.now result }
         ensures exists { NamesAFlow self.now result }

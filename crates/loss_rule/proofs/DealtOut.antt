@@ -1,4 +1,4 @@
--- Segments that are dealt out over some of the channels, in any way, with some of them lost and some late.
+-- Segments that are dealt out over some channels, in any way, with some of them lost and some late.
 use Rattle.std.proofs.Common.{◌≡◌, ℕ, zero, suc, ◌+◌, ◌<◌, ◌≤◌, inl, inr, Some, List, ◌∷◌, ◌++◌, length, slice_get, refl, ap, sym, subst, ◌∙◌, arith}
 use Rattle.std.proofs.lemmas.Bool.{cases_lt, cases_eq}
 use Rattle.std.proofs.lemmas.Option.{slice_get_within}

@@ -1,4 +1,5 @@
--- A segment that falls into the window as it stands: it comes near the expected index, and the window doesn't slide.
+-- A segment that falls into the window as it stands: it comes near the expected index, and the
+-- window doesn't slide.
 use Rattle.std.proofs.Common.{◌≡◌, ◌≢◌, ℕ, ◌+◌, ◌<◌, ◌≤◌, inl, inr, List, length, sym, subst, arith}
 use Rattle.std.proofs.lemmas.Bool.{cases_lt}
 use Rattle.docsis_wire.specs.declared.segment.Segment.{Segment}
@@ -28,7 +29,8 @@ use Rattle.loss_rule.proofs.InStep.{between-ahead}
 between-numbers : (first x number index k : ℕ) → IsAhead first x number index → number ≡ number_of first k → x + 4096 ≤ k → k < x + 8192 → ⊥
 between-numbers first x number index k ahead numbered from to = omega arith
 
--- A segment of the flow whose index lies within the window once what every channel has passed is skipped was near before.
+-- A segment of the flow whose index lies within the window once what every channel has passed is
+-- skipped was near before.
 module _ (flow : RuledFlow) (narrow : flow.width ≤ 4096) (lasts noted : Lasts) (fates between : Fates) (channel x y k number : ℕ) (passing : List FlowEvent)
     (answers : List Applied) (r : IsReached flow.first flow.width fates) (expected : IsExpected fates x) (known : AreBounded lasts x)
     (notes : Notes flow.first x channel number lasts noted) (passes : IsPassing flow noted x passing)

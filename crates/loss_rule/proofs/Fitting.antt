@@ -1,5 +1,5 @@
--- Where nothing comes further ahead than the window holds, each segment comes near the expected index, and falls into the window once the rule has
--- skipped.
+-- Where nothing comes further ahead than the window holds, each segment comes near the expected
+-- index, and falls into the window once the rule has skipped.
 use Rattle.std.proofs.Common.{◌≢◌, ℕ, ◌+◌, ◌<◌, ◌≤◌, ◌⊎◌, inl, inr, List, length, sym, subst, arith}
 use Rattle.std.proofs.lemmas.Bool.{cases_eq, cases_lt}
 use Rattle.docsis_wire.specs.declared.segment.Segment.{Segment}

@@ -1,4 +1,4 @@
--- A decision that is handed in: it keeps nothing, and loses nothing from the index up to which it decides.
+-- A decision that is handed in keeps nothing, and loses nothing from the index it decides up to.
 use Rattle.std.proofs.Common.{◌≡◌, ℕ, ◌+◌, ◌<◌, ◌≤◌, inl, inr, Bool, Some, None, List, [], ◌∷◌, ◌++◌, length, refl, ap, sym, subst, ◌∙◌, arith}
 use Rattle.std.proofs.lemmas.Bool.{cases_eq}
 use Rattle.std.specs.FinMap as map

@@ -1,4 +1,4 @@
--- A segment that comes in channel order: its index was open, and it is kept or lies beyond the window.
+-- A segment that comes in channel order: its index was open, and it is kept or beyond the window.
 use Rattle.std.proofs.Common.{◌≡◌, ℕ, ◌+◌, ◌<◌, ◌≤◌, ◌⊎◌, inl, inr, true, Some, None, List, refl, ap, sym, subst, ◌∙◌, arith}
 use Rattle.std.proofs.lemmas.Bool.{cases_eq, cases_lt}
 use Rattle.std.proofs.lemmas.Option.{slice_get_within}
@@ -196,7 +196,8 @@ module _ (flow : RuledFlow) (segments : List Segment) (comings : List Coming) (i
       pub own-answer : IsKeptOrBeyond flow.width t.z (index_at n) segment t.answer t.slid after
       own-answer = kept-or_beyond flow.first flow.width t.z (index_at n) segment t.answer t.slid after slid-ahead slid-open t.changes
 
-      -- what is kept after it was kept before, or is this one; what is lost was lost by the skip or before
+      -- what is kept after it was kept before, or is this one; what is lost was lost by the skip or
+      -- before
       kept-after : (i : ℕ) → IsKept after i → IsKept t.slid i ⊎ (i ≡ index_at n)
       kept-after i kept =
           elim own-answer [

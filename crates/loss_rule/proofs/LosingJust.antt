@@ -1,4 +1,5 @@
--- What the rule loses before a segment lies before the index to which every channel has come, or the window's width or more before the segment.
+-- What the rule loses before a segment lies before the index to which every channel has come, or
+-- the window's width or more before the segment.
 use Rattle.std.proofs.Common.{◌≡◌, ℕ, ◌+◌, ◌-◌, ◌<◌, ◌≤◌, ◌⊎◌, inl, inr, Some, None, List, refl, ap, sym, subst, ◌∙◌, arith}
 use Rattle.std.proofs.lemmas.Bool.{cases_eq}
 use Rattle.std.specs.FinMap as map
@@ -45,7 +46,7 @@ just-lost flow lasts noted fates after channel i segment events answers known t 
     lost-below_least flow noted t.x fates t.between t.passing t.passing_answers t.expected bounded t.passes t.leads_passing i
     (subst (λ (f : Fates). IsLost f i) stays before)
 
--- a number that is ahead of both indexes, of which the later lies at most 4096 after the other, has one index
+-- a number ahead of two indexes, the later at most 4096 after the other, has one index
 ahead-of_both : (first x y number i k : ℕ) → IsAhead first x number i → IsAhead first y number k → x ≤ y → y ≤ x + 4096 → IsAhead first x number k
 ahead-of_both first x y number i k ahead ahead' from to = let same : i ≡ k = omega arith in subst (IsAhead first x number) same ahead
 

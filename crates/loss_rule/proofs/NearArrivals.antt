@@ -43,7 +43,7 @@ near-one_more first width segments events segment near here before behind anothe
     arrives-same : {a b : Segment} → arrives a ≡ arrives b → a ≡ b
     arrives-same e = cc
 
--- near events, and those of a segment that comes near the index that is expected once the rule has skipped
+-- near events, and those of a segment that comes near the index expected once the rule has skipped
 module _ (rule : LossRule) (flow : RuledFlow) (lasts : Lasts) (fates : Fates) (channel : ℕ) (segment : Segment) (events : List FlowEvent) (answers : List Applied)
     (noted : Lasts) (after : Fates) (t : ArrivesBy rule flow lasts fates channel segment events answers noted after) where
   pub near-arrival : (segments : List Segment) (index : ℕ) (before : List FlowEvent) (so_far : List Applied) → slice_get segments index ≡ Some segment

@@ -29,7 +29,7 @@ use Rattle.loss_rule.proofs.HandedIn.{one-no_arrival, decides}
 use Rattle.loss_rule.proofs.Sliding.{beyond-open, slid-to}
 use Rattle.loss_rule.proofs.NearArrivals.{near-one_more, near-arrival}
 
--- A segment of the flow that comes near the expected index is still near it once the rule has skipped.
+-- A segment of the flow that comes near the expected index is still near once the rule has skipped.
 module _ (rule : LossRule) (flow : RuledFlow) (positive : 1 ≤ flow.width) (narrow : flow.width ≤ 4096) (lasts : Lasts) (fates : Fates) (channel : ℕ) (segment : Segment)
     (events : List FlowEvent) (answers : List Applied) (noted : Lasts) (after : Fates) (r : IsReached flow.first flow.width fates)
     (t : ArrivesBy rule flow lasts fates channel segment events answers noted after) (known : IsUpToDate flow lasts fates) (has : HasChannel flow channel)

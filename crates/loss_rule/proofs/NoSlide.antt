@@ -1,4 +1,5 @@
--- Where all that comes is taken in, no segment comes after one that is the window's width or more greater. So all falls into the window.
+-- Where all that comes is taken in, no segment comes after one that is the window's width or more
+-- greater. So all falls into the window.
 use Rattle.std.proofs.Common.{◌≡◌, ◌≢◌, ℕ, zero, suc, ◌≤◌, inl, inr, Some, List, [], ◌∷◌, ◌++◌, length, slice_get, refl, ap, sym, subst, arith}
 use Rattle.std.proofs.lemmas.Bool.{cases_lt}
 use Rattle.docsis_wire.specs.declared.segment.Segment.{Segment}

@@ -69,7 +69,8 @@ ruled-append rule flow comings events lasts fates coming own answers noted after
     rules-in_turn rule flow (no_lasts flow) no_fates comings (coming ∷ []) (events ++ own) noted after
     (events, own, lasts, fates, are, (own, [], answers, noted, after, ruled, leads, (refl, refl, refl), sym (append-nil own)), refl)
 
--- What holds before anything came, and stays with each coming, holds after all that came. The comings behind may be known too.
+-- What holds before anything came, and stays with each coming, holds after all that came. The
+-- comings behind may be known too.
 module _ (rule : LossRule) (flow : RuledFlow) (P : List Coming → List Coming → List FlowEvent → Lasts → Fates → Type 0)
     (step : (past behind : List Coming) (events : List FlowEvent) (lasts : Lasts) (fates : Fates) (coming : Coming) (own : List FlowEvent) (answers : List Applied)
     (noted : Lasts) (after : Fates)

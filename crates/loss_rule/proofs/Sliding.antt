@@ -107,7 +107,8 @@ module _ (flow : RuledFlow) (positive : 1 ≤ flow.width) (lasts : Lasts) (fates
             ]
       ]
 
-  -- The segment that comes is kept, or was kept before, where its channel is one of the flow's and its number lies ahead.
+  -- The segment that comes is kept, or was kept before, where its channel is one of the flow's and
+  -- its number lies ahead.
   pub arrived-kept : (x i : ℕ) → IsUpToDate flow lasts fates → HasChannel flow channel → Leads flow.first flow.width fates events answers after
       → IsExpected fates x → IsAhead flow.first x segment.head.sequence i → IsKept after i
   arrived-kept x i known has leads expected ahead =

@@ -1,4 +1,5 @@
--- When each segment that comes is taken in: where no window has to slide, and where one that slides loses nothing that still comes.
+-- When each segment that comes is taken in: where no window has to slide, and where one that slides
+-- loses nothing that still comes.
 use Rattle.std.proofs.Common.{◌≡◌, ◌≢◌, ℕ, ◌+◌, ◌-◌, ◌<◌, ◌≤◌, inl, inr, None, List, ◌∷◌, ◌++◌, length, refl, sym, subst, arith}
 use Rattle.std.proofs.lemmas.Bool.{cases_lt}
 use Rattle.docsis_wire.specs.declared.segment.Segment.{Segment}
@@ -26,7 +27,8 @@ use Rattle.loss_rule.proofs.ChannelOrder.{comes-here}
 use Rattle.loss_rule.proofs.InStep.{between-ahead, stays-spares}
 use Rattle.loss_rule.proofs.Falling.{fall-within, no-slide}
 
--- What lies within the window once the rule has skipped what every channel has passed is taken in: the window doesn't slide.
+-- What lies within the window once the rule has skipped what every channel has passed is taken in:
+-- the window doesn't slide.
 pub within-taken : (rule : LossRule) (looks : rule ≢ Decided) (flow : RuledFlow) (segments : List Segment) (comings : List Coming) (index_at : ℕ → ℕ)
     → AreNumbered flow.first segments → AreInChannelOrder flow segments comings index_at → AreWithin rule flow comings index_at → AreTakenIn rule flow comings index_at
 within-taken rule looks flow segments comings index_at numbered order all_within before behind channel segment so_far events answers lasts noted fates after e are in_step kept t =
@@ -93,7 +95,7 @@ some-width flow comings index_at n channel segment late here =
 
 module _ (flow : RuledFlow) (segments : List Segment) (comings : List Coming) (index_at : ℕ → ℕ) (numbered : AreNumbered flow.first segments)
     (order : AreInChannelOrder flow segments comings index_at) where
-  -- so all that is near is taken in, where none comes after one that is the window's width or more greater
+  -- so all near is taken in, where none comes after one greater by the window's width or more
   late-taken : ComeWithin comings index_at flow.width
       → ((before behind : List Coming) (channel x : ℕ) (segment : Segment) (so_far : List FlowEvent) (lasts : Lasts) (fates : Fates)
       → comings ≡ before ++ on_channel channel segment ∷ behind → AreRuled PassedOrSlid flow before so_far lasts fates

@@ -1,4 +1,5 @@
--- What the rule knows in numbers: how far ahead of the expected number the last segment of each channel lies.
+-- What the rule knows in numbers: how far ahead of the expected number the last segment of each
+-- channel lies.
 use Rattle.std.specs.Prelude.{◌≡◌, ℕ, ◌+◌, ◌-◌, ◌<◌, ◌≤◌, ◌⊎◌, nat_lt, Bool, true, Option, Some, None, List, [], ◌∷◌, map, length, replicate, slice_get, if◌then◌else◌}
 use Rattle.reorder.specs.Limits.{modulus, numbers_ahead}
 use Rattle.reorder.specs.Number.{offset, number_ahead}
@@ -36,8 +37,8 @@ IsCarried carried channel = slice_get carried channel ≡ Some true
 abbrev pub HasDistance : List (Option ℕ) → ℕ → ℕ → Type 0
 HasDistance distances channel distance = slice_get distances channel ≡ Some (Some distance)
 
--- Every channel of the flow has come so far: the last segment of each lies ahead, and this is the least distance of them. It isn't the expected number
--- itself.
+-- Every channel of the flow has come so far: the last segment of each lies ahead, and this is the
+-- least distance of them. It isn't the expected number itself.
 pub record IsPassedDistance (carried : List Bool) (distances : List (Option ℕ)) (distance : ℕ) : Type 0 where
   pub ahead : 1 ≤ distance
   pub one : (channel : ℕ) × IsCarried carried channel × HasDistance distances channel distance
@@ -48,7 +49,8 @@ abbrev pub IsPassedByAll : List Bool → List (Option ℕ) → ℕ → Option �
 IsPassedByAll carried distances expected (Some number) = (distance : ℕ) × IsPassedDistance carried distances distance × (number ≡ number_ahead expected distance)
 IsPassedByAll carried distances expected None = (distance : ℕ) → ¬ (IsPassedDistance carried distances distance)
 
--- Where the number lies ahead and beyond the window, the one of which it lies the width less one ahead: from there on it is the window's last.
+-- Where the number lies ahead and beyond the window, the one of which it lies the width less one
+-- ahead: from there on it is the window's last.
 abbrev pub IsSlidTo : ℕ → ℕ → ℕ → Option ℕ → Type 0
 IsSlidTo expected width number (Some to) =
     (width ≤ offset expected number) × (offset expected number < numbers_ahead) × (to < modulus) × (offset to number + 1 ≡ width)

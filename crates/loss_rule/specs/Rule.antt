@@ -1,7 +1,7 @@
 -- The rule by which a receiver decides by itself what is lost, said by true indexes.
 --
--- On a channel the segments of a flow come in the modem's order. So what lies before the last segment of each of the flow's channels can't come any
--- more.
+-- On a channel the segments of a flow come in the modem's order. So what lies before the last
+-- segment of each of the flow's channels can't come any more.
 use Rattle.std.specs.Prelude.{◌≡◌, ℕ, ◌+◌, ◌-◌, ◌<◌, ◌≤◌, ◌⊎◌, Bool, true, Option, Some, None, List, [], ◌∷◌, ◌++◌, length, replicate, slice_get, slice_set}
 use Rattle.docsis_wire.specs.declared.segment.Segment.{Segment}
 use Rattle.flow_core.specs.declared.event.Applied.{Applied}
@@ -20,8 +20,8 @@ abbrev pub own_event : Coming → FlowEvent
 own_event (on_channel channel segment) = arrives segment
 own_event (handed_in event) = event
 
--- What the rule has to know of a flow: the number of its first segment, the width of its window, and of each channel whether the flow has a service
--- identifier there.
+-- What the rule has to know of a flow: the number of its first segment, the width of its window,
+-- and of each channel whether the flow has a service identifier there.
 pub record RuledFlow : Type 0 where
   pub first : ℕ
   pub width : ℕ
@@ -30,7 +30,8 @@ pub record RuledFlow : Type 0 where
 abbrev pub HasChannel : RuledFlow → ℕ → Type 0
 HasChannel flow channel = slice_get flow.channels channel ≡ Some true
 
--- Of each channel the index of the last segment that came there; nothing where none came yet, or where its number lay behind.
+-- Of each channel the index of the last segment that came there; nothing where none came yet, or
+-- where its number lay behind.
 abbrev pub Lasts : Type 0
 Lasts = List (Option ℕ)
 
@@ -44,7 +45,7 @@ IsLastOn lasts channel index = slice_get lasts channel ≡ Some (Some index)
 abbrev pub IsPassed : RuledFlow → Lasts → ℕ → Type 0
 IsPassed flow lasts i = (channel : ℕ) → HasChannel flow channel → (index : ℕ) × IsLastOn lasts channel index × (i < index)
 
--- Every channel of the flow has come to this index: each has a last one, and this is the least of them.
+-- Each channel of the flow has come to this index: each has a last one, and this is the least.
 pub record HaveComeTo (flow : RuledFlow) (lasts : Lasts) (least : ℕ) : Type 0 where
   pub own : ℕ
   pub has : HasChannel flow own
@@ -60,19 +61,22 @@ IsIndexAhead first x number None = (index : ℕ) → ¬ (IsAhead first x number 
 abbrev pub Notes : ℕ → ℕ → ℕ → ℕ → Lasts → Lasts → Type 0
 Notes first x channel number lasts noted = (last : Option ℕ) × IsIndexAhead first x number last × (noted ≡ slice_set lasts channel last)
 
--- The least of the last indexes of the flow's channels. Each channel has one, and all of them lie after the expected index x.
+-- The least of the last indexes of the flow's channels. Each channel has one, and all of them lie
+-- after the expected index x.
 pub record IsLeastLast (flow : RuledFlow) (lasts : Lasts) (x least : ℕ) : Type 0 where
   pub ahead : x < least
   pub one : (channel : ℕ) × HasChannel flow channel × IsLastOn lasts channel least
   pub each : (channel : ℕ) → HasChannel flow channel → (index : ℕ) × IsLastOn lasts channel index × (least ≤ index)
 
--- The skip to what every channel has passed, or none where some channel has no last index after the expected one.
+-- The skip to what every channel has passed, or none where some channel has no last index after the
+-- expected one.
 abbrev pub IsPassing : RuledFlow → Lasts → ℕ → List FlowEvent → Type 0
 IsPassing flow lasts x skips =
     ((least : ℕ) × IsLeastLast flow lasts x least × (skips ≡ skip_to (number_of flow.first least) ∷ []))
     ⊎ (((least : ℕ) → ¬ (IsLeastLast flow lasts x least)) × (skips ≡ []))
 
--- The skip after which the index of a number is the last of the window, or none where it lies in the window already or isn't ahead.
+-- The skip after which the index of a number is the last of the window, or none where it lies in
+-- the window already or isn't ahead.
 abbrev pub IsSliding : RuledFlow → ℕ → ℕ → List FlowEvent → Type 0
 IsSliding flow x number skips =
     ((index : ℕ) × IsAhead flow.first x number index × (x + flow.width ≤ index)
@@ -89,8 +93,8 @@ AreSkips PassedOrSlid flow noted fates number skips =
     × Leads flow.first flow.width fates passing answers between × IsExpected between y × IsSliding flow y number sliding
     × (skips ≡ passing ++ sliding)
 
--- The events that one coming makes, and what is noted after it. A segment is noted, then comes what is skipped, and then it arrives. A decision that is
--- handed in stays what it is.
+-- The events that one coming makes, and what is noted after it. A segment is noted, then comes what
+-- is skipped, and then it arrives. A decision that is handed in stays what it is.
 abbrev pub IsRuled : LossRule → RuledFlow → Lasts → Fates → Coming → List FlowEvent → Lasts → Type 0
 IsRuled rule flow lasts fates (handed_in event) events noted = (events ≡ event ∷ []) × (noted ≡ lasts)
 IsRuled rule flow lasts fates (on_channel channel segment) events noted =

@@ -294,11 +294,11 @@ pub fn segments_that_fit_the_window_fall_into_it()
 
 /// What falls into the window by the rule that slides: all that comes in channel order, if no
 /// segment comes after one whose index is the window's width or more greater, and each lies at most
-/// 4,096 less the window's width after one that came before it; so the wider the window, the shorter
-/// are these outages. So does all that comes near, if no slide loses one that still comes. Where no
-/// window has to slide all falls into it by either rule. Segments that are dealt in any way over
-/// channels of the flow, and come in the modem's order over such outages, meet every premise at
-/// once.
+/// 4,096 less the window's width after one that came before it; so the wider the window, the
+/// shorter are these outages. So does all that comes near, if no slide loses one that still comes.
+/// Where no window has to slide all falls into it by either rule. Segments that are dealt in any
+/// way over channels of the flow, and come in the modem's order over such outages, meet every
+/// premise at once.
 pub fn segments_after_an_outage_fall_into_a_window_that_slides()
     ensures outage { (check : List ℕ → Bool) (frames chunks : List (List ℕ)) (fill : ℕ)
         (segments : List Segment) (flow : RuledFlow) (comings : List Coming) (index_at : ℕ → ℕ)

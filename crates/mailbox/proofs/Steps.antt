@@ -1,5 +1,6 @@
--- Each of the seven kinds of step keeps the rule: making the queue, splitting off a port's pass, a push that adds, a push that is
--- refused, a pop that takes, a pop that finds nothing, and joining a port's pass to the mouth's.
+-- Each of the seven kinds of step keeps the rule: making the queue, splitting off a port's pass, a
+-- push that adds, a push that is refused, a pop that takes, a pop that finds nothing, and joining a
+-- port's pass to the mouth's.
 use Rattle.std.proofs.Common.{◌≡◌, ◌≢◌, ℕ, zero, suc, ◌+◌, ◌<◌, ◌⊎◌, true, false, List, [], ◌∷◌, ◌++◌, length, set, sym, refl, ap, ◌∙◌, subst, ⊎_elim, append_assoc, arith, inl, inr}
 use Rattle.std.specs.Prelude.{◌==◌, if◌then◌else◌}
 use Rattle.std.proofs.lemmas.Bool.{cases_eq}
@@ -167,7 +168,7 @@ module _ {T : Type 0} where
             (λ q y other e. each_set (MayTake h.reader h.made h.got) views p both (λ _. mine) (λ q y apart e. h.taker q y e) q y e);
       }
 
-  -- a pop that finds nothing: no view changes, and the mouth learns of what the queue holds, which is nothing
+  -- a pop that finds nothing: no view changes, and the mouth learns that the queue holds nothing
   pub finds_nothing : (p : ℕ) (v : View T) → v.takes ≡ true → Learns Delivers p v (Accounts v)
   finds_nothing p v may items views h at =
       let mine = h.taker p v at may in

@@ -9,7 +9,8 @@ module _ {T : Type 0} where
   closed_addresses ps =
       closed_address ps.p0 ∷ closed_address ps.p1 ∷ closed_address ps.p2 ∷ closed_address ps.p3 ∷ closed_address ps.p4 ∷ []
 
-  -- what was posted is what was taken and then as many items as are left; where the end mark was taken, none is left
+  -- what was posted is what was taken and then as many items as are left; where the end mark was
+  -- taken, none is left
   pub record Leaves (posted taken : List T) (ended : Bool) (left : ℕ) : Type 0 where
     pub rest : List T
     pub whole : posted ≡ taken ++ rest

@@ -24,7 +24,8 @@ colon_octet octet = codes ":" ++ encode_lower (octet ∷ [])
 abbrev pub modem_text : ℕ → List ℕ
 modem_text modem = encode_lower (slice_range (to_be_bytes w64 modem) 2 3) ++ flat_map colon_octet (drop 3 (to_be_bytes w64 modem))
 
--- a time in seconds, with nine digits behind the point: those of a thousand million more, but for the first one
+-- a time in seconds, with nine digits behind the point: those of a thousand million more, but for
+-- the first one
 abbrev pub seconds_text : ℕ → List ℕ
 seconds_text nanoseconds =
     decimal (nanoseconds / 1000000000) ++ codes "." ++ drop 1 (decimal (1000000000 + nanoseconds % 1000000000))

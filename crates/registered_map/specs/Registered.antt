@@ -76,11 +76,13 @@ abbrev pub remarked : Registered → Telling → RemarkKind → ChannelSid → R
 remarked so_far telling kind told =
     record so_far { remarks = with_remark so_far.remarks (record { kind = kind; told = told; telling = telling }) }
 
--- A map can say a cluster of 0 to 7 and a SID of 0 to 16,383, and has so many channels and flows: there is room for the one at this place.
+-- A map can say a cluster of 0 to 7 and a SID of 0 to 16,383, and has so many channels and flows:
+-- there is room for the one at this place.
 abbrev pub can_say : ChannelSid → ℕ → ℕ → Bool
 can_say told channel flow = nat_lt told.cluster 8 && nat_lt told.sid 16384 && nat_lt channel most_channels && nat_lt flow most_flows
 
--- a channel and a flow, at their places, are named where they weren't before; of a flow that was the clusters are raised
+-- a channel and a flow, at their places, are named where they weren't before; of a flow that was
+-- the clusters are raised
 abbrev pub with_channel : Telling → ChannelSid → ℕ → List RegisteredChannel → List RegisteredChannel
 with_channel telling told channel channels =
     if channel == length channels then channels ++ record { channel = channel; id = told.channel; telling = telling } ∷ [] else channels
@@ -98,7 +100,8 @@ with_row so_far telling told channel flow = record so_far {
   sids = so_far.sids ++ record { channel = channel; sid = told.sid; flow = flow; telling = telling } ∷ [];
 }
 
--- one that was added to this flow is of this cluster too; and one that was added to another flow stays with that
+-- one that was added to this flow is of this cluster too; and one that was added to another flow
+-- stays with that
 abbrev pub given_to : Registered → Telling → ChannelSid → ℕ → ℕ → Option ℕ → Registered
 given_to so_far telling told channel flow None = with_row so_far telling told channel flow
 given_to so_far telling told channel flow (Some owner) =

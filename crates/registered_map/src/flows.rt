@@ -64,8 +64,8 @@ impl Flows {
         let _ = self.places.insert(flow.sfid, place);
     }
 
-    /// Appends the flow of a SID, which has this place, if it isn't one of them; otherwise it has the
-    /// SID's cluster too.
+    /// Appends the flow of a SID, which has this place, if it isn't one of them; otherwise it has
+    /// the SID's cluster too.
     pub fn have(&mut self, telling: Telling, told: ChannelSid, place: usize)
         requires few { place < most_flows }
         requires cluster { told.cluster < 8 }

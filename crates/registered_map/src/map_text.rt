@@ -149,9 +149,9 @@ fn put_remarks<O: PutText>(out: &mut O, remarks: &Remarks)
     put_more(out, remarks.more);
 }
 
-/// Puts the text of a map: the lines of its flows, channels and SIDs, each below a comment that says
-/// which modem was told it, when and by which message, and then the remarks as comments. Its lines
-/// but for the comments are a map that `capture_map` reads.
+/// Puts the text of a map: the lines of its flows, channels and SIDs, each below a comment that
+/// says which modem was told it, when and by which message, and then the remarks as comments. Its
+/// lines but for the comments are a map that `capture_map` reads.
 pub fn put_map<O: PutText>(out: &mut O, map: &RegisteredMap)
     ensures { Puts O.after out.old (map_text (registered_in map.now)) out.new }
 {

@@ -167,7 +167,7 @@ impl RegisteredMap {
         });
     }
 
-    /// The place of the channel with this upstream channel id, if it is one of those that were named.
+    /// The place of the channel with this upstream channel id, if it is one that was named.
     fn channel_if_named(&self, id: u8) -> Option<usize>
         ensures { result ≡ position (λ one. one.id == id) (registered_in self.now).channels }
     {

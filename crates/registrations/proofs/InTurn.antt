@@ -17,7 +17,8 @@ message_with message of taken tlvs = record { message = message; of = of; taken 
 whole_with : ℕ → MessageName → List ℕ → WholeParts
 whole_with modem message tlvs = record { modem = modem; message = message; tlvs = tlvs }
 
--- the parts up to this one were taken: none, whatever is under way, or those of the message that is under way
+-- the parts up to this one were taken: none, whatever is under way, or those of the message that is
+-- under way
 abbrev IsTakenTo : MessageName → ℕ → ℕ → List ℕ → Option OpenParts → Type 0
 IsTakenTo message of n tlvs before = ((n ≡ 0) × (tlvs ≡ [])) ⊎ ((0 < n) × (before ≡ Some (message_with message of n tlvs)))
 

@@ -5,11 +5,13 @@ use Rattle.docsis_wire.specs.Checks.{ends_with_its_sequence, frame_check_sequenc
 use Rattle.capture.specs.Packet.{two_bytes}
 use Rattle.registrations.specs.Message.{ManagementParts}
 
--- a frame's header but for its check sequence: frame control 0xC2, a parameter, and how many bytes follow the header
+-- a frame's header but for its check sequence: frame control 0xC2, a parameter, and how many bytes
+-- follow the header
 abbrev pub header_front : ℕ → ℕ → List ℕ
 header_front parameter count = 0xC2 ∷ parameter ∷ two_bytes count
 
--- A frame: header, message, and the frame check sequence of four bytes, the low one first. Both check sequences are right.
+-- A frame: header, message, and the frame check sequence of four bytes, the low one first. Both
+-- check sequences are right.
 pub record IsMessageFrame (frame message : List ℕ) : Type 0 where
   pub parameter : ℕ
   pub sequence : List ℕ
@@ -20,7 +22,8 @@ pub record IsMessageFrame (frame message : List ℕ) : Type 0 where
   pub header_right : IsTrue (ends_with_its_sequence (header_front parameter (length message + 4) ++ sequence))
   pub message_right : frame_check_sequence message ≡ little_number 4 last
 
--- A message: destination and source of six bytes, the length of what follows that, DSAP, SSAP, control and version, type, a reserved byte, the body.
+-- A message: destination and source of six bytes, the length of what follows that, DSAP, SSAP,
+-- control and version, type, a reserved byte, the body.
 pub record IsManagement (message : List ℕ) (parts : ManagementParts) : Type 0 where
   pub destination : List ℕ
   pub source : List ℕ

@@ -15,7 +15,7 @@ most_under_way = 256
 abbrev pub longest_message : ℕ
 longest_message = 65536
 
--- a message of which the parts 1 to `taken` came, and a whole one, without where their TLVs lie in memory
+-- a message whose parts 1 to `taken` came, and a whole one, without where their TLVs lie in memory
 pub record OpenParts : Type 0 where
   pub message : MessageName
   pub of : ℕ

@@ -21,7 +21,8 @@ Gives view (Err why) read = read ≡ Err why
 abbrev pub length_at : ℕ → List ℕ → ℕ
 length_at k bytes = big_number 2 (drop k bytes)
 
--- the message in a frame: what lies between the six bytes of its header and the four of its frame check sequence
+-- the message in a frame: what lies between the six bytes of its header and the four of its frame
+-- check sequence
 abbrev pub message_of : List ℕ → List ℕ
 message_of frame = drop 6 (take (length frame - 4) frame)
 
@@ -48,7 +49,8 @@ pub record ManagementParts : Type 0 where
   pub kind : ℕ
   pub body : List ℕ
 
--- Destination and source of six bytes; the length of what follows it in two; DSAP, SSAP, control, version, type, a reserved byte; the body.
+-- Destination and source of six bytes; the length of what follows it in two; DSAP, SSAP, control,
+-- version, type, a reserved byte; the body.
 abbrev pub management_in : List ℕ → Result ManagementParts NoPart
 management_in message =
     if nat_le 20 (length message) && length message == 14 + length_at 12 message

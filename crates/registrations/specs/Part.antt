@@ -72,7 +72,7 @@ pub record SpellsPart (bytes : List ℕ) (part : Part) : Type 0 where
   pub spelled : bytes ≡ packet_bytes parts
   pub part_is : part_of parts ≡ Ok (part_seen part)
 
--- what was read of the bytes of a packet: what its type and its payload say, or that they spell no packet
+-- what was read of a packet's bytes: what its type and payload say, or that they spell no packet
 pub record IsAnswer (bytes : List ℕ) (answer : Result Part NoPart) : Type 0 where
   pub spelled : (parts : Parts) → bytes ≡ packet_bytes parts → Gives part_seen answer (part_of parts)
   pub unspelled : ((parts : Parts) → bytes ≡ packet_bytes parts → ⊥) → answer ≡ Err Malformed

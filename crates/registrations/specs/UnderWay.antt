@@ -25,12 +25,14 @@ pub record Joins (old new : Unfinished) (part : PartParts) (given : Option Whole
 abbrev pub HasRoom : Unfinished → ℕ → Type 0
 HasRoom state modem = IsSome (held_at state modem) ⊎ (count_of state < most_under_way)
 
--- the part doesn't go on with what is under way for its modem, for this reason, and changes nothing of it
+-- the part doesn't go on with what is under way for its modem, for this reason, and changes
+-- nothing of it
 pub record DoesNotJoin (old new : Unfinished) (part : PartParts) (why : JoinFault) : Type 0 where
   pub refused : joined (held_at old part.modem) part ≡ Err why
   pub kept : held_at new part.modem ≡ held_at old part.modem
 
--- it begins a message of several parts where there is no room for one, and changes nothing of what is under way for its modem, which is nothing
+-- it begins a message of several parts where there is no room for one, and changes nothing of what
+-- is under way for its modem, which is nothing
 pub record FindsNoRoom (old new : Unfinished) (part : PartParts) : Type 0 where
   pub several : part.number ≢ part.of
   pub full : most_under_way ≤ count_of old

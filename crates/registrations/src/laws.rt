@@ -17,8 +17,8 @@ pub fn frames_spell_their_message()
         → (message_in frame ≡ Ok message) ↔ IsMessageFrame frame message }
 {}
 
-/// A message's modem, type and body are read exactly if the message's bytes are those of its grammar
-/// with them.
+/// A message's modem, type and body are read exactly if the message's bytes are those of its
+/// grammar with them.
 pub fn messages_spell_their_parts()
     ensures { (message : List ℕ) (parts : ManagementParts) → ((i : ℕ) → slice_index message i < 256)
         → (management_in message ≡ Ok parts) ↔ IsManagement message parts }
@@ -31,8 +31,8 @@ pub fn tlvs_that_are_found_spell_the_bytes()
 {}
 
 /// Parts 1 to the last one of a message are joined, whatever of other modems is taken between them
-/// and whatever was under way before: nothing is given before the last one, and with it the message,
-/// whose TLVs are those of the parts end to end.
+/// and whatever was under way before: nothing is given before the last one, and with it the
+/// message, whose TLVs are those of the parts end to end.
 pub fn parts_in_turn_are_joined()
     ensures { (old new : Unfinished) (taken : List TakenPart) (modem of : ℕ) (message : MessageName)
         → TakesAll old taken new → 1 ≤ of

@@ -9,8 +9,8 @@ use crate::part::Part;
 use std::alloc::Global;
 use std::collections::HashMap;
 
-/// The messages of which some parts came, at most one of a modem. It holds at most 256 of them, each
-/// of at most 64 KiB. Contracts see what is under way for each modem, and how many there are.
+/// The messages of which some parts came, at most one of a modem. It holds at most 256 of them,
+/// each of at most 64 KiB. Contracts see what is under way for each modem, and how many there are.
 #[derive(Debug, Drop)]
 pub struct Unfinished {
     messages: HashMap<u64, UnderWay>,
@@ -120,8 +120,8 @@ impl Unfinished {
         Ok(())
     }
 
-    /// Takes the message out that is under way for the part's modem, and begins one anew for a first
-    /// part.
+    /// Takes the message out that is under way for the part's modem, and begins one anew for a
+    /// first part.
     fn take_out(&mut self, alloc: Global, part: Part<'_>) -> UnderWay
         ensures { IsTakenOut self.old self.new (part_seen part.entry) (open_seen result) }
     {

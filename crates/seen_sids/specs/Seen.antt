@@ -8,7 +8,8 @@ use Rattle.seen_sids.specs.Rows.{one_more, new_row, with_segment, with_at}
 use Rattle.seen_sids.specs.declared.seen_sid.SeenSid.{SeenSid}
 use Rattle.seen_sids.specs.declared.seen.SeenSids.{SeenSids}
 
--- what was seen of each SID of each channel, in the order in which they came first, and how many segments of others there were
+-- what was seen of each SID of each channel, in the order in which they came first, and how many
+-- segments of others there were
 pub record Seen : Type 0 where
   pub rows : List SeenSid
   pub others : ℕ

@@ -27,6 +27,7 @@ abbrev pub unless_so : Bool → Fml → Fml
 unless_so true P = ftrue
 unless_so false P = P
 
--- so many values, one after another; and nothing where the pointer is NULL or there are more than may be passed
+-- so many values, one after another; and nothing where the pointer is NULL or there are more than
+-- may be passed
 abbrev pub row_at : (R : RattleType) → ℕ → Ptr → (n : ℕ) → List R.Denot → Fml
 row_at R most p n xs = if_non_null p (unless_so (nat_lt most n) (points_to (Array R n) p xs))

@@ -1,4 +1,5 @@
--- Thirty-two digits at once: two vectors of every other digit spell what the digits spell, and blocks one after the other what all do.
+-- Thirty-two digits at once: two vectors of every other digit spell what the digits spell, and
+-- blocks one after the other what all do.
 use Rattle.std.proofs.Common.{◌≡◌, ℕ, zero, suc, ◌+◌, ◌-◌, ◌*◌, ◌%◌, ◌^◌, ◌<◌, ◌≤◌, ◌⊎◌, inl, inr, ◌&&◌, Bool, true, false, ltb, Option, Some, None, unwrap_or, List, [], ◌∷◌, ◌++◌, map, length, take, drop, replicate, Ok, Err, Result, refl, sym, ap, subst, ◌∙◌, append_assoc, length-append, length-drop, length-take-le, arith}
 use Rattle.std.proofs.lemmas.Bool.{and_parts, ltb-true, ltb-false}
 use Rattle.std.proofs.lemmas.Bool.Decides.{nat_tests}

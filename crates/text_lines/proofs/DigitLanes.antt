@@ -1,4 +1,5 @@
--- Vectors of hexadecimal digits, byte by byte: what each operation makes of a byte, and that together they give its value.
+-- Vectors of hexadecimal digits, byte by byte: what each operation makes of a byte, and that
+-- together they give its value.
 use Rattle.std.proofs.Common.{◌≡◌, ℕ, zero, suc, ◌+◌, ◌-◌, ◌*◌, ◌%◌, ◌^◌, ◌<◌, ◌≤◌, ◌==◌, ◌&&◌, Bool, true, false, not, cond, eqb, ltb, leb, List, [], ◌∷◌, map, length, replicate, min, bit_and, refl, ap, ◌∙◌, arith, w8, Fits}
 use Rattle.std.proofs.lemmas.Bool.{agree_below_at, eqb-true, eqb-false, eq-eqb, ltb-true, ltb-false, le-leb, lt-leb, ne_eqb}
 use Rattle.std.proofs.lemmas.Simd.{mask_l-mod}

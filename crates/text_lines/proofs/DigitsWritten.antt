@@ -1,4 +1,4 @@
--- The digits of sixteen bytes at once: each is looked up, and the two of each byte are put side by side.
+-- The digits of sixteen bytes at once: each is looked up, and those of a byte are put side by side.
 use Rattle.std.proofs.Common.{◌≡◌, ℕ, zero, suc, ◌+◌, ◌-◌, ◌*◌, ◌/◌, ◌%◌, ◌^◌, ◌<◌, ◌≤◌, ◌==◌, true, List, [], ◌∷◌, ◌++◌, map, length, replicate, take, drop, slice_index, get_or, bit_and, refl, sym, ap, ◌∙◌, append_assoc, append-nil, length-drop, arith, w8, Fits}
 use Rattle.std.proofs.lemmas.Bool.{agree_below_at, eqb-true, lt-leb}
 use Rattle.std.proofs.lemmas.List.{take-append-drop, take-take, drop-take, drop_all, take_all}

@@ -1,11 +1,13 @@
--- Lines of a format that leaves nothing open are read in one way, or have one first faulty line, and never both.
+-- Lines of a format that leaves nothing open are read in one way, or have one first faulty line,
+-- and never both.
 use Rattle.std.proofs.Common.{◌≡◌, ℕ, suc, ◌⊎◌, inl, inr, List, [], ◌∷◌, ◌++◌, length, refl, sym, ap, ◌∙◌, subst, arith}
 use Rattle.text_lines.specs.declared.fault.TraceKind.{TraceKind}
 use Rattle.text_lines.specs.declared.fault.TraceFault.{TraceFault}
 use Rattle.text_lines.specs.Lines.{fields_of}
 use Rattle.text_lines.specs.Format.{Format, IsRead, no_lines, skipped, taken, IsFirstFaultyLine}
 
--- The two relations of a format are each determined and exclude each other, and neither speaks of a line without fields.
+-- The two relations of a format are each determined and exclude each other, and neither speaks of a
+-- line without fields.
 pub record IsDetermined {State : Type 0} (format : Format State) : Type 0 where
   pub one_state : (before : State) (fields : List (List ℕ)) (after other : State) → format.Takes before fields after → format.Takes before fields other → after ≡ other
   pub one_kind : (before : State) (fields : List (List ℕ)) (kind other : TraceKind) → format.HasFault before fields kind → format.HasFault before fields other → kind ≡ other

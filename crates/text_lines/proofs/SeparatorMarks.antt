@@ -1,4 +1,5 @@
--- Where a vector of the first bytes has a mark for each that passes a test, its lowest is the place of the first one.
+-- Where a vector of the first bytes has a mark for each that passes a test, its lowest is the place
+-- of the first one.
 use Rattle.std.proofs.Common.{◌≡◌, ℕ, zero, suc, ◌+◌, ◌*◌, ◌%◌, ◌^◌, ◌<◌, ◌≤◌, ◌||◌, Bool, true, false, not, cond, eqb, nat_lt, Some, None, List, [], ◌∷◌, ◌++◌, map, length, replicate, take, drop, bit_or, refl, sym, ap, ◌∙◌, arith}
 use Rattle.std.specs.Prelude.{position}
 use Rattle.std.specs.List.{position_or_len}

@@ -4,10 +4,10 @@
 //! none. Which fields a line may have is said by a format. The formats themselves stand in `texts`.
 //! In the order of use:
 //!
-//! - [`TakeLine`] says what is made of the lines of one format. [`take_lines`] hands it the lines of
-//!   an input that have fields, one after another, and reports the first faulty line by its number
-//!   ([`ParseFault`]). A format with faults of its own walks over its lines itself, by [`split_line`]
-//!   and [`split_field`].
+//! - [`TakeLine`] says what is made of the lines of one format. [`take_lines`] hands it the lines
+//!   of an input that have fields, one after another, and reports the first faulty line by its
+//!   number ([`ParseFault`]). A format with faults of its own walks over its lines itself, by
+//!   [`split_line`] and [`split_field`].
 //! - [`LineReader`] does so where the input comes in pieces: [`LineReader::take_piece`] takes the
 //!   lines that end in a piece, [`LineReader::finish`] the last one. It holds the bytes of one
 //!   line, and what was taken is what is taken of all pieces end to end. Who has to do something

@@ -9,8 +9,8 @@ use crate::line_reader::LineReader;
 use crate::lines::TakeLine;
 use std::alloc::Global;
 
-/// An input of lines that comes in pieces of any size, and what is made of its lines. Once a line is
-/// faulty, or an allocation failed, what comes behind it is passed over.
+/// An input of lines that comes in pieces of any size, and what is made of its lines. Once a line
+/// is faulty, or an allocation failed, what comes behind it is passed over.
 #[derive(Drop)]
 pub struct LineInput<T> {
     reader: LineReader,

@@ -14,8 +14,8 @@ use Rattle.timed_frames.specs.declared.timed_step.TimedStep.TheVariants as timed
 abbrev pub last_burst : Arrival SoundBurst → LastBurst
 last_burst one = record { time = one.time; channel = one.channel; number = one.number; sid = one.item.sid; burst_id = one.item.burst_id }
 
--- **What comes of some steps**, where of each flow this burst was handed in last before them: a frame comes of the burst of its flow that was handed in
--- last, and so does a request.
+-- **What comes of some steps**, where of each flow this burst was handed in last before them: a
+-- frame comes of the burst of its flow that was handed in last, and so does a request.
 pub data Timed (lasts : List (Option LastBurst)) : List CaptureStep → List TimedStep → List (Option LastBurst) → Type 0 where
   nothing_came : Timed lasts [] [] lasts
   burst_came : {steps : List CaptureStep} {timed : List TimedStep} {now : List (Option LastBurst)} (flow : ℕ) (one : Arrival SoundBurst)

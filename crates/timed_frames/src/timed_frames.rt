@@ -18,9 +18,9 @@ const KEPT_ROOM: usize = 256;
 
 /// Keeps what it is given of a capture, with times, until that is let go.
 ///
-/// It is whole as long as everything was kept. What a failed allocation left out it doesn't have, nor
-/// what is of a flow that it doesn't know or of which no burst was handed in; from then on it isn't
-/// whole.
+/// It is whole as long as everything was kept. What a failed allocation left out it doesn't have,
+/// nor what is of a flow that it doesn't know or of which no burst was handed in; from then on it
+/// isn't whole.
 #[derive(Debug, Drop)]
 pub struct TimedFrames {
     /// Of each flow the burst that was handed in last.

@@ -75,8 +75,8 @@ fn put_begun(answers: &mut Vec<u64>, begun: Option<Begun<u64>>) -> Result<(), Al
     Ok(())
 }
 
-/// Bursts as (time, number, expected number, window): beginnings that end, 2 for a silence, 3 for one
-/// that is kept, and 4 with one that is handed in.
+/// Bursts as (time, number, expected number, window): beginnings that end, 2 for a silence, 3 for
+/// one that is kept, and 4 with one that is handed in.
 fn beginnings(
     alloc: Global,
     wait: u64,
@@ -111,8 +111,8 @@ fn beginnings(
     Ok(answers)
 }
 
-/// Steps as (what, number, time): 0 to keep a number, 1 to pass to one, and 2 for the number to skip
-/// to from one, which is 9999 where there is none.
+/// Steps as (what, number, time): 0 to keep a number, 1 to pass to one, and 2 for the number to
+/// skip to from one, which is 9999 where there is none.
 fn held(alloc: Global, wait: u64, steps: &[u64]) -> Result<Vec<u64>, AllocError> {
     let mut held = HeldTimes::new(alloc, wait);
     let mut answers = Vec::new(alloc);

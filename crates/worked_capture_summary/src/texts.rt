@@ -31,6 +31,7 @@ const BUSY_FLOW: FlowSummary = FlowSummary {
     restarts: 1,
     requests: 2,
     units: 65_544,
+    is_selected: true,
 };
 
 /// A flow whose counts are the greatest.
@@ -51,6 +52,7 @@ const FULL_FLOW: FlowSummary = FlowSummary {
     restarts: u64::MAX,
     requests: 2,
     units: 4,
+    is_selected: true,
 };
 
 const PASSED: PassedCounts = PassedCounts {
@@ -226,6 +228,44 @@ fn summary_is_for_people(rt: HostRuntime) -> Result<(), Fail> {
     let mut text = TextBuffer::new(rt.alloc());
     put_summary(&mut text, &summary);
     assert!(rt; text.finish()?.as_slice() == SUMMARY.as_bytes());
+    Ok(())
+}
+
+/// Two flows of which much came and two of which nothing did; the first of each is not selected.
+fn some_selected(alloc: Global) -> Result<CaptureSummary, AllocError> {
+    let mut busy = BUSY_FLOW;
+    busy.is_selected = false;
+    let mut quiet = FlowSummary::new(5);
+    quiet.is_selected = false;
+    let flows = [busy, BUSY_FLOW, quiet, FlowSummary::new(6)];
+    summary_of(alloc, &flows, &[], PassedCounts::none())
+}
+
+/// The report of these, where clocks were told alike.
+const SELECTED_REPORT: &str = "\
+flow 1 100 kept 300 late 1 repeat 2 beyond 3 lost 10 frames 120 skipped 4567
+joined 1 right 114 wrong 2 encrypted 4 restarts 1 requests 2 units 65544
+flow 3 6 kept 0 late 0 repeat 0 beyond 0 lost 0 frames 0 skipped 0
+joined 3 right 0 wrong 0 encrypted 0 restarts 0 requests 0 units 0
+records 1234 earlier 3
+clock set_back 5 crowded 6
+";
+
+#[test]
+fn flows_that_are_not_selected_are_not_told(rt: HostRuntime) -> Result<(), Fail> {
+    let alloc = rt.alloc();
+    let summary = some_selected(alloc)?;
+    let mut report = TextBuffer::new(alloc);
+    put_report(&mut report, &summary);
+    assert!(rt; report.finish()?.as_slice() == SELECTED_REPORT.as_bytes());
+    // For people, and as JSON, they are as good as not there.
+    let others = [BUSY_FLOW, FlowSummary::new(6)];
+    let others = summary_of(alloc, &others, &[], PassedCounts::none())?;
+    let (mut text, mut wanted) = (TextBuffer::new(alloc), TextBuffer::new(alloc));
+    put_summary(&mut text, &summary);
+    put_summary(&mut wanted, &others);
+    assert!(rt; text.finish()? == wanted.finish()?);
+    assert!(rt; summary_json(alloc, &summary)? == summary_json(alloc, &others)?);
     Ok(())
 }
 

@@ -84,7 +84,7 @@ impl Noted {
     }
 }
 
-/// A map of one flow with a service identifier, 7, on so many channels, which have the ids from 100 on.
+/// A map of one flow with a service identifier, 7, on so many channels, of the ids from 100 on.
 pub(crate) fn map_of(
     alloc: Global,
     first: Option<u16>,
@@ -201,8 +201,8 @@ fn clocks_of_all_flows_are_counted(rt: HostRuntime) -> Result<(), Fail> {
     Ok(())
 }
 
-/// The burst of the segment with this number, whose request for cluster 0 is of this size, and whose
-/// payload is this; it came at a time which is also the analyser's number of it.
+/// The burst of the segment with this number, whose request for cluster 0 is of this size, and
+/// whose payload is this; it came at a time which is also the analyser's number of it.
 fn burst_with(
     alloc: Global,
     time: u64,

@@ -40,8 +40,8 @@ fn bursts_of(alloc: Global, came: &[u64]) -> Result<Vec<CapturedBurst>, AllocErr
     Ok(bursts)
 }
 
-/// What came of a case: the times of what was handed in, in order, and what was counted since the flow
-/// began last. It is nothing where something isn't as it ought to be.
+/// What came of a case: the times of what was handed in, in order, and what was counted since the
+/// flow began last. It is nothing where something isn't as it ought to be.
 fn answer(alloc: Global, case: &[u64]) -> Result<Option<Vec<u64>>, Fail> {
     let [rule, reorder, wait, first, window, channels, came @ ..] = case else {
         return Ok(None);

@@ -1,5 +1,5 @@
-//! What tests assert, each by one call. An assertion that is written out is proved again wherever it
-//! stands, with all that it would print.
+//! What tests assert, each by one call. An assertion that is written out is proved again wherever
+//! it stands, with all that it would print.
 ghost use Rattle.std.specs.Prelude.{IsTrue};
 
 use std::fmt::Debug;

@@ -112,8 +112,8 @@ pub fn close<C: HeaderCheck + Drop>(
     }
 }
 
-/// How the one flow and the first two channels stand: the number that is expected, how many segments
-/// are held, kept, and frames given, and how many grants are outstanding.
+/// How the one flow and the first two channels stand: the number that is expected, how many
+/// segments are held, kept, and frames given, and how many grants are outstanding.
 pub type State = (Option<u16>, Option<usize>, (u64, u64), (usize, usize));
 
 pub fn state<C: HeaderCheck + Drop>(receiver: &Receiver<C>) -> State

@@ -1,8 +1,8 @@
 //! Traces that were worked out by hand, replayed: the tests of a replay in `receiver`.
 //!
 //! They stand apart from that crate, so that it is proved once and not a second time with its
-//! tests. There is nothing here for a caller, but [`traces`], [`outcomes`] and [`cases`] are for the
-//! tests of other parts too.
+//! tests. There is nothing here for a caller, but [`traces`], [`outcomes`] and [`cases`] are for
+//! the tests of other parts too.
 #![tactic(auto)]
 
 pub mod cases;

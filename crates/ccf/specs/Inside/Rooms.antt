@@ -18,7 +18,8 @@ pub record Appends (before next after left : List ℕ) : Type 0 where
   pub appended : after ≡ before ++ front
   pub split : next ≡ front ++ left
 
--- Whatever the check, these bytes don't wait for more: they reach to the end of the frame that they announce, or they announce none.
+-- Whatever the check, these bytes don't wait for more: they reach to the end of the frame that they
+-- announce, or they announce none.
 abbrev pub EndsFrame : List ℕ → Type 0
 EndsFrame bytes = (check : List ℕ → Bool) → ¬ (Ends check bytes bytes)
 

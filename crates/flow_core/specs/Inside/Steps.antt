@@ -12,7 +12,8 @@ use Rattle.flow_core.specs.AsItIs.{IsNextOneFrame}
 abbrev pub counts_joined : FlowCounts → ℕ → ℕ → FlowCounts
 counts_joined counts frames skipped = record counts { frames = counted (counts.frames + frames); skipped = counted (counts.skipped + skipped) }
 
--- no segment was next, or one that is one whole frame by itself, and nothing changed; or another was, and was joined
+-- no segment was next, or one that is one whole frame by itself, and nothing changed; or another
+-- was, and was joined
 abbrev pub JoinsUnlessWhole : (List ℕ → Bool) → Flow → Option FedUnlessWhole → Flow → Type 0
 JoinsUnlessWhole check flow None after = IsDrained flow × (after ≡ flow)
 JoinsUnlessWhole check flow (Some Whole) after = IsNextOneFrame check flow × (after ≡ flow)

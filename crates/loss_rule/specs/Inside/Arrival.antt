@@ -14,7 +14,8 @@ use Rattle.loss_rule.specs.Rule.{RuledFlow, HasChannel, Lasts, IsLastOn, IsPasse
 abbrev pub AreBounded : Lasts → ℕ → Type 0
 AreBounded lasts x = (channel index : ℕ) → IsLastOn lasts channel index → index < x + numbers_ahead
 
--- What holds after every list of comings, by a rule that looks at what passed: what every channel has passed is settled.
+-- What holds after every list of comings, by a rule that looks at what passed: what every channel
+-- has passed is settled.
 pub record IsUpToDate (flow : RuledFlow) (lasts : Lasts) (fates : Fates) : Type 0 where
   pub size : length lasts ≡ length flow.channels
   pub bounded : (x : ℕ) → IsExpected fates x → AreBounded lasts x
@@ -26,7 +27,7 @@ Slides Decided flow y number sliding = ⊥
 Slides Passed flow y number sliding = sliding ≡ []
 Slides PassedOrSlid flow y number sliding = IsSliding flow y number sliding
 
--- The window slid: the number's index lies in it now and is open, or it lay in it already or not ahead.
+-- The window slid: the number's index is in it now and open, or lay in it already or not ahead.
 abbrev pub SlidTo : RuledFlow → ℕ → ℕ → ℕ → Fates → Fates → Type 0
 SlidTo flow number y z between slid =
     ((index : ℕ) × IsAhead flow.first y number index × IsAhead flow.first z number index × (index < z + flow.width) × IsOpen slid index)
@@ -43,8 +44,8 @@ pub record ArrivesAtLast (flow : RuledFlow) (fates : Fates) (skips : List FlowEv
   pub changes : Changes flow.first flow.width z (arrives segment) answer skipped after
   pub answers_are : answers ≡ skip_answers ++ answer ∷ []
 
--- A segment comes, by a rule that looks at what passed: it is noted, what every channel has passed is skipped, then the window may slide, and then
--- it arrives.
+-- A segment comes, by a rule that looks at what passed: it is noted, what every channel has passed
+-- is skipped, then the window may slide, and then it arrives.
 pub record ArrivesBy (rule : LossRule) (flow : RuledFlow) (lasts : Lasts) (fates : Fates) (channel : ℕ) (segment : Segment) (events : List FlowEvent) (answers : List Applied) (noted : Lasts) (after : Fates) : Type 0 where
   pub x : ℕ
   pub expected : IsExpected fates x

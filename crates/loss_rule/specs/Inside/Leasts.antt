@@ -8,7 +8,8 @@ pub record LacksOne (flow : RuledFlow) (lasts : Lasts) : Type 0 where
   pub has : HasChannel flow channel
   pub none : (index : ℕ) → ¬ (IsLastOn lasts channel index)
 
--- the channels below n that the flow has: one has no last index, or there is a least of them, or there is none
+-- the channels below n that the flow has: one has no last index, or there is a least of them, or
+-- there is none
 abbrev pub AreBelow : RuledFlow → Lasts → ℕ → Type 0
 AreBelow flow lasts n =
     LacksOne flow lasts

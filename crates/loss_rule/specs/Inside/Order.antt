@@ -20,7 +20,8 @@ AreOfComings comings index_at n lasts =
 abbrev pub KeptHaveCome : List Coming → (ℕ → ℕ) → ℕ → Fates → Type 0
 KeptHaveCome comings index_at n fates = (i : ℕ) → IsKept fates i → (p channel : ℕ) × (segment : Segment) × (p < n) × Comes comings p channel segment × (index_at p ≡ i)
 
--- Each last index is that of one of them on its channel, and none on it has a later one; what is kept came, and what is lost doesn't come any more.
+-- Each last index is that of one of them on its channel, and none on it has a later one; what is
+-- kept came, and what is lost doesn't come any more.
 pub record IsInStep (flow : RuledFlow) (comings : List Coming) (index_at : ℕ → ℕ) (n : ℕ) (lasts : Lasts) (fates : Fates) : Type 0 where
   pub of_comings : AreOfComings comings index_at n lasts
   pub latest : (p channel : ℕ) (segment : Segment) → p < n → Comes comings p channel segment → (index : ℕ) × IsLastOn lasts channel index × (index_at p ≤ index)
@@ -36,7 +37,8 @@ Spares comings index_at n between slid =
 abbrev pub AreKept : List Coming → (ℕ → ℕ) → ℕ → Fates → Type 0
 AreKept comings index_at n fates = (p channel : ℕ) (segment : Segment) → p < n → Comes comings p channel segment → IsKeptAs fates (index_at p) segment
 
--- Each segment that comes next lies less than 4096 after the expected index, and within the window once what every channel has passed is skipped.
+-- Each segment that comes next lies less than 4096 after the expected index, and within the window
+-- once what every channel has passed is skipped.
 abbrev pub AreWithin : LossRule → RuledFlow → List Coming → (ℕ → ℕ) → Type 0
 AreWithin rule flow comings index_at =
     (before behind : List Coming) (channel x y : ℕ) (segment : Segment) (events passing : List FlowEvent) (answers : List Applied) (lasts noted : Lasts)
@@ -47,8 +49,9 @@ AreWithin rule flow comings index_at =
     → Leads flow.first flow.width fates passing answers between → IsExpected between y
     → (index_at (length before) < x + numbers_ahead) × (index_at (length before) < y + flow.width)
 
--- Each segment that comes next is taken in: it lies less than 4096 after the expected index, and within the window once the rule has skipped; and the window
--- loses none by that which comes then or later.
+-- Each segment that comes next is taken in: it lies less than 4096 after the expected index, and
+-- within the window once the rule has skipped; and the window loses none by that which comes then
+-- or later.
 abbrev pub AreTakenIn : LossRule → RuledFlow → List Coming → (ℕ → ℕ) → Type 0
 AreTakenIn rule flow comings index_at =
     (before behind : List Coming) (channel : ℕ) (segment : Segment) (so_far events : List FlowEvent) (answers : List Applied) (lasts noted : Lasts)

@@ -19,7 +19,8 @@ SaysKept verdict = verdict ≡ Kept
 abbrev pub SaysKeptOrBeyond : Verdict Segment → Type 0
 SaysKeptOrBeyond verdict = (verdict ≡ Kept) ⊎ ((back : Segment) × (verdict ≡ Beyond back))
 
--- The segment of index k is kept, or lies beyond the window, where z is the expected index: the answer, and what becomes of the fates.
+-- The segment of index k is kept, or lies beyond the window, where z is the expected index: the
+-- answer, and what becomes of the fates.
 abbrev pub IsKeptOrBeyond : ℕ → ℕ → ℕ → Segment → Applied → Fates → Fates → Type 0
 IsKeptOrBeyond width z k segment answer fates after =
     ((answer ≡ Arrival Kept) × (k < z + width) × (after ≡ map.insert fates k (Some segment)))

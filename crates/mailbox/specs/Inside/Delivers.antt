@@ -1,4 +1,5 @@
--- The rule of the shared queue: what each sender posted is what was taken of it and then what the queue holds of it.
+-- The rule of the shared queue: what each sender posted is what was taken of it and then what the
+-- queue holds of it.
 use Rattle.std.specs.Prelude.{◌≡◌, ℕ, ◌+◌, ◌<◌, ◌≤◌, ◌⊎◌, true, false, List, [], ◌∷◌, ◌++◌}
 use mathlib.Core.Option.{some}
 use lib.ListN.{get_elem?}
@@ -48,7 +49,8 @@ module _ {T : Type 0} where
   Has h [] = ⊥
   Has h (x ∷ xs) = (h ≡ x) ⊎ Has h xs
 
-  -- each log in this view has all entries of its sender, and belongs to a port that was made and to no other pass
+  -- each log in this view has all entries of its sender, and belongs to a port that was made and to
+  -- no other pass
   abbrev pub Holds : ℕ → (ℕ → ℕ) → List (Stamped T) → ℕ → View T → Type 0
   Holds made seat all p v = (h : PortLog T) → Has h v.logs → (h.from < made) × (seat h.from ≡ p) × (h.entries ≡ sent_by h.from all)
 
@@ -56,8 +58,8 @@ module _ {T : Type 0} where
   abbrev pub MayTake : ℕ → ℕ → List (Stamped T) → ℕ → View T → Type 0
   MayTake reader made got p v = v.takes ≡ true → (p ≡ reader) × (v.made ≡ made) × (v.got ≡ got)
 
-  -- each port's entries are those of its sender in what the mouth took and then in what the queue holds, and a port
-  -- that was not made has none
+  -- each port's entries are those of its sender in what the mouth took and then in what the queue
+  -- holds, and a port that was not made has none
   pub record Delivers (items : List (Stamped T)) (views : List (View T)) : Type 0 where
     pub reader : ℕ
     pub made : ℕ

@@ -1,4 +1,5 @@
--- The flows and the rows are lent for the call; what is made goes to the caller's variable, which is NULL until then.
+-- The flows and the rows are lent for the call; what is made goes to the caller's variable, which
+-- is NULL until then.
 use Rattle.segrx_c.proofs.Steps.{Memory, Routine, Calls, Loops, Logic, Fun, FmC, Contract, Triple, Clauses, Lasts, lasts, proved, rawptr_vals, rawptr_Tells, ◌≡◌, ℕ, ◌^◌, ◌<◌, ◌*◌, ◌≤◌, List, [], ◌∷◌, ◌++◌, length, Bool, true, false, refl, sym, ap, subst, lit<, arith, w32, w64, Ura, Val, vint, vptr, vnull, SProp, ent, sep, ex, id⊢, Fml, Lft, ftrue, fsep, feq, flft, flent, Incl-refl, named, full_share, Bor, WpFn, sem, fact, tables, framed, ‵, raw, ◌⊛◌, some, later, at_ret, ◌$◌, ◌∵◌, !, qed, by, move, keep, drop, use1, use2, use3, split, split3, join, pick, fsplit, fjoin, feq_i, feq_l, await, of_opd, bin, lit, big_lit, and_then, no_more, first, branches, skips, exec, returns, returns_within, enter, agg, alloc_all, pass_all, free_all, look_at, get, get_in, through, stop, fld, sub, whole, sets, assigns, store, lands_as, env, yes, Is, uint_vals, uint_Tells, uint_Makes, u32, usize, Ptr, block_ptr, null_ptr, ptr_val, RawPtr, Testable, tests_null, plain, owned, only, heard, nothing, calls_at, triple_of, Stays, stay_dropped, walk_of, Goes-dropped, leaves, typed, ended-4, apart, counted, row_in, row_out, within, beyond, pointer_out, pointer_in, nat_lt, not, T, nltb→le, points_to, Array, Array-apart, Array-whole, ShrSlice, slice_val, lends_shr_slice, lent_back, lft_new, lft_end}
 use Rattle.std.proofs.Common.{Option, None}
 use Rattle.std.proofs.alloc.Calls.{Al, Fits}
@@ -204,7 +205,8 @@ module _ {M : Type 1} {𝓤 : Ura M} (𝓛 : Logic 𝓤) (at_mem : Memory → SP
         use2 𝓛 (later ((‵ ((ShrSlice (named 0) κ1 row.the_row).own_val (record { ref_ptr = (br, or'); now = was.1 }) (slice_val (br, or') (length was.1) ∷ [])) ⊛ ‵ (flent κ1 (counted row.the_row was.1 br or'))) ⊛ ‵ (flft κ1 full_share)))
         (lends_shr_slice 𝓛 row.the_row (named 0) κ1 full_share was.1 br or' (fits-m, room-m) row.the_row.lives (row_laws.the_row_laws.shares 𝓛) ((κ1, full_share) ∷ []) (row_laws.the_within κ1) (Incl-refl κ1)) $ await ! tt $ split ! $ split ! $
         let s1 : Bor (List PlainRow) = record { ref_ptr = (br, or'); now = was.1 } in
-        -- [the rows' slice; the way back; its token; the flows' slice; the way back; its token; the cell; the allocator]
+        -- [the rows' slice; the way back; its token; the flows' slice; the way back; its token; the
+        -- cell; the allocator]
         let z : G.Ghost = (((κ0, (κ1, tt)), (full_share, (full_share, tt)), tt, (alloc, (channels, (s0, (s1, (rule, tt))))), (hv ∷ [], (vint w32 channels ∷ [], (slice_val (bf, of') (length was.0) ∷ [], (slice_val (br, or') (length was.1) ∷ [], (vint w32 rule ∷ [], tt)))))), tt) in
         nothing ! $ owned ! u32 (Is u32) (uint_Makes 𝓛 w32) rule _ (refl, fits-rule) $ fjoin ! $ move ! (1 ∷ 0 ∷ []) $ fjoin ! $
         -- [acc; the way back 1; token 1; slice 0; way back 0; token 0; the cell; the allocator]

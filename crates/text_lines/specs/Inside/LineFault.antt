@@ -21,7 +21,8 @@ abbrev pub fault_at : ℕ → LineFault → ParseFault
 fault_at number (line.Kind kind) = parse.Line (record { line = number; kind = kind })
 fault_at number line.OutOfMemory = parse.OutOfMemory
 
--- the fault of an input whose line of this number was not read: one of a kind that the line has, or a failed allocation
+-- the fault of an input whose line of this number was not read: one of a kind that the line has, or
+-- a failed allocation
 abbrev pub IsFaultAt : ℕ → (TraceKind → Type 0) → ParseFault → Type 0
 IsFaultAt number HasFault (parse.Line fault) = (fault.line ≡ number) × HasFault fault.kind
 IsFaultAt number HasFault parse.OutOfMemory = Unit {0}

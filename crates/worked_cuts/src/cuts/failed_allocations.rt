@@ -135,7 +135,8 @@ fn payload_bytes(frames: &[Bytes], pieces: &[Piece]) -> Result<usize, CutFault> 
 }
 
 /// Faults are looked for before any memory is taken, and a cutter takes none, nor do the parts of
-/// its segments. In the end the test asks for memory itself, so that a run is known in which nothing else did.
+/// its segments. In the end the test asks for memory itself, so that a run is known in which
+/// nothing else did.
 #[test]
 fn faults_without_memory(rt: HostRuntime) -> Result<(), Fail> {
     let cuts = faulty_cuts(rt.alloc());

@@ -150,7 +150,7 @@ fn number_near(chance: &mut Chance, expected: u16) -> u16
     expected.wrapping_add(chance.below(reach)) % MODULUS
 }
 
-/// The ways in which a window does what it is asked to, by what it holds: whether calls came to each.
+/// The ways in which a window does what it is asked, by what it holds: whether calls came to each.
 #[derive(Clone, Copy)]
 struct Ways {
     took_the_only_one: bool,

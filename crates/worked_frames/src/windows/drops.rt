@@ -51,8 +51,8 @@ fn made_to(
     }
 }
 
-/// Items at each place of the ring: as it was made, turned as items were taken, taken in place, and
-/// turned either way.
+/// Items at each place of the ring: as it was made, turned as items were taken, begun anew, and
+/// turned by one number and by more.
 fn cases() -> [Case; 6] {
     [
         made_to("backwards", (1, &[4, 3, 2, 1]), (1, 0), &[], 1234),

@@ -1,4 +1,5 @@
--- As many bytes as the head announces are a frame where the check says yes of the header, which ends within them.
+-- As many bytes as the head announces are a frame where the check says yes of the header, which
+-- ends within them.
 use Rattle.std.proofs.Common.{◌≡◌, true, refl, ap, ◌∙◌, sym, arith}
 use Rattle.docsis_wire.specs.Frame.{header_front}
 use Rattle.ccf.proofs.front.front_of.Goals as goal

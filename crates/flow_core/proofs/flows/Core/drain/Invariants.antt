@@ -1,4 +1,5 @@
--- Each segment that was joined has brought the flow further, no more than the window is wide, and its frames are appended.
+-- Each segment that was joined has brought the flow further, no more than the window is wide, and
+-- its frames are appended.
 use Rattle.std.proofs.Common.{◌≡◌, ℕ, ◌+◌, ◌≤◌, ◌++◌, Bool, List}
 use Rattle.flow_records.specs.declared.record.FlowRecord.{FlowRecord}
 use Rattle.flow_core.specs.Events.{FlowEvent}
