@@ -47,10 +47,10 @@ placed_package = "$(DESTDIR)$(pkgconfigdir)/segrx.pc"
 in_sed = $(subst |,\|,$(subst &,\&,$(1)))
 version = $$(sed -n '/^\#\# /{s///p;q}' CHANGELOG.md)
 
-run: # proves and builds the program and the C library, crates side by side, runs it on the sample and leaves it at crates/segrx/out/segrx
+run: # proves and builds the program, left at crates/segrx/out/segrx, and the C library
 	@scripts/build
 
-install: # installs below PREFIX what `make` left, with man page and completion (DESTDIR, BINDIR ..), and into Wireshark's menu (EXTCAPDIR)
+install: # installs what `make` left below PREFIX, and into Wireshark's menu (EXTCAPDIR)
 	@PYTHONDONTWRITEBYTECODE=1 scripts/build --check
 	mkdir -p "$(DESTDIR)$(bindir)" "$(DESTDIR)$(man1dir)" "$(DESTDIR)$(bashcompletiondir)"
 	mkdir -p "$(DESTDIR)$(libdir)" "$(DESTDIR)$(includedir)" "$(DESTDIR)$(pkgconfigdir)"
@@ -79,7 +79,7 @@ uninstall: # removes what `make install` put below PREFIX, and folders there tha
 deb: # makes a Debian package of what `make install` installs, in out/
 	@scripts/package
 
-library: # proves and builds the C library, and looks at it from C, Rust and Python and at what is installed of it
+library: # proves and builds the C library, and looks at it from C, Rust and Python
 	@scripts/c-library && scripts/hostile-c && scripts/bindings --count 1000 && scripts/put-in-place
 
 try: # replays an example without a proof
@@ -88,19 +88,19 @@ try: # replays an example without a proof
 quick: # looks at the program that was built last: the table of runs and generated inputs
 	@scripts/quick
 
-check: # what one runs before a change is handed in: format, documents, and the crates that changed, proved with their tests
+check: # before a change is handed in: format, documents, and the changed crates with their tests
 	@scripts/check
 
 test: # the whole gate: every proof from nothing, planted mistakes, tests, runs
 	@scripts/test
 
-bench: # all benches, one after the other, for times that mean something on a machine that does nothing else
+bench: # all benches, one after the other, on a machine that is to do nothing else
 	@for bench in beside_plain c capture core eight_threads engines follow losses mailbox receive receiver replay ring shards window; do echo "== $$bench"; bench/$$bench/run || exit 1; done
 
 mutants: # tries all planted mistakes of mutants/ on copies of the work tree
 	@scripts/mutants && scripts/refused-by-tests
 
-soak: # runs of the program, of a receiver and of a mailbox again and again, some while other work keeps all cores busy; whole comparisons of captures
+soak: # long runs of the program, receiver and mailbox, and whole comparisons of captures
 	@scripts/soak && bench/run_soak/run && bench/receive_soak/run && bench/mailbox_soak/run && scripts/plain-capture --count 1000 && scripts/hostile-captures --count 100000
 
 help: # lists these targets
