@@ -300,9 +300,9 @@ def inputs_of(coming):
     return Grant(0, coming.burst.sid, grant_bytes(coming.burst)), Burst(0, check, coming.burst.bytes)
 
 
-def read_capture(map_text, data, settings=Settings()):
+def read_capture(map_text, data, settings=Settings(), begin=CaptureReading):
     """What comes of a file with a map, and the file's fault or None. A faulty map is raised."""
-    reading = CaptureReading(read_map(map_text), settings)
+    reading = begin(read_map(map_text), settings)
     try:
         for record in records_of(data):
             reading.take(record)

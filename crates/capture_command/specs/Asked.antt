@@ -1,5 +1,5 @@
 -- What the words of `capture` ask for.
-use Rattle.std.specs.Prelude.{◌≡◌, ◌⊎◌, ◌*◌, ℕ, List, codes}
+use Rattle.std.specs.Prelude.{◌≡◌, ◌⊎◌, ◌*◌, ◌↔◌, ℕ, Bool, List, codes, IsTrue}
 use Rattle.text_lines.specs.Number.{IsNumber}
 use Rattle.loss_rule.specs.declared.rule.LossRule.TheVariants.{PassedOrSlid}
 use Rattle.frame_records.specs.declared.link.FrameLink.{FrameLink}
@@ -58,10 +58,14 @@ pub record AskForSettings (words : List (List ℕ)) (settings : CaptureSettings)
   pub link : AskForLink words settings.link
   pub flows : AskForFlows last_captured settings.selected words
 
+-- frames are compared just if one of the words asks for that
+abbrev pub AskToCompare : List (List ℕ) → Bool → Type 0
+AskToCompare words compares = IsTrue compares ↔ HasWord (codes "--compare") words
+
 -- a word asks for help
 abbrev pub AskForHelp : List (List ℕ) → Type 0
 AskForHelp words = HasWord (codes "-h") words ⊎ HasWord (codes "--help") words
 
 abbrev pub AskToCapture : List (List ℕ) → CaptureWords → Type 0
-AskToCapture words (Capture asked) = AskForSettings words asked.settings
+AskToCapture words (Capture asked) = AskForSettings words asked.settings × AskToCompare words asked.compares
 AskToCapture words (Help text) = AskForHelp words

@@ -1,5 +1,5 @@
 -- What the command `capture` does.
-use Rattle.std.specs.Prelude.{◌≡◌, ◌⊎◌, ℕ, List, Option, Result, Ok, Err, IfSome, IfErr, OnOk, OnErr}
+use Rattle.std.specs.Prelude.{◌≡◌, ◌⊎◌, ℕ, Bool, true, List, Option, Result, Ok, Err, IfSome, IfErr, OnOk, OnErr}
 use Rattle.capture_map.specs.declared.map.CaptureMap.{CaptureMap}
 use Rattle.capture_map.specs.Reading.{IsMap}
 use Rattle.engines.specs.declared.device.Device.{Device}
@@ -10,10 +10,12 @@ use Rattle.frame_engine.specs.Joining.{JoinsCapture}
 use Rattle.capture_command.specs.declared.fault.CaptureCommandFault.{CaptureCommandFault}
 use Rattle.capture_command.specs.declared.fault.CaptureCommandFault.TheVariants.{Engine}
 use Rattle.engines.specs.declared.fault.EngineFault.TheVariants.{Write}
+use Rattle.engines.specs.Engine.{WritesText}
 use Rattle.engines.specs.Transfer.{AppendsFront}
+use Rattle.frame_engine.specs.Judged.{HasTheAnalysersFrames}
 use Rattle.std.specs.Io.KnownBytes.{Appends}
 use Rattle.capture_command.specs.Fault.{status_of}
-use Rattle.capture_command.specs.Asked.{AskForSettings, AskForHelp}
+use Rattle.capture_command.specs.Asked.{AskForSettings, AskToCompare, AskForHelp}
 
 -- 0 where the work was done
 abbrev pub status_of_outcome : Result (Unit {0}) CaptureCommandFault → ℕ
@@ -44,16 +46,18 @@ module _ {R W File : Type 0} (remaining : R → Option (List ℕ)) (contents : W
     pub unread : reader' ≡ reader
     pub unwritten : writer' ≡ writer
 
-  -- **The capture was joined with the map that a file holds**, and with these settings
-  pub record JoinsByMap (settings : CaptureSettings) (reader reader' : Device R) (writer writer' : Device W) (result : Result (Unit {0}) CaptureCommandFault) : Type 0 where
+  -- **The capture was joined with the map that a file holds**, and with these settings. Where frames
+  -- were to be compared and all was done, those that were written are the analyser's.
+  pub record JoinsByMap (settings : CaptureSettings) (compares : Bool) (reader reader' : Device R) (writer writer' : Device W) (result : Result (Unit {0}) CaptureCommandFault) : Type 0 where
     pub capture_map : CaptureMap
     pub map_is : IsMapOfFile bytes_of capture_map
     pub joined : Result (Unit {0}) EngineFault
     pub joins : JoinsCapture settings capture_map remaining contents reader reader' writer writer' joined
     pub told : IsTold joined result
+    pub same : compares ≡ true → OnOk result (IfSome (remaining (inner_of reader)) (WritesText (HasTheAnalysersFrames settings capture_map) (contents (inner_of writer)) (contents (inner_of writer'))))
 
-  abbrev pub Captures : CaptureSettings → Device R → Device R → Device W → Device W → Result (Unit {0}) CaptureCommandFault → Type 0
-  Captures settings reader reader' writer writer' result = JoinsByMap settings reader reader' writer writer' result ⊎ IsRefused reader reader' writer writer' result
+  abbrev pub Captures : CaptureSettings → Bool → Device R → Device R → Device W → Device W → Result (Unit {0}) CaptureCommandFault → Type 0
+  Captures settings compares reader reader' writer writer' result = JoinsByMap settings compares reader reader' writer writer' result ⊎ IsRefused reader reader' writer writer' result
 
   -- **Help was written** that words ask for: a text, whole or, where the writer failed, a front of
   -- it; the reader wasn't used
@@ -68,7 +72,7 @@ module _ {R W File : Type 0} (remaining : R → Option (List ℕ)) (contents : W
   -- what words came to: a capture was joined by the settings that they ask for, or nothing was; or
   -- help was written that they ask for, and the reader wasn't used; or they were refused
   pub data Obeys (words : List (List ℕ)) (reader reader' : Device R) (writer writer' : Device W) (result : Result (Unit {0}) CaptureCommandFault) : Type 0 where
-    captures : (settings : CaptureSettings) → AskForSettings words settings → Captures settings reader reader' writer writer' result
+    captures : (settings : CaptureSettings) (compares : Bool) → AskForSettings words settings → AskToCompare words compares → Captures settings compares reader reader' writer writer' result
         → Obeys words reader reader' writer writer' result
     helps : PrintsHelp words reader reader' writer writer' result → Obeys words reader reader' writer writer' result
     refuses : IsRefused reader reader' writer writer' result → Obeys words reader reader' writer writer' result

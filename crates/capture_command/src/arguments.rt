@@ -39,6 +39,7 @@ pub fn capture_line<'a>(alloc: Global) -> Result<Command<'a>, AllocError> {
     let flows = "Only these flows, as 0,3,8-15 [default: all]";
     let shard = "Only flows whose index modulo N is K [default: all]";
     let link = "Frames alone, or packets with channel and SID [default: docsis]";
+    let compare = "Compare the frames with those that the analyser joined itself";
     let report = "Also write the counts to this file";
     let json = "Also write the counts to this file, as JSON";
     let requests = "Also write the requests to this file, as CSV";
@@ -66,6 +67,7 @@ pub fn capture_line<'a>(alloc: Global) -> Result<Command<'a>, AllocError> {
         ))?
         .arg(option(alloc, "flows", "LIST", flows))?
         .arg(option(alloc, "shard", "K/N", shard))?
+        .arg(flag(alloc, "compare", compare))?
         .arg(option(alloc, "report", "FILE", report))?
         .arg(option(alloc, "json", "FILE", json))?
         .arg(option(alloc, "requests", "FILE", requests))?

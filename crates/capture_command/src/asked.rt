@@ -51,6 +51,8 @@ pub struct CaptureAsked {
     /// The path of the map.
     pub map: String,
     pub settings: CaptureSettings,
+    /// Whether the frames are to be compared with those that the analyser joined itself.
+    pub compares: bool,
     pub files: AskedFiles,
 }
 
@@ -186,6 +188,7 @@ pub fn read_capture_words<'a, S: AsStr>(
     Ok(CaptureWords::Capture(CaptureAsked {
         map: String::from_str(alloc, path)?,
         settings: asked_settings(alloc, words)?,
+        compares: has_word(words, "--compare"),
         files: AskedFiles {
             report: read_path(alloc, &matches, "report")?,
             json: read_path(alloc, &matches, "json")?,

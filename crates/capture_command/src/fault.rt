@@ -26,6 +26,10 @@ pub enum CaptureCommandFault {
     /// A file of the report, the JSON, the requests or the picture can't be made or written.
     #[error("a file cannot be written")]
     OutputFile,
+    /// Frames were compared with those that the analyser joined itself, and one of them is only
+    /// here or only there.
+    #[error("the frames differ from the analyser's")]
+    Differs,
     /// The words, the capture, the memory or the output.
     #[error(transparent)]
     Engine(EngineFault),
@@ -85,7 +89,9 @@ impl CaptureCommandFault {
         ensures { result ≡ status_of self.now }
     {
         match self {
-            CaptureCommandFault::Map(_) | CaptureCommandFault::Setup => 1,
+            CaptureCommandFault::Map(_)
+            | CaptureCommandFault::Setup
+            | CaptureCommandFault::Differs => 1,
             CaptureCommandFault::MapFile | CaptureCommandFault::OutputFile => 4,
             CaptureCommandFault::Engine(fault) => status(fault),
         }
@@ -114,6 +120,10 @@ impl CaptureCommandFault {
             CaptureCommandFault::OutputFile => {
                 write_text(err, b"segrx: a file cannot be written\n".as_slice())
             }
+            CaptureCommandFault::Differs => write_text(
+                err,
+                b"segrx: the frames differ from the analyser's\n".as_slice(),
+            ),
             CaptureCommandFault::Engine(fault) => write_fault(fault, err),
         }
     }

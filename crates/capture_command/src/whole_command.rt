@@ -1,8 +1,10 @@
 //! The command `capture` over any runtime with files, any reader and any two writers.
-ghost use Rattle.std.specs.Prelude.{◌≡◌, map, Result, OnOk, OnErr, IfErr};
+ghost use Rattle.std.specs.Prelude.{◌≡◌, true, map, Result, OnOk, OnErr, IfOk, IfErr};
 ghost use Rattle.std.specs.Io.KnownBytes.{Appends};
 ghost use Rattle.engines.specs.Device.{inner_of, IsFresh};
 ghost use Rattle.engines.specs.Transfer.{AppendsFront};
+ghost use Rattle.frame_engine.specs.Begun.{ComparesNothing};
+ghost use Rattle.frame_engine.specs.Judged.{EndsEqual};
 ghost use Rattle.engines.specs.declared.fault.EngineFault.TheVariants.{Write};
 ghost use Rattle.capture_command.specs.declared.fault.CaptureCommandFault.TheVariants.{Engine};
 ghost use Rattle.capture_command.specs.declared.fault.CaptureCommandFault.{CaptureCommandFault};
@@ -14,10 +16,11 @@ use crate::files::{created, map_of_file};
 use capture_json::summary_json;
 use capture_map::CaptureMap;
 use capture_picture::put_picture;
-use capture_summary::{put_report, put_summary};
+use capture_summary::{CaptureSummary, put_report, put_summary};
 use engines::{Device, EngineFault, TextWriter, held_room, write_text};
 use flow_selection::Selection;
-use frame_engine::{CaptureTally, FrameReading, join_capture};
+use frame_comparison::put_comparison;
+use frame_engine::{CaptureTally, Comparing, FrameReading, join_capture};
 use std::alloc::{AllocError, Global};
 use std::convert::AsStr;
 use std::io::{Read, Write};
@@ -73,15 +76,29 @@ fn write_file<F: Files>(
     written
 }
 
-/// Writes the summary of what was counted.
+/// The SFIDs of the flows of a map.
+fn sfids_of(alloc: Global, summary: &CaptureSummary) -> Result<Vec<u32>, AllocError> {
+    let mut sfids = Vec::with_capacity(alloc, summary.flows.len())?;
+    for flow in &summary.flows {
+        sfids.push(flow.sfid)?;
+    }
+    Ok(sfids)
+}
+
+/// Writes the summary of what was counted, and how the frames compare with the analyser's, where
+/// they are compared.
 fn write_summary<E: Write>(
     alloc: Global,
     tally: &CaptureTally,
+    comparing: &Comparing,
     err: &mut Device<E>,
 ) -> Result<(), CaptureCommandFault> {
     let mut room = held_room(alloc)?;
     let mut text = TextWriter::new(err, &mut room);
     put_summary(&mut text, &tally.summary);
+    if let Some(comparison) = comparing.comparison() {
+        put_comparison(&mut text, comparison, &sfids_of(alloc, &tally.summary)?);
+    }
     text.finish()?;
     Ok(())
 }
@@ -97,17 +114,36 @@ fn tell_lost_requests(tally: &CaptureTally) -> Result<(), CaptureCommandFault> {
     }
 }
 
+/// Tells that the frames differ from the analyser's, where they are compared and do.
+fn tell_difference(comparing: &Comparing) -> Result<(), CaptureCommandFault>
+    ensures { OnOk result (EndsEqual comparing.now) }
+{
+    let Some(comparison) = comparing.comparison() else {
+        return Ok(());
+    };
+    if !comparison.is_whole() {
+        return Err(CaptureCommandFault::Engine(EngineFault::OutOfMemory));
+    }
+    if !comparison.is_equal() {
+        return Err(CaptureCommandFault::Differs);
+    }
+    Ok(())
+}
+
 /// Writes what was counted: the summary, and report, JSON and picture where they are asked for.
-/// Each is written though another fails; the first fault is told, and behind these that lines of
-/// requests were lost.
+/// Each is written though another fails; the first fault is told, behind these that lines of
+/// requests were lost, and last that the frames differ from the analyser's.
 fn write_counts<F: Files, E: Write>(
     alloc: Global,
     rt: &F,
     files: &AskedFiles,
     tally: &CaptureTally,
+    comparing: &Comparing,
     err: &mut Device<E>,
-) -> Result<(), CaptureCommandFault> {
-    let summary = write_summary(alloc, tally, err);
+) -> Result<(), CaptureCommandFault>
+    ensures { OnOk result (EndsEqual comparing.now) }
+{
+    let summary = write_summary(alloc, tally, comparing, err);
     let report = write_file(alloc, rt, &files.report, tally, Shown::Report);
     let json = write_file(alloc, rt, &files.json, tally, Shown::Json);
     let picture = write_file(alloc, rt, &files.picture, tally, Shown::Picture);
@@ -115,7 +151,8 @@ fn write_counts<F: Files, E: Write>(
     report?;
     json?;
     picture?;
-    tell_lost_requests(tally)
+    tell_lost_requests(tally)?;
+    tell_difference(comparing)
 }
 
 /// Nothing was counted, of a capture with this map of which these flows are selected. What the
@@ -134,6 +171,20 @@ fn new_tally(
     Ok(tally)
 }
 
+/// Frames of a capture with this map are compared where that is asked for, and nothing came yet.
+fn new_comparing(
+    alloc: Global,
+    capture_map: &CaptureMap,
+    compares: bool,
+) -> Result<Comparing, AllocError>
+    ensures { compares ≡ true → IfOk result (ComparesNothing capture_map.now) }
+{
+    if !compares {
+        return Ok(Comparing::nothing());
+    }
+    Comparing::new(alloc, capture_map.flows.len())
+}
+
 /// Joins the capture that the reader gives, and writes what was counted, also where a fault ends
 /// it.
 fn capture<F: Files, R: Read, W: Write, E: Write>(
@@ -146,26 +197,38 @@ fn capture<F: Files, R: Read, W: Write, E: Write>(
 ) -> Result<(), CaptureCommandFault>
     requires reader { IsFresh reader.old }
     requires out { IsFresh out.old }
-    ensures { Captures R.remaining W.contents F.File.remaining asked.settings
+    ensures { Captures R.remaining W.contents F.File.remaining asked.settings asked.compares
         reader.old reader.new out.old out.new result }
 {
     let CaptureAsked {
         map,
         settings,
+        compares,
         files,
     } = asked;
+    frame_engine::laws::files_that_compare_equal_have_the_analysers_frames();
     let capture_map = map_of_file(alloc, rt, map.as_str())?;
     let mut tally = new_tally(alloc, &capture_map, &settings.selected, &files)?;
+    let mut comparing = new_comparing(alloc, &capture_map, compares)?;
     let reading = FrameReading::new(alloc, settings, capture_map)?;
     let mut requests = match &files.requests {
         Some(path) => Some(Device::new(created(rt, path.as_str())?)),
         None => None,
     };
-    let joined = join_capture(alloc, reading, &mut tally, &mut requests, reader, out);
+    let joined = join_capture(
+        alloc,
+        reading,
+        &mut tally,
+        &mut comparing,
+        &mut requests,
+        reader,
+        out,
+    );
     if let Some(file) = requests {
         file.into_inner();
     }
-    let counted = write_counts(alloc, rt, &files, &tally, err);
+    comparing.finish(alloc);
+    let counted = write_counts(alloc, rt, &files, &tally, &comparing, err);
     joined?;
     counted
 }

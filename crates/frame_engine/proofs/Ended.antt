@@ -31,7 +31,7 @@ pub wrote-nothing : {W : Type 0} (contents : W → Option (List ℕ)) (writer : 
 wrote-nothing contents writer = (Appends-nil (contents (inner_of writer)), inl refl, refl)
 
 -- one text, and another
-wrote-both : {W : Type 0} (contents : W → Option (List ℕ)) (a b c : Device W) (first later : List ℕ) → WritesAll contents a b first → WritesAll contents b c later
+pub wrote-both : {W : Type 0} (contents : W → Option (List ℕ)) (a b c : Device W) (first later : List ℕ) → WritesAll contents a b first → WritesAll contents b c later
     → WritesAll contents a c (first ++ later)
 wrote-both contents a b c first later before after = (
   Appends-trans (contents (inner_of a)) (contents (inner_of b)) (contents (inner_of c)) first later before.0 after.0,

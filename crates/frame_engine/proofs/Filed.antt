@@ -63,7 +63,7 @@ module _ (settings : CaptureSettings) (capture_map : CaptureMap) where
       ∙ ap (λ (waiting : List TimedStep). left_in settings.selected settings.link capture_map.channels.items waiting) w
 
   -- **More steps were seen, and what came of them was put.**
-  pub filed-more : (steps more : List CaptureStep) (written : List ℕ) (timed mid timed' : TimedFrames) (file file' : FrameFile)
+  unfoldable pub filed-more : (steps more : List CaptureStep) (written : List ℕ) (timed mid timed' : TimedFrames) (file file' : FrameFile)
       → HasFiled settings capture_map steps written timed file → HasSeen timed more mid → PutsCame mid file timed' file' → HasFiled settings capture_map (steps ++ more) written timed' file'
   filed-more steps more written timed mid timed' file file' filed saw puts =
       let seen = saw puts.was_whole in
@@ -85,14 +85,23 @@ module _ (settings : CaptureSettings) (capture_map : CaptureMap) where
             ∙ ap (λ (bytes : List ℕ). written ++ bytes) (sym puts.bytes);
       }
 
+  -- what came then is what came before and what waited
+  pub filed-came : (steps more : List CaptureStep) (written : List ℕ) (timed mid timed' : TimedFrames) (file file' : FrameFile)
+      (filed : HasFiled settings capture_map steps written timed file) (saw : HasSeen timed more mid) (puts : PutsCame mid file timed' file')
+      → (filed-more steps more written timed mid timed' file file' filed saw puts).came ≡ filed.came ++ mid.waiting.items
+  unfolding filed-more
+  filed-came steps more written timed mid timed' file file' filed saw puts =
+      let seen = saw puts.was_whole in
+      ap (λ (later : List TimedStep). filed.came ++ later) (sym (seen.1.waiting ∙ ap (λ (w : List TimedStep). w ++ seen.1.came) filed.none_waits))
+
   -- what is in the file is that of the steps
-  pub filed-file : (steps : List CaptureStep) (written : List ℕ) (timed : TimedFrames) (file : FrameFile) → HasFiled settings capture_map steps written timed file
+  unfoldable pub filed-file : (steps : List CaptureStep) (written : List ℕ) (timed : TimedFrames) (file : FrameFile) → HasFiled settings capture_map steps written timed file
       → IsFileOf settings capture_map steps (written ++ file.bytes.items)
   filed-file steps written timed file filed =
       record { timed = filed.came; lasts = timed.lasts.items; is_timed = filed.is_timed; text_is = sym filed.text }
 
   -- it was written
-  pub filed-written : (steps : List CaptureStep) (written : List ℕ) (timed : TimedFrames) (file file' : FrameFile) → HasFiled settings capture_map steps written timed file
+  unfoldable pub filed-written : (steps : List CaptureStep) (written : List ℕ) (timed : TimedFrames) (file file' : FrameFile) → HasFiled settings capture_map steps written timed file
       → file'.link ≡ file.link → file'.channels ≡ file.channels → file'.selected ≡ file.selected → file'.bytes.items ≡ []
       → HasFiled settings capture_map steps (written ++ file.bytes.items) timed file'
   filed-written steps written timed file file' filed link channels selected none = record {

@@ -4,3 +4,6 @@ pub mod Taken
 pub mod Reading
 pub mod Ended
 pub mod Devices
+pub mod Beside
+pub mod EqualFrames
+pub mod EqualEnds

@@ -31,7 +31,8 @@ use Rattle.frame_engine.specs.Settings.{inner_accepts}
 use Rattle.frame_engine.specs.Records.{IsBurstOf, passed_over, one_burst, counted}
 use Rattle.frame_engine.specs.Joined.{made, check, ComesOf, IsFileOf, AreFramesAtEnd, AreAllFrames}
 use Rattle.frame_engine.specs.Inside.Joins.{PutsCame, HasFiled, HasTaken, HasEnded, HasJoined, TakesBurst}
-use Rattle.frame_engine.proofs.Filed.{filed-more, filed-file, filed-written}
+use Rattle.timed_frames.specs.declared.timed_step.TimedStep.{TimedStep}
+use Rattle.frame_engine.proofs.Filed.{filed-more, filed-came, filed-file, filed-written}
 
 module _ (settings : CaptureSettings) (capture_map : CaptureMap) where
   -- a receiver that stands for what was handed in, by what was seen
@@ -71,6 +72,16 @@ module _ (settings : CaptureSettings) (capture_map : CaptureMap) where
             (takes.was_seen old.timed [] (seen_nothing old.timed)) puts;
       }
 
+  -- what came then
+  pub taken-came : (bursts : List CapturedBurst) (burst : CapturedBurst) (told : BurstTaken) (written : List ℕ) (old new : Joining) (mid : TimedFrames) (has : HasTaken settings capture_map bursts written old)
+      (takes : TakesBy inner_accepts HasSeen (SpellsNext old.flows burst told new.flows) old.flows.receiver old.timed new.flows.receiver mid)
+      (puts : PutsCame mid old.file new.timed new.file) (map_kept : new.flows.map ≡ old.flows.map) (waits_kept : new.flows.waits ≡ old.flows.waits)
+      → (taken-more bursts burst told written old new mid has takes puts map_kept waits_kept).filed.came ≡ has.filed.came ++ mid.waiting.items
+  unfolding taken-more
+  taken-came bursts burst told written old new mid has takes puts map_kept waits_kept =
+      filed-came settings capture_map has.steps takes.steps written old.timed mid new.timed old.file new.file has.filed
+      (takes.was_seen old.timed [] (seen_nothing old.timed)) puts
+
   -- **Nothing more.**
   pub taken-end : (bursts : List CapturedBurst) (written : List ℕ) (old new : Joining) (mid : TimedFrames) → HasTaken settings capture_map bursts written old
       → TakesBy inner_accepts HasSeen (EndsWaitingOfAll old.flows new.flows) old.flows.receiver old.timed new.flows.receiver mid
@@ -101,6 +112,14 @@ module _ (settings : CaptureSettings) (capture_map : CaptureMap) where
             (takes.was_seen old.timed [] (seen_nothing old.timed)) puts;
       }
 
+  pub end-came : (bursts : List CapturedBurst) (written : List ℕ) (old new : Joining) (mid : TimedFrames) (has : HasTaken settings capture_map bursts written old)
+      (takes : TakesBy inner_accepts HasSeen (EndsWaitingOfAll old.flows new.flows) old.flows.receiver old.timed new.flows.receiver mid)
+      (puts : PutsCame mid old.file new.timed new.file) → (taken-end bursts written old new mid has takes puts).filed.came ≡ has.filed.came ++ mid.waiting.items
+  unfolding taken-end
+  end-came bursts written old new mid has takes puts =
+      filed-came settings capture_map has.steps takes.steps written old.timed mid new.timed old.file new.file has.filed
+      (takes.was_seen old.timed [] (seen_nothing old.timed)) puts
+
   -- **The receiver was closed.**
   pub ended-closed : (bursts : List CapturedBurst) (written : List ℕ) (old : Joining) (mid timed' : TimedFrames) (file' : FrameFile) (closed : Closed) → HasEnded settings capture_map bursts written old
       → Closes HasGiven inner_accepts old.flows.receiver old.timed closed mid → PutsCame mid old.file timed' file' → AreAllFrames settings capture_map bursts (written ++ file'.bytes.items)
@@ -117,9 +136,19 @@ module _ (settings : CaptureSettings) (capture_map : CaptureMap) where
         (closes.was_given old.timed [] (seen_nothing old.timed)) puts);
   }
 
+  pub closed-came : (bursts : List CapturedBurst) (written : List ℕ) (old : Joining) (mid timed' : TimedFrames) (file' : FrameFile) (closed : Closed) (has : HasEnded settings capture_map bursts written old)
+      (closes : Closes HasGiven inner_accepts old.flows.receiver old.timed closed mid) (puts : PutsCame mid old.file timed' file')
+      → (ended-closed bursts written old mid timed' file' closed has closes puts).file.timed ≡ has.filed.came ++ mid.waiting.items
+  unfolding ended-closed
+
+  unfolding filed-file
+  closed-came bursts written old mid timed' file' closed has closes puts =
+      filed-came settings capture_map has.steps (map gave closes.given_more) written old.timed mid timed' old.file file' has.filed
+      (closes.was_given old.timed [] (seen_nothing old.timed)) puts
+
   -- ---- records
 
-  counted-more : (n : ℕ) (records : List CaptureParts) (one : CaptureParts) → n ≡ counted records → min (n + 1) (2 ^ 64 - 1) ≡ counted (records ++ one ∷ [])
+  pub counted-more : (n : ℕ) (records : List CaptureParts) (one : CaptureParts) → n ≡ counted records → min (n + 1) (2 ^ 64 - 1) ≡ counted (records ++ one ∷ [])
   counted-more n records one is = omega (arith, is, length-append records (one ∷ []))
 
   -- a record that is passed over

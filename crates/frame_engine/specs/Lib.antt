@@ -1,6 +1,9 @@
 pub mod Settings
 pub mod Records
 pub mod Written
+pub mod Compared
+pub mod Comparing
+pub mod Judged
 pub mod Joined
 pub mod Joining
 pub mod Inside

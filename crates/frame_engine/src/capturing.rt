@@ -1,11 +1,14 @@
 //! The command `capture`: the frames of a capture are written as they are joined.
-ghost use Rattle.std.specs.Prelude.{◌≡◌};
-ghost use Rattle.engines.specs.Device.{IsFresh};
+ghost use Rattle.std.specs.Prelude.{◌≡◌, IfSome, OnOk};
+ghost use Rattle.engines.specs.Device.{inner_of, IsFresh};
+ghost use Rattle.engines.specs.Engine.{WritesText};
 ghost use Rattle.capture_map.specs.declared.map.CaptureMap.{CaptureMap};
 ghost use Rattle.frame_engine.specs.declared.settings.CaptureSettings.{CaptureSettings};
 ghost use Rattle.frame_engine.specs.Joining.{JoinsCapture};
-ghost use Rattle.frame_engine.specs.Begun.{IsBegun, CanJoin};
+ghost use Rattle.frame_engine.specs.Begun.{IsBegun, IsBegunBeside, ComparesNothing, CanJoin};
+ghost use Rattle.frame_engine.specs.Comparing.{IsComparedFile};
 
+use crate::comparing::Comparing;
 use crate::frame_reading::FrameReading;
 use crate::tally::CaptureTally;
 use engines::{Device, EngineFault, read_behind, zeros};
@@ -19,7 +22,8 @@ const PIECE_BYTES: usize = 262_144;
 /// bursts, each with the time and the origin of the burst that completed it. The header is written
 /// first, and what a piece brings is written and flushed before the next is read. It reads without
 /// a limit, up to 2^64 - 1 bytes. What is counted on the way comes into the tally, and its lines of
-/// requests go to a writer of their own, if there is one.
+/// requests go to a writer of their own, if there is one. Frames are compared where that is asked
+/// for.
 ///
 /// `Read`: the reader failed, or gave more. `Capture`: the capture is malformed behind so many
 /// records, or ends too early. `OutOfMemory`: an allocation failed. Whichever comes, the frames of
@@ -29,6 +33,7 @@ pub fn join_capture<R: Read, W: Write, Q: Write>(
     alloc: Global,
     mut reading: FrameReading,
     tally: &mut CaptureTally,
+    comparing: &mut Comparing,
     requests: &mut Option<Device<Q>>,
     reader: &mut Device<R>,
     writer: &mut Device<W>,
@@ -36,10 +41,17 @@ pub fn join_capture<R: Read, W: Write, Q: Write>(
     requires reading { CanJoin reading }
     requires reader { IsFresh reader.old }
     requires writer { IsFresh writer.old }
-    ensures { (settings : CaptureSettings) (capture_map : CaptureMap)
+    ensures joins { (settings : CaptureSettings) (capture_map : CaptureMap)
         → IsBegun settings capture_map reading
         → JoinsCapture settings capture_map R.remaining W.contents
         reader.old reader.new writer.old writer.new result }
+    // Where nothing was compared before, the records of the capture were compared with just the
+    // frames that were written.
+    ensures compared { (settings : CaptureSettings) (capture_map : CaptureMap)
+        → IsBegunBeside settings capture_map reading → ComparesNothing capture_map comparing.old
+        → OnOk result (IfSome (R.remaining (inner_of reader.old)) (WritesText
+        (IsComparedFile settings capture_map comparing.new)
+        (W.contents (inner_of writer.old)) (W.contents (inner_of writer.new)))) }
 {
     let mut piece = zeros(alloc, PIECE_BYTES)?;
     reading.joining.file.write(writer)?;
@@ -53,11 +65,11 @@ pub fn join_capture<R: Read, W: Write, Q: Write>(
         };
         if count == 0 {
             reading.note_clocks(tally);
-            let ended = reading.finish(alloc, tally, writer);
+            let ended = reading.finish(alloc, tally, comparing, writer);
             tally.write_requests(alloc, requests);
             return ended;
         }
-        match reading.join_piece(alloc, &piece[..count], tally, writer) {
+        match reading.join_piece(alloc, &piece[..count], tally, comparing, writer) {
             Ok(()) => tally.write_requests(alloc, requests),
             Err(fault) => {
                 reading.note_all(tally);

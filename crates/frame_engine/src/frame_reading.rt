@@ -5,10 +5,13 @@ ghost use Rattle.capture.specs.PcapReading.{MovesOn};
 ghost use Rattle.captured_flows.specs.Captures.{IsFaultOf};
 ghost use Rattle.engines.specs.Device.{inner_of, has_failed};
 ghost use Rattle.engines.specs.Transfer.{IsLeftFlushed};
-ghost use Rattle.frame_engine.specs.Begun.{IsBegun, CanJoin};
+ghost use Rattle.frame_engine.specs.Begun.{IsBegun, IsBegunBeside, CanJoin};
 ghost use Rattle.frame_engine.specs.Inside.Joins.{JoinsSome, JoinsPiece, CannotJoin};
 ghost use Rattle.frame_engine.specs.Inside.Joins.{JoinsWritten, FinishesJoined};
+ghost use Rattle.frame_engine.specs.Inside.Beside.{JoinsSomeBeside, JoinsPieceBeside};
+ghost use Rattle.frame_engine.specs.Inside.Beside.{JoinsWrittenBeside, FinishesBeside};
 
+use crate::comparing::Comparing;
 use crate::joining::Joining;
 use crate::settings::CaptureSettings;
 use crate::tally::CaptureTally;
@@ -35,6 +38,7 @@ impl FrameReading {
         capture_map: CaptureMap,
     ) -> Result<FrameReading, SetupError>
         ensures begun { IfOk result (IsBegun settings capture_map) }
+        ensures begun_beside { IfOk result (IsBegunBeside settings capture_map) }
         ensures ready { IfOk result CanJoin }
         ensures fault { IfErr result (IsFaultOf capture_map) }
     {
@@ -63,9 +67,12 @@ impl FrameReading {
         alloc: Global,
         piece: &'a [u8],
         tally: &mut CaptureTally,
+        comparing: &mut Comparing,
     ) -> Result<&'a [u8], EngineFault>
         requires ready { CanJoin self.old }
         ensures taken { IfOk result (λ rest. JoinsSome self.old piece.now rest.now self.new) }
+        ensures compared { IfOk result (λ rest. JoinsSomeBeside self.old comparing.old
+            piece.now rest.now self.new comparing.new) }
         ensures some { IfOk result (λ rest. MovesOn piece.now rest.now) }
         ensures ready { OnOk result (CanJoin self.new) }
         ensures fault { IfErr result (CannotJoin self.old piece.now self.new) }
@@ -73,7 +80,7 @@ impl FrameReading {
         match self.reader.take(alloc, piece) {
             Ok(CaptureTaken { record, rest }) => match record {
                 Some(given) => {
-                    self.joining.take_record(alloc, given, tally)?;
+                    self.joining.take_record(alloc, given, tally, comparing)?;
                     Ok(rest)
                 }
                 None => Ok(rest),
@@ -88,15 +95,18 @@ impl FrameReading {
         alloc: Global,
         piece: &[u8],
         tally: &mut CaptureTally,
+        comparing: &mut Comparing,
     ) -> Result<(), EngineFault>
         requires ready { CanJoin self.old }
         ensures taken { OnOk result (JoinsPiece self.old piece.now self.new) }
+        ensures compared { OnOk result (JoinsPieceBeside self.old comparing.old
+            piece.now self.new comparing.new) }
         ensures ready { OnOk result (CanJoin self.new) }
         ensures fault { IfErr result (CannotJoin self.old piece.now self.new) }
     {
         let mut rest = piece;
         while !rest.is_empty() {
-            rest = self.take_some(alloc, rest, tally)?;
+            rest = self.take_some(alloc, rest, tally, comparing)?;
         }
         Ok(())
     }
@@ -107,16 +117,19 @@ impl FrameReading {
         alloc: Global,
         piece: &[u8],
         tally: &mut CaptureTally,
+        comparing: &mut Comparing,
         writer: &mut Device<W>,
     ) -> Result<(), EngineFault>
         requires ready { CanJoin self.old }
         ensures joins { JoinsWritten W.contents self.old writer.old piece.now
             self.new writer.new result }
+        ensures compared { OnOk result (JoinsWrittenBeside W.contents self.old comparing.old
+            writer.old piece.now self.new comparing.new writer.new) }
         ensures ready { OnOk result (CanJoin self.new) }
         ensures empty { OnOk result (self.new.joining.file.bytes.items ≡ []) }
         ensures flushed { OnOk result (IsLeftFlushed writer.old writer.new) }
     {
-        let taken = self.take_piece(alloc, piece, tally);
+        let taken = self.take_piece(alloc, piece, tally, comparing);
         self.joining.file.write(writer)?;
         taken
     }
@@ -126,15 +139,18 @@ impl FrameReading {
         self,
         alloc: Global,
         tally: &mut CaptureTally,
+        comparing: &mut Comparing,
         writer: &mut Device<W>,
     ) -> Result<(), EngineFault>
         requires ready { CanJoin self }
         requires empty { self.joining.file.bytes.items ≡ [] }
-        ensures { FinishesJoined W.contents self writer.old writer.new result }
+        ensures written { FinishesJoined W.contents self writer.old writer.new result }
+        ensures compared { OnOk result (FinishesBeside W.contents self comparing.old
+            writer.old comparing.new writer.new) }
     {
         let FrameReading { reader, joining } = self;
         match reader.finish() {
-            Ok(()) => joining.finish(alloc, tally, writer),
+            Ok(()) => joining.finish(alloc, tally, comparing, writer),
             Err(fault) => {
                 joining.count_open(tally);
                 Err(EngineFault::of_capture(fault, joining.records))

@@ -9,7 +9,15 @@ ghost use Rattle.frame_engine.specs.Settings.{inner_accepts};
 ghost use Rattle.frame_engine.specs.Inside.Joins.{KeepsFile, PutsCame, HasJoined};
 ghost use Rattle.frame_engine.specs.Inside.Joins.{TakesBurst, TakesRecord, EndsJoining, ClosesJoining};
 ghost use Rattle.frame_engine.specs.Inside.Joins.{ClosesWritten, FinishesBursts};
+ghost use Rattle.frame_engine.specs.Compared.{arrivals_of_steps};
+ghost use Rattle.frame_engine.specs.Comparing.{Takes};
+ghost use Rattle.frame_engine.specs.Inside.Beside.{TakesBurstBeside, TakesRecordBeside};
+ghost use Rattle.frame_engine.specs.Begun.{ComparesNothing};
+ghost use Rattle.frame_engine.specs.declared.comparing.Comparing.{Comparing};
+ghost use Rattle.frame_engine.specs.Inside.Beside.{HasJoinedBeside, EndsBeside, ClosesBeside};
+ghost use Rattle.frame_engine.specs.Inside.Beside.{ClosesWrittenBeside, FinishesBurstsBeside};
 
+use crate::comparing::Comparing;
 use crate::frame_file::FrameFile;
 use crate::inner_check::InnerCheck;
 use crate::record_burst::captured;
@@ -35,15 +43,19 @@ pub(crate) struct Joining {
     pub(crate) records: u64,
 }
 
-/// Puts all that waits into the file. Where an allocation failed, here or before, the file stays as
-/// it was.
+/// Puts all that waits into the file, and compares its frames. Where an allocation failed, here or
+/// before, the file stays as it was.
 fn put_came(
     alloc: Global,
     timed: &mut TimedFrames,
     file: &mut FrameFile,
     tally: &mut CaptureTally,
+    comparing: &mut Comparing,
 ) -> Result<(), EngineFault>
     ensures put { OnOk result (PutsCame timed.old file.old timed.new file.new) }
+    ensures compared { OnOk result (Takes
+        (arrivals_of_steps file.old.selected timed.old.waiting.items)
+        comparing.old comparing.new) }
     ensures file { OnErr result (KeepsFile file.old file.new) }
     ensures only { IfErr result (λ fault. fault ≡ OutOfMemory) }
 {
@@ -52,6 +64,7 @@ fn put_came(
     }
     file.put_all(alloc, timed.waiting())?;
     tally.count_steps(alloc, timed.waiting());
+    comparing.take_steps(alloc, &file.selected, timed.waiting());
     timed.let_go(alloc);
     Ok(())
 }
@@ -64,6 +77,9 @@ impl Joining {
         capture_map: CaptureMap,
     ) -> Result<Joining, SetupError>
         ensures begun { IfOk result (HasJoined settings capture_map [] []) }
+        ensures begun_beside { IfOk result (λ joining. (comparing : Comparing)
+            → ComparesNothing capture_map comparing
+            → HasJoinedBeside settings capture_map [] [] joining comparing) }
         ensures capturing { IfOk result (λ joining. IsCapturing inner_accepts joining.flows) }
         ensures fault { IfErr result (IsFaultOf capture_map) }
     {
@@ -92,9 +108,12 @@ impl Joining {
         burst: CapturedBurst,
         is_above: bool,
         tally: &mut CaptureTally,
+        comparing: &mut Comparing,
     ) -> Result<(), EngineFault>
         requires capturing { IsCapturing inner_accepts self.old.flows }
         ensures taken { OnOk result (TakesBurst self.old burst self.new) }
+        ensures compared { OnOk result
+            (TakesBurstBeside self.old comparing.old burst self.new comparing.new) }
         ensures capturing { OnOk result (IsCapturing inner_accepts self.new.flows) }
         ensures file { OnErr result (KeepsFile self.old.file self.new.file) }
         ensures records { self.new.records ≡ self.old.records }
@@ -104,7 +123,7 @@ impl Joining {
         match self.flows.take(alloc, burst, &mut self.timed) {
             Ok(told) => {
                 tally.count_burst(id, is_above, told);
-                let put = put_came(alloc, &mut self.timed, &mut self.file, tally);
+                let put = put_came(alloc, &mut self.timed, &mut self.file, tally, comparing);
                 self.mark(id, sid, time, told, tally);
                 put
             }
@@ -138,17 +157,21 @@ impl Joining {
         alloc: Global,
         given: CaptureRecord,
         tally: &mut CaptureTally,
+        comparing: &mut Comparing,
     ) -> Result<(), EngineFault>
         requires capturing { IsCapturing inner_accepts self.old.flows }
         ensures taken { OnOk result (TakesRecord self.old (capture_parts given) self.new) }
+        ensures compared { OnOk result (TakesRecordBeside self.old comparing.old
+            (capture_parts given) self.new comparing.new) }
         ensures capturing { OnOk result (IsCapturing inner_accepts self.new.flows) }
         ensures file { OnErr result (KeepsFile self.old.file self.new.file) }
         ensures only { IfErr result (λ fault. fault ≡ OutOfMemory) }
     {
         self.records = self.records.saturating_add(1);
         tally.count_record(given.nanoseconds);
+        comparing.take_record(alloc, &self.flows, &self.file.selected, &given);
         match captured(given) {
-            Ok((burst, is_above)) => self.take_burst(alloc, burst, is_above, tally),
+            Ok((burst, is_above)) => self.take_burst(alloc, burst, is_above, tally, comparing),
             Err(reason) => {
                 tally.count_passed(reason);
                 Ok(())
@@ -161,15 +184,18 @@ impl Joining {
         &mut self,
         alloc: Global,
         tally: &mut CaptureTally,
+        comparing: &mut Comparing,
     ) -> Result<(), EngineFault>
         requires capturing { IsCapturing inner_accepts self.old.flows }
         ensures ended { OnOk result (EndsJoining self.old self.new) }
+        ensures compared { OnOk result
+            (EndsBeside self.old comparing.old self.new comparing.new) }
         ensures receiving { OnOk result (IsReceiving inner_accepts self.new.flows.receiver) }
         ensures file { OnErr result (KeepsFile self.old.file self.new.file) }
         ensures only { IfErr result (λ fault. fault ≡ OutOfMemory) }
     {
         match self.flows.end_waiting(alloc, &mut self.timed) {
-            Ok(_) => put_came(alloc, &mut self.timed, &mut self.file, tally),
+            Ok(_) => put_came(alloc, &mut self.timed, &mut self.file, tally, comparing),
             Err(_) => Err(EngineFault::OutOfMemory),
         }
     }
@@ -189,9 +215,12 @@ impl Joining {
         self,
         alloc: Global,
         tally: &mut CaptureTally,
+        comparing: &mut Comparing,
     ) -> (FrameFile, Result<(), EngineFault>)
         requires receiving { IsReceiving inner_accepts self.flows.receiver }
         ensures closed { OnOk result.1 (ClosesJoining self result.0) }
+        ensures compared { OnOk result.1
+            (ClosesBeside self comparing.old result.0 comparing.new) }
         ensures file { OnErr result.1 (KeepsFile self.file result.0) }
         ensures only { IfErr result.1 (λ fault. fault ≡ OutOfMemory) }
     {
@@ -204,7 +233,7 @@ impl Joining {
         match flows.into_receiver().close(alloc, &mut timed) {
             Ok(closed) => {
                 tally.count_all_closed(&closed.flows);
-                let put = put_came(alloc, &mut timed, &mut file, tally);
+                let put = put_came(alloc, &mut timed, &mut file, tally, comparing);
                 (file, put)
             }
             Err(_) => (file, Err(EngineFault::OutOfMemory)),
@@ -216,12 +245,15 @@ impl Joining {
         self,
         alloc: Global,
         tally: &mut CaptureTally,
+        comparing: &mut Comparing,
         writer: &mut Device<W>,
     ) -> Result<(), EngineFault>
         requires receiving { IsReceiving inner_accepts self.flows.receiver }
-        ensures { ClosesWritten W.contents self writer.old writer.new result }
+        ensures written { ClosesWritten W.contents self writer.old writer.new result }
+        ensures compared { OnOk result (ClosesWrittenBeside W.contents self comparing.old
+            writer.old comparing.new writer.new) }
     {
-        let (mut file, closed) = self.close(alloc, tally);
+        let (mut file, closed) = self.close(alloc, tally, comparing);
         file.write(writer)?;
         closed
     }
@@ -232,13 +264,16 @@ impl Joining {
         mut self,
         alloc: Global,
         tally: &mut CaptureTally,
+        comparing: &mut Comparing,
         writer: &mut Device<W>,
     ) -> Result<(), EngineFault>
         requires capturing { IsCapturing inner_accepts self.flows }
         requires empty { self.file.bytes.items ≡ [] }
-        ensures { FinishesBursts W.contents self writer.old writer.new result }
+        ensures written { FinishesBursts W.contents self writer.old writer.new result }
+        ensures compared { OnOk result (FinishesBurstsBeside W.contents self
+            comparing.old writer.old comparing.new writer.new) }
     {
-        match self.end_waiting(alloc, tally) {
+        match self.end_waiting(alloc, tally, comparing) {
             Ok(()) => {}
             Err(fault) => {
                 self.count_open(tally);
@@ -252,6 +287,6 @@ impl Joining {
                 return Err(EngineFault::Write);
             }
         }
-        self.write_closed(alloc, tally, writer)
+        self.write_closed(alloc, tally, comparing, writer)
     }
 }

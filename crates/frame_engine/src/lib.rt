@@ -15,6 +15,7 @@
 #![tactic(auto)]
 
 mod capturing;
+mod comparing;
 mod drawing;
 mod frame_file;
 mod frame_reading;
@@ -26,6 +27,7 @@ mod settings;
 mod tally;
 
 pub use capturing::join_capture;
+pub use comparing::Comparing;
 pub use frame_reading::FrameReading;
 pub use inner_check::InnerCheck;
 pub use settings::CaptureSettings;

@@ -11,7 +11,7 @@ use command_line::UsageFault;
 use docsis_wire::Bytes;
 use engines::{Device, EngineFault};
 use flow_selection::Selection;
-use frame_engine::{CaptureTally, FrameReading, join_capture};
+use frame_engine::{CaptureTally, Comparing, FrameReading, join_capture};
 use frame_records::FrameLink;
 use receiver::SetupError;
 use std::alloc::{AllocError, Global};
@@ -46,10 +46,12 @@ fn try_to_join(alloc: Global, frames: &mut [u8], lines: &mut [u8]) -> Result<Joi
     });
     let mut writer = Device::new(frames);
     let mut requests = Some(Device::new(lines));
+    let mut comparing = Comparing::nothing();
     let done = join_capture(
         alloc,
         reading,
         &mut tally,
+        &mut comparing,
         &mut requests,
         &mut reader,
         &mut writer,

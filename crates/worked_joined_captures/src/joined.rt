@@ -6,7 +6,9 @@ use capture_map::CaptureMap;
 use captured_flows::Waits;
 use engines::{Device, EngineFault};
 use flow_selection::Selection;
-use frame_engine::{CaptureSettings, CaptureTally, FrameReading, InnerCheck, join_capture};
+use frame_engine::{
+    CaptureSettings, CaptureTally, Comparing, FrameReading, InnerCheck, join_capture,
+};
 use frame_records::FrameLink;
 use loss_rule::LossRule;
 use std::alloc::Global;
@@ -96,10 +98,12 @@ pub(crate) fn join_by(
     let mut reader = Device::new(InPieces { rest: bytes, size });
     let mut writer = Device::new(&mut frames);
     let mut lines = Some(Device::new(&mut requests));
+    let mut comparing = Comparing::nothing();
     let done = join_capture(
         alloc,
         reading,
         &mut tally,
+        &mut comparing,
         &mut lines,
         &mut reader,
         &mut writer,
@@ -215,10 +219,12 @@ fn times_are_told_where_a_read_fails(rt: HostRuntime) -> Result<(), Fail> {
     let mut reader = Device::new(Breaking { given });
     let mut writer = Device::new(&mut frames);
     let mut lines: Option<Device<Full>> = None;
+    let mut comparing = Comparing::nothing();
     let done = join_capture(
         alloc,
         reading,
         &mut tally,
+        &mut comparing,
         &mut lines,
         &mut reader,
         &mut writer,
@@ -277,10 +283,12 @@ fn kept_without_room(alloc: Global, room: &mut [u8]) -> Result<u64, Fail> {
     });
     let mut writer = Device::new(room);
     let mut lines: Option<Device<Full>> = None;
+    let mut comparing = Comparing::nothing();
     let done = join_capture(
         alloc,
         reading,
         &mut tally,
+        &mut comparing,
         &mut lines,
         &mut reader,
         &mut writer,

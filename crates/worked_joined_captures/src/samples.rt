@@ -152,6 +152,37 @@ pub(crate) fn frames_apart(alloc: Global) -> Result<Vec<u8>, AllocError> {
     Ok(file)
 }
 
+/// The same, and behind each segment, at its time, the frame that the analyser joined of it, if it
+/// did.
+pub(crate) fn frames_joined_twice(
+    alloc: Global,
+    joined: [Option<[u8; 8]>; 3],
+) -> Result<Vec<u8>, AllocError> {
+    let mut file = Vec::new(alloc);
+    put_file(&mut file)?;
+    for (place, one) in joined.iter().enumerate() {
+        let number = place as u8;
+        put_burst(
+            &mut file,
+            1 + number,
+            100,
+            header(number, true, 0),
+            &frame(),
+        )?;
+        if let Some(frame) = one {
+            put_joined(&mut file, 1 + number, frame)?;
+        }
+    }
+    Ok(file)
+}
+
+/// Appends a record of a packet with a frame of the first flow that the analyser joined.
+fn put_joined(out: &mut Vec<u8>, second: u8, frame: &[u8; 8]) -> Result<(), AllocError> {
+    out.extend_from_slice(&[0, 0, 0, second, 0, 0, 0, 1, 0, 0, 0, 19, 0, 0, 0, 19])?;
+    out.extend_from_slice(&[1, 0x50, 0, 7, 10, 1, 100, 11, 2, 0, 7])?;
+    out.extend_from_slice(frame)
+}
+
 /// The file of these frames: its header, and three records with a header of 16 bytes.
 pub(crate) const FRAMES_APART: [u8; 96] = [
     0x4d, 0x3c, 0xb2, 0xa1, 2, 0, 4, 0, 0, 0, 0, 0, 0, 0, 0, 0, 0, 0, 4, 0, 143, 0, 0, 0, 1, 0, 0,

@@ -1,13 +1,20 @@
 -- The capture was joined with its map.
-use Rattle.std.proofs.Common.{◌≡◌, inl, Result, Ok, Err, refl}
-use Rattle.std.specs.Prelude.{OnOk}
-use Rattle.std.proofs.lemmas.Result.{err_from_is_err_and}
+use Rattle.std.proofs.Common.{◌≡◌, ℕ, Bool, true, inl, List, Option, Some, None, Result, Ok, Err, refl}
+use Rattle.std.specs.Prelude.{IfSome, OnOk}
+use Rattle.std.proofs.lemmas.Result.{err_from_is_err_and, on_ok_weaker}
+use Rattle.engines.specs.Engine.{WritesText}
 use Rattle.capture_command.proofs.whole_command.capture.Goals as goal
 
 -- what holds holds where it was done
 always : {A E : Type 0} (result : Result A E) (P : Type 0) → P → OnOk result P
 always (Ok done) P is = is
 always (Err fault) P is = tt
+
+-- a text that stands for a known input stands for it in another way too
+written-so : (known old new : Option (List ℕ)) (P Q : List ℕ → List ℕ → Type 0) → ((input text : List ℕ) → P input text → Q input text)
+    → IfSome known (WritesText P old new) → IfSome known (WritesText Q old new)
+written-so None old new P Q so is = tt
+written-so (Some input) old new P Q so is = (is.0, so input is.0 is.1, is.2)
 
 pub returns-in_err-joined : goal.returns-in_err-joined
 returns-in_err-joined g c =
@@ -17,16 +24,28 @@ returns-in_err-joined g c =
       capture_map = c.in_ok-capture_map.capture_map;
       map_is = c.in_ok-capture_map.ensures;
       joined = c.join_capture-joined.result;
-      joins = c.join_capture-joined.ensures c.args.asked.settings c.in_ok-capture_map.capture_map c.in_ok-reading.ensures.begun;
+      joins = c.join_capture-joined.ensures.joins c.args.asked.settings c.in_ok-capture_map.capture_map c.in_ok-reading.ensures.begun;
       told = rw c.in_err-joined.was (record { fault = refl; done = tt });
+      same = λ compares. tt;
     }))
 
 pub returns : goal.returns
 returns g c =
+    let settings = c.args.asked.settings in
+    let capture_map = c.in_ok-capture_map.capture_map in
     inl (record {
-      capture_map = c.in_ok-capture_map.capture_map;
+      capture_map = capture_map;
       map_is = c.in_ok-capture_map.ensures;
       joined = c.join_capture-joined.result;
-      joins = c.join_capture-joined.ensures c.args.asked.settings c.in_ok-capture_map.capture_map c.in_ok-reading.ensures.begun;
+      joins = c.join_capture-joined.ensures.joins settings capture_map c.in_ok-reading.ensures.begun;
       told = rw c.in_ok-joined.was (record { fault = tt; done = always c.write_counts-counted.result (Ok c.in_ok-joined.field-0 ≡ Ok tt) refl });
+      same = λ compares.
+          let compared = c.join_capture-joined.ensures.compared settings capture_map c.in_ok-reading.ensures.begun_beside (c.in_ok-comparing.ensures compares) in
+          on_ok_weaker c.write_counts-counted.result
+          (λ equal.
+          written-so _ _ _ _ _
+          (λ input text is. c.files_that_compare_equal_have_the_analysers_frames.ensures settings capture_map c.join_capture-joined.new.comparing c.finish.new.self input text is
+          c.finish.ensures equal)
+          (rw c.in_ok-joined.was at compared))
+          c.write_counts-counted.ensures;
     })

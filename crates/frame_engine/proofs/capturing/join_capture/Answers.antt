@@ -2,21 +2,22 @@
 use Rattle.std.proofs.Common.{◌≡◌, inl, inr, take, length, refl, sym, ap, subst, ◌∙◌, rules}
 use Rattle.std.specs.Io.KnownBytes.{Consumes}
 use Rattle.std.proofs.KnownBytes.{Keeps-refl}
-use Rattle.std.proofs.lemmas.Result.{err_from_is_err_and}
+use Rattle.std.proofs.lemmas.Result.{err_from_is_err_and, on_ok_weaker}
 use Rattle.engines.specs.Device.{inner_of}
 use Rattle.engines.proofs.FollowedDevices.{stays_flushed}
 use Rattle.engines.proofs.ReadLines.{of_room}
 use Rattle.frame_engine.specs.declared.frame_reading.FrameReading.{FrameReading}
 use Rattle.frame_engine.proofs.Devices.{capture-refused, capture-unheaded, far-begun, capture-unread, far-more, capture-stopped, capture-finished}
+use Rattle.frame_engine.proofs.Beside.{beside-begun, beside-more, beside-finished}
 use Rattle.frame_engine.proofs.capturing.join_capture.Goals as goal
 
-pub returns-in_err-piece : goal.returns-in_err-piece
-returns-in_err-piece g c = λ settings capture_map begun.
+pub returns-in_err-piece-clause-joins : goal.returns-in_err-piece-clause-joins
+returns-in_err-piece-clause-joins g c = λ settings capture_map begun.
     let p = err_from_is_err_and c.from_residual.result c.from_residual.ensures.1 in
     rw (p.1, p.2) (capture-refused g.R.Read.remaining g.W.Write.contents settings capture_map c.args.reader.now c.args.writer.now)
 
-pub returns-in_err-write : goal.returns-in_err-write
-returns-in_err-write g c = λ settings capture_map begun.
+pub returns-in_err-write-clause-joins : goal.returns-in_err-write-clause-joins
+returns-in_err-write-clause-joins g c = λ settings capture_map begun.
     let p = err_from_is_err_and c.from_residual-in_err-write.result c.from_residual-in_err-write.ensures.1 in
     rw (p.1, p.2)
     (capture-unheaded g.R.Read.remaining g.W.Write.contents settings capture_map c.args.reader.now c.args.writer.now c.write.new.writer c.args.reading begun
@@ -31,6 +32,10 @@ loop-init g c =
       far = λ settings capture_map begun.
           far-begun g.R.Read.remaining g.W.Write.contents settings capture_map c.args.reader.now c.args.writer.now c.write.new.writer old new begun refl c.write.ensures.link
           c.write.ensures.channels c.write.ensures.selected wrote.none_left wrote.written wrote.left_flushed wrote.sound;
+      beside = λ settings capture_map begun none.
+          let has = begun c.args.comparing.now none in
+          beside-begun g.R.Read.remaining g.W.Write.contents settings capture_map c.args.reader.now c.args.writer.now c.write.new.writer old c.write.new.self c.args.comparing.now has
+          c.write.ensures.link c.write.ensures.channels c.write.ensures.selected wrote.none_left wrote.written;
       ready = c.requires.reading;
       empty = wrote.none_left;
       flushed = stays_flushed _ _ c.requires.writer.2 wrote.left_flushed;
@@ -38,14 +43,14 @@ loop-init g c =
       room = search rules;
     }
 
-pub returns-in-Err : goal.returns-in-Err
-returns-in-Err g c = λ settings capture_map begun.
+pub returns-in-Err-clause-joins : goal.returns-in-Err-clause-joins
+returns-in-Err-clause-joins g c = λ settings capture_map begun.
     rw c.in-Err.ensures.only
     (capture-unread g.R.Read.remaining g.W.Write.contents settings capture_map c.args.reader.now c.args.writer.now c.loop.reader c.loop.writer c.loop.reading
     (c.loop.invariant.far settings capture_map begun) c.read_behind.new.reader c.in-Err.ensures.kept (inl c.in-Err.ensures.failed))
 
-pub returns-then-count-eq0 : goal.returns-then-count-eq0
-returns-then-count-eq0 g c = λ settings capture_map begun.
+pub returns-then-count-eq0-clause-joins : goal.returns-then-count-eq0-clause-joins
+returns-then-count-eq0-clause-joins g c = λ settings capture_map begun.
     let far = c.loop.invariant.far settings capture_map begun in
     let none : c.in-Ok.count ≡ 0 = search rules in
     let read =
@@ -53,10 +58,10 @@ returns-then-count-eq0 g c = λ settings capture_map begun.
     c.in-Ok.ensures.taken in
     capture-finished g.R.Read.remaining g.W.Write.contents settings capture_map c.args.reader.now c.args.writer.now c.loop.reader c.loop.writer c.loop.reading far
     c.read_behind.new.reader read (c.in-Ok.ensures.end none) c.finish-ended.new.writer c.finish-ended.result c.requires.reader.0 c.requires.writer.0 c.in-Ok.ensures.sound
-    (c.finish-ended.ensures settings capture_map far.bytes far.text far.has)
+    (c.finish-ended.ensures.written settings capture_map far.bytes far.text far.has)
 
-pub returns-in-Err-join_piece : goal.returns-in-Err-join_piece
-returns-in-Err-join_piece g c = λ settings capture_map begun.
+pub returns-in-Err-join_piece-clause-joins : goal.returns-in-Err-join_piece-clause-joins
+returns-in-Err-join_piece-clause-joins g c = λ settings capture_map begun.
     let far = c.loop.invariant.far settings capture_map begun in
     let front = c.read_behind.new.room in
     let long : length front ≡ c.loop.piece.len = search rules in
@@ -83,6 +88,13 @@ loop-preserved g c =
           (subst (Consumes (g.R.Read.remaining (inner_of c.loop.reader)) (g.R.Read.remaining (inner_of c.read_behind.new.reader)))
           (sym (ap (take c.in-Ok.count) piece ∙ front_is)) c.in-Ok.ensures.taken)
           c.join_piece.new.writer c.join_piece.new.self joined.0 c.in-Ok.ensures.sound joined.1.0 c.in-Ok-join_piece.ensures.empty joined.1.1 joined.1.2 joined.1.3;
+      beside = λ settings capture_map begun none.
+          let far = c.loop.invariant.beside settings capture_map begun none in
+          beside-more g.R.Read.remaining g.W.Write.contents settings capture_map c.args.reader.now c.args.writer.now c.loop.reader c.loop.writer c.loop.reading c.loop.comparing far
+          c.read_behind.new.reader (take c.in-Ok.count c.deref.result.now)
+          (subst (Consumes (g.R.Read.remaining (inner_of c.loop.reader)) (g.R.Read.remaining (inner_of c.read_behind.new.reader)))
+          (sym (ap (take c.in-Ok.count) piece ∙ front_is)) c.in-Ok.ensures.taken)
+          c.join_piece.new.writer c.join_piece.new.self c.join_piece.new.comparing c.in-Ok-join_piece.ensures.compared;
       ready = c.in-Ok-join_piece.ensures.ready;
       empty = c.in-Ok-join_piece.ensures.empty;
       flushed = stays_flushed _ _ c.loop.invariant.flushed c.in-Ok-join_piece.ensures.flushed;
@@ -90,7 +102,21 @@ loop-preserved g c =
       room = c.loop.invariant.room;
     }
 
-pub returns : goal.returns
-returns g c = λ settings capture_map begun.
+pub returns-clause-joins : goal.returns-clause-joins
+returns-clause-joins g c = λ settings capture_map begun.
     capture-unread g.R.Read.remaining g.W.Write.contents settings capture_map c.args.reader.now c.args.writer.now c.loop.reader c.loop.writer c.loop.reading
     (c.loop.invariant.far settings capture_map begun) c.loop.reader (Keeps-refl (g.R.Read.remaining (inner_of c.loop.reader))) (inr (search rules))
+
+pub returns-then-count-eq0-clause-compared : goal.returns-then-count-eq0-clause-compared
+returns-then-count-eq0-clause-compared g c = λ settings capture_map begun nothing.
+    let far = c.loop.invariant.beside settings capture_map begun nothing in
+    let none : c.in-Ok.count ≡ 0 = search rules in
+    let read =
+    subst (λ n. Consumes (g.R.Read.remaining (inner_of c.loop.reader)) (g.R.Read.remaining (inner_of c.read_behind.new.reader)) (take n c.read_behind.new.room)) none
+    c.in-Ok.ensures.taken in
+    on_ok_weaker c.finish-ended.result
+    (λ finishes.
+    beside-finished g.R.Read.remaining g.W.Write.contents settings capture_map c.args.reader.now c.args.writer.now c.loop.reader c.loop.writer c.loop.reading c.loop.comparing far
+    c.read_behind.new.reader read (c.in-Ok.ensures.end none) c.finish-ended.new.writer c.finish-ended.new.comparing
+    (finishes settings capture_map far.bytes far.text far.has))
+    c.finish-ended.ensures.compared

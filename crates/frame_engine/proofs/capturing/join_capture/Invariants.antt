@@ -3,14 +3,17 @@ use Rattle.std.proofs.Common.{◌≡◌, ◌≤◌, true, [], vec_len}
 use Rattle.capture_map.specs.declared.map.CaptureMap.{CaptureMap}
 use Rattle.engines.specs.Device.{given_of, is_flushed}
 use Rattle.frame_engine.specs.declared.settings.CaptureSettings.{CaptureSettings}
-use Rattle.frame_engine.specs.Begun.{IsBegun, CanJoin}
+use Rattle.frame_engine.specs.Begun.{IsBegun, IsBegunBeside, ComparesNothing, CanJoin}
 use Rattle.frame_engine.proofs.Devices.{JoinsSoFar}
+use Rattle.frame_engine.proofs.Beside.{ComparesSoFar}
 use Rattle.frame_engine.proofs.capturing.join_capture.Given as goal
 
 abbrev pub invariant-loop : goal.invariant-loop
 invariant-loop g l = record {
   far : (settings : CaptureSettings) (capture_map : CaptureMap) → IsBegun settings capture_map l.fn.reading
       → JoinsSoFar g.R.Read.remaining g.W.Write.contents settings capture_map l.fn.reader l.reader l.fn.writer l.writer l.reading;
+  beside : (settings : CaptureSettings) (capture_map : CaptureMap) → IsBegunBeside settings capture_map l.fn.reading → ComparesNothing capture_map l.fn.comparing
+      → ComparesSoFar g.R.Read.remaining g.W.Write.contents settings capture_map l.fn.reader l.reader l.fn.writer l.writer l.reading l.comparing;
   ready : CanJoin l.reading;
   empty : l.reading.joining.file.bytes.items ≡ [];
   flushed : is_flushed l.writer ≡ true;

@@ -1,5 +1,6 @@
 use Rattle.std.proofs.lemmas.Result.{err_from_is_err_and}
 use Rattle.frame_engine.proofs.Reading.{some-more, some-fault}
+use Rattle.frame_engine.proofs.Beside.{some-beside, all-beside, unread-beside}
 use Rattle.frame_engine.proofs.frame_reading.FrameReading.take_piece.Goals as goal
 
 pub returns-in_err-rest-clause-fault : goal.returns-in_err-rest-clause-fault
@@ -14,5 +15,12 @@ loop-rest-preserved c = record {
   joins =
       some-more c.args.self.now c.loop-rest.self c.take_some.new.self c.args.piece.now c.loop-rest.rest.now c.in_ok-rest.rest.now c.loop-rest.invariant.joins
       c.in_ok-rest.ensures.taken;
+  beside =
+      some-beside c.args.self.now c.loop-rest.self c.take_some.new.self c.args.piece.now c.loop-rest.rest.now c.in_ok-rest.rest.now c.args.comparing.now c.loop-rest.comparing
+      c.take_some.new.comparing c.loop-rest.invariant.beside c.in_ok-rest.ensures.compared;
   ready = c.in_ok-rest.ensures.ready;
 }
+
+pub returns-clause-compared : goal.returns-clause-compared
+returns-clause-compared c =
+    all-beside c.args.self.now c.loop-rest.self c.args.piece.now c.loop-rest.rest.now c.args.comparing.now c.loop-rest.comparing (search rules) c.loop-rest.invariant.beside

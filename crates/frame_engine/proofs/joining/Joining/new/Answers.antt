@@ -9,6 +9,7 @@ use Rattle.frame_records.specs.Frames.{file_header}
 use Rattle.timed_frames.specs.declared.timed_step.LastBurst.{LastBurst}
 use Rattle.timed_frames.specs.Timed.{Timed, nothing_came}
 use Rattle.frame_engine.specs.Records.{no_records}
+use Rattle.frame_engine.specs.Compared.{nothing_yet}
 use Rattle.frame_engine.specs.Joined.{made, none_handed_in}
 use Rattle.frame_engine.proofs.joining.Joining.new.Goals as goal
 
@@ -50,3 +51,8 @@ returns-clause-begun c =
       };
       count = refl;
     }
+
+pub returns-clause-begun_beside : goal.returns-clause-begun_beside
+unfolding returns-clause-begun
+returns-clause-begun_beside c = λ comparing none.
+    record { joined = returns-clause-begun c; compares = ([], nothing_yet, none) }

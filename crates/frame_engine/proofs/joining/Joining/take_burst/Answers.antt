@@ -1,6 +1,7 @@
 -- A burst more came.
 use Rattle.std.proofs.lemmas.Result.{on_ok_weaker}
 use Rattle.frame_engine.proofs.Taken.{taken-more}
+use Rattle.frame_engine.proofs.Beside.{both-ok, taken-beside}
 use Rattle.frame_engine.proofs.joining.Joining.take_burst.Goals as goal
 
 pub returns-in-Ok-clause-taken : goal.returns-in-Ok-clause-taken
@@ -11,3 +12,12 @@ returns-in-Ok-clause-taken c =
     (record { flows = c.take.new.self; timed = c.put_came-put.new.timed; file = c.put_came-put.new.file; records = c.args.self.now.records })
     c.take.new.out has c.in-Ok.ensures.takes puts c.take.ensures.map c.take.ensures.waits)
     c.put_came-put.ensures.put
+
+pub returns-in-Ok-clause-compared : goal.returns-in-Ok-clause-compared
+returns-in-Ok-clause-compared c =
+    both-ok c.put_came-put.result
+    (λ puts takes. λ settings capture_map records bursts written has.
+    taken-beside settings capture_map records bursts c.args.burst c.in-Ok.told written c.args.self.now
+    (record { flows = c.take.new.self; timed = c.put_came-put.new.timed; file = c.put_came-put.new.file; records = c.args.self.now.records })
+    c.take.new.out c.args.comparing.now c.put_came-put.new.comparing has c.in-Ok.ensures.takes puts c.take.ensures.map c.take.ensures.waits takes)
+    c.put_came-put.ensures.put c.put_came-put.ensures.compared

@@ -4,6 +4,7 @@ use Rattle.std.proofs.lemmas.Result.{on_ok_weaker}
 use Rattle.capture.specs.SeenCapture.{capture_parts}
 use Rattle.frame_engine.specs.declared.joining.Joining.{Joining}
 use Rattle.frame_engine.proofs.Taken.{joined-passed, joined-burst}
+use Rattle.frame_engine.proofs.Beside.{passed-beside, burst-beside}
 use Rattle.frame_engine.proofs.joining.Joining.take_record.Goals as goal
 
 pub returns-in-Ok-clause-taken : goal.returns-in-Ok-clause-taken
@@ -21,3 +22,17 @@ returns-in-Err-clause-taken c = λ settings capture_map records written has.
     let old = c.args.self.now in
     let new : Joining = record old { records = c.saturating_add-self.result } in
     joined-passed settings capture_map records written (capture_parts c.args.given) c.in-Err.reason old new has c.in-Err.ensures refl refl refl c.saturating_add-self.ensures
+
+pub returns-in-Ok-clause-compared : goal.returns-in-Ok-clause-compared
+returns-in-Ok-clause-compared c =
+    on_ok_weaker c.take_burst.result
+    (λ takes. λ settings capture_map records written has.
+    burst-beside settings capture_map records written (capture_parts c.args.given) c.in-Ok.burst c.args.self.now c.take_burst.new.self c.saturating_add-self.result
+    c.args.comparing.now c.take_record.new.self c.take_burst.new.comparing has c.take_record.ensures c.in-Ok.ensures c.saturating_add-self.ensures
+    c.take_burst.ensures.records takes)
+    c.take_burst.ensures.compared
+
+pub returns-in-Err-clause-compared : goal.returns-in-Err-clause-compared
+returns-in-Err-clause-compared c = λ settings capture_map records written has.
+    passed-beside settings capture_map records written (capture_parts c.args.given) c.in-Err.reason c.args.self.now c.saturating_add-self.result c.args.comparing.now
+    c.take_record.new.self has c.take_record.ensures c.in-Err.ensures c.saturating_add-self.ensures

@@ -1,0 +1,147 @@
+//! Frames beside those that the analyser joined itself.
+use crate::joined::InPieces;
+use crate::one_map::{MAP_PATH, OneMap};
+use crate::samples::{FRAMES_APART, frame, frames_joined_twice};
+use capture_command::capture_program;
+use std::alloc::Global;
+use std::test::Fail;
+
+/// How much of standard error is kept.
+const ERROR_ROOM: usize = 1024;
+
+/// Where all frames are in both.
+const EQUAL: &str = "\
+comparison with the analyser's frames
+  flow 0 (SFID 1): 3 in both, 0 only the analyser's, 0 only here
+";
+/// Where the analyser's second frame ends with another byte.
+const OTHER_END: &str = "\
+comparison with the analyser's frames
+  flow 0 (SFID 1): 2 in both, 1 only the analyser's, 1 only here
+  only the analyser's: flow 0, at 2.000000001, 8 bytes: 00000002ccdfaabc
+  only here: flow 0, at 3.000000001, 8 bytes: 00000002ccdfaabb
+segrx: the frames differ from the analyser's
+";
+/// Where the analyser joined none.
+const NONE_JOINED: &str = "\
+comparison with the analyser's frames
+  flow 0 (SFID 1): 0 in both, 0 only the analyser's, 3 only here
+  only here: flow 0, at 1.000000001, 8 bytes: 00000002ccdfaabb
+  only here: flow 0, at 2.000000001, 8 bytes: 00000002ccdfaabb
+  only here: flow 0, at 3.000000001, 8 bytes: 00000002ccdfaabb
+segrx: the frames differ from the analyser's
+";
+
+/// What the command wrote, and its exit status.
+#[derive(Drop)]
+struct Compared {
+    status: u8,
+    frames: [u8; 96],
+    said: [u8; ERROR_ROOM],
+}
+
+impl Compared {
+    /// What it said on standard error.
+    fn text(&self) -> &[u8] {
+        let count = self.said.iter().take_while(|byte| **byte > 0).count();
+        self.said.get(..count).unwrap_or_default()
+    }
+}
+
+/// Compares the frames of a capture with those that the analyser joined itself.
+fn compare(alloc: Global, bytes: &[u8], options: [&str; 2]) -> Compared {
+    let mut compared = Compared {
+        status: 0,
+        frames: [0; 96],
+        said: [0; ERROR_ROOM],
+    };
+    let [first, second] = options;
+    let words = ["segrx", "capture", MAP_PATH, first, second];
+    let reader = InPieces {
+        rest: bytes,
+        size: 50,
+    };
+    let (out, err) = (&mut compared.frames[..], &mut compared.said[..]);
+    let status = capture_program(alloc, &OneMap, &words, reader, out, err);
+    compared.status = status;
+    compared
+}
+
+const COMPARES: [&str; 2] = ["--compare", "--link=docsis"];
+
+#[test]
+fn frames_in_both(rt: HostRuntime) -> Result<(), Fail> {
+    let bytes = frames_joined_twice(rt.alloc(), [Some(frame()); 3])?;
+    let compared = compare(rt.alloc(), &bytes, COMPARES);
+    assert!(rt; compared.status == 0 && compared.frames == FRAMES_APART);
+    assert!(rt; compared.text().ends_with(EQUAL.as_bytes()));
+    Ok(())
+}
+
+#[test]
+fn frame_with_another_last_byte(rt: HostRuntime) -> Result<(), Fail> {
+    let mut other = frame();
+    other[7] = 0xbc;
+    let joined = [Some(frame()), Some(other), Some(frame())];
+    let bytes = frames_joined_twice(rt.alloc(), joined)?;
+    let compared = compare(rt.alloc(), &bytes, COMPARES);
+    assert!(rt; compared.status == 1 && compared.frames == FRAMES_APART);
+    assert!(rt; compared.text().ends_with(OTHER_END.as_bytes()));
+    Ok(())
+}
+
+#[test]
+fn analyser_that_joined_nothing(rt: HostRuntime) -> Result<(), Fail> {
+    let bytes = frames_joined_twice(rt.alloc(), [None; 3])?;
+    let compared = compare(rt.alloc(), &bytes, COMPARES);
+    assert!(rt; compared.status == 1 && compared.frames == FRAMES_APART);
+    assert!(rt; compared.text().ends_with(NONE_JOINED.as_bytes()));
+    Ok(())
+}
+
+#[test]
+fn nothing_is_compared_unless_asked(rt: HostRuntime) -> Result<(), Fail> {
+    let bytes = frames_joined_twice(rt.alloc(), [None; 3])?;
+    let compared = compare(rt.alloc(), &bytes, ["--losses=slid", "--link=docsis"]);
+    assert!(rt; compared.status == 0 && compared.frames == FRAMES_APART);
+    assert!(rt; !contains(compared.text(), b"comparison"));
+    Ok(())
+}
+
+/// Whether a text has these bytes somewhere.
+fn contains(text: &[u8], wanted: &[u8]) -> bool {
+    text.windows(wanted.len()).any(|part| part == wanted)
+}
+
+#[test]
+fn frames_of_other_flows_are_not_compared(rt: HostRuntime) -> Result<(), Fail> {
+    let bytes = frames_joined_twice(rt.alloc(), [None; 3])?;
+    let compared = compare(rt.alloc(), &bytes, ["--compare", "--flows=1"]);
+    assert!(rt; compared.status == 0);
+    assert!(rt;
+        compared
+            .text()
+            .ends_with(b"comparison with the analyser's frames\n")
+    );
+    Ok(())
+}
+
+/// One of the requests for memory is refused: that is told, or the frames are compared.
+#[test]
+fn comparison_is_refused(rt: HostRuntime) -> Result<(), Fail> {
+    let joined = [Some(frame()); 3];
+    let bytes = match frames_joined_twice(rt.alloc(), joined) {
+        Ok(bytes) => bytes,
+        Err(_) => frames_joined_twice(rt.alloc(), joined)?,
+    };
+    let mut compared = compare(rt.alloc(), &bytes, COMPARES);
+    if compared.status != 0 {
+        println!(rt; "refused")?;
+        assert!(rt; compared.status == 3);
+        assert!(rt; compared.text().ends_with(b"segrx: out of memory\n"));
+        compared = compare(rt.alloc(), &bytes, COMPARES);
+    }
+    assert!(rt; compared.status == 0 && compared.frames == FRAMES_APART);
+    assert!(rt; compared.text().ends_with(EQUAL.as_bytes()));
+    Ok(())
+}
