@@ -1,1 +1,2 @@
 mod PutFrames
+mod HeldFrames

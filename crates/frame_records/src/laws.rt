@@ -1,11 +1,15 @@
 //! What follows from the definitions alone.
 ghost use Rattle.std.specs.Prelude.{◌≡◌, ◌≤◌, ◌<◌, ◌^◌, ℕ, List, Some, length};
+ghost use Rattle.capture.specs.Captures.{captured_record};
 ghost use Rattle.capture.specs.Fields.{last_value};
 ghost use Rattle.capture.specs.Numbers.{number_in};
 ghost use Rattle.capture.specs.Pcap.{FitsHeader, IsRecord};
+ghost use Rattle.capture.specs.PcapngBlocks.{CaptureParts};
 ghost use Rattle.frame_records.specs.declared.link.FrameLink.{FrameLink};
+ghost use Rattle.frame_records.specs.declared.link.FrameLink.TheVariants.{Xra};
 ghost use Rattle.frame_records.specs.declared.origin.FrameOrigin.{FrameOrigin};
 ghost use Rattle.frame_records.specs.Frames.{file_header, frame_record, longest_frame, short_bytes, origin_fields};
+ghost use Rattle.frame_records.specs.Recorded.{FrameParts, HoldsFrame, written_frame};
 ghost use Rattle.capture.specs.Packet.{two_bytes};
 
 /// Header and records are such as a reader of pcap files gives back.
@@ -24,3 +28,20 @@ pub fn origins_are_found()
     ensures channel_number { (n : ℕ) → n < 2 ^ 32 → number_in 4 (short_bytes n) ≡ Some n }
     ensures sid_number { (n : ℕ) → n < 2 ^ 16 → number_in 4 (two_bytes n) ≡ Some n }
 {}
+
+/// A record of a capture holds one frame at most.
+pub fn a_record_holds_one_frame()
+    ensures { (one : CaptureParts) (frame other : FrameParts)
+        → HoldsFrame one frame → HoldsFrame one other → frame ≡ other }
+{}
+
+/// A frame that was written as a packet is read back, with its channel and its SID, and with the
+/// time of its record.
+pub fn written_frames_are_read_back()
+    ensures { (time : ℕ) (origin : FrameOrigin) (frame : List ℕ)
+        → origin.channel < 2 ^ 32 → origin.sid < 2 ^ 16
+        → HoldsFrame (captured_record (file_header Xra) (frame_record Xra time origin frame))
+        (written_frame time origin frame) }
+{
+    origins_are_found();
+}

@@ -16,7 +16,7 @@ pub(crate) const ORIGIN: FrameOrigin = FrameOrigin {
 };
 
 /// A time in nanoseconds, and the head of the frame's record at it.
-const TIME: u64 = 1_600_000_000_123_456_789;
+pub(crate) const TIME: u64 = 1_600_000_000_123_456_789;
 
 const HEAD: [u8; 8] = [0, 0x10, 0x5e, 0x5f, 0x15, 0xcd, 0x5b, 7];
 

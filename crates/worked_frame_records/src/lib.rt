@@ -8,3 +8,5 @@
 mod failed_allocations;
 #[cfg(test)]
 mod files;
+#[cfg(test)]
+mod recorded;
