@@ -1,16 +1,27 @@
 -- The frame in a record of a capture.
-use Rattle.std.proofs.Common.{◌≡◌, ℕ, ◌+◌, ◌*◌, ◌/◌, ◌%◌, List, Option, Some, None, option_map, refl, sym, ap, ◌∙◌, arith}
+use Rattle.std.proofs.Common.{◌≡◌, ◌≤◌, ℕ, ◌+◌, ◌*◌, ◌/◌, ◌%◌, List, length, Option, Some, None, option_map, refl, sym, ap, ◌∙◌, arith}
 use Rattle.std.specs.Prelude.{IfSome}
 use Rattle.capture.specs.Captures.{captured_record}
 use Rattle.capture.specs.Numbers.{number_in}
-use Rattle.capture.specs.Packet.{Parts, two_bytes}
+use Rattle.capture.specs.Packet.{Parts, SpellsPacket, two_bytes}
 use Rattle.capture.specs.PcapngBlocks.{CaptureParts}
+use Rattle.capture.specs.declared.packet.Packet.{Packet}
 use Rattle.capture.proofs.PacketParts.{packet_bytes-inj}
-use Rattle.frame_records.specs.Frames.{file_header, frame_record, origin_fields, second, short_bytes}
-use Rattle.frame_records.specs.Recorded.{FrameParts, HoldsPacket, HoldsFrame, frame_parts, recorded_of, written_frame, ◌>>=◌}
+use Rattle.frame_records.specs.Frames.{file_header, frame_record, second, short_bytes}
+use Rattle.frame_records.specs.Recorded.{FrameParts, HasPacket, HoldsPacket, HoldsFrame, xra, frame_parts, recorded_of, written_frame, written_packet, ◌>>=◌}
 use Rattle.frame_records.specs.declared.link.FrameLink.TheVariants.{Xra}
 use Rattle.frame_records.specs.declared.origin.FrameOrigin.{FrameOrigin}
 use Rattle.frame_records.specs.declared.recorded.RecordedFrame.{RecordedFrame}
+
+-- a packet that was read of a record's bytes is the one that it holds
+pub packet_had : (one : CaptureParts) (bytes : List ℕ) (found : Option Packet) → one.link_type ≡ xra → one.original ≤ length one.bytes
+    → bytes ≡ one.bytes → IfSome found (SpellsPacket bytes) → IfSome found (HasPacket one)
+packet_had one bytes None link_type whole same spelled = tt
+packet_had one bytes (Some packet) link_type whole same spelled = record {
+  parts = spelled.parts;
+  held = record { link_type = link_type; whole = whole; spelled = sym same ∙ spelled.spelled };
+  packet_is = spelled.packet_is;
+}
 
 -- what is read of a packet's parts is in the record that holds the packet
 pub frame_held : (one : CaptureParts) (parts : Parts) (found : Option RecordedFrame) → HoldsPacket one parts
@@ -40,18 +51,19 @@ frame_from time same channel sid frame said_channel said_sid t c s =
     ap (λ said. said >>= (λ channel. said_sid >>= (λ sid. frame_with time channel sid frame))) c
     ∙ ap (λ said. said >>= (λ sid. frame_with time channel sid frame)) s ∙ ap (λ t. frame_with t channel sid frame) t
 
--- the packet of a frame
-abbrev packet_of : FrameOrigin → List ℕ → Parts
-packet_of origin frame = record { version = 1; kind = 80; fields = origin_fields origin; payload = frame }
+-- the record of a frame holds its packet
+pub written_packet_held : (time : ℕ) (origin : FrameOrigin) (frame : List ℕ)
+    → HoldsPacket (captured_record (file_header Xra) (frame_record Xra time origin frame)) (written_packet origin frame)
+written_packet_held time origin frame = record { link_type = refl; whole = omega arith; spelled = refl }
 
--- the record of a frame holds it
+-- and so the frame
 pub written_held : (time : ℕ) (origin : FrameOrigin) (frame : List ℕ) → number_in 4 (short_bytes origin.channel) ≡ Some origin.channel
     → number_in 4 (two_bytes origin.sid) ≡ Some origin.sid
     → HoldsFrame (captured_record (file_header Xra) (frame_record Xra time origin frame)) (written_frame time origin frame)
 written_held time origin frame channel sid =
     let written = written_frame time origin frame in
     record {
-      parts = packet_of origin frame;
-      packet = record { link_type = refl; whole = omega arith; spelled = refl };
+      parts = written_packet origin frame;
+      packet = written_packet_held time origin frame;
       frame_is = frame_from _ written.time origin.channel origin.sid frame _ _ (whole_time written.time) channel sid;
     }

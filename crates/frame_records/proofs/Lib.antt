@@ -1,2 +1,3 @@
 mod PutFrames
 mod HeldFrames
+mod FirstIds

@@ -2,9 +2,10 @@
 use Rattle.std.specs.Prelude.{◌≡◌, ◌≤◌, ℕ, min, List, length, Option, Some, None, ◌==◌, if◌then◌else◌}
 use Rattle.capture.specs.Fields.{Field, last_value}
 use Rattle.capture.specs.Numbers.{number_in}
-use Rattle.capture.specs.Packet.{Parts, packet_bytes}
+use Rattle.capture.specs.Packet.{Parts, packet_bytes, IsPacket}
 use Rattle.capture.specs.PcapngBlocks.{CaptureParts}
-use Rattle.frame_records.specs.Frames.{greatest_time}
+use Rattle.capture.specs.declared.packet.Packet.{Packet}
+use Rattle.frame_records.specs.Frames.{greatest_time, origin_fields}
 use Rattle.frame_records.specs.declared.origin.FrameOrigin.{FrameOrigin}
 use Rattle.frame_records.specs.declared.recorded.RecordedFrame.{RecordedFrame}
 
@@ -46,6 +47,12 @@ pub record HoldsPacket (one : CaptureParts) (parts : Parts) : Type 0 where
   pub whole : one.original ≤ length one.bytes
   pub spelled : one.bytes ≡ packet_bytes parts
 
+-- what was read is the packet that a record holds
+pub record HasPacket (one : CaptureParts) (packet : Packet) : Type 0 where
+  pub parts : Parts
+  pub held : HoldsPacket one parts
+  pub packet_is : IsPacket parts packet
+
 -- **What a record is**: a packet that holds this frame
 pub record HoldsFrame (one : CaptureParts) (frame : FrameParts) : Type 0 where
   pub parts : Parts
@@ -56,3 +63,7 @@ pub record HoldsFrame (one : CaptureParts) (frame : FrameParts) : Type 0 where
 abbrev pub written_frame : ℕ → FrameOrigin → List ℕ → FrameParts
 written_frame time origin frame =
     record { time = min time greatest_time; channel = origin.channel; sid = origin.sid; frame = frame }
+
+-- and its packet
+abbrev pub written_packet : FrameOrigin → List ℕ → Parts
+written_packet origin frame = record { version = 1; kind = 80; fields = origin_fields origin; payload = frame }

@@ -1,7 +1,8 @@
 //! What follows from the definitions alone.
-ghost use Rattle.std.specs.Prelude.{◌≡◌, ◌≤◌, ◌<◌, ◌^◌, ℕ, List, Some, length};
+ghost use Rattle.std.specs.Prelude.{◌≡◌, ◌≤◌, ◌<◌, ◌^◌, ℕ, List, [], ◌∷◌, Some, None, IfSome, length};
+ghost use Rattle.std.specs.Option.{option_to_list};
 ghost use Rattle.capture.specs.Captures.{captured_record};
-ghost use Rattle.capture.specs.Fields.{last_value};
+ghost use Rattle.capture.specs.Fields.{Field, fields_bytes, last_value};
 ghost use Rattle.capture.specs.Numbers.{number_in};
 ghost use Rattle.capture.specs.Pcap.{FitsHeader, IsRecord};
 ghost use Rattle.capture.specs.PcapngBlocks.{CaptureParts};
@@ -9,7 +10,8 @@ ghost use Rattle.frame_records.specs.declared.link.FrameLink.{FrameLink};
 ghost use Rattle.frame_records.specs.declared.link.FrameLink.TheVariants.{Xra};
 ghost use Rattle.frame_records.specs.declared.origin.FrameOrigin.{FrameOrigin};
 ghost use Rattle.frame_records.specs.Frames.{file_header, frame_record, longest_frame, short_bytes, origin_fields};
-ghost use Rattle.frame_records.specs.Recorded.{FrameParts, HoldsFrame, written_frame};
+ghost use Rattle.frame_records.specs.Recorded.{FrameParts, HoldsPacket, HoldsFrame, written_frame, written_packet};
+ghost use Rattle.frame_records.specs.BurstIds.{AreBurstIds, IsFirstId};
 ghost use Rattle.capture.specs.Packet.{two_bytes};
 
 /// Header and records are such as a reader of pcap files gives back.
@@ -45,3 +47,26 @@ pub fn written_frames_are_read_back()
 {
     origins_are_found();
 }
+
+/// The packet of a frame that was written names the burst that completed the frame, where that has
+/// a number.
+pub fn written_frames_name_their_burst()
+    ensures packet { (time : ℕ) (origin : FrameOrigin) (frame : List ℕ)
+        → HoldsPacket (captured_record (file_header Xra) (frame_record Xra time origin frame))
+        (written_packet origin frame) }
+    ensures burst { (origin : FrameOrigin) (frame : List ℕ)
+        → IfSome origin.burst_id (λ id. id < 2 ^ 64)
+        → AreBurstIds (written_packet origin frame).fields (option_to_list origin.burst_id) }
+{}
+
+/// TLVs name the bursts of one list, and these are given one after another: each is the first of
+/// the TLVs that are left, until there is none.
+pub fn burst_ids_are_given_in_turn()
+    ensures one { (fields : List Field) (ids others : List ℕ)
+        → AreBurstIds fields ids → AreBurstIds fields others → ids ≡ others }
+    ensures first { (fields : List Field) (id : ℕ) (tlvs : List ℕ)
+        → IsFirstId fields (Some (id, tlvs))
+        → (more : List Field) × (tlvs ≡ fields_bytes more)
+        × ((later : List ℕ) → AreBurstIds more later → AreBurstIds fields (id ∷ later)) }
+    ensures end { (fields : List Field) → IsFirstId fields None → AreBurstIds fields [] }
+{}

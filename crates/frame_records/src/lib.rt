@@ -13,22 +13,27 @@
 //!
 //! 1. [`put_file_header`] once, and [`put_frame`] for each frame.
 //! 2. [`recorded_frame`] gives the frame in a record of a capture, with its channel and its SID.
+//!    [`burst_ids`] gives the numbers of the bursts that it came from, one after another.
 //!
 //! What matters most: the bytes that are put are those of the definitions `file_header` and
 //! `frame_record`; a reader of pcap files gives such records back, and channel and SID stand in
 //! them ([`laws`]). A frame is read exactly if the record holds one: it is the one that the
 //! definition `recorded_of` looks up in the list of the packet's TLVs. So a frame that was put is
-//! read back ([`laws::written_frames_are_read_back`]).
+//! read back ([`laws::written_frames_are_read_back`]), with the number of its burst
+//! ([`laws::written_frames_name_their_burst`]).
 #![tactic(auto)]
 
 mod file;
 pub mod laws;
 mod link;
+mod named_bursts;
 mod numbers;
 mod origin;
+mod record_packet;
 mod recorded;
 
 pub use file::{LONGEST_FRAME, put_file_header, put_frame};
 pub use link::FrameLink;
+pub use named_bursts::{BurstIds, burst_ids};
 pub use origin::FrameOrigin;
 pub use recorded::{RecordedFrame, recorded_frame};

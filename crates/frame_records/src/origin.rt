@@ -6,13 +6,13 @@ ghost use Rattle.frame_records.specs.Frames.{short_bytes, address_fields, burst_
 use std::alloc::{AllocError, Global};
 
 /// The type of the TLV with the upstream channel id.
-const CHANNEL: u8 = 10;
+pub(crate) const CHANNEL: u8 = 10;
 /// The type of the TLV with the SID.
-const SID: u8 = 11;
+pub(crate) const SID: u8 = 11;
 /// The type of the TLV with the burst that completed a frame.
-const BURST: u8 = 14;
+pub(crate) const BURST: u8 = 14;
 /// In that, the type of the TLV with the analyser's number of the burst.
-const BURST_ID: u8 = 1;
+pub(crate) const BURST_ID: u8 = 1;
 
 /// The burst that completed a frame, as its record in the capture names it.
 #[derive(Clone, Copy, Debug, PartialEq, Eq)]

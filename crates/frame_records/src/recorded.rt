@@ -2,16 +2,12 @@
 ghost use Rattle.std.specs.Prelude.{◌≡◌, List, Some, IfSome, option_map};
 
 use crate::numbers::number;
-use capture::{CaptureRecord, Packet, last_value, read_packet};
+use crate::origin::{CHANNEL, SID};
+use crate::record_packet::packet_in;
+use capture::{CaptureRecord, Packet, last_value};
 
-/// The link type of an XRA analyser's packets.
-const XRA: u32 = 273;
 /// The type of a packet that holds an upstream MAC frame.
 const MAC_FRAME: u8 = 80;
-/// The type of the TLV with the upstream channel id.
-const CHANNEL: u8 = 10;
-/// The type of the TLV with the SID.
-const SID: u8 = 11;
 
 /// A MAC frame that an analyser recorded. Of a TLV that stands twice the last one counts.
 #[derive(Clone, Copy, Debug, PartialEq, Eq)]
@@ -43,10 +39,7 @@ pub fn recorded_frame(given: &CaptureRecord) -> Option<RecordedFrame<'_>>
     ensures only { (frame : FrameParts) → HoldsFrame (capture_parts given.now) frame
         → option_map frame_parts result ≡ Some frame }
 {
-    if given.link_type != XRA || given.is_cut_short() {
-        return None;
-    }
-    let packet = read_packet(&given.bytes)?;
+    let packet = packet_in(given)?;
     frame_in(given.nanoseconds, &packet)
 }
 

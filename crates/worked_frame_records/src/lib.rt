@@ -9,4 +9,6 @@ mod failed_allocations;
 #[cfg(test)]
 mod files;
 #[cfg(test)]
+mod named_bursts;
+#[cfg(test)]
 mod recorded;

@@ -6,7 +6,7 @@ use std::alloc::{AllocError, Global};
 use std::test::Fail;
 
 /// The record of a packet, the whole of it.
-fn record(alloc: Global, bytes: &[u8]) -> Result<CaptureRecord, AllocError> {
+pub(crate) fn record(alloc: Global, bytes: &[u8]) -> Result<CaptureRecord, AllocError> {
     Ok(CaptureRecord {
         link_type: 273,
         nanoseconds: TIME,
@@ -16,7 +16,10 @@ fn record(alloc: Global, bytes: &[u8]) -> Result<CaptureRecord, AllocError> {
 }
 
 /// The first record of a file.
-fn first_record(alloc: Global, file: &[u8]) -> Result<Option<CaptureRecord>, CaptureFault> {
+pub(crate) fn first_record(
+    alloc: Global,
+    file: &[u8],
+) -> Result<Option<CaptureRecord>, CaptureFault> {
     let mut reader = CaptureReader::new();
     let mut rest = file;
     for _ in 0..file.len() {
