@@ -1,0 +1,54 @@
+-- What people read of a comparison.
+use Rattle.std.specs.Prelude.{ℕ, ◌+◌, ◌/◌, ◌%◌, ◌==◌, ◌&&◌, Bool, true, false, Option, Some, None, List, [], ◌++◌, drop, flat_map, codes, if◌then◌else◌, slice_get}
+use Rattle.std.specs.Fmt.{decimal}
+use Rattle.hex.specs.Hex.{encode_lower}
+use Rattle.text_lines.specs.Putting.{numbered_texts}
+use Rattle.frame_comparison.specs.declared.counts.ComparedCounts.{ComparedCounts}
+use Rattle.frame_comparison.specs.Frames.{ShownFrame}
+use Rattle.frame_comparison.specs.Seen.{ComparisonSeen}
+
+-- nanoseconds in a second
+abbrev pub second : ℕ
+second = 1000000000
+
+-- a time in seconds, with nine digits behind the point: those of a second more, but for the first
+abbrev pub seconds_text : ℕ → List ℕ
+seconds_text nanoseconds = decimal (nanoseconds / second) ++ codes "." ++ drop 1 (decimal (second + nanoseconds % second))
+
+-- a flow's service flow identifier, where it is known
+abbrev pub sfid_text : Option ℕ → List ℕ
+sfid_text (Some sfid) = codes " (SFID " ++ decimal sfid ++ codes ")"
+sfid_text None = []
+
+-- nothing was counted of a flow
+abbrev pub is_quiet : ComparedCounts → Bool
+is_quiet counts = counts.both == 0 && counts.only_analyser == 0 && counts.only_here == 0
+
+-- a flow of which something came
+abbrev pub counts_text : ComparedCounts → List ℕ
+counts_text counts =
+    codes ": " ++ decimal counts.both ++ codes " in both, " ++ decimal counts.only_analyser ++ codes " only the analyser's, "
+    ++ decimal counts.only_here ++ codes " only here\n"
+
+abbrev pub flow_line : List ℕ → ℕ → ComparedCounts → List ℕ
+flow_line sfids flow counts =
+    if is_quiet counts then [] else (codes "  flow " ++ decimal flow ++ sfid_text (slice_get sfids flow) ++ counts_text counts)
+
+-- a frame that only one side has, behind these words
+abbrev pub lonely_line : List ℕ → ShownFrame → List ℕ
+lonely_line words frame =
+    words ++ decimal frame.flow ++ codes ", at " ++ seconds_text frame.time ++ codes ", " ++ decimal frame.byte_count ++ codes " bytes: "
+    ++ encode_lower frame.first ++ codes "\n"
+
+-- a comparison that isn't whole is told
+abbrev pub whole_line : Bool → List ℕ
+whole_line true = []
+whole_line false = codes "  out of memory: what came later was not compared\n"
+
+-- **What people read of a comparison**: a line for each flow of which something came, and then one
+-- for each frame that is listed, first the analyser's
+abbrev pub comparison_text : List ℕ → ComparisonSeen → List ℕ
+comparison_text sfids seen =
+    codes "comparison with the analyser's frames\n" ++ numbered_texts (flow_line sfids) seen.counts
+    ++ flat_map (lonely_line (codes "  only the analyser's: flow ")) seen.analyser.only
+    ++ flat_map (lonely_line (codes "  only here: flow ")) seen.here.only ++ whole_line seen.is_whole

@@ -1,0 +1,40 @@
+//! The frames that an analyser joined itself, set beside those that are joined here.
+//!
+//! A [`FrameComparison`] takes the frames of two sides, flow by flow and in order, as they come,
+//! and tells how many are in both, and which only one side has. Frames are equal where each byte
+//! is. It does so in bounded memory: of each flow and side at most [`LONGEST_WAIT`] frames wait for
+//! their equals, and of each side the first [`MOST_LISTED`] that only it has are listed.
+//!
+//! A frame's equal is the first waiting frame of the other side with the same bytes. It is in both
+//! then, and what waits before it on the other side, and all that waits on its own, is given up:
+//! only that side has it. A frame without an equal waits, and where too many wait the first is
+//! given up.
+//!
+//! The calls, in the order of use: [`FrameComparison::new`], [`FrameComparison::take`] for each
+//! frame of either [`Side`], [`FrameComparison::finish`] once, and then
+//! [`FrameComparison::counts`], [`FrameComparison::lonely`] and [`FrameComparison::is_equal`], or
+//! [`put_comparison`], which puts them as lines for people.
+//!
+//! What matters most: what is counted and listed is what the definitions `with_frame` and
+//! `finished` make of all that was taken, as long as no allocation failed
+//! ([`FrameComparison::is_whole`]). [`laws`] says of them that the frames in both are the same
+//! frames of both sides in one order, and that both sides gave the same where no frame is only one
+//! side's.
+#![tactic(auto)]
+
+mod comparison;
+mod counts;
+pub mod laws;
+mod lines;
+mod lonely_frame;
+mod settle;
+mod side;
+mod side_frames;
+mod waiting_frame;
+
+pub use comparison::FrameComparison;
+pub use counts::ComparedCounts;
+pub use lines::put_comparison;
+pub use lonely_frame::{LonelyFrame, MOST_LISTED, SHOWN_BYTES};
+pub use side::Side;
+pub use side_frames::LONGEST_WAIT;

@@ -1,0 +1,138 @@
+//! What people read of a comparison.
+ghost use Rattle.std.specs.Prelude.{◌≡◌, flat_map, slice_get};
+ghost use Rattle.text_lines.specs.Putting.{Puts, numbered_texts};
+ghost use Rattle.frame_comparison.specs.ComparisonText.{seconds_text, sfid_text, is_quiet, counts_text, flow_line, lonely_line, whole_line, comparison_text};
+
+use crate::comparison::FrameComparison;
+use crate::counts::ComparedCounts;
+use crate::lonely_frame::LonelyFrame;
+use crate::side::Side;
+use itoa::Buffer;
+use text_lines::{PutText, put_hex, put_number, put_word};
+
+/// So many nanoseconds are a second.
+const SECOND: u64 = 1_000_000_000;
+
+/// Puts a time in seconds, with nine digits behind the point.
+fn put_seconds<O: PutText>(out: &mut O, nanoseconds: u64)
+    ensures { Puts O.after out.old (seconds_text nanoseconds) out.new }
+{
+    put_number(out, nanoseconds / SECOND);
+    put_word(out, ".");
+    let mut buffer = Buffer::new();
+    let (_, digits) = buffer
+        .format(SECOND + nanoseconds % SECOND)
+        .as_bytes()
+        .split_at(1);
+    out.put(digits);
+}
+
+/// Puts a flow's service flow identifier, where it is known.
+fn put_sfid<O: PutText>(out: &mut O, sfid: Option<u32>)
+    ensures { Puts O.after out.old (sfid_text sfid) out.new }
+{
+    if let Some(sfid) = sfid {
+        put_word(out, " (SFID ");
+        put_number(out, u64::from(sfid));
+        put_word(out, ")");
+    }
+}
+
+/// Whether nothing was counted of a flow.
+fn is_quiet(counts: &ComparedCounts) -> bool
+    ensures { result ≡ is_quiet counts.now }
+{
+    counts.both == 0 && counts.only_analyser == 0 && counts.only_here == 0
+}
+
+/// Puts what was counted of a flow.
+fn put_counts<O: PutText>(out: &mut O, counts: &ComparedCounts)
+    ensures { Puts O.after out.old (counts_text counts.now) out.new }
+{
+    put_word(out, ": ");
+    put_number(out, counts.both);
+    put_word(out, " in both, ");
+    put_number(out, counts.only_analyser);
+    put_word(out, " only the analyser's, ");
+    put_number(out, counts.only_here);
+    put_word(out, " only here\n");
+}
+
+/// The service flow identifier of a flow, where it is known.
+fn sfid_of(sfids: &[u32], flow: usize) -> Option<u32>
+    ensures { result ≡ slice_get sfids.now flow }
+{
+    sfids.get(flow).copied()
+}
+
+/// Puts the line of a flow, if something came of it.
+fn put_flow<O: PutText>(out: &mut O, sfids: &[u32], flow: usize, counts: &ComparedCounts)
+    ensures { Puts O.after out.old (flow_line sfids.now flow counts.now) out.new }
+{
+    if is_quiet(counts) {
+        return;
+    }
+    put_word(out, "  flow ");
+    put_number(out, flow as u64);
+    put_sfid(out, sfid_of(sfids, flow));
+    put_counts(out, counts);
+}
+
+/// Puts the lines of flows.
+fn put_flows<O: PutText>(out: &mut O, sfids: &[u32], counts: &[ComparedCounts])
+    ensures { Puts O.after out.old (numbered_texts (flow_line sfids.now) counts.now) out.new }
+{
+    for (flow, one) in counts.iter().enumerate() {
+        put_flow(out, sfids, flow, one);
+    }
+}
+
+/// Puts the line of a frame that only one side has, behind these words.
+fn put_lonely<O: PutText>(out: &mut O, words: &str, frame: &LonelyFrame)
+    ensures { Puts O.after out.old (lonely_line words.now frame.now) out.new }
+{
+    put_word(out, words);
+    put_number(out, frame.flow as u64);
+    put_word(out, ", at ");
+    put_seconds(out, frame.time);
+    put_word(out, ", ");
+    put_number(out, frame.length as u64);
+    put_word(out, " bytes: ");
+    put_hex(out, &frame.first);
+    put_word(out, "\n");
+}
+
+/// Puts the lines of frames that only one side has.
+fn put_all_lonely<O: PutText>(out: &mut O, words: &str, frames: &[LonelyFrame])
+    ensures { Puts O.after out.old (flat_map (lonely_line words.now) frames.now) out.new }
+{
+    for frame in frames {
+        put_lonely(out, words, frame);
+    }
+}
+
+/// Says that a comparison isn't whole, where it isn't.
+fn put_whole<O: PutText>(out: &mut O, is_whole: bool)
+    ensures { Puts O.after out.old (whole_line is_whole) out.new }
+{
+    if !is_whole {
+        put_word(out, "  out of memory: what came later was not compared\n");
+    }
+}
+
+/// Puts what people read of a comparison: a line for each flow of which something was counted, by
+/// its index and its service flow identifier where `sfids` has one at that index, and then a line
+/// for each frame that is listed, first the analyser's. The times are in seconds since 1970.
+pub fn put_comparison<O: PutText>(out: &mut O, comparison: &FrameComparison, sfids: &[u32])
+    ensures { Puts O.after out.old (comparison_text sfids.now comparison.now) out.new }
+{
+    put_word(out, "comparison with the analyser's frames\n");
+    put_flows(out, sfids, comparison.counts());
+    put_all_lonely(
+        out,
+        "  only the analyser's: flow ",
+        comparison.lonely(Side::Analyser),
+    );
+    put_all_lonely(out, "  only here: flow ", comparison.lonely(Side::Here));
+    put_whole(out, comparison.is_whole());
+}
