@@ -3,7 +3,7 @@ use Rattle.std.specs.Prelude.{◌≡◌, ◌≤◌, ℕ, ◌==◌, ◌&&◌, Boo
 use Rattle.frame_comparison.specs.declared.side.Side.{Side}
 use Rattle.frame_comparison.specs.declared.side.Side.TheVariants.{Analyser, Here}
 use Rattle.frame_comparison.specs.Frames.{CameFrame, SideFrames, FlowFrames, frames_in_both}
-use Rattle.frame_comparison.specs.Compared.{Comparison, with_frame, empty_flow, longest_wait}
+use Rattle.frame_comparison.specs.Compared.{Comparison, with_frame, nothing_came, finished, empty_flow, longest_wait}
 
 -- a frame of a flow that one side has, as it comes
 pub record Arrival : Type 0 where
@@ -37,7 +37,14 @@ bytes_of frames = map (λ one. one.bytes) frames
 abbrev pub flow_of : ℕ → Comparison → FlowFrames
 flow_of flow comparison = get_or comparison.flows flow empty_flow
 
--- the frames of a side: those that are settled, in both or given up, and behind them those that wait
+-- what is known of a flow once all came, of so many flows, and once nothing more comes
+abbrev pub flow_then : ℕ → ℕ → List Arrival → FlowFrames
+flow_then flows flow arrivals = flow_of flow (with_all arrivals (nothing_came flows))
+
+abbrev pub flow_at_end : ℕ → ℕ → List Arrival → FlowFrames
+flow_at_end flows flow arrivals = flow_of flow (finished (with_all arrivals (nothing_came flows)))
+
+-- the frames of a side: those that are settled, in both or given up, and then those that wait
 abbrev pub all_frames : SideFrames → List CameFrame
 all_frames side = map (λ one. one.frame) side.settled ++ side.waiting
 

@@ -42,7 +42,7 @@ settled_counts more = record {
   only_here = length (frames_given_up more.here.settled);
 }
 
--- what is kept of one side: of each flow the frames that wait, and the first frames that only it has
+-- what is kept of one side: of each flow the frames that wait, and the first that only it has
 pub record SideSeen : Type 0 where
   pub waiting : List (List CameFrame)
   pub only : List ShownFrame

@@ -60,7 +60,8 @@ impl FrameComparison {
         ensures taken { (comparison : Comparison) → self.old ≡ seen_of comparison
             → IsTrue self.new.is_whole
             → self.new ≡ seen_of (with_frame side flow (came time frame.now) comparison) }
-        ensures failed { IsFalse self.new.is_whole → self.new ≡ record self.old { is_whole = false } }
+        ensures failed { IsFalse self.new.is_whole
+            → self.new ≡ record self.old { is_whole = false } }
         ensures stays { IsFalse self.old.is_whole → self.new ≡ self.old }
     {
         if !self.is_whole || flow >= self.counts.len() {

@@ -7,7 +7,7 @@ use Rattle.capture_map.specs.declared.map.CaptureMap.{CaptureMap}
 use Rattle.frame_comparison.specs.declared.counts.ComparedCounts.{ComparedCounts}
 use Rattle.frame_comparison.specs.Frames.{FlowFrames}
 use Rattle.frame_comparison.specs.Compared.{Comparison, empty_flow, nothing_came, finished}
-use Rattle.frame_comparison.specs.Aligned.{Arrival, with_all, flow_of}
+use Rattle.frame_comparison.specs.Aligned.{Arrival, with_all, flow_of, flow_at_end}
 use Rattle.frame_comparison.specs.Seen.{ComparisonSeen, seen_of, counts_of, has_none_alone, have_none_alone}
 use Rattle.frame_engine.specs.declared.comparing.Comparing.{Comparing}
 use Rattle.frame_engine.specs.Comparing.{IsComparing, IsKeptIn, Finishes}
@@ -30,8 +30,8 @@ kept-alone (Some one) comparison is equal = ap (λ (seen : ComparisonSeen). have
 
 pub none-lonely : (capture_map : CaptureMap) (arrivals : List Arrival) (old new : Comparing) (k : ℕ) → IsComparing (with_all arrivals (nothing_came (length capture_map.flows.items))) old
     → Finishes old new → EndsEqual new
-    → ((counts_of (flow_of k (finished (with_all arrivals (nothing_came (length capture_map.flows.items)))))).only_analyser ≡ 0)
-    × ((counts_of (flow_of k (finished (with_all arrivals (nothing_came (length capture_map.flows.items)))))).only_here ≡ 0)
+    → ((counts_of (flow_at_end (length capture_map.flows.items) k arrivals)).only_analyser ≡ 0)
+    × ((counts_of (flow_at_end (length capture_map.flows.items) k arrivals)).only_here ≡ 0)
 none-lonely capture_map arrivals old new k is finishes equal =
     let before = with_all arrivals (nothing_came (length capture_map.flows.items)) in
     counted-none (counts_of (flow_of k (finished before)))

@@ -4,8 +4,7 @@ ghost use Rattle.capture.specs.PcapngBlocks.{CaptureParts};
 ghost use Rattle.capture_map.specs.declared.map.CaptureMap.{CaptureMap};
 ghost use Rattle.flow_selection.specs.declared.selection.Selection.{Selection};
 ghost use Rattle.flow_selection.specs.Selection.{is_selected};
-ghost use Rattle.frame_comparison.specs.Compared.{finished, nothing_came};
-ghost use Rattle.frame_comparison.specs.Aligned.{Arrival, with_all, flow_of};
+ghost use Rattle.frame_comparison.specs.Aligned.{Arrival, flow_at_end};
 ghost use Rattle.frame_comparison.specs.Seen.{counts_of};
 ghost use Rattle.timed_frames.specs.declared.timed_step.TimedStep.{TimedStep};
 ghost use Rattle.frame_engine.specs.declared.settings.CaptureSettings.{CaptureSettings};
@@ -35,8 +34,8 @@ pub fn frames_that_compare_equal_are_the_analysers()
         (timed : List TimedStep) (arrivals : List Arrival) (flows k : ℕ)
         → AreArrivals selected capture_map records timed arrivals
         → k < flows → is_selected selected k ≡ true
-        → (counts_of (flow_of k (finished (with_all arrivals (nothing_came flows))))).only_analyser ≡ 0
-        → (counts_of (flow_of k (finished (with_all arrivals (nothing_came flows))))).only_here ≡ 0
+        → (counts_of (flow_at_end flows k arrivals)).only_analyser ≡ 0
+        → (counts_of (flow_at_end flows k arrivals)).only_here ≡ 0
         → AreTheAnalysers capture_map k records (frames_in k timed) }
 {
     frame_comparison::laws::nothing_lonely_means_equal();

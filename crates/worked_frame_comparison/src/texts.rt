@@ -23,7 +23,8 @@ fn text_names_flows_and_frames(rt: HostRuntime) -> Result<(), Fail> {
         \x20 flow 0 (SFID 17): 1 in both, 0 only the analyser's, 0 only here\n\
         \x20 flow 2 (SFID 4294967295): 0 in both, 1 only the analyser's, 0 only here\n\
         \x20 flow 3: 0 in both, 0 only the analyser's, 1 only here\n\
-        \x20 only the analyser's: flow 2, at 2.000000000, 19 bytes: ff303132333435363738396162636465\n\
+        \x20 only the analyser's: flow 2, at 2.000000000, 19 bytes: \
+        ff303132333435363738396162636465\n\
         \x20 only here: flow 3, at 3.000000000, 1 bytes: 0a\n";
     assert!(rt; text.finish()?.as_slice() == wanted.as_bytes());
     Ok(())
