@@ -5,40 +5,24 @@ Of each flow, each side has a list of frames that wait for their equal. A frame 
 if one that waits on the other side has the same bytes, the first such one is its equal; what waits
 before that one, and all that waits on its own side, has none. Otherwise it waits itself; of more
 than 1,024 that wait then on its side the first has none. What waits at the end has none either.
-
-An analyser's frame names the bursts that it came from, by the analyser's numbers. Of the 4,096
-bursts with a number that came last it is known whether their lanes take them.
 """
 
 import collections
 
-from shared.plain_capture import UPSTREAM_FRAME, CaptureReading, Coming, header
-from shared.plain_packets import BURST_INFO_TLV, CHANNEL_TLV, SID_TLV, XRA, CapturedBurst
-from shared.plain_packets import burst_in, last_value, packet_in, tlvs_in
+from shared.plain_capture import UPSTREAM_FRAME, CaptureReading
+from shared.plain_packets import CHANNEL_TLV, SID_TLV, XRA, last_value, packet_in
 
 ANALYSER, HERE = "only the analyser's", "only here"
 LONGEST_WAIT = 1024
 # So many frames that only one side has are listed of each side, with so many bytes of each.
 MOST_LISTED, FIRST_BYTES = 100, 16
-MOST_BURSTS = 4096
-BURST_REFERENCE_TLV = 1  # in a TLV with burst info
-# What became of the bursts that a frame came from, as the line of the frame ends.
-UNNAMED, MISSING = "", "; a burst of it isn't in the capture"
-REFUSED, TAKEN = "; a burst of it was refused", "; its bursts were taken"
 
-RecordedFrame = collections.namedtuple("RecordedFrame", "time channel sid bursts frame")
-WaitingFrame = collections.namedtuple("WaitingFrame", "time frame bursts")
+RecordedFrame = collections.namedtuple("RecordedFrame", "time channel sid frame")
+WaitingFrame = collections.namedtuple("WaitingFrame", "time frame")
 
 
-def number_in(value, most=4):
-    return int.from_bytes(value, "big") if value is not None and 1 <= len(value) <= most else None
-
-
-def bursts_named(tlvs):
-    """The numbers of the bursts that a frame came from."""
-    inner = [tlvs_in(value) for kind, value in tlvs if kind == BURST_INFO_TLV]
-    numbers = [number_in(last_value(one, BURST_REFERENCE_TLV), 8) for one in inner if one is not None]
-    return [number for number in numbers if number is not None]
+def number_in(value):
+    return int.from_bytes(value, "big") if value is not None and 1 <= len(value) <= 4 else None
 
 
 def recorded_frame(record):
@@ -51,7 +35,7 @@ def recorded_frame(record):
     channel, sid = (number_in(last_value(packet.tlvs, kind)) for kind in (CHANNEL_TLV, SID_TLV))
     if channel is None or sid is None:
         return None
-    return RecordedFrame(record.nanoseconds, channel, sid, bursts_named(packet.tlvs), packet.payload)
+    return RecordedFrame(record.nanoseconds, channel, sid, packet.payload)
 
 
 class Comparison:
@@ -62,11 +46,11 @@ class Comparison:
         self.both, self.lonely = collections.Counter(), collections.Counter()
         self.listed = {ANALYSER: [], HERE: []}
 
-    def take(self, side, flow, time, frame, bursts=UNNAMED):
+    def take(self, side, flow, time, frame):
         waiting, other = self.waiting[flow], HERE if side == ANALYSER else ANALYSER
         place = next((place for place, one in enumerate(waiting[other]) if one.frame == frame), None)
         if place is None:
-            waiting[side].append(WaitingFrame(time, frame, bursts))
+            waiting[side].append(WaitingFrame(time, frame))
             self.give_up(side, flow, len(waiting[side]) - LONGEST_WAIT)
             return
         self.both[flow] += 1
@@ -99,36 +83,14 @@ class ComparedReading(CaptureReading):
         self.is_selected, self.comparison = is_selected, Comparison(len(capture_map.flows))
         # Behind how many records each frame was joined.
         self.joined_behind = []
-        # The numbers of the bursts that came last, and whether their lanes took them.
-        self.bursts_known = collections.deque(maxlen=MOST_BURSTS)
 
     def take(self, record):
         found = recorded_frame(record)
         channel = None if found is None else self.channel_of.get(found.channel)
         flow = None if channel is None else self.sids.get((channel, found.sid))
         if flow is not None and self.is_selected(flow):
-            self.comparison.take(ANALYSER, flow, found.time, found.frame, self.known_of(found.bursts))
-        self.note(record)
+            self.comparison.take(ANALYSER, flow, found.time, found.frame)
         super().take(record)
-
-    def note(self, record):
-        burst = burst_in(record)
-        if not isinstance(burst, CapturedBurst) or burst.burst_id is None:
-            return
-        taken = self.reason_to_pass_over(burst) is None
-        if taken:
-            channel = self.channel_of[burst.channel]
-            taken = self.would_admit(Coming(record.nanoseconds, channel, burst, header(burst.bytes).number))
-        self.bursts_known.append((burst.burst_id, taken))
-
-    def known_of(self, bursts):
-        """What became of these bursts, the first that isn't known before all else."""
-        known = dict(self.bursts_known)
-        if not bursts:
-            return UNNAMED
-        if any(number not in known for number in bursts):
-            return MISSING
-        return TAKEN if all(known[number] for number in bursts) else REFUSED
 
     def give(self, given):
         super().give(given)
@@ -149,4 +111,4 @@ def comparison_lines(reading):
     for side in (ANALYSER, HERE):
         for flow, one in comparison.listed[side]:
             time = f"{one.time // 10**9}.{one.time % 10**9:09}"
-            yield f"  {side}: flow {flow}, at {time}, {len(one.frame)} bytes: {one.frame[:FIRST_BYTES].hex()}{one.bursts}"
+            yield f"  {side}: flow {flow}, at {time}, {len(one.frame)} bytes: {one.frame[:FIRST_BYTES].hex()}"
