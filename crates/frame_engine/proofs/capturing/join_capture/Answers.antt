@@ -13,14 +13,14 @@ use Rattle.frame_engine.proofs.capturing.join_capture.Goals as goal
 pub returns-in_err-piece : goal.returns-in_err-piece
 returns-in_err-piece g c = λ settings capture_map begun.
     let p = err_from_is_err_and c.from_residual.result c.from_residual.ensures.1 in
-    rw (p.1, p.2) (capture-refused g.R.Read.remaining g.W.Write.contents settings capture_map c.args.reader.now c.args.writer.now)
+    rw (p.1, p.2) (capture-refused g.R.Read.remaining g.W.Write.contents settings capture_map c.args.reader.now c.args.writer.now c.requires.reader.3)
 
 pub returns-in_err-write : goal.returns-in_err-write
 returns-in_err-write g c = λ settings capture_map begun.
     let p = err_from_is_err_and c.from_residual-in_err-write.result c.from_residual-in_err-write.ensures.1 in
     rw (p.1, p.2)
     (capture-unheaded g.R.Read.remaining g.W.Write.contents settings capture_map c.args.reader.now c.args.writer.now c.write.new.writer c.args.reading begun
-    c.in_err-write.ensures.front c.in_err-write.ensures.failed)
+    c.in_err-write.ensures.front c.in_err-write.ensures.failed c.requires.reader.3)
 
 pub loop-init : goal.loop-init
 loop-init g c =
@@ -34,6 +34,7 @@ loop-init g c =
       ready = c.requires.reading;
       empty = wrote.none_left;
       flushed = stays_flushed _ _ c.requires.writer.2 wrote.left_flushed;
+      behind = c.requires.reader.3;
       counted = search rules;
       room = search rules;
     }
@@ -42,7 +43,8 @@ pub returns-in-Err : goal.returns-in-Err
 returns-in-Err g c = λ settings capture_map begun.
     rw c.in-Err.ensures.only
     (capture-unread g.R.Read.remaining g.W.Write.contents settings capture_map c.args.reader.now c.args.writer.now c.loop.reader c.loop.writer c.loop.reading
-    (c.loop.invariant.far settings capture_map begun) c.read_behind.new.reader c.in-Err.ensures.kept (inl c.in-Err.ensures.failed))
+    (c.loop.invariant.far settings capture_map begun) c.read_behind.new.reader c.in-Err.ensures.kept (inl c.in-Err.ensures.failed)
+    (c.read_behind.ensures.behind ∙ c.loop.invariant.behind))
 
 pub returns-then-count-eq0 : goal.returns-then-count-eq0
 returns-then-count-eq0 g c = λ settings capture_map begun.
@@ -52,7 +54,7 @@ returns-then-count-eq0 g c = λ settings capture_map begun.
     subst (λ n. Consumes (g.R.Read.remaining (inner_of c.loop.reader)) (g.R.Read.remaining (inner_of c.read_behind.new.reader)) (take n c.read_behind.new.room)) none
     c.in-Ok.ensures.taken in
     capture-finished g.R.Read.remaining g.W.Write.contents settings capture_map c.args.reader.now c.args.writer.now c.loop.reader c.loop.writer c.loop.reading far
-    c.read_behind.new.reader read (c.in-Ok.ensures.end none) c.finish-ended.new.writer c.finish-ended.result c.requires.reader.0 c.requires.writer.0 c.in-Ok.ensures.sound
+    c.read_behind.new.reader read (c.in-Ok.ensures.end none) (c.read_behind.ensures.behind ∙ c.loop.invariant.behind) c.finish-ended.new.writer c.finish-ended.result c.requires.reader.0 c.requires.writer.0 c.in-Ok.ensures.sound
     (c.finish-ended.ensures settings capture_map far.bytes far.text far.has)
 
 pub returns-in-Err-join_piece : goal.returns-in-Err-join_piece
@@ -66,7 +68,7 @@ returns-in-Err-join_piece g c = λ settings capture_map begun.
     (capture-stopped g.R.Read.remaining g.W.Write.contents settings capture_map c.args.reader.now c.args.writer.now c.loop.reader c.loop.writer c.loop.reading far
     c.read_behind.new.reader (take c.in-Ok.count c.deref.result.now)
     (subst (Consumes (g.R.Read.remaining (inner_of c.loop.reader)) (g.R.Read.remaining (inner_of c.read_behind.new.reader))) (sym (ap (take c.in-Ok.count) piece ∙ front_is))
-    c.in-Ok.ensures.taken) c.join_piece.new.writer joined.0 _ joined.1.0 joined.1.1 joined.1.2)
+    c.in-Ok.ensures.taken) (c.read_behind.ensures.behind ∙ c.loop.invariant.behind) c.join_piece.new.writer joined.0 _ joined.1.0 joined.1.1 joined.1.2)
 
 pub loop-preserved : goal.loop-preserved
 loop-preserved g c =
@@ -86,6 +88,7 @@ loop-preserved g c =
       ready = c.in-Ok-join_piece.ensures.ready;
       empty = c.in-Ok-join_piece.ensures.empty;
       flushed = stays_flushed _ _ c.loop.invariant.flushed c.in-Ok-join_piece.ensures.flushed;
+      behind = c.read_behind.ensures.behind ∙ c.loop.invariant.behind;
       counted = search rules;
       room = c.loop.invariant.room;
     }
@@ -93,4 +96,4 @@ loop-preserved g c =
 pub returns : goal.returns
 returns g c = λ settings capture_map begun.
     capture-unread g.R.Read.remaining g.W.Write.contents settings capture_map c.args.reader.now c.args.writer.now c.loop.reader c.loop.writer c.loop.reading
-    (c.loop.invariant.far settings capture_map begun) c.loop.reader (Keeps-refl (g.R.Read.remaining (inner_of c.loop.reader))) (inr (search rules))
+    (c.loop.invariant.far settings capture_map begun) c.loop.reader (Keeps-refl (g.R.Read.remaining (inner_of c.loop.reader))) (inr (search rules)) c.loop.invariant.behind
