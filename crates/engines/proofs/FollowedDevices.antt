@@ -19,7 +19,7 @@ use Rattle.engines.specs.declared.device.Device.{Device}
 use Rattle.engines.specs.declared.fault.EngineFault.{EngineFault}
 use Rattle.engines.specs.declared.fault.EngineFault.TheVariants.{Trace, Cut, Capture, OutOfMemory, Read, Write, Usage}
 use Rattle.engines.specs.declared.follow.Follower.{Follower}
-use Rattle.engines.specs.Device.{inner_of, has_failed, given_of, is_flushed}
+use Rattle.engines.specs.Device.{inner_of, has_failed, given_of, is_flushed, is_read_behind_flushes}
 use Rattle.engines.specs.Engine.{WritesText}
 use Rattle.engines.specs.Following.{IsBehind, IsTextOfFront, IsTextOfWhole, IsFollowedBefore, IsFollowedTill, HasFollowCause, FollowsTrace}
 use Rattle.engines.specs.Inside.Following.{IsEndFault, HasFollowedBytes, IsFollowFault, IsFollowFaultOr, WritesTill, EndsBy}
@@ -67,13 +67,14 @@ module _ {R W : Type 0} (remaining : R → Option (List ℕ)) (contents : W → 
     }
 
     -- an allocation failed before anything was read
-    pub trace_refused : FollowsTrace rule width settings remaining contents reader reader writer writer (Err OutOfMemory)
-    trace_refused = record {
+    pub trace_refused : is_read_behind_flushes reader ≡ true → FollowsTrace rule width settings remaining contents reader reader writer writer (Err OutOfMemory)
+    trace_refused behind = record {
       written = tt;
       above = λ other. ([], till, Appends-nil (contents (inner_of writer)));
       write_fault = λ is. absurd cc;
       flushed = tt;
       flushed_above = λ other. inl refl;
+      behind_flushes = behind;
       cause = tt;
       no_cause = tt;
     } where
@@ -116,8 +117,9 @@ module _ {R W : Type 0} (remaining : R → Option (List ℕ)) (contents : W → 
 
       -- the reader failed, or gave as much as can be counted
       pub trace_unread : (reader'' : Device R) → Keeps (remaining (inner_of reader')) (remaining (inner_of reader''))
-          → (has_failed reader'' ≡ true) ⊎ (2 ^ 64 - 1 ≤ given_of reader'') → FollowsTrace rule width settings remaining contents reader reader'' writer writer' (Err Read)
-      trace_unread reader'' kept cause = record {
+          → (has_failed reader'' ≡ true) ⊎ (2 ^ 64 - 1 ≤ given_of reader'') → is_read_behind_flushes reader'' ≡ true
+          → FollowsTrace rule width settings remaining contents reader reader'' writer writer' (Err Read)
+      trace_unread reader'' kept cause behind = record {
         written = tt;
         above = λ other. (
           text,
@@ -128,6 +130,7 @@ module _ {R W : Type 0} (remaining : R → Option (List ℕ)) (contents : W → 
         write_fault = λ is. absurd cc;
         flushed = tt;
         flushed_above = λ other. far.flushed;
+        behind_flushes = behind;
         cause = cause;
         no_cause = tt;
       }
@@ -159,7 +162,7 @@ module _ {R W : Type 0} (remaining : R → Option (List ℕ)) (contents : W → 
           read_sound = read_sound ∙ far.read_sound;
         }
 
-        module _ (few : length piece ≤ piece_limit) (writer'' : Device W) (happened : List HappenedAt) where
+        module _ (few : length piece ≤ piece_limit) (behind : is_read_behind_flushes reader'' ≡ true) (writer'' : Device W) (happened : List HappenedAt) where
           till_there : (fault : EngineFault) → IsTextOfFront rule width settings fault (far.bytes ++ piece) (flat_map (told_lines settings) (far.told ++ happened)) → fault ≢ Read
               → IsFollowedTill rule width settings (remaining (inner_of reader)) (remaining (inner_of reader'')) fault (flat_map (told_lines settings) (far.told ++ happened))
           till_there fault front other = record { bytes = far.bytes ++ piece; read = read_both; no_further = all_before piece few; front = inl front; whole = λ is. absurd (other is) }
@@ -200,6 +203,7 @@ module _ {R W : Type 0} (remaining : R → Option (List ℕ)) (contents : W → 
             write_fault = λ written. absurd (no_write cc);
             flushed = tt;
             flushed_above = λ other. flushed_then writer writer' writer'' far.flushed wrote.1;
+            behind_flushes = behind;
             cause = cause_of fault is;
             no_cause = tt;
           }
@@ -224,13 +228,15 @@ module _ {R W : Type 0} (remaining : R → Option (List ℕ)) (contents : W → 
             );
             flushed = tt;
             flushed_above = λ other. absurd (other refl);
+            behind_flushes = behind;
             cause = wrote.1;
             no_cause = tt;
           }
 
       -- ---- the end of the input
 
-      module _ (reader'' : Device R) (read : Consumes (remaining (inner_of reader')) (remaining (inner_of reader'')) []) (end : IsAtEnd (remaining (inner_of reader''))) where
+      module _ (reader'' : Device R) (read : Consumes (remaining (inner_of reader')) (remaining (inner_of reader'')) []) (end : IsAtEnd (remaining (inner_of reader'')))
+          (behind : is_read_behind_flushes reader'' ≡ true) where
         read_all : Consumes (remaining (inner_of reader)) (remaining (inner_of reader'')) far.bytes
         read_all =
             subst (λ (bytes : List ℕ). Consumes (remaining (inner_of reader)) (remaining (inner_of reader'')) bytes) (append-nil far.bytes)
@@ -258,6 +264,7 @@ module _ {R W : Type 0} (remaining : R → Option (List ℕ)) (contents : W → 
           write_fault = λ is. absurd cc;
           flushed = flushed_then writer writer' writer'' far.flushed flushed;
           flushed_above = tt;
+          behind_flushes = behind;
           cause = tt;
           no_cause = (kept ∙ far.read_sound ∙ read_sound, end, writes ∙ far.sound ∙ sound);
         }
@@ -272,6 +279,7 @@ module _ {R W : Type 0} (remaining : R → Option (List ℕ)) (contents : W → 
           write_fault = λ written. absurd (no_write cc);
           flushed = tt;
           flushed_above = λ other. far.flushed;
+          behind_flushes = behind;
           cause = cause;
           no_cause = tt;
         }
@@ -308,6 +316,7 @@ module _ {R W : Type 0} (remaining : R → Option (List ℕ)) (contents : W → 
           write_fault = λ is. absurd cc;
           flushed = tt;
           flushed_above = λ other. flushed_then writer writer' writer'' far.flushed by.3;
+          behind_flushes = behind;
           cause = tt;
           no_cause = tt;
         }
@@ -327,6 +336,7 @@ module _ {R W : Type 0} (remaining : R → Option (List ℕ)) (contents : W → 
           );
           flushed = tt;
           flushed_above = λ other. absurd (other refl);
+          behind_flushes = behind;
           cause = by.3;
           no_cause = tt;
         }

@@ -19,9 +19,15 @@ given_of device = device.given
 abbrev pub is_flushed : {T : Type 0} → Device T → Bool
 is_flushed device = device.flushed
 
+-- Whether each read of the device was made by `read_behind`, and so where all that was written to
+-- another device was flushed. A read by any other call makes it false for good.
+abbrev pub is_read_behind_flushes : {T : Type 0} → Device T → Bool
+is_read_behind_flushes device = device.behind_flushes
+
 -- no call was made yet
 abbrev pub IsFresh : {T : Type 0} → Device T → Type 0
-IsFresh device = (has_failed device ≡ false) × (given_of device ≡ 0) × (is_flushed device ≡ true)
+IsFresh device =
+    (has_failed device ≡ false) × (given_of device ≡ 0) × (is_flushed device ≡ true) × (is_read_behind_flushes device ≡ true)
 
 -- a read's bytes are counted, and an error is a failure; what is flushed stays so
 abbrev pub RecordsRead : {T E : Type 0} → Device T → Device T → Result ℕ E → Type 0

@@ -14,7 +14,7 @@ use Rattle.texts.specs.Trace.Place.{nothing_said_in, trace_format}
 use Rattle.engines.specs.declared.device.Device.{Device}
 use Rattle.engines.specs.declared.fault.EngineFault.{EngineFault}
 use Rattle.engines.specs.declared.fault.EngineFault.TheVariants.{Trace, Cut, Capture, OutOfMemory, Read, Write, Usage}
-use Rattle.engines.specs.Device.{inner_of, has_failed, given_of}
+use Rattle.engines.specs.Device.{inner_of, has_failed, given_of, is_read_behind_flushes}
 use Rattle.engines.specs.Engine.{WritesText}
 use Rattle.engines.specs.Limits.{piece_limit}
 use Rattle.engines.specs.Transfer.{AppendsFront, IsLeftFlushed}
@@ -99,6 +99,9 @@ module _ (rule : LossRule) (width : Width) (settings : FollowSettings) where
     -- what was written is flushed, also where a line is at fault
     pub flushed : OnOk result (IsLeftFlushed writer writer')
     pub flushed_above : IfErr result (λ fault. fault ≢ Write → IsLeftFlushed writer writer')
+    -- **each read was made behind a flush**, whatever the result: by no other call than
+    -- `read_behind`, which requires that all that was written to the writer that it names is flushed
+    pub behind_flushes : is_read_behind_flushes reader' ≡ true
     -- each fault has its cause, and without a fault there is none
     pub cause : IfErr result (HasFollowCause width (remaining (inner_of reader)) reader' writer')
     pub no_cause : OnOk result ((has_failed reader' ≡ false) × IsAtEnd (remaining (inner_of reader')) × (has_failed writer' ≡ false))

@@ -1,14 +1,17 @@
 //! Readers and writers that remember what became of their calls.
-ghost use Rattle.std.specs.Prelude.{◌≡◌};
+ghost use Rattle.std.specs.Prelude.{◌≡◌, true, false};
 ghost use Rattle.std.specs.Io.{ReadsAtMost, WritesAtMost};
 ghost use Rattle.std.specs.Io.KnownBytes.{Keeps, ReadConsumes, WriteAppends};
-ghost use Rattle.engines.specs.Device.{inner_of, has_failed, given_of, is_flushed, IsFresh, RecordsRead, RecordsWrite, RecordsFlush};
+ghost use Rattle.engines.specs.Device.{inner_of, has_failed, given_of, is_flushed};
+ghost use Rattle.engines.specs.Device.{is_read_behind_flushes, IsFresh};
+ghost use Rattle.engines.specs.Device.{RecordsRead, RecordsWrite, RecordsFlush};
 
 use std::io;
 use std::io::{Error, ErrorKind, Read, Write};
 
-/// A reader or a writer that remembers whether a call of it failed, how many bytes it gave, and
-/// whether all that was written to it is flushed.
+/// A reader or a writer that remembers whether a call of it failed, how many bytes it gave, whether
+/// all that was written to it is flushed, and whether each of its reads was made where all that was
+/// written to another device was flushed.
 ///
 /// A call that was interrupted is made again, and is no failure. It is not dropped by chance:
 /// whoever made the device looks at it, or takes it apart.
@@ -17,6 +20,7 @@ pub struct Device<T> {
     failed: bool,
     given: u64,
     flushed: bool,
+    behind_flushes: bool,
 }
 
 impl<T> Device<T> {
@@ -30,6 +34,7 @@ impl<T> Device<T> {
             failed: false,
             given: 0,
             flushed: true,
+            behind_flushes: true,
         }
     }
 
@@ -55,6 +60,14 @@ impl<T> Device<T> {
         self.flushed
     }
 
+    /// Whether each read of the device was made by [`Device::read_behind`], and so where all that
+    /// was written to another device was flushed.
+    pub fn behind_flushes(&self) -> bool
+        ensures { result ≡ is_read_behind_flushes self.now }
+    {
+        self.behind_flushes
+    }
+
     /// The reader or the writer itself.
     pub fn into_inner(self) -> T
         ensures { result ≡ inner_of self }
@@ -64,6 +77,7 @@ impl<T> Device<T> {
             failed: _,
             given: _,
             flushed: _,
+            behind_flushes: _,
         } = self;
         inner
     }
@@ -97,6 +111,34 @@ macro_rules! answer {
     }};
 }
 
+impl<R: Read> Device<R> {
+    /// Reads, whatever is flushed.
+    fn read_inner(&mut self, buf: &mut [u8]) -> io::Result<usize>
+        ensures bound { ReadsAtMost result buf.new }
+        ensures bytes { ReadConsumes (R.remaining (inner_of self.old))
+            (R.remaining (inner_of self.new)) result buf.new }
+        ensures record { RecordsRead self.old self.new result }
+        ensures behind { is_read_behind_flushes self.new ≡ is_read_behind_flushes self.old }
+    {
+        answer!(self, self.inner.read(buf), |count| {
+            self.given = self.given.saturating_add(count as u64);
+        })
+    }
+
+    /// Reads where all that was written to a writer is flushed. There is no other read that leaves
+    /// [`Device::behind_flushes`] true.
+    pub fn read_behind<W>(&mut self, _writer: &Device<W>, buf: &mut [u8]) -> io::Result<usize>
+        requires flushed { is_flushed _writer.now ≡ true }
+        ensures bound { ReadsAtMost result buf.new }
+        ensures bytes { ReadConsumes (R.remaining (inner_of self.old))
+            (R.remaining (inner_of self.new)) result buf.new }
+        ensures record { RecordsRead self.old self.new result }
+        ensures behind { is_read_behind_flushes self.new ≡ is_read_behind_flushes self.old }
+    {
+        self.read_inner(buf)
+    }
+}
+
 impl<R: Read> Read for Device<R> {
     ghost remaining = { λ device. R.remaining (inner_of device) };
 
@@ -105,10 +147,10 @@ impl<R: Read> Read for Device<R> {
         ensures bytes { ReadConsumes (R.remaining (inner_of self.old))
             (R.remaining (inner_of self.new)) result buf.new }
         ensures record { RecordsRead self.old self.new result }
+        ensures behind { is_read_behind_flushes self.new ≡ false }
     {
-        answer!(self, self.inner.read(buf), |count| {
-            self.given = self.given.saturating_add(count as u64);
-        })
+        self.behind_flushes = false;
+        self.read_inner(buf)
     }
 }
 
@@ -120,6 +162,7 @@ impl<W: Write> Write for Device<W> {
         ensures bytes { WriteAppends (W.contents (inner_of self.old))
             (W.contents (inner_of self.new)) result buf.now }
         ensures record { RecordsWrite self.old self.new buf.now result }
+        ensures behind { is_read_behind_flushes self.new ≡ is_read_behind_flushes self.old }
     {
         self.flushed = false;
         answer!(self, self.inner.write(buf), |count| {
@@ -130,6 +173,7 @@ impl<W: Write> Write for Device<W> {
     fn flush(&mut self) -> io::Result<()>
         ensures bytes { Keeps (W.contents (inner_of self.old)) (W.contents (inner_of self.new)) }
         ensures record { RecordsFlush self.old self.new result }
+        ensures behind { is_read_behind_flushes self.new ≡ is_read_behind_flushes self.old }
     {
         answer!(self, self.inner.flush(), |done| {
             self.flushed = true;

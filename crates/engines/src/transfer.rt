@@ -1,7 +1,8 @@
 //! Reads from a device piece by piece, and writes a whole text to one.
-ghost use Rattle.std.specs.Prelude.{◌≡◌, ◌≢◌, ◌<◌, ◌≤◌, ◌+◌, ◌-◌, ◌^◌, [], length, min, take, IsOk, true, IfOk, IfErr, OnOk, OnErr, vec_len};
+ghost use Rattle.std.specs.Prelude.{◌≡◌, ◌≢◌, ◌<◌, ◌≤◌, ◌+◌, ◌-◌, ◌^◌, [], length, min, take, IsOk, true, false, IfOk, IfErr, OnOk, OnErr, vec_len};
 ghost use Rattle.std.specs.Io.KnownBytes.{Appends, Consumes, Keeps, IsAtEnd};
 ghost use Rattle.engines.specs.Device.{inner_of, has_failed, given_of, is_flushed};
+ghost use Rattle.engines.specs.Device.{is_read_behind_flushes};
 ghost use Rattle.engines.specs.Transfer.{AppendsFront, IsLeftFlushed, IsReadFault};
 ghost use Rattle.engines.specs.Inside.Transfer.{IsCounted};
 
@@ -20,8 +21,8 @@ pub fn zeros(alloc: Global, count: usize) -> Result<Vec<u8>, AllocError>
     vec![in alloc; 0u8; count]
 }
 
-/// Makes one read of a reader. It answers how many bytes it gave, at the front of the room: none
-/// only at its end.
+/// Makes one read of a reader, whatever is flushed. It answers how many bytes it gave, at the front
+/// of the room: none only at its end.
 pub fn read_some<R: Read>(reader: &mut Device<R>, room: &mut [u8]) -> Result<usize, EngineFault>
     requires room { 0 < length room.old }
     ensures within { IfOk result (λ count. count ≤ length room.new) }
@@ -35,6 +36,7 @@ pub fn read_some<R: Read>(reader: &mut Device<R>, room: &mut [u8]) -> Result<usi
     ensures kept { OnErr result (Keeps (R.remaining (inner_of reader.old))
         (R.remaining (inner_of reader.new))) }
     ensures only { IfErr result (λ fault. fault ≡ EngineFault.Read) }
+    ensures behind { is_read_behind_flushes reader.new ≡ false }
 {
     match reader.read(room) {
         Ok(count) => Ok(count),
@@ -46,11 +48,11 @@ pub fn read_some<R: Read>(reader: &mut Device<R>, room: &mut [u8]) -> Result<usi
 /// flushed: the read may take long, and what was written has to be seen before.
 pub fn read_behind<R: Read, W>(
     reader: &mut Device<R>,
-    _writer: &Device<W>,
+    writer: &Device<W>,
     room: &mut [u8],
 ) -> Result<usize, EngineFault>
     requires room { 0 < length room.old }
-    requires flushed { is_flushed _writer.now ≡ true }
+    requires flushed { is_flushed writer.now ≡ true }
     ensures within { IfOk result (λ count. count ≤ length room.new) }
     ensures taken { IfOk result (λ count. Consumes (R.remaining (inner_of reader.old))
         (R.remaining (inner_of reader.new)) (take count room.new)) }
@@ -62,8 +64,12 @@ pub fn read_behind<R: Read, W>(
     ensures kept { OnErr result (Keeps (R.remaining (inner_of reader.old))
         (R.remaining (inner_of reader.new))) }
     ensures only { IfErr result (λ fault. fault ≡ EngineFault.Read) }
+    ensures behind { is_read_behind_flushes reader.new ≡ is_read_behind_flushes reader.old }
 {
-    read_some(reader, room)
+    let Ok(count) = reader.read_behind(writer, room) else {
+        return Err(EngineFault::Read);
+    };
+    Ok(count)
 }
 
 /// Makes one read of a reader that gave so many bytes before. It answers how many it gave now, at

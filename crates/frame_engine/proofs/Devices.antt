@@ -8,7 +8,7 @@ use Rattle.engines.specs.declared.device.Device.{Device}
 use Rattle.engines.specs.declared.fault.EngineFault.{EngineFault}
 use Rattle.engines.specs.declared.fault.EngineFault.TheVariants.{Trace, Cut, Capture, OutOfMemory, Read, Write, Usage}
 use Rattle.engines.specs.declared.fault.PlacedFault.{PlacedFault}
-use Rattle.engines.specs.Device.{inner_of, has_failed, given_of}
+use Rattle.engines.specs.Device.{inner_of, has_failed, given_of, is_read_behind_flushes}
 use Rattle.engines.specs.Engine.{WritesText}
 use Rattle.engines.specs.Transfer.{AppendsFront, IsLeftFlushed}
 use Rattle.engines.proofs.FollowedDevices.{flushed_then}
@@ -35,13 +35,14 @@ module _ {R W : Type 0} (remaining : R → Option (List ℕ)) (contents : W → 
 
   module _ (reader : Device R) (writer : Device W) where
     -- an allocation failed before anything was read
-    pub capture-refused : JoinsCapture settings capture_map remaining contents reader reader writer writer (Err OutOfMemory)
-    capture-refused = record {
+    pub capture-refused : is_read_behind_flushes reader ≡ true → JoinsCapture settings capture_map remaining contents reader reader writer writer (Err OutOfMemory)
+    capture-refused behind = record {
       written = tt;
       above = λ other. ([], record { bytes = []; read = Consumes-nil (remaining (inner_of reader)); till = not_begun refl refl }, Appends-nil (contents (inner_of writer)));
       write_fault = λ is. absurd cc;
       flushed = tt;
       flushed_above = λ other. inl refl;
+      behind_flushes = behind;
       cause = tt;
       no_cause = tt;
     }
@@ -67,8 +68,8 @@ module _ {R W : Type 0} (remaining : R → Option (List ℕ)) (contents : W → 
     -- or the writer failed
     pub capture-unheaded : (writer' : Device W) (reading : FrameReading) → HasReadBytes settings capture_map [] [] reading
         → AppendsFront (contents (inner_of writer)) (contents (inner_of writer')) reading.joining.file.bytes.items → has_failed writer' ≡ true
-        → JoinsCapture settings capture_map remaining contents reader reader writer writer' (Err Write)
-    capture-unheaded writer' reading has front failed =
+        → is_read_behind_flushes reader ≡ true → JoinsCapture settings capture_map remaining contents reader reader writer writer' (Err Write)
+    capture-unheaded writer' reading has front failed behind =
         let till = till-here settings capture_map [] [] [] Write reading reading.joining.file.bytes.items has tt refl in
         record {
           written = tt;
@@ -80,6 +81,7 @@ module _ {R W : Type 0} (remaining : R → Option (List ℕ)) (contents : W → 
           );
           flushed = tt;
           flushed_above = λ other. absurd (other refl);
+          behind_flushes = behind;
           cause = failed;
           no_cause = tt;
         }
@@ -98,8 +100,9 @@ module _ {R W : Type 0} (remaining : R → Option (List ℕ)) (contents : W → 
 
       -- the reader failed, or gave as much as can be counted
       pub capture-unread : (reader'' : Device R) → Keeps (remaining (inner_of reader')) (remaining (inner_of reader''))
-          → (has_failed reader'' ≡ true) ⊎ (2 ^ 64 - 1 ≤ given_of reader'') → JoinsCapture settings capture_map remaining contents reader reader'' writer writer' (Err Read)
-      capture-unread reader'' kept cause = record {
+          → (has_failed reader'' ≡ true) ⊎ (2 ^ 64 - 1 ≤ given_of reader'') → is_read_behind_flushes reader'' ≡ true
+          → JoinsCapture settings capture_map remaining contents reader reader'' writer writer' (Err Read)
+      capture-unread reader'' kept cause behind = record {
         written = tt;
         above = λ other. (
           far.text,
@@ -113,6 +116,7 @@ module _ {R W : Type 0} (remaining : R → Option (List ℕ)) (contents : W → 
         write_fault = λ is. absurd cc;
         flushed = tt;
         flushed_above = λ other. far.flushed;
+        behind_flushes = behind;
         cause = cause;
         no_cause = tt;
       }
@@ -150,7 +154,7 @@ module _ {R W : Type 0} (remaining : R → Option (List ℕ)) (contents : W → 
           read_sound = read_sound ∙ far.read_sound;
         }
 
-        module _ (writer'' : Device W) (more : List ℕ) where
+        module _ (behind : is_read_behind_flushes reader'' ≡ true) (writer'' : Device W) (more : List ℕ) where
           till_there : (fault : EngineFault) → IsFileTill settings capture_map (far.bytes ++ piece) fault (far.text ++ more)
               → IsJoinedOf settings capture_map (remaining (inner_of reader)) (remaining (inner_of reader'')) fault (far.text ++ more)
           till_there fault till = record { bytes = far.bytes ++ piece; read = read_both; till = till_of (far.bytes ++ piece) fault (far.text ++ more) till }
@@ -182,6 +186,7 @@ module _ {R W : Type 0} (remaining : R → Option (List ℕ)) (contents : W → 
             write_fault = λ written. absurd (no_write cc);
             flushed = tt;
             flushed_above = λ other. flushed_then writer writer' writer'' far.flushed wrote.1;
+            behind_flushes = behind;
             cause = cause_of fault is;
             no_cause = tt;
           }
@@ -201,13 +206,15 @@ module _ {R W : Type 0} (remaining : R → Option (List ℕ)) (contents : W → 
             write_fault = λ _. (far.text ++ more, inr (till_there Write till), wrote_front writer'' more wrote.0);
             flushed = tt;
             flushed_above = λ other. absurd (other refl);
+            behind_flushes = behind;
             cause = wrote.1;
             no_cause = tt;
           }
 
       -- ---- the end of the input
 
-      module _ (reader'' : Device R) (read : Consumes (remaining (inner_of reader')) (remaining (inner_of reader'')) []) (end : IsAtEnd (remaining (inner_of reader''))) where
+      module _ (reader'' : Device R) (read : Consumes (remaining (inner_of reader')) (remaining (inner_of reader'')) []) (end : IsAtEnd (remaining (inner_of reader'')))
+          (behind : is_read_behind_flushes reader'' ≡ true) where
         read_all : Consumes (remaining (inner_of reader)) (remaining (inner_of reader'')) far.bytes
         read_all =
             subst (λ (bytes : List ℕ). Consumes (remaining (inner_of reader)) (remaining (inner_of reader'')) bytes) (append-nil far.bytes)
@@ -232,6 +239,7 @@ module _ {R W : Type 0} (remaining : R → Option (List ℕ)) (contents : W → 
           write_fault = λ is. absurd cc;
           flushed = flushed_then writer writer' writer'' far.flushed flushed;
           flushed_above = tt;
+          behind_flushes = behind;
           cause = tt;
           no_cause = (kept ∙ far.read_sound ∙ read_sound, end, writes ∙ far.sound ∙ sound);
         }
@@ -247,6 +255,7 @@ module _ {R W : Type 0} (remaining : R → Option (List ℕ)) (contents : W → 
           write_fault = λ written. absurd (no_write cc);
           flushed = tt;
           flushed_above = λ other. flushed_then writer writer' writer'' far.flushed flushed;
+          behind_flushes = behind;
           cause = cause;
           no_cause = tt;
         }
@@ -268,6 +277,7 @@ module _ {R W : Type 0} (remaining : R → Option (List ℕ)) (contents : W → 
           write_fault = λ _. (far.text ++ by.0, joined_or_till by.1, wrote_front writer'' by.0 by.2.0);
           flushed = tt;
           flushed_above = λ other. absurd (other refl);
+          behind_flushes = behind;
           cause = by.2.1;
           no_cause = tt;
         } where

@@ -196,6 +196,29 @@ fn last_line_is_flushed_before_the_flows_are_closed(rt: HostRuntime) -> Result<(
     Ok(())
 }
 
+#[test]
+fn trace_is_read_behind_flushes_alone(rt: HostRuntime) {
+    let mut reader = Device::new(TRACE.as_bytes());
+    let mut writer = Device::new(Vec::<u8>::new(rt.alloc()));
+    let done = follow_text(
+        LossRule::Decided,
+        Width::PROFILE,
+        all_flows(false),
+        rt.alloc(),
+        &mut reader,
+        &mut writer,
+    );
+    let behind_flushes = reader.behind_flushes();
+    // The device knows a read that waits for no flush, even at the end of the input.
+    let read_more = reader.read(&mut [0]).ok();
+    let behind_flushes_still = reader.behind_flushes();
+    reader.into_inner();
+    writer.into_inner();
+    assert_eq!(rt; done, Ok(()));
+    assert_eq!(rt; read_more, Some(0));
+    assert!(rt; behind_flushes && !behind_flushes_still);
+}
+
 /// The first of three segments is lost, which channel 1 passes and then channel 0; a line that is
 /// no input stands between. One grant is refused, one burst has none, and one segment comes twice.
 const LOSSY: &str = "\

@@ -3,24 +3,34 @@ use Rattle.std.specs.Io.KnownBytes.{Consumes}
 use Rattle.std.proofs.KnownBytes.{Keeps-refl}
 use Rattle.std.proofs.lemmas.Result.{err_from_is_err_and}
 use Rattle.engines.specs.Device.{inner_of}
-use Rattle.engines.proofs.FollowedDevices.{stays_flushed, far_more, trace_refused, trace_unread, trace_stopped, trace_finished}
+use Rattle.engines.proofs.FollowedDevices.{stays_flushed, far_nothing, far_more, trace_refused, trace_unread, trace_stopped, trace_finished}
 use Rattle.engines.proofs.ReadLines.{of_room}
 use Rattle.engines.proofs.follow.follow_text.Goals as goal
 
 pub returns-in_err-piece : goal.returns-in_err-piece
 returns-in_err-piece g c =
     let p = err_from_is_err_and c.from_residual.result c.from_residual.ensures.1 in
-    rw (p.1, p.2) (trace_refused g.R.Read.remaining g.W.Write.contents c.args.rule c.args.width c.args.settings c.args.reader.now c.args.writer.now)
+    rw (p.1, p.2) (trace_refused g.R.Read.remaining g.W.Write.contents c.args.rule c.args.width c.args.settings c.args.reader.now c.args.writer.now c.requires.reader.3)
 
 pub returns-in_err-room : goal.returns-in_err-room
 returns-in_err-room g c =
     let p = err_from_is_err_and c.from_residual-in_err-room.result c.from_residual-in_err-room.ensures.1 in
-    rw (p.1, p.2) (trace_refused g.R.Read.remaining g.W.Write.contents c.args.rule c.args.width c.args.settings c.args.reader.now c.args.writer.now)
+    rw (p.1, p.2) (trace_refused g.R.Read.remaining g.W.Write.contents c.args.rule c.args.width c.args.settings c.args.reader.now c.args.writer.now c.requires.reader.3)
 
 pub returns-in_err-follower : goal.returns-in_err-follower
 returns-in_err-follower g c =
     let p = err_from_is_err_and c.from_residual-in_err-follower.result c.from_residual-in_err-follower.ensures.1 in
-    rw (p.1, p.2) (trace_refused g.R.Read.remaining g.W.Write.contents c.args.rule c.args.width c.args.settings c.args.reader.now c.args.writer.now)
+    rw (p.1, p.2) (trace_refused g.R.Read.remaining g.W.Write.contents c.args.rule c.args.width c.args.settings c.args.reader.now c.args.writer.now c.requires.reader.3)
+
+pub loop-init : goal.loop-init
+loop-init g c = record {
+  far =
+      far_nothing g.R.Read.remaining g.W.Write.contents c.args.rule c.args.width c.args.settings c.args.reader.now c.args.writer.now c.in_ok-follower.follower
+      c.in_ok-follower.ensures;
+  behind = c.requires.reader.3;
+  counted = search rules;
+  room = c.in_ok-piece.ensures;
+}
 
 pub read_behind-requires-clause-flushed : goal.read_behind-requires-clause-flushed
 read_behind-requires-clause-flushed g c = stays_flushed _ _ c.requires.writer.2 c.loop.invariant.far.flushed
@@ -30,7 +40,8 @@ returns-in_err-count g c =
     let p = err_from_is_err_and c.from_residual-in_err-count.result c.from_residual-in_err-count.ensures.1 in
     rw (p.1, p.2 ∙ c.in_err-count.ensures.only)
     (trace_unread g.R.Read.remaining g.W.Write.contents c.args.rule c.args.width c.args.settings c.args.reader.now c.args.writer.now c.loop.reader c.loop.writer c.loop.follower
-    c.loop.invariant.far c.read_behind.new.reader c.in_err-count.ensures.kept (inl c.in_err-count.ensures.failed))
+    c.loop.invariant.far c.read_behind.new.reader c.in_err-count.ensures.kept (inl c.in_err-count.ensures.failed)
+    (c.read_behind.ensures.behind ∙ c.loop.invariant.behind))
 
 pub returns-then-count-eq0 : goal.returns-then-count-eq0
 returns-then-count-eq0 g c =
@@ -40,7 +51,7 @@ returns-then-count-eq0 g c =
     subst (λ n. Consumes (g.R.Read.remaining (inner_of c.loop.reader)) (g.R.Read.remaining (inner_of c.read_behind.new.reader)) (take n c.read_behind.new.room)) none
     c.in_ok-count.ensures.taken in
     trace_finished g.R.Read.remaining g.W.Write.contents c.args.rule c.args.width c.args.settings c.args.reader.now c.args.writer.now c.loop.reader c.loop.writer c.loop.follower far
-    c.read_behind.new.reader read (c.in_ok-count.ensures.end none) c.finish.new.writer c.finish.result c.requires.reader.0 c.requires.writer.0 c.in_ok-count.ensures.sound
+    c.read_behind.new.reader read (c.in_ok-count.ensures.end none) (c.read_behind.ensures.behind ∙ c.loop.invariant.behind) c.finish.new.writer c.finish.result c.requires.reader.0 c.requires.writer.0 c.in_ok-count.ensures.sound
     (c.finish.ensures c.args.rule c.args.width c.args.settings far.bytes far.told far.followed)
 
 pub returns-in_err-take_piece : goal.returns-in_err-take_piece
@@ -58,7 +69,7 @@ returns-in_err-take_piece g c =
     (trace_stopped g.R.Read.remaining g.W.Write.contents c.args.rule c.args.width c.args.settings c.args.reader.now c.args.writer.now c.loop.reader c.loop.writer c.loop.follower far
     c.read_behind.new.reader (take c.in_ok-count.count c.deref.result.now)
     (subst (Consumes (g.R.Read.remaining (inner_of c.loop.reader)) (g.R.Read.remaining (inner_of c.read_behind.new.reader))) (sym (ap (take c.in_ok-count.count) piece ∙ front_is))
-    c.in_ok-count.ensures.taken) few c.take_piece.new.writer followed.0 _ followed.1.0 followed.1.1 followed.1.2)
+    c.in_ok-count.ensures.taken) few (c.read_behind.ensures.behind ∙ c.loop.invariant.behind) c.take_piece.new.writer followed.0 _ followed.1.0 followed.1.1 followed.1.2)
 
 pub loop-preserved : goal.loop-preserved
 loop-preserved g c =
@@ -75,6 +86,7 @@ loop-preserved g c =
           (subst (Consumes (g.R.Read.remaining (inner_of c.loop.reader)) (g.R.Read.remaining (inner_of c.read_behind.new.reader)))
           (sym (ap (take c.in_ok-count.count) piece ∙ front_is)) c.in_ok-count.ensures.taken)
           c.take_piece.new.writer c.take_piece.new.self followed.0 c.in_ok-count.ensures.sound followed.1.0 followed.1.1 followed.1.2 followed.1.3;
+      behind = c.read_behind.ensures.behind ∙ c.loop.invariant.behind;
       counted = search rules;
       room = c.loop.invariant.room;
     }
@@ -82,4 +94,4 @@ loop-preserved g c =
 pub returns : goal.returns
 returns g c =
     trace_unread g.R.Read.remaining g.W.Write.contents c.args.rule c.args.width c.args.settings c.args.reader.now c.args.writer.now c.loop.reader c.loop.writer c.loop.follower
-    c.loop.invariant.far c.loop.reader (Keeps-refl (g.R.Read.remaining (inner_of c.loop.reader))) (inr (search rules))
+    c.loop.invariant.far c.loop.reader (Keeps-refl (g.R.Read.remaining (inner_of c.loop.reader))) (inr (search rules)) c.loop.invariant.behind

@@ -14,14 +14,14 @@ use Rattle.frame_engine.proofs.capturing.join_capture.Goals as goal
 pub returns-in_err-piece-clause-joins : goal.returns-in_err-piece-clause-joins
 returns-in_err-piece-clause-joins g c = λ settings capture_map begun.
     let p = err_from_is_err_and c.from_residual.result c.from_residual.ensures.1 in
-    rw (p.1, p.2) (capture-refused g.R.Read.remaining g.W.Write.contents settings capture_map c.args.reader.now c.args.writer.now)
+    rw (p.1, p.2) (capture-refused g.R.Read.remaining g.W.Write.contents settings capture_map c.args.reader.now c.args.writer.now c.requires.reader.3)
 
 pub returns-in_err-write-clause-joins : goal.returns-in_err-write-clause-joins
 returns-in_err-write-clause-joins g c = λ settings capture_map begun.
     let p = err_from_is_err_and c.from_residual-in_err-write.result c.from_residual-in_err-write.ensures.1 in
     rw (p.1, p.2)
     (capture-unheaded g.R.Read.remaining g.W.Write.contents settings capture_map c.args.reader.now c.args.writer.now c.write.new.writer c.args.reading begun
-    c.in_err-write.ensures.front c.in_err-write.ensures.failed)
+    c.in_err-write.ensures.front c.in_err-write.ensures.failed c.requires.reader.3)
 
 pub loop-init : goal.loop-init
 loop-init g c =
@@ -39,6 +39,7 @@ loop-init g c =
       ready = c.requires.reading;
       empty = wrote.none_left;
       flushed = stays_flushed _ _ c.requires.writer.2 wrote.left_flushed;
+      behind = c.requires.reader.3;
       counted = search rules;
       room = search rules;
     }
@@ -47,7 +48,8 @@ pub returns-in-Err-clause-joins : goal.returns-in-Err-clause-joins
 returns-in-Err-clause-joins g c = λ settings capture_map begun.
     rw c.in-Err.ensures.only
     (capture-unread g.R.Read.remaining g.W.Write.contents settings capture_map c.args.reader.now c.args.writer.now c.loop.reader c.loop.writer c.loop.reading
-    (c.loop.invariant.far settings capture_map begun) c.read_behind.new.reader c.in-Err.ensures.kept (inl c.in-Err.ensures.failed))
+    (c.loop.invariant.far settings capture_map begun) c.read_behind.new.reader c.in-Err.ensures.kept (inl c.in-Err.ensures.failed)
+    (c.read_behind.ensures.behind ∙ c.loop.invariant.behind))
 
 pub returns-then-count-eq0-clause-joins : goal.returns-then-count-eq0-clause-joins
 returns-then-count-eq0-clause-joins g c = λ settings capture_map begun.
@@ -57,7 +59,7 @@ returns-then-count-eq0-clause-joins g c = λ settings capture_map begun.
     subst (λ n. Consumes (g.R.Read.remaining (inner_of c.loop.reader)) (g.R.Read.remaining (inner_of c.read_behind.new.reader)) (take n c.read_behind.new.room)) none
     c.in-Ok.ensures.taken in
     capture-finished g.R.Read.remaining g.W.Write.contents settings capture_map c.args.reader.now c.args.writer.now c.loop.reader c.loop.writer c.loop.reading far
-    c.read_behind.new.reader read (c.in-Ok.ensures.end none) c.finish-ended.new.writer c.finish-ended.result c.requires.reader.0 c.requires.writer.0 c.in-Ok.ensures.sound
+    c.read_behind.new.reader read (c.in-Ok.ensures.end none) (c.read_behind.ensures.behind ∙ c.loop.invariant.behind) c.finish-ended.new.writer c.finish-ended.result c.requires.reader.0 c.requires.writer.0 c.in-Ok.ensures.sound
     (c.finish-ended.ensures.written settings capture_map far.bytes far.text far.has)
 
 pub returns-in-Err-join_piece-clause-joins : goal.returns-in-Err-join_piece-clause-joins
@@ -71,7 +73,7 @@ returns-in-Err-join_piece-clause-joins g c = λ settings capture_map begun.
     (capture-stopped g.R.Read.remaining g.W.Write.contents settings capture_map c.args.reader.now c.args.writer.now c.loop.reader c.loop.writer c.loop.reading far
     c.read_behind.new.reader (take c.in-Ok.count c.deref.result.now)
     (subst (Consumes (g.R.Read.remaining (inner_of c.loop.reader)) (g.R.Read.remaining (inner_of c.read_behind.new.reader))) (sym (ap (take c.in-Ok.count) piece ∙ front_is))
-    c.in-Ok.ensures.taken) c.join_piece.new.writer joined.0 _ joined.1.0 joined.1.1 joined.1.2)
+    c.in-Ok.ensures.taken) (c.read_behind.ensures.behind ∙ c.loop.invariant.behind) c.join_piece.new.writer joined.0 _ joined.1.0 joined.1.1 joined.1.2)
 
 pub loop-preserved : goal.loop-preserved
 loop-preserved g c =
@@ -98,6 +100,7 @@ loop-preserved g c =
       ready = c.in-Ok-join_piece.ensures.ready;
       empty = c.in-Ok-join_piece.ensures.empty;
       flushed = stays_flushed _ _ c.loop.invariant.flushed c.in-Ok-join_piece.ensures.flushed;
+      behind = c.read_behind.ensures.behind ∙ c.loop.invariant.behind;
       counted = search rules;
       room = c.loop.invariant.room;
     }
@@ -105,7 +108,7 @@ loop-preserved g c =
 pub returns-clause-joins : goal.returns-clause-joins
 returns-clause-joins g c = λ settings capture_map begun.
     capture-unread g.R.Read.remaining g.W.Write.contents settings capture_map c.args.reader.now c.args.writer.now c.loop.reader c.loop.writer c.loop.reading
-    (c.loop.invariant.far settings capture_map begun) c.loop.reader (Keeps-refl (g.R.Read.remaining (inner_of c.loop.reader))) (inr (search rules))
+    (c.loop.invariant.far settings capture_map begun) c.loop.reader (Keeps-refl (g.R.Read.remaining (inner_of c.loop.reader))) (inr (search rules)) c.loop.invariant.behind
 
 pub returns-then-count-eq0-clause-compared : goal.returns-then-count-eq0-clause-compared
 returns-then-count-eq0-clause-compared g c = λ settings capture_map begun nothing.

@@ -1,7 +1,7 @@
 -- So far a front of the input was joined, with whatever settings and map.
 use Rattle.std.proofs.Common.{◌≡◌, ◌≤◌, true, [], vec_len}
 use Rattle.capture_map.specs.declared.map.CaptureMap.{CaptureMap}
-use Rattle.engines.specs.Device.{given_of, is_flushed}
+use Rattle.engines.specs.Device.{given_of, is_flushed, is_read_behind_flushes}
 use Rattle.frame_engine.specs.declared.settings.CaptureSettings.{CaptureSettings}
 use Rattle.frame_engine.specs.Begun.{IsBegun, IsBegunBeside, ComparesNothing, CanJoin}
 use Rattle.frame_engine.proofs.Devices.{JoinsSoFar}
@@ -17,6 +17,7 @@ invariant-loop g l = record {
   ready : CanJoin l.reading;
   empty : l.reading.joining.file.bytes.items ≡ [];
   flushed : is_flushed l.writer ≡ true;
+  behind : is_read_behind_flushes l.reader ≡ true;
   counted : l.counter ≤ given_of l.reader;
   room : vec_len l.piece ≡ 262144;
 }

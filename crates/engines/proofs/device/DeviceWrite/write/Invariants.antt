@@ -8,4 +8,5 @@ invariant-loop g l = record {
   failed : l.self.failed ≡ l.fn.self.failed;
   given : l.self.given ≡ l.fn.self.given;
   flushed : l.self.flushed ≡ false;
+  behind : l.self.behind_flushes ≡ l.fn.self.behind_flushes;
 }

@@ -1,6 +1,6 @@
 use Rattle.std.proofs.Common.{◌≡◌}
 use Rattle.std.specs.Io.KnownBytes.{Keeps}
-use Rattle.engines.proofs.device.DeviceRead.read.Given as goal
+use Rattle.engines.proofs.device.Device.read_inner.Given as goal
 
 abbrev pub invariant-loop : goal.invariant-loop
 invariant-loop g l = record {
@@ -8,4 +8,5 @@ invariant-loop g l = record {
   failed : l.self.failed ≡ l.fn.self.failed;
   given : l.self.given ≡ l.fn.self.given;
   flushed : l.self.flushed ≡ l.fn.self.flushed;
+  behind : l.self.behind_flushes ≡ l.fn.self.behind_flushes;
 }
