@@ -17,7 +17,7 @@ use Rattle.engines.specs.declared.device.Device.{Device}
 use Rattle.engines.specs.Device.{inner_of}
 use Rattle.engines.specs.Engine.{WritesText}
 use Rattle.flow_selection.specs.declared.selection.Selection.{Selection}
-use Rattle.frame_comparison.specs.Compared.{Comparison, nothing_came, with_frame}
+use Rattle.frame_comparison.specs.Compared.{Comparison, nothing_came}
 use Rattle.frame_comparison.specs.Aligned.{Arrival, with_all}
 use Rattle.timed_frames.specs.declared.timed_frames.TimedFrames.{TimedFrames}
 use Rattle.timed_frames.specs.declared.timed_step.TimedStep.{TimedStep}
@@ -34,6 +34,7 @@ use Rattle.frame_engine.specs.Compared.{arrivals_of_steps, Brings, AreArrivals, 
 use Rattle.frame_engine.specs.Comparing.{IsComparing, Takes, TakesBrought, Compares, IsComparedFile}
 use Rattle.frame_engine.specs.Inside.Joins.{PutsCame, HasFiled, HasTaken, HasEnded, HasJoined, HasReadBytes, WritesAll}
 use Rattle.frame_engine.specs.Inside.Beside.{HasTakenBeside, HasEndedBeside, HasJoinedBeside, HasReadBeside, AreAllBeside, TakesBurstBeside, JoinsSomeBeside, JoinsPieceBeside, JoinsWrittenBeside}
+use Rattle.frame_engine.proofs.Arrivals.{all-append}
 use Rattle.frame_engine.proofs.Filed.{filed-written}
 use Rattle.frame_engine.proofs.Taken.{taken-more, taken-came, taken-end, end-came, ended-closed, closed-came, counted-more}
 use Rattle.frame_engine.proofs.Ended.{wrote-both}
@@ -42,11 +43,6 @@ use Rattle.frame_engine.proofs.Ended.{wrote-both}
 pub both-ok : {T E P Q S : Type 0} (r : Result T E) → (P → Q → S) → OnOk r P → OnOk r Q → OnOk r S
 both-ok (Ok x) next p q = next p q
 both-ok (Err e) next p q = tt
-
--- some come, and then more
-pub all-append : (arrivals more : List Arrival) (comparison : Comparison) → with_all (arrivals ++ more) comparison ≡ with_all more (with_all arrivals comparison)
-all-append [] more comparison = refl
-all-append (one ∷ arrivals) more comparison = all-append arrivals more (with_frame one.side one.flow one.frame comparison)
 
 module _ (settings : CaptureSettings) (capture_map : CaptureMap) where
   -- more came to be compared

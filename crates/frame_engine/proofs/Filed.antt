@@ -49,13 +49,13 @@ module _ (settings : CaptureSettings) (capture_map : CaptureMap) where
   written_for timed = left_in settings.selected settings.link capture_map.channels.items timed
 
   -- the file of what came, and of more
-  file-more : (came more : List TimedStep) → file_of settings capture_map (came ++ more) ≡ file_of settings capture_map came ++ written_for more
+  pub file-more : (came more : List TimedStep) → file_of settings capture_map (came ++ more) ≡ file_of settings capture_map came ++ written_for more
   file-more came more =
       ap (λ (text : List ℕ). header_bytes (file_header settings.link) ++ text) (left-more settings.selected settings.link capture_map.channels.items came more)
       ∙ sym (append_assoc (header_bytes (file_header settings.link)) (written_for came) (written_for more))
 
   -- what waited of a file's selection, link and channels
-  written-as : (selected : Selection) (link : FrameLink) (channels : List MapChannel) (waiting came : List TimedStep) → selected ≡ settings.selected → link ≡ settings.link
+  pub written-as : (selected : Selection) (link : FrameLink) (channels : List MapChannel) (waiting came : List TimedStep) → selected ≡ settings.selected → link ≡ settings.link
       → channels ≡ capture_map.channels.items → waiting ≡ came → left_in selected link channels waiting ≡ written_for came
   written-as selected link channels waiting came s l c w =
       ap (λ (selected : Selection). left_in selected link channels waiting) s ∙ ap (λ (link : FrameLink). left_in settings.selected link channels waiting) l

@@ -4,6 +4,7 @@ pub mod Taken
 pub mod Reading
 pub mod Ended
 pub mod Devices
+pub mod Arrivals
 pub mod Beside
 pub mod EqualFrames
 pub mod EqualEnds

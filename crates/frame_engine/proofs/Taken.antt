@@ -139,9 +139,7 @@ module _ (settings : CaptureSettings) (capture_map : CaptureMap) where
   pub closed-came : (bursts : List CapturedBurst) (written : List ℕ) (old : Joining) (mid timed' : TimedFrames) (file' : FrameFile) (closed : Closed) (has : HasEnded settings capture_map bursts written old)
       (closes : Closes HasGiven inner_accepts old.flows.receiver old.timed closed mid) (puts : PutsCame mid old.file timed' file')
       → (ended-closed bursts written old mid timed' file' closed has closes puts).file.timed ≡ has.filed.came ++ mid.waiting.items
-  unfolding ended-closed
-
-  unfolding filed-file
+  unfolding ended-closed filed-file
   closed-came bursts written old mid timed' file' closed has closes puts =
       filed-came settings capture_map has.steps (map gave closes.given_more) written old.timed mid timed' old.file file' has.filed
       (closes.was_given old.timed [] (seen_nothing old.timed)) puts

@@ -42,11 +42,11 @@ fn take_selected(
     alloc: Global,
     selected: &Selection,
     side: Side,
-    one: FlowFrame<'_>,
+    one: &FlowFrame<'_>,
 )
     ensures { (before : Comparison) → IsKeptOf before comparison.old
         → IsKeptOf (with_all
-        (arrivals_if selected.now side one.flow (came one.time one.frame.now)) before)
+        (arrivals_if selected.now side one.now.flow (came one.now.time one.now.frame.now)) before)
         comparison.new }
 {
     if selected.has(one.flow) {
@@ -70,7 +70,7 @@ fn take_step(
             time: burst.time,
             frame: frame.as_slice(),
         };
-        take_selected(comparison, alloc, selected, Side::Here, one);
+        take_selected(comparison, alloc, selected, Side::Here, &one);
     }
 }
 
@@ -161,6 +161,6 @@ impl Comparing {
             time: found.time,
             frame: found.frame,
         };
-        take_selected(comparison, alloc, selected, Side::Analyser, one);
+        take_selected(comparison, alloc, selected, Side::Analyser, &one);
     }
 }

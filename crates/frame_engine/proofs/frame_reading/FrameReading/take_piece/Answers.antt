@@ -1,3 +1,4 @@
+use Rattle.std.proofs.Common.{rules}
 use Rattle.std.proofs.lemmas.Result.{err_from_is_err_and}
 use Rattle.frame_engine.proofs.Reading.{some-more, some-fault}
 use Rattle.frame_engine.proofs.Beside.{some-beside, all-beside, unread-beside}
