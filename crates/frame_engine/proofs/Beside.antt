@@ -67,10 +67,15 @@ module _ (settings : CaptureSettings) (capture_map : CaptureMap) where
       → selected ≡ settings.selected → its_map ≡ capture_map → Compares settings capture_map records timed old → TakesBrought selected its_map one old new
       → Compares settings capture_map (records ++ one ∷ []) timed new
   record-more records timed one selected its_map old new is map_is has takes =
+      let none = nothing_came (length capture_map.flows.items) in
+      let brought = takes (with_all has.0 none) has.2 in
       let brings =
-      subst (λ (s : Selection). Brings s capture_map one takes.0) is
-      (subst (λ (m : CaptureMap). Brings selected m one takes.0) map_is takes.1) in
-      (has.0 ++ takes.0, one_record has.1 one takes.0 brings, more-compared has.0 takes.0 old new has.2 takes.2)
+      subst (λ (s : Selection). Brings s capture_map one brought.0) is
+      (subst (λ (m : CaptureMap). Brings selected m one brought.0) map_is brought.1) in (
+        has.0 ++ brought.0,
+        one_record has.1 one brought.0 brings,
+        subst (λ (c : Comparison). IsComparing c new) (sym (all-append has.0 brought.0 none)) brought.2,
+      )
 
   -- **A burst more.**
   pub taken-beside : (records : List CaptureParts) (bursts : List CapturedBurst) (burst : CapturedBurst) (told : BurstTaken) (written : List ℕ) (old new : Joining) (mid : TimedFrames) (comparing comparing' : Comparing)

@@ -30,7 +30,8 @@ Takes more old new = (before : Comparison) → IsComparing before old → IsComp
 
 -- so what comes of a record
 abbrev pub TakesBrought : Selection → CaptureMap → CaptureParts → Comparing → Comparing → Type 0
-TakesBrought selected capture_map one old new = (more : List Arrival) × Brings selected capture_map one more × Takes more old new
+TakesBrought selected capture_map one old new =
+    (before : Comparison) → IsComparing before old → (more : List Arrival) × Brings selected capture_map one more × IsComparing (with_all more before) new
 
 -- whatever was compared, nothing more comes
 abbrev pub Finishes : Comparing → Comparing → Type 0

@@ -1,13 +1,14 @@
 //! The frames of a capture beside those that the analyser joined itself.
-ghost use Rattle.std.specs.Prelude.{◌≡◌, Some, None, IfOk, IfSome};
+ghost use Rattle.std.specs.Prelude.{◌≡◌, Some, None, List, IfOk, IfSome, min};
 ghost use Rattle.capture.specs.SeenCapture.{capture_parts};
 ghost use Rattle.captured_flows.specs.Capturing.{IsCapturing};
 ghost use Rattle.frame_comparison.specs.Frames.{came};
-ghost use Rattle.frame_comparison.specs.Aligned.{with_all};
+ghost use Rattle.frame_comparison.specs.Aligned.{Arrival, with_all};
 ghost use Rattle.frame_comparison.specs.Compared.{Comparison, nothing_came};
 ghost use Rattle.frame_comparison.specs.Seen.{seen_of};
 ghost use Rattle.frame_engine.specs.Settings.{inner_accepts};
-ghost use Rattle.frame_engine.specs.Compared.{arrivals_if, arrivals_of_step, arrivals_of_steps};
+ghost use Rattle.frame_engine.specs.Records.{greatest_sid};
+ghost use Rattle.frame_engine.specs.Compared.{Brings, arrivals_if, arrivals_of_step, arrivals_of_steps};
 ghost use Rattle.frame_engine.specs.Comparing.{IsKeptOf, Takes, TakesBrought, Finishes};
 
 use crate::inner_check::InnerCheck;
@@ -89,6 +90,42 @@ fn take_all(
     }
 }
 
+/// The service identifier of a recorded frame: of one of more than 16 bits it is enough that no map
+/// has it.
+fn short_sid(sid: u32) -> u16
+    ensures { result ≡ min sid greatest_sid }
+{
+    sid.min(GREATEST_SID) as u16
+}
+
+/// Takes the frame that a record holds, if it holds one that the analyser joined and the map has a
+/// flow of its channel and its SID that is selected.
+fn take_recorded(
+    comparison: &mut FrameComparison,
+    alloc: Global,
+    flows: &CapturedFlows<InnerCheck>,
+    selected: &Selection,
+    given: &CaptureRecord,
+)
+    requires capturing { IsCapturing inner_accepts flows.now }
+    ensures { (before : Comparison) → IsKeptOf before comparison.old → (more : List Arrival)
+        × Brings selected.now flows.now.map (capture_parts given.now) more
+        × IsKeptOf (with_all more before) comparison.new }
+{
+    let Some(found) = recorded_frame(given) else {
+        return;
+    };
+    let Some(flow) = flows.flow_of(found.channel, short_sid(found.sid)) else {
+        return;
+    };
+    let one = FlowFrame {
+        flow,
+        time: found.time,
+        frame: found.frame,
+    };
+    take_selected(comparison, alloc, selected, Side::Analyser, &one);
+}
+
 impl Comparing {
     /// Nothing is compared.
     pub fn nothing() -> Comparing
@@ -134,8 +171,7 @@ impl Comparing {
         }
     }
 
-    /// Takes the frame that a record holds, if it holds one that the analyser joined and the map
-    /// has a flow of its channel and its SID that is selected.
+    /// Takes the frame that a record holds, if the analyser joined it and its flow is selected.
     pub(crate) fn take_record(
         &mut self,
         alloc: Global,
@@ -147,20 +183,8 @@ impl Comparing {
         ensures { TakesBrought selected.now flows.now.map (capture_parts given.now)
             self.old self.new }
     {
-        let Some(comparison) = &mut self.comparison else {
-            return;
-        };
-        let Some(found) = recorded_frame(given) else {
-            return;
-        };
-        let Some(flow) = flows.flow_of(found.channel, found.sid.min(GREATEST_SID) as u16) else {
-            return;
-        };
-        let one = FlowFrame {
-            flow,
-            time: found.time,
-            frame: found.frame,
-        };
-        take_selected(comparison, alloc, selected, Side::Analyser, &one);
+        if let Some(comparison) = &mut self.comparison {
+            take_recorded(comparison, alloc, flows, selected, given);
+        }
     }
 }

@@ -1,4 +1,5 @@
 use Rattle.std.proofs.Common.{rules}
+use Rattle.std.proofs.lemmas.List.{nil_from_length}
 use Rattle.std.proofs.lemmas.Result.{err_from_is_err_and}
 use Rattle.frame_engine.proofs.Reading.{some-more, some-fault}
 use Rattle.frame_engine.proofs.Beside.{some-beside, all-beside, unread-beside}
@@ -24,4 +25,5 @@ loop-rest-preserved c = record {
 
 pub returns-clause-compared : goal.returns-clause-compared
 returns-clause-compared c =
-    all-beside c.args.self.now c.loop-rest.self c.args.piece.now c.loop-rest.rest.now c.args.comparing.now c.loop-rest.comparing (search rules) c.loop-rest.invariant.beside
+    all-beside c.args.self.now c.loop-rest.self c.args.piece.now c.loop-rest.rest.now c.args.comparing.now c.loop-rest.comparing
+    (nil_from_length c.loop-rest.rest.now (search rules)) c.loop-rest.invariant.beside
