@@ -14,6 +14,8 @@ from shared.plain_packets import CHANNEL_TLV, SID_TLV, XRA, last_value, packet_i
 
 ANALYSER, HERE = "only the analyser's", "only here"
 LONGEST_WAIT = 1024
+STATUS = 5
+DIFFER, NONE_COMPARED = "segrx: the frames differ from the analyser's", "segrx: no frame was compared"
 # So many frames that only one side has are listed of each side, with so many bytes of each.
 MOST_LISTED, FIRST_BYTES = 100, 16
 
@@ -44,6 +46,7 @@ class Comparison:
     def __init__(self, flows):
         self.waiting = [{ANALYSER: [], HERE: []} for _ in range(flows)]
         self.both, self.lonely = collections.Counter(), collections.Counter()
+        self.strangers = 0  # frames of the analyser's of no flow of the map
         self.listed = {ANALYSER: [], HERE: []}
 
     def take(self, side, flow, time, frame):
@@ -71,8 +74,11 @@ class Comparison:
             for side in (ANALYSER, HERE):
                 self.give_up(side, flow, len(waiting[side]))
 
-    def is_equal(self):
-        return not self.lonely
+    def fault(self):
+        """What is said at the end, or None where both sides have the same frames."""
+        if self.lonely:
+            return DIFFER
+        return None if self.both else NONE_COMPARED
 
 
 class ComparedReading(CaptureReading):
@@ -90,6 +96,7 @@ class ComparedReading(CaptureReading):
         flow = None if channel is None else self.sids.get((channel, found.sid))
         if flow is not None and self.is_selected(flow):
             self.comparison.take(ANALYSER, flow, found.time, found.frame)
+        self.comparison.strangers += found is not None and flow is None
         super().take(record)
 
     def give(self, given):
@@ -112,3 +119,5 @@ def comparison_lines(reading):
         for flow, one in comparison.listed[side]:
             time = f"{one.time // 10**9}.{one.time % 10**9:09}"
             yield f"  {side}: flow {flow}, at {time}, {len(one.frame)} bytes: {one.frame[:FIRST_BYTES].hex()}"
+    if comparison.strangers:
+        yield f"  the analyser's of no flow of the map: {comparison.strangers}"

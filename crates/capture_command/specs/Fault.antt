@@ -8,7 +8,7 @@ use Rattle.engines.specs.declared.fault.EngineFault.{EngineFault}
 use Rattle.engines.specs.declared.fault.EngineFault.TheVariants.{OutOfMemory}
 use Rattle.engines.specs.Fault as engines
 use Rattle.capture_command.specs.declared.fault.CaptureCommandFault.{CaptureCommandFault}
-use Rattle.capture_command.specs.declared.fault.CaptureCommandFault.TheVariants.{Map, Setup, MapFile, OutputFile, Differs, Engine}
+use Rattle.capture_command.specs.declared.fault.CaptureCommandFault.TheVariants.{Map, Setup, MapFile, OutputFile, Differs, Uncompared, Engine}
 
 -- what is reported of a fault of the engine, of a map, and of what a map sets up; that memory ran
 -- out is told in one way
@@ -28,5 +28,6 @@ status_of (Map fault) = 1
 status_of Setup = 1
 status_of MapFile = 4
 status_of OutputFile = 4
-status_of Differs = 1
+status_of Differs = 5
+status_of Uncompared = 5
 status_of (Engine fault) = engines.status_of fault

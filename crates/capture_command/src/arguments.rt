@@ -14,6 +14,9 @@ time of the burst that completed it. What is missing before a number that was
 held for --wait milliseconds of the packets' clock is lost, besides what the
 rule decides.";
 
+/// How the command is called.
+const USAGE: &str = "segrx capture MAP [OPTION]... < CAPTURE > FRAMES";
+
 /// An option with a value.
 fn option<'a>(alloc: Global, name: &'a str, value: &'a str, help: &'a str) -> Arg<'a> {
     Arg::new(alloc, name)
@@ -44,10 +47,9 @@ pub fn capture_line<'a>(alloc: Global) -> Result<Command<'a>, AllocError> {
     let json = "Also write the counts to this file, as JSON";
     let requests = "Also write the requests to this file, as CSV";
     let picture = "Also draw the segments of the flows into this file, as SVG";
-    let usage = "segrx capture MAP [OPTION]... < CAPTURE > FRAMES";
     Command::new(alloc, "capture")
         .about("Joins the bursts of a capture, and writes their frames as pcap")
-        .override_usage(usage)
+        .override_usage(USAGE)
         .after_help(FORMATS)
         .disable_version_flag(true)
         .arg(

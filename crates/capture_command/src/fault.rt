@@ -30,6 +30,9 @@ pub enum CaptureCommandFault {
     /// here or only there.
     #[error("the frames differ from the analyser's")]
     Differs,
+    /// Frames were to be compared, and no flow that was asked for has one on either side.
+    #[error("no frame was compared")]
+    Uncompared,
     /// The words, the capture, the memory or the output.
     #[error(transparent)]
     Engine(EngineFault),
@@ -84,14 +87,13 @@ impl From<SetupError> for CaptureCommandFault {
 }
 
 impl CaptureCommandFault {
-    /// The exit status of this fault: 1 to 4.
+    /// The exit status of this fault: 1 to 5.
     pub fn status(&self) -> u8
         ensures { result ≡ status_of self.now }
     {
         match self {
-            CaptureCommandFault::Map(_)
-            | CaptureCommandFault::Setup
-            | CaptureCommandFault::Differs => 1,
+            CaptureCommandFault::Map(_) | CaptureCommandFault::Setup => 1,
+            CaptureCommandFault::Differs | CaptureCommandFault::Uncompared => 5,
             CaptureCommandFault::MapFile | CaptureCommandFault::OutputFile => 4,
             CaptureCommandFault::Engine(fault) => status(fault),
         }
@@ -124,6 +126,9 @@ impl CaptureCommandFault {
                 err,
                 b"segrx: the frames differ from the analyser's\n".as_slice(),
             ),
+            CaptureCommandFault::Uncompared => {
+                write_text(err, b"segrx: no frame was compared\n".as_slice())
+            }
             CaptureCommandFault::Engine(fault) => write_fault(fault, err),
         }
     }

@@ -1,12 +1,13 @@
 //! The command `capture` over any runtime with files, any reader and any two writers.
-ghost use Rattle.std.specs.Prelude.{◌≡◌, true, map, Result, OnOk, OnErr, IfOk, IfErr};
+ghost use Rattle.std.specs.Prelude.{◌≡◌, true, false, None, Err, map, Result, OnOk, OnErr, IfOk, IfErr, IfSome};
 ghost use Rattle.std.specs.Io.KnownBytes.{Appends};
 ghost use Rattle.engines.specs.Device.{inner_of, IsFresh};
 ghost use Rattle.engines.specs.Transfer.{AppendsFront};
 ghost use Rattle.frame_engine.specs.Begun.{ComparesNothing};
 ghost use Rattle.frame_engine.specs.Judged.{EndsEqual};
 ghost use Rattle.engines.specs.declared.fault.EngineFault.TheVariants.{Write};
-ghost use Rattle.capture_command.specs.declared.fault.CaptureCommandFault.TheVariants.{Engine};
+ghost use Rattle.capture_command.specs.declared.fault.CaptureCommandFault.TheVariants.{Differs, Engine};
+ghost use Rattle.frame_comparison.specs.Seen.{have_none_alone};
 ghost use Rattle.capture_command.specs.declared.fault.CaptureCommandFault.{CaptureCommandFault};
 ghost use Rattle.capture_command.specs.Program.{Captures, Obeys, ComesOf, status_of_outcome};
 
@@ -19,13 +20,13 @@ use capture_picture::put_picture;
 use capture_summary::{CaptureSummary, put_report, put_summary};
 use engines::{Device, EngineFault, TextWriter, held_room, write_text};
 use flow_selection::Selection;
-use frame_comparison::put_comparison;
+use frame_comparison::{FrameComparison, put_comparison};
 use frame_engine::{CaptureTally, Comparing, FrameReading, join_capture};
 use std::alloc::{AllocError, Global};
 use std::convert::AsStr;
 use std::io::{Read, Write};
 use std::rt::Files;
-use text_lines::PutText;
+use text_lines::{PutText, put_number, put_word};
 
 /// What a file shows of a capture.
 #[derive(Clone, Copy)]
@@ -85,19 +86,35 @@ fn sfids_of(alloc: Global, summary: &CaptureSummary) -> Result<Vec<u32>, AllocEr
     Ok(sfids)
 }
 
+/// Puts how the frames compare with the analyser's, and how many of these no flow has.
+fn put_compared<O: PutText>(
+    out: &mut O,
+    comparing: &Comparing,
+    comparison: &FrameComparison,
+    sfids: &[u32],
+) {
+    put_comparison(out, comparison, sfids);
+    if comparing.strangers() > 0 {
+        put_word(out, "  the analyser's of no flow of the map: ");
+        put_number(out, comparing.strangers());
+        put_word(out, "\n");
+    }
+}
+
 /// Writes the summary of what was counted, and how the frames compare with the analyser's, where
 /// they are compared.
 fn write_summary<E: Write>(
     alloc: Global,
     tally: &CaptureTally,
     comparing: &Comparing,
+    sfids: &[u32],
     err: &mut Device<E>,
 ) -> Result<(), CaptureCommandFault> {
     let mut room = held_room(alloc)?;
     let mut text = TextWriter::new(err, &mut room);
     put_summary(&mut text, &tally.summary);
     if let Some(comparison) = comparing.comparison() {
-        put_comparison(&mut text, comparison, &sfids_of(alloc, &tally.summary)?);
+        put_compared(&mut text, comparing, comparison, sfids);
     }
     text.finish()?;
     Ok(())
@@ -114,9 +131,12 @@ fn tell_lost_requests(tally: &CaptureTally) -> Result<(), CaptureCommandFault> {
     }
 }
 
-/// Tells that the frames differ from the analyser's, where they are compared and do.
+/// Tells that the frames differ from the analyser's, or that there are none to be compared, where
+/// they are compared.
 fn tell_difference(comparing: &Comparing) -> Result<(), CaptureCommandFault>
-    ensures { OnOk result (EndsEqual comparing.now) }
+    ensures equal { OnOk result (EndsEqual comparing.now) }
+    ensures differs { result ≡ Err Differs → IfSome comparing.now.comparison
+        (λ one. have_none_alone one.counts ≡ false) }
 {
     let Some(comparison) = comparing.comparison() else {
         return Ok(());
@@ -126,6 +146,9 @@ fn tell_difference(comparing: &Comparing) -> Result<(), CaptureCommandFault>
     }
     if !comparison.is_equal() {
         return Err(CaptureCommandFault::Differs);
+    }
+    if comparison.counts().iter().all(|one| one.both == 0) {
+        return Err(CaptureCommandFault::Uncompared);
     }
     Ok(())
 }
@@ -139,11 +162,12 @@ fn write_counts<F: Files, E: Write>(
     files: &AskedFiles,
     tally: &CaptureTally,
     comparing: &Comparing,
+    sfids: &[u32],
     err: &mut Device<E>,
 ) -> Result<(), CaptureCommandFault>
     ensures { OnOk result (EndsEqual comparing.now) }
 {
-    let summary = write_summary(alloc, tally, comparing, err);
+    let summary = write_summary(alloc, tally, comparing, sfids, err);
     let report = write_file(alloc, rt, &files.report, tally, Shown::Report);
     let json = write_file(alloc, rt, &files.json, tally, Shown::Json);
     let picture = write_file(alloc, rt, &files.picture, tally, Shown::Picture);
@@ -177,7 +201,9 @@ fn new_comparing(
     capture_map: &CaptureMap,
     compares: bool,
 ) -> Result<Comparing, AllocError>
-    ensures { compares ≡ true → IfOk result (ComparesNothing capture_map.now) }
+    ensures asked { compares ≡ true → IfOk result (ComparesNothing capture_map.now) }
+    ensures unasked { compares ≡ false
+        → IfOk result (λ comparing. comparing.comparison ≡ None) }
 {
     if !compares {
         return Ok(Comparing::nothing());
@@ -210,6 +236,7 @@ fn capture<F: Files, R: Read, W: Write, E: Write>(
     let capture_map = map_of_file(alloc, rt, map.as_str())?;
     let mut tally = new_tally(alloc, &capture_map, &settings.selected, &files)?;
     let mut comparing = new_comparing(alloc, &capture_map, compares)?;
+    let sfids = sfids_of(alloc, &tally.summary)?;
     let reading = FrameReading::new(alloc, settings, capture_map)?;
     let mut requests = match &files.requests {
         Some(path) => Some(Device::new(created(rt, path.as_str())?)),
@@ -228,7 +255,7 @@ fn capture<F: Files, R: Read, W: Write, E: Write>(
         file.into_inner();
     }
     comparing.finish(alloc);
-    let counted = write_counts(alloc, rt, &files, &tally, &comparing, err);
+    let counted = write_counts(alloc, rt, &files, &tally, &comparing, &sfids, err);
     joined?;
     counted
 }
@@ -283,8 +310,8 @@ fn report_outcome<E: Write>(outcome: &Result<(), CaptureCommandFault>, err: &mut
 
 /// The whole command: it does what the words ask for, the program's name first, and answers the
 /// exit status: 0 where it was done, also for help; 1 for a fault of the map or of the capture, 2
-/// for usage, 3 for out of memory, 4 for a failed read or write. A fault's line goes to `err`,
-/// behind the summary.
+/// for usage, 3 for out of memory, 4 for a failed read or write, 5 where frames that were to be
+/// compared differ or there are none. A fault's line goes to `err`, behind the summary.
 pub fn capture_program<S, F, R, O, E>(
     alloc: Global,
     rt: &F,

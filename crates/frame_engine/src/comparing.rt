@@ -27,11 +27,13 @@ const GREATEST_SID: u32 = 65_535;
 #[derive(Drop)]
 pub struct Comparing {
     pub(crate) comparison: Option<FrameComparison>,
+    /// How many frames that the analyser joined are of no flow of the map.
+    strangers: u64,
 }
 
 /// A frame of a flow, and when it came.
 #[derive(Clone, Copy)]
-struct FlowFrame<'a> {
+struct ComparedFrame<'a> {
     flow: usize,
     time: u64,
     frame: &'a [u8],
@@ -43,7 +45,7 @@ fn take_selected(
     alloc: Global,
     selected: &Selection,
     side: Side,
-    one: &FlowFrame<'_>,
+    one: &ComparedFrame<'_>,
 )
     ensures { (before : Comparison) → IsKeptOf before comparison.old
         → IsKeptOf (with_all
@@ -66,7 +68,7 @@ fn take_step(
         → IsKeptOf (with_all (arrivals_of_step selected.now step.now) before) comparison.new }
 {
     if let TimedStep::Frame { flow, burst, frame } = step {
-        let one = FlowFrame {
+        let one = ComparedFrame {
             flow: *flow,
             time: burst.time,
             frame: frame.as_slice(),
@@ -99,31 +101,32 @@ fn short_sid(sid: u32) -> u16
 }
 
 /// Takes the frame that a record holds, if it holds one that the analyser joined and the map has a
-/// flow of its channel and its SID that is selected.
+/// flow of its channel and its SID that is selected. It answers whether the map has no such flow.
 fn take_recorded(
     comparison: &mut FrameComparison,
     alloc: Global,
     flows: &CapturedFlows<InnerCheck>,
     selected: &Selection,
     given: &CaptureRecord,
-)
+) -> bool
     requires capturing { IsCapturing inner_accepts flows.now }
     ensures { (before : Comparison) → IsKeptOf before comparison.old → (more : List Arrival)
         × Brings selected.now flows.now.map (capture_parts given.now) more
         × IsKeptOf (with_all more before) comparison.new }
 {
     let Some(found) = recorded_frame(given) else {
-        return;
+        return false;
     };
     let Some(flow) = flows.flow_of(found.channel, short_sid(found.sid)) else {
-        return;
+        return true;
     };
-    let one = FlowFrame {
+    let one = ComparedFrame {
         flow,
         time: found.time,
         frame: found.frame,
     };
     take_selected(comparison, alloc, selected, Side::Analyser, &one);
+    false
 }
 
 impl Comparing {
@@ -131,7 +134,10 @@ impl Comparing {
     pub fn nothing() -> Comparing
         ensures { result.comparison ≡ None }
     {
-        Comparing { comparison: None }
+        Comparing {
+            comparison: None,
+            strangers: 0,
+        }
     }
 
     /// The frames of so many flows are compared, of which nothing came.
@@ -141,6 +147,7 @@ impl Comparing {
     {
         Ok(Comparing {
             comparison: Some(FrameComparison::new(alloc, flows)?),
+            strangers: 0,
         })
     }
 
@@ -151,6 +158,14 @@ impl Comparing {
         ensures none { result ≡ None → self.now.comparison ≡ None }
     {
         self.comparison.as_ref()
+    }
+
+    /// How many frames that the analyser joined are of no flow of the map, if frames are compared:
+    /// they are compared with none. It stays at its greatest value.
+    pub fn strangers(&self) -> u64
+        ensures { result ≡ self.now.strangers }
+    {
+        self.strangers
     }
 
     /// Nothing more comes: what waits for its equal has none.
@@ -183,8 +198,11 @@ impl Comparing {
         ensures { TakesBrought selected.now flows.now.map (capture_parts given.now)
             self.old self.new }
     {
-        if let Some(comparison) = &mut self.comparison {
-            take_recorded(comparison, alloc, flows, selected, given);
+        let Some(comparison) = &mut self.comparison else {
+            return;
+        };
+        if take_recorded(comparison, alloc, flows, selected, given) {
+            self.strangers = self.strangers.saturating_add(1);
         }
     }
 }

@@ -1,7 +1,7 @@
 //! Frames beside those that the analyser joined itself.
 use crate::joined::InPieces;
 use crate::one_map::{MAP_PATH, OneMap};
-use crate::samples::{FRAMES_APART, frame, frames_joined_twice};
+use crate::samples::{FRAMES_APART, frame, frames_joined_twice, put_joined};
 use capture_command::capture_program;
 use std::alloc::Global;
 use std::test::Fail;
@@ -30,6 +30,18 @@ comparison with the analyser's frames
   only here: flow 0, at 2.000000001, 8 bytes: 00000002ccdfaabb
   only here: flow 0, at 3.000000001, 8 bytes: 00000002ccdfaabb
 segrx: the frames differ from the analyser's
+";
+
+/// Where two frames more are of no flow of the map.
+const STRANGERS: &str = "\
+comparison with the analyser's frames
+  flow 0 (SFID 1): 3 in both, 0 only the analyser's, 0 only here
+  the analyser's of no flow of the map: 2
+";
+/// Where no frame is of a flow that was asked for.
+const NONE_COMPARED: &str = "\
+comparison with the analyser's frames
+segrx: no frame was compared
 ";
 
 /// What the command wrote, and its exit status.
@@ -85,7 +97,7 @@ fn frame_with_another_last_byte(rt: HostRuntime) -> Result<(), Fail> {
     let joined = [Some(frame()), Some(other), Some(frame())];
     let bytes = frames_joined_twice(rt.alloc(), joined)?;
     let compared = compare(rt.alloc(), &bytes, COMPARES);
-    assert!(rt; compared.status == 1 && compared.frames == FRAMES_APART);
+    assert!(rt; compared.status == 5 && compared.frames == FRAMES_APART);
     assert!(rt; compared.text().ends_with(OTHER_END.as_bytes()));
     Ok(())
 }
@@ -94,7 +106,7 @@ fn frame_with_another_last_byte(rt: HostRuntime) -> Result<(), Fail> {
 fn analyser_that_joined_nothing(rt: HostRuntime) -> Result<(), Fail> {
     let bytes = frames_joined_twice(rt.alloc(), [None; 3])?;
     let compared = compare(rt.alloc(), &bytes, COMPARES);
-    assert!(rt; compared.status == 1 && compared.frames == FRAMES_APART);
+    assert!(rt; compared.status == 5 && compared.frames == FRAMES_APART);
     assert!(rt; compared.text().ends_with(NONE_JOINED.as_bytes()));
     Ok(())
 }
@@ -117,12 +129,20 @@ fn contains(text: &[u8], wanted: &[u8]) -> bool {
 fn frames_of_other_flows_are_not_compared(rt: HostRuntime) -> Result<(), Fail> {
     let bytes = frames_joined_twice(rt.alloc(), [None; 3])?;
     let compared = compare(rt.alloc(), &bytes, ["--compare", "--flows=1"]);
-    assert!(rt; compared.status == 0);
-    assert!(rt;
-        compared
-            .text()
-            .ends_with(b"comparison with the analyser's frames\n")
-    );
+    assert!(rt; compared.status == 5);
+    assert!(rt; compared.text().ends_with(NONE_COMPARED.as_bytes()));
+    Ok(())
+}
+
+/// The map has no such service identifier.
+#[test]
+fn frames_of_no_flow_of_the_map(rt: HostRuntime) -> Result<(), Fail> {
+    let mut bytes = frames_joined_twice(rt.alloc(), [Some(frame()); 3])?;
+    put_joined(&mut bytes, 3, 8, &frame())?;
+    put_joined(&mut bytes, 3, 8, &frame())?;
+    let compared = compare(rt.alloc(), &bytes, COMPARES);
+    assert!(rt; compared.status == 0 && compared.frames == FRAMES_APART);
+    assert!(rt; compared.text().ends_with(STRANGERS.as_bytes()));
     Ok(())
 }
 

@@ -170,16 +170,21 @@ pub(crate) fn frames_joined_twice(
             &frame(),
         )?;
         if let Some(frame) = one {
-            put_joined(&mut file, 1 + number, frame)?;
+            put_joined(&mut file, 1 + number, 7, frame)?;
         }
     }
     Ok(file)
 }
 
-/// Appends a record of a packet with a frame of the first flow that the analyser joined.
-fn put_joined(out: &mut Vec<u8>, second: u8, frame: &[u8; 8]) -> Result<(), AllocError> {
+/// Appends a record of a packet with a frame that the analyser joined, of this service identifier.
+pub(crate) fn put_joined(
+    out: &mut Vec<u8>,
+    second: u8,
+    sid: u8,
+    frame: &[u8; 8],
+) -> Result<(), AllocError> {
     out.extend_from_slice(&[0, 0, 0, second, 0, 0, 0, 1, 0, 0, 0, 19, 0, 0, 0, 19])?;
-    out.extend_from_slice(&[1, 0x50, 0, 7, 10, 1, 100, 11, 2, 0, 7])?;
+    out.extend_from_slice(&[1, 0x50, 0, 7, 10, 1, 100, 11, 2, 0, sid])?;
     out.extend_from_slice(frame)
 }
 

@@ -40,7 +40,7 @@ returns g c =
       joins = c.join_capture-joined.ensures.joins settings capture_map c.in_ok-reading.ensures.begun;
       told = rw c.in_ok-joined.was (record { fault = tt; done = always c.write_counts-counted.result (Ok c.in_ok-joined.field-0 ≡ Ok tt) refl });
       same = λ compares.
-          let compared = c.join_capture-joined.ensures.compared settings capture_map c.in_ok-reading.ensures.begun_beside (c.in_ok-comparing.ensures compares) in
+          let compared = c.join_capture-joined.ensures.compared settings capture_map c.in_ok-reading.ensures.begun_beside (c.in_ok-comparing.ensures.asked compares) in
           on_ok_weaker c.write_counts-counted.result
           (λ equal.
           written-so _ _ _ _ _
