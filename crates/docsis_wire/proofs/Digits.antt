@@ -55,7 +55,7 @@ once_sum divisor a b zero (suc (suc q)) _ small _ _ = absurd (omega arith)
 once_sum divisor a b (suc zero) (suc (suc q)) _ small _ _ = absurd (omega arith)
 
 -- What is left of a sum is the sum of what is left of its parts.
-remainder_after-sum : (n divisor a b : ℕ) → remainder_after divisor n (bit_xor a b) ≡ bit_xor (remainder_after divisor n a) (remainder_after divisor n b)
+pub remainder_after-sum : (n divisor a b : ℕ) → remainder_after divisor n (bit_xor a b) ≡ bit_xor (remainder_after divisor n a) (remainder_after divisor n b)
 unfolding remainder_after
 remainder_after-sum zero divisor a b = refl
 remainder_after-sum (suc n) divisor a b =

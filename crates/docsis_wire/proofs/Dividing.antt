@@ -22,7 +22,7 @@ others-xor a b =
     xor_shr a (b * 2) 1 ∙ ap (bit_xor (a / 2)) half
 
 -- the order of two subtractions
-xor_swap : (a b c : ℕ) → bit_xor (bit_xor a b) c ≡ bit_xor (bit_xor a c) b
+pub xor_swap : (a b c : ℕ) → bit_xor (bit_xor a b) c ≡ bit_xor (bit_xor a c) b
 xor_swap a b c = xor_assoc a b c ∙ ap (bit_xor a) (xor_comm b c) ∙ sym (xor_assoc a c b)
 
 -- a step on such a sum, where the divisor is subtracted and where not

@@ -4,6 +4,9 @@ pub mod Dividing
 pub mod Digits
 pub mod Remainders
 pub mod Quotients
+pub mod SparseMultiple
+pub mod PairSums
+pub mod TakenAway
 pub mod StreamPlaces
 pub mod Cursors
 pub mod Starts

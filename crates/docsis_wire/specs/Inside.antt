@@ -2,3 +2,4 @@
 pub mod Cursor
 pub mod Parts
 pub mod UnderWay
+pub mod Pending

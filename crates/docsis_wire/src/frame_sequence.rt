@@ -2,21 +2,73 @@
 ghost use Rattle.std.specs.Prelude.{◌≡◌, ◌+◌, ◌*◌, ◌%◌, ◌<◌, ◌≤◌, length, take, drop, bit_xor, MatchOption};
 ghost use Rattle.docsis_wire.specs.Division.{message, remainder_after};
 ghost use Rattle.docsis_wire.specs.Checks.{frame_generator, frame_check_sequence};
+ghost use Rattle.docsis_wire.specs.Inside.Pending.{pair_sum, to_add, whole_remainder};
 
 use crate::frame_remainders::FRAME_REMAINDERS;
+use crate::sparse_multiple::{Pending, sum, words_at};
+use std::simd::prelude::*;
 
 /// The frame check sequence of these bytes, as at the end of an Ethernet frame in a packet's
 /// frame: the 32-bit CRC of IEEE 802.3. Its low byte is sent first.
 pub fn frame_check_sequence(bytes: &[u8]) -> u32
     ensures { result ≡ frame_check_sequence bytes.now }
 {
-    let mut remainder = 0xFFFF_FFFF;
+    let (remainder, rest) = after_front(0xFFFF_FFFF, bytes);
+    after_bytes(remainder, rest) ^ 0xFFFF_FFFF
+}
+
+/// A message of so many bytes has words that may be taken away: behind the first two stand six more.
+const LONG_BYTES: usize = 64;
+
+/// What is left after the front of a long message, and the bytes behind it, fewer than sixteen. Of
+/// a message that isn't long all bytes are behind.
+fn after_front(remainder: u32, bytes: &[u8]) -> (u32, &[u8])
+    ensures { whole_remainder result.0 result.1.now ≡ whole_remainder remainder bytes.now }
+{
+    if bytes.len() < LONG_BYTES {
+        return (remainder, bytes);
+    }
+    let mut pending = Pending::new(remainder);
+    let mut rest = bytes;
+    while rest.len() >= LONG_BYTES {
+        pending = pending.take_away(words_at(rest, 0));
+        rest = &rest[16..];
+    }
+    after_pending(pending, rest)
+}
+
+/// What is left after six words more, to which what is pending is added, and the bytes behind them.
+fn after_pending(pending: Pending, bytes: &[u8]) -> (u32, &[u8])
+    requires { 48 ≤ length bytes.now }
+    ensures { whole_remainder result.0 result.1.now ≡ whole_remainder (to_add pending) bytes.now }
+{
+    let (first, second, third) = pending.pairs();
+    let remainder = after_pair(0, sum(first, words_at(bytes, 0)));
+    let remainder = after_pair(remainder, sum(second, words_at(bytes, 16)));
+    let remainder = after_pair(remainder, sum(third, words_at(bytes, 32)));
+    (remainder, &bytes[48..])
+}
+
+/// What is left after two words more.
+#[inline(always)]
+fn after_pair(remainder: u32, pair: u64x2) -> u32
+    ensures { result ≡ remainder_after frame_generator 128 (bit_xor remainder (pair_sum pair)) }
+{
+    let words = pair.to_array();
+    after_words(remainder, words[0], words[1])
+}
+
+/// What is left after all these bytes, sixteen at a time and then fewer.
+fn after_bytes(remainder: u32, bytes: &[u8]) -> u32
+    ensures { result ≡ whole_remainder remainder bytes.now }
+{
+    let mut remainder = remainder;
     let mut rest = bytes;
     while let Some((low, high, behind)) = split_sixteen(rest) {
         remainder = after_sixteen(remainder, low, high);
         rest = behind;
     }
-    after_few(remainder, rest) ^ 0xFFFF_FFFF
+    after_few(remainder, rest)
 }
 
 /// The first eight bytes, the next eight, and those behind them.
@@ -31,16 +83,30 @@ fn split_sixteen(bytes: &[u8]) -> Option<(&[u8; 8], &[u8; 8], &[u8])>
     Some((low, high, behind))
 }
 
-/// What is left after sixteen bytes more. Each of them is divided by a table of its own. The first
-/// four wait for what was left before them: they are looked up last, so that no other one waits.
+/// What is left after sixteen bytes more.
 #[inline(always)]
 fn after_sixteen(remainder: u32, low: &[u8; 8], high: &[u8; 8]) -> u32
     ensures { result ≡ remainder_after frame_generator 64 (bit_xor
         (remainder_after frame_generator 64 (bit_xor remainder (message low.now)))
         (message high.now)) }
 {
-    let others = left_of_eight(0, u64::from_le_bytes(*high));
-    others ^ left_of_eight(8, u64::from(remainder) ^ u64::from_le_bytes(*low))
+    after_words(
+        remainder,
+        u64::from_le_bytes(*low),
+        u64::from_le_bytes(*high),
+    )
+}
+
+/// What is left after two words more. Each of their bytes is divided by a table of its own. The
+/// first four wait for what was left before them: they are looked up last, so that no other one
+/// waits.
+#[inline(always)]
+fn after_words(remainder: u32, low: u64, high: u64) -> u32
+    ensures { result ≡ remainder_after frame_generator 64 (bit_xor
+        (remainder_after frame_generator 64 (bit_xor remainder low)) high) }
+{
+    let others = left_of_eight(0, high);
+    others ^ left_of_eight(8, u64::from(remainder) ^ low)
 }
 
 /// What is left after some bytes more, eight at a time and then one.

@@ -47,6 +47,7 @@ pub mod laws;
 mod pieces;
 mod segment;
 mod segment_parts;
+mod sparse_multiple;
 
 pub use buffer::Bytes;
 pub use cutter::{Cutter, cut};

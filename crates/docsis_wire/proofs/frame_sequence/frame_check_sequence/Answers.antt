@@ -1,19 +1,5 @@
-use Rattle.std.proofs.Common.{refl, ◌∙◌, arith}
-use Rattle.docsis_wire.specs.Checks.{frame_generator}
-use Rattle.docsis_wire.proofs.Dividing.{sixteen_are_left, remainder_by-bytes, sequence_by-rest}
+use Rattle.std.proofs.Common.{bit_xor, ap, ◌∙◌}
 use Rattle.docsis_wire.proofs.frame_sequence.frame_check_sequence.Goals as goal
 
-pub loop-low-init : goal.loop-low-init
-loop-low-init c = record { small = λ i. omega (arith, c.type_inv.bytes i); same = refl }
-
-pub loop-low-preserved : goal.loop-low-preserved
-loop-low-preserved c =
-    let h = c.in-Some.ensures in
-    sixteen_are_left frame_generator 0xFFFFFFFF c.loop-low.remainder c.after_sixteen-remainder.result c.args.bytes.now c.loop-low.rest.now
-    c.in-Some.low.now c.in-Some.high.now c.in-Some.behind.now c.loop-low.invariant h.0 h.1 h.2 h.3 c.after_sixteen-remainder.ensures
-
 pub returns : goal.returns
-returns c =
-    let left = c.loop-low.invariant in
-    sequence_by-rest 32 frame_generator c.after_few.result c.args.bytes.now (λ i. omega (arith, c.type_inv.bytes i))
-    (c.after_few.ensures ∙ remainder_by-bytes frame_generator c.loop-low.remainder c.loop-low.rest.now left.small ∙ left.same)
+returns c = ap (λ left. bit_xor left 0xFFFFFFFF) (c.after_bytes.ensures ∙ c.after_front-remainder.ensures)
