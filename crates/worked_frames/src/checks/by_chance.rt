@@ -73,6 +73,32 @@ const SUMS: [(u32, u32); 65] = [
     (0x0020e11b, 0xbcd414f2),
 ];
 
+/// The sum of eight frame check sequences, modulo 2^32: of this many bytes and of up to seven more,
+/// the first ones that `Chance` gives. `scripts/plain-checks` works them out and compares.
+const LONG_SUMS: [(usize, u32); 21] = [
+    (64, 0x9459b3c0),
+    (72, 0x9d526c83),
+    (80, 0xa9880425),
+    (88, 0x0dc146f8),
+    (96, 0x4b45f63a),
+    (104, 0xb5ed43e7),
+    (112, 0xb32effbd),
+    (120, 0x1cdf7aca),
+    (128, 0x86bbb7f1),
+    (136, 0x98203e4d),
+    (144, 0x80411a70),
+    (152, 0xa0ac44f0),
+    (160, 0xf3950d97),
+    (168, 0xb79c857e),
+    (176, 0xd5d04044),
+    (184, 0x9ef164e3),
+    (192, 0xd369a5b8),
+    (200, 0xaabd9d2e),
+    (792, 0x331e8abd),
+    (1511, 0x0fc2b348),
+    (1993, 0xfcbc25d0),
+];
+
 /// Bytes that look like chance: each is the upper byte of a number of 32 bits that follows from the
 /// one before.
 #[derive(Drop)]
@@ -113,5 +139,31 @@ fn are_what_the_division_leaves(rt: HostRuntime) {
     for (length, wanted) in SUMS.iter().enumerate() {
         let found = sums(&mut chance, length);
         expect_same_at(&rt, "bytes by chance", length, found, *wanted);
+    }
+}
+
+/// The sum of the frame check sequences of the first bytes, of this many and of up to seven more.
+fn long_sum(bytes: &[u8], length: usize) -> u32 {
+    let mut sum = 0_u32;
+    for more in 0..8 {
+        let Some(front) = bytes.get(..length.saturating_add(more)) else {
+            return 0;
+        };
+        sum = sum.wrapping_add(frame_check_sequence(front));
+    }
+    sum
+}
+
+/// Of each length around those from which on words are taken away, and of some long ones.
+#[test]
+fn are_what_the_division_leaves_of_long_messages(rt: HostRuntime) {
+    let mut chance = Chance { number: 1 };
+    let mut bytes = [0; 2000];
+    for byte in bytes.iter_mut() {
+        *byte = chance.byte();
+    }
+    for (length, wanted) in LONG_SUMS.iter() {
+        let found = long_sum(&bytes, *length);
+        expect_same_at(&rt, "long messages by chance", *length, found, *wanted);
     }
 }
