@@ -18,7 +18,6 @@ xor_crossed a b c d =
 -- a sum that stands further on
 pub xor_moved : (k a b : ℕ) → bit_xor (a * 2 ^ k) (b * 2 ^ k) ≡ bit_xor a b * 2 ^ k
 xor_moved k a b =
-    let none : bit_xor 0 0 ≡ 0 = refl in
     ap (λ m. bit_xor m (b * 2 ^ k)) (sym (add-zero (a * 2 ^ k))) ∙ ap (bit_xor (a * 2 ^ k + 0)) (sym (add-zero (b * 2 ^ k)))
     ∙ xor_block k a b 0 0 (pow_pos k) (pow_pos k) ∙ add-zero (bit_xor a b * 2 ^ k)
 

@@ -17,7 +17,7 @@ pub fn frame_check_sequence(bytes: &[u8]) -> u32
     after_bytes(remainder, rest) ^ 0xFFFF_FFFF
 }
 
-/// A message of so many bytes has words that may be taken away: behind the first two stand six more.
+/// From so many bytes on a message has words that may be taken away: two, and six behind them.
 const LONG_BYTES: usize = 64;
 
 /// What is left after the front of a long message, and the bytes behind it, fewer than sixteen. Of
