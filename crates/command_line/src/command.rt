@@ -206,7 +206,7 @@ fn asked_channels_of<S: AsStr>(words: &[S]) -> Option<u8>
 
 /// The flows for which the words, the program's name first, ask of this command, with indexes up to
 /// the last one.
-fn asked_flows_of<S: AsStr>(
+fn flows_in_words<S: AsStr>(
     alloc: Global,
     words: &[S],
     command: &str,
@@ -373,7 +373,7 @@ fn read_with_options<'a, S: AsStr>(alloc: Global, words: &'a [S]) -> Result<Comm
         && matches.subcommand_matches("follow").is_some()
     {
         let events = asked_events(words);
-        let flows = asked_flows_of(alloc, words, "follow", LAST_FOLLOWED)?;
+        let flows = flows_in_words(alloc, words, "follow", LAST_FOLLOWED)?;
         return Ok(Command::Follow {
             rule,
             channels,
@@ -384,7 +384,7 @@ fn read_with_options<'a, S: AsStr>(alloc: Global, words: &'a [S]) -> Result<Comm
     if let Some(rule) = replay_rule
         && matches.subcommand_matches("replay").is_some()
     {
-        let flows = asked_flows_of(alloc, words, "replay", LAST_REPLAYED)?;
+        let flows = flows_in_words(alloc, words, "replay", LAST_REPLAYED)?;
         return Ok(Command::Replay { rule, flows });
     }
     Err(UsageFault::Usage)

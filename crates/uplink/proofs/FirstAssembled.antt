@@ -18,7 +18,7 @@ use Rattle.uplink.specs.declared.assembler.Taking.{Taking}
 use Rattle.uplink.specs.declared.feeding.Feeding.{Feeding}
 use Rattle.uplink.specs.Fronts.{ComesFirstIn}
 use Rattle.uplink.specs.Inside.Feeding.{HasOffered, IsClosedAfter}
-use Rattle.uplink.specs.Inside.Offering.{HasCollected, TakesAtMost, TakesAtMostOf, HasAssembledSoFar, HaveClosed, ClosesFirst, HasAssembledFirst}
+use Rattle.uplink.specs.Inside.Offering.{HasCollected, TakesAtMost, FeedsAtMost, HasAssembledSoFar, HaveClosed, ClosesFirst, HasAssembledFirst}
 use Rattle.uplink.proofs.FramesOffered.{none-offered, offered-on}
 use Rattle.uplink.proofs.AllAssembled.{sent-more}
 use Rattle.uplink.proofs.ItemsCollected.{sent_item, one_collected}
@@ -184,7 +184,7 @@ module _ {C : Type 0} (accepts : C → List ℕ → Bool) where
 
       -- one item was taken, of which a part at most was made something of
       pub first-taken : (taking : Option (Taking C)) → IfSome taking (λ was. HasAssembledSoFar accepts first feeding0 before old was feeding)
-          → MatchOption taking (HasOffered feeding [] after) (λ was. TakesAtMostOf accepts was.flows feeding (table_input_of item.sender item.event) after)
+          → MatchOption taking (HasOffered feeding [] after) (λ was. FeedsAtMost accepts was.flows feeding (table_input_of item.sender item.event) after)
           → First old feeding → First new after
       first-taken None so_far offered is = first-stays old new feeding after grew offered is
       first-taken (Some was) so_far at_most is =

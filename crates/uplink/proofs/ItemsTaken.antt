@@ -16,7 +16,7 @@ use Rattle.bonded_flows.specs.Slots.{LeavesOf}
 use Rattle.uplink.specs.declared.assembler.Taking.{Taking}
 use Rattle.uplink.specs.declared.feeding.Feeding.{Feeding}
 use Rattle.uplink.specs.Inside.Feeding.{HasOffered}
-use Rattle.uplink.specs.Inside.Offering.{TakesAtMost, TakesAtMostOf}
+use Rattle.uplink.specs.Inside.Offering.{TakesAtMost, FeedsAtMost}
 use Rattle.uplink.proofs.FramesOffered.{none-offered}
 
 module _ {C O : Type 0} (accepts : C → List ℕ → Bool) (after : O → List Given → O → Type 0) where
@@ -94,13 +94,13 @@ module _ {C : Type 0} (accepts : C → List ℕ → Bool) where
 
   -- nothing was tried
   pub untried : (taking : Option (Taking C)) (feeding : Feeding) (input : TableInput)
-      → MatchOption taking (HasOffered feeding [] feeding) (λ was. TakesAtMostOf accepts was.flows feeding input feeding)
+      → MatchOption taking (HasOffered feeding [] feeding) (λ was. FeedsAtMost accepts was.flows feeding input feeding)
   untried None feeding input = none-offered feeding
   untried (Some was) feeding input = (was.flows, none-of was.flows was.flows feeding feeding input 0 (takes-nothing accepts HasOffered was.flows feeding 0))
 
   -- it was tried
   pub tried : (taking : Option (Taking C)) (was : Taking C) (feeding after : Feeding) (input : TableInput) (flows : FlowTable C) → taking ≡ Some was
       → TakesAtMost accepts was.flows feeding input flows after
-      → MatchOption taking (HasOffered feeding [] after) (λ was. TakesAtMostOf accepts was.flows feeding input after)
+      → MatchOption taking (HasOffered feeding [] after) (λ was. FeedsAtMost accepts was.flows feeding input after)
   tried taking was feeding after input flows is at_most =
-      subst (λ (o : Option (Taking C)). MatchOption o (HasOffered feeding [] after) (λ was. TakesAtMostOf accepts was.flows feeding input after)) (sym is) (flows, at_most)
+      subst (λ (o : Option (Taking C)). MatchOption o (HasOffered feeding [] after) (λ was. FeedsAtMost accepts was.flows feeding input after)) (sym is) (flows, at_most)

@@ -13,7 +13,7 @@ ghost use Rattle.bonded_flows.specs.Table.{IsInUse};
 ghost use Rattle.receiver.specs.TakenInOrder.{table_input_of};
 ghost use Rattle.uplink.specs.Inside.Feeding.{rings_of, HasOffered, IsClosedAfter};
 ghost use Rattle.uplink.specs.Inside.Offering.{HasOrder, HasAssembledSoFar, Takes, TakesItem, ClosesFlows, HasAssembled};
-ghost use Rattle.uplink.specs.Inside.Offering.{TakesAtMost, TakesAtMostOf, ClosesFirst, HasAssembledFirst};
+ghost use Rattle.uplink.specs.Inside.Offering.{TakesAtMost, FeedsAtMost, ClosesFirst, HasAssembledFirst};
 
 use crate::feeding::Feeding;
 use bonded_flows::{FlowDecision, FlowTable};
@@ -152,7 +152,7 @@ fn with_item<C: HeaderCheck + Drop>(
         × HasOrder was.order (item.sender ∷ []) now.order
         × TakesItem C.accepts was.flows feeding.old item.sender item.event now.flows feeding.new) }
     ensures at_most { MatchOption taking (HasOffered feeding.old [] feeding.new)
-        (λ was. TakesAtMostOf C.accepts was.flows feeding.old
+        (λ was. FeedsAtMost C.accepts was.flows feeding.old
         (table_input_of item.sender item.event) feeding.new) }
 {
     if signals.has_failed() {

@@ -58,8 +58,8 @@ module _ {C : Type 0} (accepts : C → List ℕ → Bool) where
     pub takes : TakesMore HasOffered accepts flows feeding flow taken flows' feeding'
 
   -- the same, whatever the flows are then
-  abbrev pub TakesAtMostOf : FlowTable C → Feeding → TableInput → Feeding → Type 0
-  TakesAtMostOf flows feeding input feeding' = (flows' : FlowTable C) × TakesAtMost flows feeding input flows' feeding'
+  abbrev pub FeedsAtMost : FlowTable C → Feeding → TableInput → Feeding → Type 0
+  FeedsAtMost flows feeding input feeding' = (flows' : FlowTable C) × TakesAtMost flows feeding input flows' feeding'
 
   -- So far some items were taken, in this order, and what the flows gave for them was offered.
   pub record HasAssembledSoFar (first : Taking C) (feeding0 : Feeding) (before now : ℕ → List Item) (made : Taking C) (feeding : Feeding) : Type 0 where
