@@ -1,5 +1,5 @@
 -- What a reader has given and holds back, with some bytes more.
-use Rattle.std.proofs.Common.{◌≡◌, ℕ, ◌<◌, inl, List, [], ◌∷◌, ◌++◌, length, sym, ap, ◌∙◌, arith, append_assoc, length-append, subst}
+use Rattle.std.proofs.Common.{◌≡◌, ℕ, ◌<◌, inl, List, [], ◌∷◌, ◌++◌, length, Option, sym, ap, ◌∙◌, arith, append_assoc, length-append, subst}
 use Rattle.std.specs.List.{AllByRecursion}
 use Rattle.std.proofs.lemmas.List.{append-nil}
 use Rattle.std.proofs.lemmas.List.Concat.{flat_map-append}
@@ -8,7 +8,9 @@ use Rattle.capture.specs.declared.pcap.PcapHeader.{PcapHeader}
 use Rattle.capture.specs.Pcap.{RecordParts, IsRecord, FitsHeader, header_bytes, head_bytes, record_bytes, records_bytes, file_bytes}
 use Rattle.capture.specs.declared.pcap_fault.PcapFault.{PcapFault}
 use Rattle.capture.specs.declared.pcap_fault.PcapFault.TheVariants.{NotPcap, RecordTooLong, EndsInside, OutOfMemory}
-use Rattle.capture.specs.PcapReading.{Splits, IsBeginning, IsPending, IsNoPcap, HasLongRecord, Reports}
+use Rattle.capture.specs.PcapReading.{Splits, IsBeginning, IsPending, IsNoPcap, HasLongRecord, Reports, HasGiven, GoesOn, MovesOn}
+use Rattle.capture.specs.declared.pcap_step.Stage.{Stage}
+use Rattle.capture.specs.Inside.Stages.{Passes, IsFaultAt, header_of, stage_bytes}
 use Rattle.capture.specs.Inside.PcapParts.{IsTooLong, Completes, HeaderFault, HeadFault}
 use Rattle.capture.proofs.FieldLists.{same_parts}
 use Rattle.capture.proofs.PcapBytes.{length-header_bytes}
@@ -128,3 +130,36 @@ fault_of_head NotPcap header records old piece bytes found before = absurd found
 fault_of_head RecordTooLong header records old piece bytes found before = too_long_of_all header records old piece bytes before found
 fault_of_head EndsInside header records old piece bytes found before = absurd found
 fault_of_head OutOfMemory header records old piece bytes found before = tt
+
+-- two steps, of which the first gave no record
+pub then_goes_on : (header header' header'' : Option PcapHeader) (old mid new : List ℕ) (given : List RecordParts) (piece between rest : List ℕ)
+    → GoesOn header old header' mid [] piece between → GoesOn header' mid header'' new given between rest → GoesOn header old header'' new given piece rest
+then_goes_on header header' header'' old mid new given piece between rest first second = record {
+  used = first.used ++ second.used;
+  piece_is = first.piece_is ∙ ap (λ t. first.used ++ t) second.piece_is ∙ sym (append_assoc first.used second.used rest);
+  stands = λ records bytes before.
+      let after = second.stands (records ++ []) (bytes ++ first.used) (first.stands records bytes before) in
+      subst (λ r. HasGiven header'' (r ++ given) new (bytes ++ (first.used ++ second.used))) (append-nil records)
+      (subst (λ b. HasGiven header'' ((records ++ []) ++ given) new b) (append_assoc bytes first.used second.used) after);
+}
+
+-- the second step leaves no more of the piece than the first one did
+pub then_moves : (piece between rest used : List ℕ) → MovesOn piece between → between ≡ used ++ rest → MovesOn piece rest
+then_moves piece between rest used first cut = λ some. omega (arith, first some, ap length cut, length-append used rest)
+
+pub then_passes : (stage mid next : Stage) (old between new : List ℕ) (given : List RecordParts) (piece left rest : List ℕ)
+    → Passes stage old mid between [] piece left → Passes mid between next new given left rest → Passes stage old next new given piece rest
+then_passes stage mid next old between new given piece left rest first second = record {
+  in_step = second.in_step;
+  moves = then_moves piece left rest second.goes_on.used first.moves second.goes_on.piece_is;
+  goes_on =
+      then_goes_on (header_of stage) (header_of mid) (header_of next) (stage_bytes stage ++ old) (stage_bytes mid ++ between) (stage_bytes next ++ new) given piece left rest
+      first.goes_on second.goes_on;
+}
+
+-- a fault of the second step is one of the piece that came
+pub then_is_fault : (stage mid : Stage) (old between : List ℕ) (piece left : List ℕ) (fault : PcapFault)
+    → Passes stage old mid between [] piece left → IsFaultAt mid between left fault → IsFaultAt stage old piece fault
+then_is_fault stage mid old between piece left fault first second = λ records bytes before.
+    let found = second (records ++ []) (bytes ++ first.goes_on.used) (first.goes_on.stands records bytes before) in
+    subst (λ t. Reports t fault) (append_assoc bytes first.goes_on.used left ∙ ap (λ t. bytes ++ t) (sym first.goes_on.piece_is)) found

@@ -3,7 +3,7 @@ ghost use Rattle.std.specs.Prelude.{◌≡◌, ℕ, List, IfOk};
 
 use crate::numbers::number;
 use crate::packet::{Packet, read_packet};
-use crate::tlv::{newer, split_tlv};
+use crate::tlv::{Tlv, split_tlv};
 
 /// The type of a packet that holds a TDMA burst.
 const TDMA_BURST: u8 = 65;
@@ -92,7 +92,8 @@ struct BurstNumbers {
 ghost use Rattle.capture.specs.Packet.{Parts, packet_bytes, IsPacket};
 ghost use Rattle.capture.specs.Fields.{Field, fields_bytes};
 ghost use Rattle.capture.specs.Burst.{Gives, burst_of, burst_of_values, kind_of, values_of, number_said, numbers_of, burst_from, low_24_bits};
-ghost use Rattle.capture.specs.Seen.{value_seen};
+ghost use Rattle.capture.specs.Inside.Newer.{value_with};
+ghost use Rattle.capture.specs.Seen.{field, value_seen};
 ghost use Rattle.capture.specs.SeenBurst.{SpellsBurst, burst_parts, numbers_seen, values_seen};
 
 /// The burst that the bytes of a packet of link type 273 hold. What is asked first is the first
@@ -136,19 +137,33 @@ fn last_values(tlvs: &[u8]) -> LastValues<'_>
     };
     let mut rest = tlvs;
     while let Some((tlv, after)) = split_tlv(rest) {
-        let segment_header = newer(values.segment_header, SEGMENT_HEADER_PRESENT, tlv);
-        let channel = newer(values.channel, CHANNEL, tlv);
-        let sid = newer(values.sid, SID, tlv);
-        let grant = newer(values.grant, GRANT_SIZE, tlv);
-        let burst_id = newer(values.burst_id, BURST_ID, tlv);
-        values = LastValues {
-            segment_header,
-            channel,
-            sid,
-            grant,
-            burst_id,
-        };
+        values = with_tlv(values, tlv);
         rest = after;
+    }
+    values
+}
+
+/// The last values once this TLV was passed too.
+fn with_tlv<'a>(mut values: LastValues<'a>, tlv: Tlv<'a>) -> LastValues<'a>
+    ensures segment_header { value_seen result.segment_header
+        ≡ value_with 18 (field tlv.entry) (value_seen values.entry.segment_header) }
+    ensures channel { value_seen result.channel
+        ≡ value_with 10 (field tlv.entry) (value_seen values.entry.channel) }
+    ensures sid { value_seen result.sid
+        ≡ value_with 11 (field tlv.entry) (value_seen values.entry.sid) }
+    ensures grant { value_seen result.grant
+        ≡ value_with 17 (field tlv.entry) (value_seen values.entry.grant) }
+    ensures burst_id { value_seen result.burst_id
+        ≡ value_with 13 (field tlv.entry) (value_seen values.entry.burst_id) }
+{
+    let value = Some(tlv.value);
+    match tlv.kind {
+        SEGMENT_HEADER_PRESENT => values.segment_header = value,
+        CHANNEL => values.channel = value,
+        SID => values.sid = value,
+        GRANT_SIZE => values.grant = value,
+        BURST_ID => values.burst_id = value,
+        _ => {}
     }
     values
 }

@@ -55,7 +55,8 @@ fn from_header<'a>(pending: &mut Vec<u8>, piece: &'a [u8]) -> Result<(Stage, Tak
     }
 }
 
-/// The same where a record's header is next. A record without bytes is given at once.
+/// The same where a record's header is next. Behind the header as many of the record's bytes are
+/// taken as the piece has, and a record without bytes is given at once.
 fn from_head<'a>(
     alloc: Global,
     header: PcapHeader,
@@ -70,9 +71,7 @@ fn from_head<'a>(
     let (head, rest) = take_head(header.endian, pending, piece)?;
     match head {
         None => Ok((Stage::Head(header), Taken { record: None, rest })),
-        Some(head) if head.captured > 0 => {
-            Ok((Stage::Bytes(header, head), Taken { record: None, rest }))
-        }
+        Some(head) if head.captured > 0 => from_bytes(alloc, header, head, pending, rest),
         Some(head) => {
             let bytes = Vec::new(alloc);
             let record = Some(Record { head, bytes });

@@ -15,11 +15,11 @@ loop-tlv-preserved c =
       front ++ tlv ∷ [],
       passed _ _ _ front tlv c.loop-tlv.invariant.1 c.in-Some.ensures.found,
       same_values _ _
-          (newer_of 18 front tlv _ _ (ap (λ v. v.segment_header) before) c.newer-segment_header.ensures)
-          (newer_of 10 front tlv _ _ (ap (λ v. v.channel) before) c.newer-channel.ensures)
-          (newer_of 11 front tlv _ _ (ap (λ v. v.sid) before) c.newer-sid.ensures)
-          (newer_of 17 front tlv _ _ (ap (λ v. v.grant) before) c.newer-grant.ensures)
-          (newer_of 13 front tlv _ _ (ap (λ v. v.burst_id) before) c.newer-burst_id.ensures),
+          (newer_of 18 front tlv _ _ (ap (λ v. v.segment_header) before) c.with_tlv-values.ensures.segment_header)
+          (newer_of 10 front tlv _ _ (ap (λ v. v.channel) before) c.with_tlv-values.ensures.channel)
+          (newer_of 11 front tlv _ _ (ap (λ v. v.sid) before) c.with_tlv-values.ensures.sid)
+          (newer_of 17 front tlv _ _ (ap (λ v. v.grant) before) c.with_tlv-values.ensures.grant)
+          (newer_of 13 front tlv _ _ (ap (λ v. v.burst_id) before) c.with_tlv-values.ensures.burst_id),
     )
 
 pub returns : goal.returns
