@@ -116,7 +116,8 @@ pub(crate) fn take_head<'a>(
     }
 }
 
-/// The bytes of a record, once as many are there as were captured, and the rest of the piece.
+/// The bytes of a record, once as many are there as were captured, and the rest of the piece. Where
+/// the piece has all of them they are copied at once.
 pub(crate) fn take_bytes<'a>(
     alloc: Global,
     captured: usize,
@@ -128,6 +129,10 @@ pub(crate) fn take_bytes<'a>(
         piece.now (option_map (λ bytes. bytes.items) taken.0) taken.1.now) }
     ensures some { IfOk result (λ taken. MovesOn piece.now taken.1.now) }
 {
+    if captured <= piece.len() && pending.is_empty() {
+        let (bytes, rest) = piece.split_at(captured);
+        return Ok((Some(Vec::from_slice(alloc, bytes)?), rest));
+    }
     let rest = fill(pending, captured, piece)?;
     if pending.len() < captured {
         return Ok((None, rest));
