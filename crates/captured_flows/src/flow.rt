@@ -200,7 +200,6 @@ fn begin<C: HeaderCheck + Drop, O: CaptureConsumer>(
 }
 
 /// A flow of which a beginning has ended begins, or begins anew.
-#[inline(always)]
 fn begin_if<C: HeaderCheck + Drop, O: CaptureConsumer>(
     alloc: Global,
     receiver: &mut Receiver<C>,
@@ -257,7 +256,6 @@ fn let_go_if<C: HeaderCheck + Drop, O: CaptureConsumer>(
 }
 
 /// A burst that isn't kept is handed in.
-#[inline(always)]
 fn hand_in_if<C: HeaderCheck + Drop, O: CaptureConsumer>(
     alloc: Global,
     receiver: &mut Receiver<C>,

@@ -76,7 +76,6 @@ pub(crate) fn restart<C: HeaderCheck + Drop, O: Consumer>(
 }
 
 /// An input of a channel is handed in.
-#[inline(always)]
 pub(crate) fn take<C: HeaderCheck + Drop, O: Consumer>(
     alloc: Global,
     receiver: &mut Receiver<C>,
