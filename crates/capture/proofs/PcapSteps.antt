@@ -1,5 +1,5 @@
 -- What a reader has given and holds back, with some bytes more.
-use Rattle.std.proofs.Common.{◌≡◌, ℕ, ◌<◌, inl, List, [], ◌∷◌, ◌++◌, length, Option, sym, ap, ◌∙◌, arith, append_assoc, length-append, subst}
+use Rattle.std.proofs.Common.{◌≡◌, ℕ, ◌<◌, inl, List, [], ◌∷◌, ◌++◌, length, refl, sym, ap, ◌∙◌, arith, append_assoc, length-append, subst}
 use Rattle.std.specs.List.{AllByRecursion}
 use Rattle.std.proofs.lemmas.List.{append-nil}
 use Rattle.std.proofs.lemmas.List.Concat.{flat_map-append}
@@ -8,12 +8,14 @@ use Rattle.capture.specs.declared.pcap.PcapHeader.{PcapHeader}
 use Rattle.capture.specs.Pcap.{RecordParts, IsRecord, FitsHeader, header_bytes, head_bytes, record_bytes, records_bytes, file_bytes}
 use Rattle.capture.specs.declared.pcap_fault.PcapFault.{PcapFault}
 use Rattle.capture.specs.declared.pcap_fault.PcapFault.TheVariants.{NotPcap, RecordTooLong, EndsInside, OutOfMemory}
-use Rattle.capture.specs.PcapReading.{Splits, IsBeginning, IsPending, IsNoPcap, HasLongRecord, Reports, HasGiven, GoesOn, MovesOn}
+use Rattle.capture.specs.PcapReading.{Splits, IsBeginning, IsPending, IsNoPcap, HasLongRecord, Reports}
+use Rattle.capture.specs.declared.pcap.RecordHead.{RecordHead}
 use Rattle.capture.specs.declared.pcap_step.Stage.{Stage}
-use Rattle.capture.specs.Inside.Stages.{Passes, IsFaultAt, header_of, stage_bytes}
-use Rattle.capture.specs.Inside.PcapParts.{IsTooLong, Completes, HeaderFault, HeadFault}
+use Rattle.capture.specs.declared.pcap_step.Stage.TheVariants.{Head}
+use Rattle.capture.specs.Inside.Stages.{Passes}
+use Rattle.capture.specs.Inside.PcapParts.{IsTooLong, Completes, HeaderFault, HeadFault, SplitsRecord}
 use Rattle.capture.proofs.FieldLists.{same_parts}
-use Rattle.capture.proofs.PcapBytes.{length-header_bytes}
+use Rattle.capture.proofs.PcapBytes.{length-header_bytes, length-head_bytes}
 
 -- what holds of each holds of one more
 pub all_more : {X : Type 0} (P : X → Type 0) (xs : List X) (x : X) → AllByRecursion P xs → P x → AllByRecursion P (xs ++ x ∷ [])
@@ -131,35 +133,27 @@ fault_of_head RecordTooLong header records old piece bytes found before = too_lo
 fault_of_head EndsInside header records old piece bytes found before = absurd found
 fault_of_head OutOfMemory header records old piece bytes found before = tt
 
--- two steps, of which the first gave no record
-pub then_goes_on : (header header' header'' : Option PcapHeader) (old mid new : List ℕ) (given : List RecordParts) (piece between rest : List ℕ)
-    → GoesOn header old header' mid [] piece between → GoesOn header' mid header'' new given between rest → GoesOn header old header'' new given piece rest
-then_goes_on header header' header'' old mid new given piece between rest first second = record {
-  used = first.used ++ second.used;
-  piece_is = first.piece_is ∙ ap (λ t. first.used ++ t) second.piece_is ∙ sym (append_assoc first.used second.used rest);
-  stands = λ records bytes before.
-      let after = second.stands (records ++ []) (bytes ++ first.used) (first.stands records bytes before) in
-      subst (λ r. HasGiven header'' (r ++ given) new (bytes ++ (first.used ++ second.used))) (append-nil records)
-      (subst (λ b. HasGiven header'' ((records ++ []) ++ given) new b) (append_assoc bytes first.used second.used) after);
-}
+-- a whole record comes, where none has begun
+whole_passes : (header : PcapHeader) (head : RecordHead) (bytes rest piece : List ℕ) → SplitsRecord header.endian head bytes rest piece
+    → Passes (Head header) [] (Head header) [] (record { head = head; bytes = bytes } ∷ []) piece rest
+whole_passes header head bytes rest piece split =
+    let front = head_bytes header.endian head in
+    record {
+      in_step = omega arith;
+      moves = λ some. omega (arith, ap length split.piece_is, length-append (front ++ bytes) rest, length-append front bytes, length-head_bytes header.endian head);
+      goes_on = record {
+        used = front ++ bytes;
+        piece_is = split.piece_is;
+        stands = λ records all before.
+            record_whole header records (record { head = head; bytes = bytes }) [] [] (front ++ bytes) all before refl refl
+            (record { fits = split.fits; size = split.size; short = split.short });
+      };
+    }
 
--- the second step leaves no more of the piece than the first one did
-pub then_moves : (piece between rest used : List ℕ) → MovesOn piece between → between ≡ used ++ rest → MovesOn piece rest
-then_moves piece between rest used first cut = λ some. omega (arith, first some, ap length cut, length-append used rest)
-
-pub then_passes : (stage mid next : Stage) (old between new : List ℕ) (given : List RecordParts) (piece left rest : List ℕ)
-    → Passes stage old mid between [] piece left → Passes mid between next new given left rest → Passes stage old next new given piece rest
-then_passes stage mid next old between new given piece left rest first second = record {
-  in_step = second.in_step;
-  moves = then_moves piece left rest second.goes_on.used first.moves second.goes_on.piece_is;
-  goes_on =
-      then_goes_on (header_of stage) (header_of mid) (header_of next) (stage_bytes stage ++ old) (stage_bytes mid ++ between) (stage_bytes next ++ new) given piece left rest
-      first.goes_on second.goes_on;
-}
-
--- a fault of the second step is one of the piece that came
-pub then_is_fault : (stage mid : Stage) (old between : List ℕ) (piece left : List ℕ) (fault : PcapFault)
-    → Passes stage old mid between [] piece left → IsFaultAt mid between left fault → IsFaultAt stage old piece fault
-then_is_fault stage mid old between piece left fault first second = λ records bytes before.
-    let found = second (records ++ []) (bytes ++ first.goes_on.used) (first.goes_on.stands records bytes before) in
-    subst (λ t. Reports t fault) (append_assoc bytes first.goes_on.used left ∙ ap (λ t. bytes ++ t) (sym first.goes_on.piece_is)) found
+pub whole_record : (stage : Stage) (header : PcapHeader) (head : RecordHead) (pending bytes items rest piece : List ℕ) → stage ≡ Head header → pending ≡ [] → items ≡ bytes
+    → SplitsRecord header.endian head bytes rest piece → Passes stage pending (Head header) pending (record { head = head; bytes = items } ∷ []) piece rest
+whole_record stage header head pending bytes items rest piece at none same split =
+    subst (λ (s : Stage). Passes s pending (Head header) pending (record { head = head; bytes = items } ∷ []) piece rest) (sym at)
+    (subst (λ (p : List ℕ). Passes (Head header) p (Head header) p (record { head = head; bytes = items } ∷ []) piece rest) (sym none)
+    (subst (λ (i : List ℕ). Passes (Head header) [] (Head header) [] (record { head = head; bytes = i } ∷ []) piece rest) (sym same)
+    (whole_passes header head bytes rest piece split)))

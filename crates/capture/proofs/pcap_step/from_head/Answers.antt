@@ -1,17 +1,10 @@
--- With the last byte of a record's header it was taken, and then its bytes are; a record without
--- bytes is whole then.
-use Rattle.std.proofs.Common.{◌≡◌, ℕ, ◌<◌, List, [], ◌++◌, inl, inr, length, ap, sym, ◌∙◌, arith, refl}
+-- With the last byte of a record's header it was taken; a record without bytes is whole then.
+use Rattle.std.proofs.Common.{◌≡◌, ◌++◌, inl, inr, length, ap, sym, ◌∙◌, arith, refl}
 use Rattle.std.proofs.lemmas.List.{append-nil}
-use Rattle.std.proofs.lemmas.Result.{err_from_is_err_and, IfOk-weaker, IfErr-weaker}
+use Rattle.std.proofs.lemmas.Result.{err_from_is_err_and}
 use Rattle.std.proofs.lemmas.Option.{same_Some}
-use Rattle.capture.specs.declared.pcap.PcapHeader.{PcapHeader}
-use Rattle.capture.specs.declared.pcap.RecordHead.{RecordHead}
-use Rattle.capture.specs.declared.pcap_step.Stage.TheVariants.{Head, Bytes}
 use Rattle.capture.specs.Pcap.{head_bytes}
-use Rattle.capture.specs.PcapReading.{MovesOn}
-use Rattle.capture.specs.Inside.PcapParts.{FindsHead}
-use Rattle.capture.specs.Inside.Stages.{Passes}
-use Rattle.capture.proofs.PcapSteps.{more_pending, record_whole, fault_of_head, then_passes, then_is_fault}
+use Rattle.capture.proofs.PcapSteps.{more_pending, record_whole, fault_of_head}
 use Rattle.capture.proofs.pcap_step.from_head.Goals as goal
 
 pub returns-in-None-clause-passes : goal.returns-in-None-clause-passes
@@ -27,36 +20,22 @@ returns-in-None-clause-passes c =
       };
     }
 
--- the header was taken, and none of the record's bytes
-after_head : (header : PcapHeader) (head : RecordHead) (old new piece rest : List ℕ) → FindsHead header.endian old new piece rest head → 0 < head.captured → MovesOn piece rest
-    → Passes (Head header) old (Bytes header head) new [] piece rest
-after_head header head old new piece rest found some moves =
-    let spelled = head_bytes header.endian head in
-    let none : length new ≡ 0 = ap length found.none in
+pub returns-in-Some-clause-passes : goal.returns-in-Some-clause-passes
+returns-in-Some-clause-passes c =
+    let found = rw c.in-Some.is at c.in_ok-head.ensures.part in
+    let head = head_bytes c.args.header.endian c.in-Some.head in
+    let rest = c.take_head.new.pending.items in
+    let none : length rest ≡ 0 = ap length found.none in
     record {
-      in_step = (omega (arith, none, some), found.short, found.fits);
-      moves = moves;
+      in_step = (omega (arith, none, c.if-head-gt0.true), found.short, found.fits);
+      moves = c.in_ok-head.ensures.some;
       goes_on = record {
         used = found.completes.used;
         piece_is = found.completes.piece_is;
         stands = λ records bytes before.
-            more_pending header records _ (spelled ++ new) _ bytes before (ap (λ t. spelled ++ t) found.none ∙ append-nil spelled ∙ found.completes.whole_is)
-            (inr (record { head = head; bytes = new; spelled = refl; fits = found.fits; short = found.short; fewer = omega (arith, none, some) }));
+            more_pending c.args.header records _ (head ++ rest) _ bytes before (ap (λ t. head ++ t) found.none ∙ append-nil head ∙ found.completes.whole_is)
+            (inr (record { head = c.in-Some.head; bytes = rest; spelled = refl; fits = found.fits; short = found.short; fewer = omega (arith, none, c.if-head-gt0.true) }));
       };
-    }
-
-pub from_bytes-requires : goal.from_bytes-requires
-from_bytes-requires c =
-    let found = rw c.in-Some.is at c.in_ok-head.ensures.part in
-    record { fewer = omega (arith, ap length found.none, c.if-head-gt0.true); short = found.short; fits = found.fits }
-
-pub returns-in-Some : goal.returns-in-Some
-returns-in-Some c =
-    let found = rw c.in-Some.is at c.in_ok-head.ensures.part in
-    let first = after_head c.args.header c.in-Some.head _ _ _ _ found c.if-head-gt0.true c.in_ok-head.ensures.some in
-    record {
-      passes = IfOk-weaker c.from_bytes.result _ _ (λ next second. then_passes _ _ next.0 _ _ _ _ _ _ _ first second) c.from_bytes.ensures.passes;
-      fault = IfErr-weaker c.from_bytes.result _ _ (λ fault second. then_is_fault _ _ _ _ _ _ fault first second) c.from_bytes.ensures.fault;
     }
 
 pub returns-in-Some-2-clause-passes : goal.returns-in-Some-2-clause-passes
