@@ -1,5 +1,5 @@
 -- What a reader has given and holds back, with some bytes more.
-use Rattle.std.proofs.Common.{◌≡◌, ℕ, ◌<◌, inl, List, [], ◌∷◌, ◌++◌, length, sym, ap, ◌∙◌, arith, append_assoc, length-append, subst}
+use Rattle.std.proofs.Common.{◌≡◌, ℕ, ◌<◌, inl, List, [], ◌∷◌, ◌++◌, length, refl, sym, ap, ◌∙◌, arith, append_assoc, length-append, subst}
 use Rattle.std.specs.List.{AllByRecursion}
 use Rattle.std.proofs.lemmas.List.{append-nil}
 use Rattle.std.proofs.lemmas.List.Concat.{flat_map-append}
@@ -9,9 +9,13 @@ use Rattle.capture.specs.Pcap.{RecordParts, IsRecord, FitsHeader, header_bytes, 
 use Rattle.capture.specs.declared.pcap_fault.PcapFault.{PcapFault}
 use Rattle.capture.specs.declared.pcap_fault.PcapFault.TheVariants.{NotPcap, RecordTooLong, EndsInside, OutOfMemory}
 use Rattle.capture.specs.PcapReading.{Splits, IsBeginning, IsPending, IsNoPcap, HasLongRecord, Reports}
-use Rattle.capture.specs.Inside.PcapParts.{IsTooLong, Completes, HeaderFault, HeadFault}
+use Rattle.capture.specs.declared.pcap.RecordHead.{RecordHead}
+use Rattle.capture.specs.declared.pcap_step.Stage.{Stage}
+use Rattle.capture.specs.declared.pcap_step.Stage.TheVariants.{Head}
+use Rattle.capture.specs.Inside.Stages.{Passes}
+use Rattle.capture.specs.Inside.PcapParts.{IsTooLong, Completes, HeaderFault, HeadFault, SplitsRecord}
 use Rattle.capture.proofs.FieldLists.{same_parts}
-use Rattle.capture.proofs.PcapBytes.{length-header_bytes}
+use Rattle.capture.proofs.PcapBytes.{length-header_bytes, length-head_bytes}
 
 -- what holds of each holds of one more
 pub all_more : {X : Type 0} (P : X → Type 0) (xs : List X) (x : X) → AllByRecursion P xs → P x → AllByRecursion P (xs ++ x ∷ [])
@@ -128,3 +132,28 @@ fault_of_head NotPcap header records old piece bytes found before = absurd found
 fault_of_head RecordTooLong header records old piece bytes found before = too_long_of_all header records old piece bytes before found
 fault_of_head EndsInside header records old piece bytes found before = absurd found
 fault_of_head OutOfMemory header records old piece bytes found before = tt
+
+-- a whole record comes, where none has begun
+whole_passes : (header : PcapHeader) (head : RecordHead) (bytes rest piece : List ℕ) → SplitsRecord header.endian head bytes rest piece
+    → Passes (Head header) [] (Head header) [] (record { head = head; bytes = bytes } ∷ []) piece rest
+whole_passes header head bytes rest piece split =
+    let front = head_bytes header.endian head in
+    record {
+      in_step = omega arith;
+      moves = λ some. omega (arith, ap length split.piece_is, length-append (front ++ bytes) rest, length-append front bytes, length-head_bytes header.endian head);
+      goes_on = record {
+        used = front ++ bytes;
+        piece_is = split.piece_is;
+        stands = λ records all before.
+            record_whole header records (record { head = head; bytes = bytes }) [] [] (front ++ bytes) all before refl refl
+            (record { fits = split.fits; size = split.size; short = split.short });
+      };
+    }
+
+pub whole_record : (stage : Stage) (header : PcapHeader) (head : RecordHead) (pending bytes items rest piece : List ℕ) → stage ≡ Head header → pending ≡ [] → items ≡ bytes
+    → SplitsRecord header.endian head bytes rest piece → Passes stage pending (Head header) pending (record { head = head; bytes = items } ∷ []) piece rest
+whole_record stage header head pending bytes items rest piece at none same split =
+    subst (λ (s : Stage). Passes s pending (Head header) pending (record { head = head; bytes = items } ∷ []) piece rest) (sym at)
+    (subst (λ (p : List ℕ). Passes (Head header) p (Head header) p (record { head = head; bytes = items } ∷ []) piece rest) (sym none)
+    (subst (λ (i : List ℕ). Passes (Head header) [] (Head header) [] (record { head = head; bytes = i } ∷ []) piece rest) (sym same)
+    (whole_passes header head bytes rest piece split)))

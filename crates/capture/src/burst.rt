@@ -1,9 +1,9 @@
 //! The upstream bursts among the packets of link type 273.
-ghost use Rattle.std.specs.Prelude.{◌≡◌, ℕ, List, IfOk};
+ghost use Rattle.std.specs.Prelude.{◌≡◌, ◌⊎◌, ℕ, List, IfOk, IsSomeAnd, OnSome};
 
 use crate::numbers::number;
-use crate::packet::{Packet, read_packet};
-use crate::tlv::{newer, split_tlv};
+use crate::packet::{Packet, split_packet};
+use crate::tlv::{Tlv, split_tlv};
 
 /// The type of a packet that holds a TDMA burst.
 const TDMA_BURST: u8 = 65;
@@ -90,9 +90,10 @@ struct BurstNumbers {
 }
 
 ghost use Rattle.capture.specs.Packet.{Parts, packet_bytes, IsPacket};
-ghost use Rattle.capture.specs.Fields.{Field, fields_bytes};
+ghost use Rattle.capture.specs.Fields.{Field, AreFields, fields_bytes};
 ghost use Rattle.capture.specs.Burst.{Gives, burst_of, burst_of_values, kind_of, values_of, number_said, numbers_of, burst_from, low_24_bits};
-ghost use Rattle.capture.specs.Seen.{value_seen};
+ghost use Rattle.capture.specs.Inside.Newer.{value_with};
+ghost use Rattle.capture.specs.Seen.{field, value_seen};
 ghost use Rattle.capture.specs.SeenBurst.{SpellsBurst, burst_parts, numbers_seen, values_seen};
 
 /// The burst that the bytes of a packet of link type 273 hold. What is asked first is the first
@@ -108,24 +109,30 @@ pub fn read_burst(bytes: &[u8]) -> Result<Burst<'_>, Passed>
     // What is found is in the bytes.
     ensures found { IfOk result (SpellsBurst bytes.now) }
 {
-    match read_packet(bytes) {
+    match split_packet(bytes) {
         Some(packet) => burst_in(&packet),
         None => Err(Passed::Malformed),
     }
 }
 
-/// The burst in a packet.
+/// The burst in a packet, if its TLVs are whole TLVs to the end.
 fn burst_in<'a>(packet: &Packet<'a>) -> Result<Burst<'a>, Passed>
-    ensures { (parts : Parts) → IsPacket parts packet.now
+    ensures read { (parts : Parts) → IsPacket parts packet.now
         → Gives burst_parts result (burst_of parts) }
+    ensures whole { AreFields packet.now.tlvs.now ⊎ (result ≡ Err Passed.Malformed) }
 {
-    burst_of_values(packet.kind, last_values(packet.tlvs), packet.payload)
+    match last_values(packet.tlvs) {
+        Some(values) => burst_of_values(packet.kind, values, packet.payload),
+        None => Err(Passed::Malformed),
+    }
 }
 
-/// The last value of each type that matters, by one pass over the TLVs.
-fn last_values(tlvs: &[u8]) -> LastValues<'_>
-    ensures { (fields : List Field) → tlvs.now ≡ fields_bytes fields
-        → values_seen result ≡ values_of fields }
+/// The last value of each type that matters, by one pass over the TLVs. `None` where they aren't
+/// whole TLVs to the end.
+fn last_values(tlvs: &[u8]) -> Option<LastValues<'_>>
+    ensures whole { OnSome result (AreFields tlvs.now) }
+    ensures values { (fields : List Field) → tlvs.now ≡ fields_bytes fields
+        → IsSomeAnd result (λ values. values_seen values ≡ values_of fields) }
 {
     let mut values = LastValues {
         segment_header: None,
@@ -136,19 +143,33 @@ fn last_values(tlvs: &[u8]) -> LastValues<'_>
     };
     let mut rest = tlvs;
     while let Some((tlv, after)) = split_tlv(rest) {
-        let segment_header = newer(values.segment_header, SEGMENT_HEADER_PRESENT, tlv);
-        let channel = newer(values.channel, CHANNEL, tlv);
-        let sid = newer(values.sid, SID, tlv);
-        let grant = newer(values.grant, GRANT_SIZE, tlv);
-        let burst_id = newer(values.burst_id, BURST_ID, tlv);
-        values = LastValues {
-            segment_header,
-            channel,
-            sid,
-            grant,
-            burst_id,
-        };
+        values = with_tlv(values, tlv);
         rest = after;
+    }
+    if rest.is_empty() { Some(values) } else { None }
+}
+
+/// The last values once this TLV was passed too.
+fn with_tlv<'a>(mut values: LastValues<'a>, tlv: Tlv<'a>) -> LastValues<'a>
+    ensures segment_header { value_seen result.segment_header
+        ≡ value_with 18 (field tlv.entry) (value_seen values.entry.segment_header) }
+    ensures channel { value_seen result.channel
+        ≡ value_with 10 (field tlv.entry) (value_seen values.entry.channel) }
+    ensures sid { value_seen result.sid
+        ≡ value_with 11 (field tlv.entry) (value_seen values.entry.sid) }
+    ensures grant { value_seen result.grant
+        ≡ value_with 17 (field tlv.entry) (value_seen values.entry.grant) }
+    ensures burst_id { value_seen result.burst_id
+        ≡ value_with 13 (field tlv.entry) (value_seen values.entry.burst_id) }
+{
+    let value = Some(tlv.value);
+    match tlv.kind {
+        SEGMENT_HEADER_PRESENT => values.segment_header = value,
+        CHANNEL => values.channel = value,
+        SID => values.sid = value,
+        GRANT_SIZE => values.grant = value,
+        BURST_ID => values.burst_id = value,
+        _ => {}
     }
     values
 }

@@ -19,7 +19,7 @@
 //! 4. [`burst_in_record`] and [`burst_in_capture`] make a [`Burst`] of a record, with its channel,
 //!    its SID, its grant and the bytes of its segment, or say by [`Passed`] why the record is
 //!    passed over. [`read_burst`] does so for the bytes of a packet.
-//! 5. [`read_packet`] is its first half: version, type, TLVs and payload of a packet of any type.
+//! 5. [`read_packet`] reads a packet of any type: version, type, TLVs and payload.
 //!    [`split_tlv`] takes the TLVs one after another, [`last_value`] looks one up, and [`are_tlvs`]
 //!    tells whether bytes are whole TLVs.
 //! 6. [`write_pcap_header`] and [`write_record`] write a file.

@@ -16,6 +16,7 @@ pub struct Packet<'a> {
     pub payload: &'a [u8],
 }
 
+ghost use Rattle.capture.specs.Fields.{AreFields};
 ghost use Rattle.capture.specs.Packet.{Parts, packet_bytes, IsPacket, SpellsPacket};
 
 /// The packet that the bytes spell, all of them. `None` where they spell none: there are fewer than
@@ -25,13 +26,24 @@ pub fn read_packet(bytes: &[u8]) -> Option<Packet<'_>>
     ensures only { (parts : Parts) → bytes.now ≡ packet_bytes parts
         → IsSomeAnd result (IsPacket parts) }
 {
+    let packet = split_packet(bytes)?;
+    if !are_tlvs(packet.tlvs) {
+        return None;
+    }
+    Some(packet)
+}
+
+/// The packet that the bytes spell if its TLVs are whole TLVs to the end, which isn't looked at.
+pub(crate) fn split_packet(bytes: &[u8]) -> Option<Packet<'_>>
+    ensures found { IfSome result
+        (λ packet. AreFields packet.tlvs.now → SpellsPacket bytes.now packet) }
+    ensures only { (parts : Parts) → bytes.now ≡ packet_bytes parts
+        → IsSomeAnd result (IsPacket parts) }
+{
     let (head, rest) = bytes.split_first_chunk::<4>()?;
     let [version, kind, high, low] = *head;
     let length = usize::from(u16::from_be_bytes([high, low]));
     let (tlvs, payload) = rest.split_at_checked(length)?;
-    if !are_tlvs(tlvs) {
-        return None;
-    }
     Some(Packet {
         version,
         kind,

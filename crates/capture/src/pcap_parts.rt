@@ -3,7 +3,7 @@
 ghost use Rattle.std.specs.Prelude.{◌≡◌, ◌≤◌, ◌<◌, [], ◌++◌, length, option_map, IfOk, IfErr, IfSome};
 ghost use Rattle.capture.specs.Pcap.{head_bytes, FitsHead};
 ghost use Rattle.capture.specs.PcapReading.{MovesOn};
-ghost use Rattle.capture.specs.Inside.PcapParts.{Completes, TakesHeader, TakesHead, ReadsHead, TakesBytes, HeaderFault, HeadFault};
+ghost use Rattle.capture.specs.Inside.PcapParts.{Completes, TakesHeader, TakesHead, ReadsHead, TakesBytes, HeaderFault, HeadFault, SplitsRecord};
 
 use crate::endian::Endian;
 use crate::pcap::{
@@ -69,6 +69,20 @@ fn split_head(endian: Endian, piece: &[u8]) -> Option<(RecordHead, &[u8])>
 {
     let (head, rest) = piece.split_at_checked(RECORD_HEADER_BYTES)?;
     Some((read_record_head(endian, head), rest))
+}
+
+/// The record at the front of a piece that has all of it: its header, its bytes, and what is behind
+/// it. None is found where the piece ends before the record does, or it is said to have more than
+/// 1 MiB.
+pub(crate) fn split_record(endian: Endian, piece: &[u8]) -> Option<(RecordHead, &[u8], &[u8])>
+    ensures { IfSome result (λ split. SplitsRecord endian split.0 split.1.now split.2.now piece.now) }
+{
+    let (head, rest) = split_head(endian, piece)?;
+    if head.captured > LONGEST_RECORD {
+        return None;
+    }
+    let (bytes, rest) = rest.split_at_checked(head.captured as usize)?;
+    Some((head, bytes, rest))
 }
 
 /// The header of a record, once its sixteen bytes are there, and the rest of the piece. Where the

@@ -3,7 +3,7 @@ ghost use Rattle.std.specs.Prelude.{◌≡◌, ◌++◌, ◌↔◌, ℕ, List, [
 
 use crate::pcap::PcapHeader;
 use crate::pcap_fault::PcapFault;
-use crate::pcap_step::{Stage, take_part};
+use crate::pcap_step::{Stage, take_next};
 use crate::record::Taken;
 use std::alloc::Global;
 use std::marker::Model;
@@ -81,11 +81,8 @@ impl PcapReader {
         if let Some(fault) = self.fault {
             return Err(fault);
         }
-        match take_part(alloc, self.stage, &mut self.pending, piece) {
-            Ok((stage, taken)) => {
-                self.stage = stage;
-                Ok(taken)
-            }
+        match take_next(alloc, &mut self.stage, &mut self.pending, piece) {
+            Ok(taken) => Ok(taken),
             Err(fault) => {
                 self.pending.clear();
                 self.fault = Some(fault);

@@ -1,9 +1,9 @@
 //! What each piece brings to the part of a pcap file that is next.
-ghost use Rattle.std.specs.Prelude.{◌≡◌, ◌++◌, ◌<◌, ◌≤◌, ℕ, List, length, IfOk, IfErr};
+ghost use Rattle.std.specs.Prelude.{◌≡◌, ◌++◌, ◌<◌, ◌≤◌, ℕ, List, length, IfOk, IfErr, OnErr};
 
 use crate::pcap::{PcapHeader, RecordHead};
 use crate::pcap_fault::PcapFault;
-use crate::pcap_parts::{take_bytes, take_head, take_header};
+use crate::pcap_parts::{split_record, take_bytes, take_head, take_header};
 use crate::record::{Record, Taken};
 use std::alloc::Global;
 
@@ -22,8 +22,35 @@ ghost use Rattle.capture.specs.Pcap.{FitsHead, longest_record};
 ghost use Rattle.capture.specs.SeenRecord.{given_by};
 ghost use Rattle.capture.specs.Inside.Stages.{IsInStep, Passes, IsFaultAt};
 
+/// Takes a whole record from the front of a piece, where one is next and the piece has all of it;
+/// else bytes for the part that is next.
+pub(crate) fn take_next<'a>(
+    alloc: Global,
+    stage: &mut Stage,
+    pending: &mut Vec<u8>,
+    piece: &'a [u8],
+) -> Result<Taken<'a>, PcapFault>
+    requires { IsInStep stage.old (length pending.old.items) }
+    ensures passes { IfOk result (λ taken. Passes stage.old pending.old.items stage.new
+        pending.new.items (given_by taken.record) piece.now taken.rest.now) }
+    ensures fault { IfErr result (IsFaultAt stage.old pending.old.items piece.now) }
+    ensures stage { OnErr result (stage.new ≡ stage.old) }
+{
+    if let Stage::Head(header) = stage
+        && pending.is_empty()
+        && let Some((head, bytes, rest)) = split_record(header.endian, piece)
+    {
+        let bytes = Vec::from_slice(alloc, bytes)?;
+        let record = Some(Record { head, bytes });
+        return Ok(Taken { record, rest });
+    }
+    let (next, taken) = take_part(alloc, *stage, pending, piece)?;
+    *stage = next;
+    Ok(taken)
+}
+
 /// Takes bytes from the front of a piece for the part that is next, and says what is next then.
-pub(crate) fn take_part<'a>(
+fn take_part<'a>(
     alloc: Global,
     stage: Stage,
     pending: &mut Vec<u8>,

@@ -38,7 +38,7 @@ pub fn are_tlvs(bytes: &[u8]) -> bool
 }
 
 /// The last value of a type, once this TLV was passed too.
-pub(crate) fn newer<'a>(last: Option<&'a [u8]>, kind: u8, tlv: Tlv<'a>) -> Option<&'a [u8]>
+fn newer<'a>(last: Option<&'a [u8]>, kind: u8, tlv: Tlv<'a>) -> Option<&'a [u8]>
     ensures { value_seen result ≡ value_with kind (field tlv.entry) (value_seen last.entry) }
 {
     if tlv.kind == kind {

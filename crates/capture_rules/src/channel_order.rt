@@ -6,6 +6,7 @@ ghost use Rattle.capture_rules.specs.Inside.Numbers.{AreNumbersOf, IsFirstWith, 
 
 use crate::arrival::{Arrival, HandedOn, Waiting};
 use crate::clock_counts::ClockCounts;
+use crate::queue::take_at;
 use crate::waiting_numbers::WaitingNumbers;
 use reorder::{MODULUS, NUMBERS_AHEAD};
 use std::alloc::{AllocError, AllocFailed, Global};
@@ -188,7 +189,7 @@ fn take_next<T>(
     let low = (oldest.arrival.number + NUMBERS_AHEAD) % MODULUS;
     let number = numbers.take_first_from(channel, low)?;
     let at = first_with(waiting, channel, number)?;
-    let one = waiting.remove(at)?;
+    let one = take_at(waiting, at)?;
     Some(HandedOn {
         time,
         arrival: one.arrival,

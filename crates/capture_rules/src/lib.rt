@@ -29,6 +29,7 @@ mod held_time;
 mod held_times;
 pub mod laws;
 mod numbers;
+mod queue;
 mod waiting_numbers;
 
 pub use arrival::{Arrival, HandedOn};

@@ -3,6 +3,7 @@ ghost use Rattle.std.specs.Prelude.{◌≡◌, ◌≢◌, ◌<◌, ◌∷◌, �
 ghost use Rattle.std.specs.List.Sorted.{IsNonDecreasing};
 ghost use Rattle.capture_rules.specs.Inside.Round.{ComesFirst};
 
+use crate::queue::take_at;
 use std::alloc::{AllocError, Global};
 use std::collections::VecDeque;
 
@@ -94,7 +95,7 @@ fn take_first(numbers: &mut VecDeque<u16>, low: u16) -> Option<u16>
     ensures unchanged { IfNone result (numbers.new.items ≡ numbers.old.items) }
 {
     let at = first_from(numbers, low);
-    numbers.remove(at)
+    take_at(numbers, at)
 }
 
 /// Where the number stands that comes first, going up from `low` and round, if there is one.

@@ -1,5 +1,5 @@
 -- The parts that are put are a frame's record.
-use Rattle.std.proofs.Common.{◌≡◌, ℕ, ◌+◌, List, [], ◌∷◌, ◌++◌, length, sym, ap, ◌∙◌, subst, arith}
+use Rattle.std.proofs.Common.{◌≡◌, ℕ, ◌+◌, List, ◌∷◌, ◌++◌, length, sym, ap, ◌∙◌, subst, arith}
 use Rattle.std.proofs.lemmas.List.{length-append, append_assoc}
 use Rattle.capture.specs.Fields.{fields_bytes}
 use Rattle.capture.specs.Packet.{two_bytes}
@@ -19,10 +19,10 @@ head_put old head held time size e s =
 -- a frame alone
 pub docsis_put : (link : FrameLink) (old head frame new : List ℕ) (time size : ℕ) (origin : FrameOrigin) → link ≡ Docsis
     → head ≡ head_bytes Little (record_head time size) → size ≡ length frame
-    → new ≡ old ++ head ++ [] ++ [] ++ frame → new ≡ old ++ record_bytes Little (frame_record link time origin frame)
+    → new ≡ old ++ head ++ frame → new ≡ old ++ record_bytes Little (frame_record link time origin frame)
 docsis_put link old head frame new time size origin is e s n =
     subst (λ link. new ≡ old ++ record_bytes Little (frame_record link time origin frame)) (sym is)
-    (n ∙ append_assoc (old ++ head ++ []) [] frame ∙ append_assoc (old ++ head) [] frame ∙ head_put old head frame time size e s)
+    (n ∙ head_put old head frame time size e s)
 
 -- a packet
 xra_data : (front tlvs frame : List ℕ) (origin : FrameOrigin) → tlvs ≡ fields_bytes (origin_fields origin) → front ≡ 1 ∷ 80 ∷ two_bytes (length tlvs)

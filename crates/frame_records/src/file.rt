@@ -45,7 +45,7 @@ pub fn put_frame(
     match link {
         FrameLink::Docsis => {
             let head = record_head(time, frame.len() as u32);
-            put_parts(out, &head, &[], &[], frame)
+            put_alone(out, &head, frame)
         }
         FrameLink::Xra => {
             let tlvs = origin.tlvs(alloc)?;
@@ -62,6 +62,17 @@ fn packet_front(length: u16) -> [u8; 4]
 {
     let [high, low] = length.to_be_bytes();
     [1, 80, high, low]
+}
+
+/// Appends a record of a frame alone, or nothing.
+fn put_alone(out: &mut Vec<u8>, head: &[u8; 16], frame: &[u8]) -> Result<(), AllocError>
+    requires { length frame.now ≤ longest_frame }
+    ensures ok { OnOk result (out.new.items ≡ out.old.items ++ head.now ++ frame.now) }
+    ensures err { OnErr result (out.new.items ≡ out.old.items) }
+{
+    out.reserve(RECORD_HEADER_BYTES + frame.len())?;
+    out.extend_from_slice(head)?;
+    out.extend_from_slice(frame)
 }
 
 /// Appends a record of these parts, or nothing.

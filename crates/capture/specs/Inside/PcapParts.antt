@@ -58,6 +58,13 @@ abbrev pub TakesBytes : ℕ → List ℕ → List ℕ → List ℕ → Option (L
 TakesBytes captured old new piece None rest = Waits captured old new piece rest
 TakesBytes captured old new piece (Some bytes) rest = FindsBytes captured old new piece rest bytes
 
+-- the piece begins with a whole record
+pub record SplitsRecord (endian : Endian) (head : RecordHead) (bytes rest piece : List ℕ) : Type 0 where
+  pub piece_is : piece ≡ head_bytes endian head ++ bytes ++ rest
+  pub fits : FitsHead head
+  pub size : length bytes ≡ head.captured
+  pub short : head.captured ≤ longest_record
+
 -- a record of more than 1 MiB begins here
 pub record IsTooLong (endian : Endian) (bytes : List ℕ) : Type 0 where
   pub head : RecordHead

@@ -9,4 +9,4 @@ returns-clause-fits c =
     let value = c.args.value.now in
     let small = big_from-lt 0 (length value) value (λ i. omega (arith, c.type_inv.value i)) in
     let grows : 256 ^ length value ≤ 256 ^ c.args.most = pow-le-pow_right (omega arith) (omega arith) in
-    omega (arith, small, grows, c.read_uint.ensures)
+    omega (arith, small, grows, c.spelled.ensures)

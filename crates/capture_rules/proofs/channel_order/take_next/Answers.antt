@@ -28,13 +28,13 @@ pub returns-in_err-one-clause-some : goal.returns-in_err-one-clause-some
 returns-in_err-one-clause-some g c =
     let found = c.in_ok-at.ensures.first in
     let within = slice_get_within c.args.waiting.now.items c.in_ok-at.at found.one found.stands in
-    absurd (both_ways false refl (c.in_err-one.ensures.variant.1 (let size = c.args.waiting.now.ok.0 in omega (arith, within, size))))
+    absurd (both_ways false refl (c.in_err-one.ensures.some.1 within))
 
 pub returns-in_err-one-clause-numbered : goal.returns-in_err-one-clause-numbered
 returns-in_err-one-clause-numbered g c =
     let found = c.in_ok-at.ensures.first in
     let within = slice_get_within c.args.waiting.now.items c.in_ok-at.at found.one found.stands in
-    absurd (both_ways false refl (c.in_err-one.ensures.variant.1 (let size = c.args.waiting.now.ok.0 in omega (arith, within, size))))
+    absurd (both_ways false refl (c.in_err-one.ensures.some.1 within))
 
 pub returns-clause-next : goal.returns-clause-next
 returns-clause-next g c =

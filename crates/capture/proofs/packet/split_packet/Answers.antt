@@ -1,15 +1,14 @@
--- The TLVs are those of a list, and the bytes are the header, these and the payload.
+-- Where the TLVs are those of a list, the bytes are the header, these and the payload.
 use Rattle.std.proofs.Common.{◌≡◌, ◌++◌, length, get_or, drop, refl, sym, ap, ◌∙◌, arith, take-append-drop}
 use Rattle.std.proofs.lemmas.List.{length-take-le, get_or-take}
 use Rattle.capture.proofs.PacketParts.{packet_bytes-read}
-use Rattle.capture.proofs.packet.read_packet.Goals as goal
+use Rattle.capture.proofs.packet.split_packet.Goals as goal
 
 pub returns-clause-found : goal.returns-clause-found
-returns-clause-found c =
+returns-clause-found c = λ fields.
     let bytes = c.args.bytes.now in
     let head = c.in_ok-head.head.now in
     let rest = c.in_ok-head.rest.now in
-    let fields = c.are_tlvs.ensures.0 c.if-not-are_tlvs.false in
     let cut = c.in_ok-head.ensures.cases in
     let parts = c.in_ok-tlvs.ensures.cases in
     let whole : bytes ≡ head ++ rest = sym (take-append-drop 4 bytes) ∙ ap (λ t. t ++ drop 4 bytes) (sym cut.0) ∙ ap (λ t. head ++ t) (sym cut.1) in
