@@ -4,7 +4,8 @@ analyser joined itself, packets of type 80.
 Of each flow, each side has a list of frames that wait for their equal. A frame comes of one side:
 if one that waits on the other side has the same bytes, the first such one is its equal; what waits
 before that one, and all that waits on its own side, has none. Otherwise it waits itself; of more
-than 1,024 that wait then on its side the first has none. What waits at the end has none either.
+than 1,024 that wait then on its side the first has none. What waits at the end has none either, nor
+has a frame that is longer than a MAC frame can be.
 """
 
 import collections
@@ -13,7 +14,7 @@ from shared.plain_capture import UPSTREAM_FRAME, CaptureReading
 from shared.plain_packets import CHANNEL_TLV, SID_TLV, XRA, last_value, packet_in
 
 ANALYSER, HERE = "only the analyser's", "only here"
-LONGEST_WAIT = 1024
+LONGEST_WAIT, LONGEST_FRAME = 1024, 6 + 65535
 STATUS = 5
 DIFFER, NONE_COMPARED = "segrx: the frames differ from the analyser's", "segrx: no frame was compared"
 # So many frames that only one side has are listed of each side, with so many bytes of each.
@@ -51,7 +52,8 @@ class Comparison:
 
     def take(self, side, flow, time, frame):
         waiting, other = self.waiting[flow], HERE if side == ANALYSER else ANALYSER
-        place = next((place for place, one in enumerate(waiting[other]) if one.frame == frame), None)
+        equal = (place for place, one in enumerate(waiting[other]) if one.frame == frame and len(frame) <= LONGEST_FRAME)
+        place = next(equal, None)
         if place is None:
             waiting[side].append(WaitingFrame(time, frame))
             self.give_up(side, flow, len(waiting[side]) - LONGEST_WAIT)

@@ -1,14 +1,17 @@
 -- The frames in both are the same frames of both sides, in one order: one flow.
 use Rattle.std.proofs.Common.{◌≡◌, ℕ, ◌+◌, ◌-◌, ◌≤◌, Bool, true, false, Option, Some, None, List, [], ◌∷◌, ◌++◌, length, map, take, drop, get_or, refl, ap, ◌∙◌, sym, arith}
 use Rattle.std.proofs.lemmas.List.{map-append, append_assoc, append-nil, take-append-drop, drop-drop, drop_more, length-drop}
+use Rattle.std.proofs.lemmas.Bool.{and_parts}
 use Rattle.std.proofs.lemmas.Slice.Eq.{bytes_eq-Decides}
+use Rattle.std.specs.Prelude.{◌&&◌}
+use Rattle.std.specs.Str.{bytes_eq}
 use Rattle.frame_comparison.specs.declared.side.Side.{Side}
 use Rattle.frame_comparison.specs.declared.side.Side.TheVariants.{Analyser, Here}
-use Rattle.frame_comparison.specs.Frames.{CameFrame, SettledFrame, SideFrames, FlowFrames, in_both, given_up, frames_in_both, frames_given_up}
-use Rattle.frame_comparison.specs.Compared.{place_of_equal, own_moved, other_moved, moved, ended, all_given_up, side_after, flow_after, longest_wait}
+use Rattle.frame_comparison.specs.Frames.{CameFrame, SettledFrame, SideFrames, FlowFrames, is_short, in_both, given_up, frames_in_both, frames_given_up}
+use Rattle.frame_comparison.specs.Compared.{are_equal, place_of_equal, own_moved, other_moved, moved, ended, all_given_up, side_after, flow_after, longest_wait}
 use Rattle.frame_comparison.specs.Aligned.{AreAligned, FewWait, all_frames, bytes_of}
 use Rattle.frame_comparison.proofs.Settled.{frames_in_both-append, in_both-settled, in_both-none}
-use Rattle.frame_comparison.proofs.Moves.{place-within, place-bytes, empty_frame}
+use Rattle.frame_comparison.proofs.Moves.{place-within, place-equal, empty_frame}
 
 unfoldable pub frames : List SettledFrame → List CameFrame
 frames settled = map (λ (one : SettledFrame). one.frame) settled
@@ -60,15 +63,20 @@ other-all (Some place) side =
     ∙ (ap (λ some. take place waiting ++ some) (take-append-drop 1 (drop place waiting)) ∙ take-append-drop place waiting))
 other-all None side = ap (λ some. map (λ (one : SettledFrame). one.frame) some ++ side.waiting) (append-nil side.settled)
 
+-- equal frames have the same bytes
+equal-bytes : (one other : CameFrame) → are_equal one other ≡ true → one.bytes ≡ other.bytes
+equal-bytes one other is =
+    (bytes_eq-Decides one.bytes other.bytes).0 (and_parts (is_short one && is_short other) (bytes_eq one.bytes other.bytes) is).1
+
 -- the frame that is in both has the same bytes on both sides
-both-bytes : (found : Option ℕ) (frame : CameFrame) (own other : List CameFrame) → place_of_equal frame.bytes other ≡ found
+both-bytes : (found : Option ℕ) (frame : CameFrame) (own other : List CameFrame) → place_of_equal frame other ≡ found
     → bytes_of (frames_in_both (own_moved found frame own).settled) ≡ bytes_of (frames_in_both (other_moved found other).settled)
 both-bytes None frame own other is =
     let all = own ++ frame ∷ [] in ap bytes_of (in_both-none (take (length all - longest_wait) all))
 both-bytes (Some place) frame own other is =
     let equal : CameFrame = get_or other place empty_frame in
-    let same : equal.bytes ≡ frame.bytes = (bytes_eq-Decides equal.bytes frame.bytes).0 (place-bytes frame.bytes other place empty_frame is) in
-    let front = ap (take 1) (drop_more other place empty_frame (place-within frame.bytes other place is)) in
+    let same : equal.bytes ≡ frame.bytes = equal-bytes equal frame (place-equal frame other place empty_frame is) in
+    let front = ap (take 1) (drop_more other place empty_frame (place-within frame other place is)) in
     ap bytes_of (in_both-settled own (frame ∷ []))
     ∙ (ap (λ some. some ∷ []) (sym same)
     ∙ sym (ap bytes_of (in_both-settled (take place other) (take 1 (drop place other)) ∙ front)))
@@ -88,7 +96,7 @@ both-after flow more before now =
 pub aligned-analyser : (frame : CameFrame) (flow : FlowFrames) (analyser here : List CameFrame) → AreAligned analyser here flow
     → AreAligned (analyser ++ frame ∷ []) here (flow_after (moved Analyser frame flow.analyser.waiting flow.here.waiting) flow)
 aligned-analyser frame flow analyser here aligned =
-    let place = place_of_equal frame.bytes flow.here.waiting in
+    let place = place_of_equal frame flow.here.waiting in
     record {
       analyser_all = own-all place frame flow.analyser ∙ ap (λ all. all ++ frame ∷ []) aligned.analyser_all;
       here_all = other-all place flow.here ∙ aligned.here_all;
@@ -99,7 +107,7 @@ aligned-analyser frame flow analyser here aligned =
 pub aligned-here : (frame : CameFrame) (flow : FlowFrames) (analyser here : List CameFrame) → AreAligned analyser here flow
     → AreAligned analyser (here ++ frame ∷ []) (flow_after (moved Here frame flow.analyser.waiting flow.here.waiting) flow)
 aligned-here frame flow analyser here aligned =
-    let place = place_of_equal frame.bytes flow.analyser.waiting in
+    let place = place_of_equal frame flow.analyser.waiting in
     record {
       analyser_all = other-all place flow.analyser ∙ aligned.analyser_all;
       here_all = own-all place frame flow.here ∙ ap (λ all. all ++ frame ∷ []) aligned.here_all;
@@ -135,10 +143,10 @@ other-few None waiting few = few
 
 pub few-moved : (side : Side) (frame : CameFrame) (flow : FlowFrames) → FewWait flow → FewWait (flow_after (moved side frame flow.analyser.waiting flow.here.waiting) flow)
 few-moved Analyser frame flow few =
-    let place = place_of_equal frame.bytes flow.here.waiting in
+    let place = place_of_equal frame flow.here.waiting in
     record { of_analyser = own-few place frame flow.analyser.waiting; of_here = other-few place flow.here.waiting few.of_here }
 few-moved Here frame flow few =
-    let place = place_of_equal frame.bytes flow.analyser.waiting in
+    let place = place_of_equal frame flow.analyser.waiting in
     record { of_analyser = other-few place flow.analyser.waiting few.of_analyser; of_here = own-few place frame flow.here.waiting }
 
 -- where none was given up, all are in both

@@ -60,14 +60,18 @@ end-length None flow comparison = refl
 end-length (Some before) flow comparison = length-set comparison.flows flow _
 
 -- what one frame adds to what was given
-given-one : (is : Bool) (side : Side) (k : ℕ) (one : Arrival) → is_of side k one ≡ is → given_of side k (one ∷ []) ≡ cond is (one.frame ∷ []) []
+pub given-one : (is : Bool) (side : Side) (k : ℕ) (one : Arrival) → is_of side k one ≡ is → given_of side k (one ∷ []) ≡ cond is (one.frame ∷ []) []
 given-one true side k one is = rw is refl
 given-one false side k one is = rw is refl
 
+-- and more frames
+pub given-append : (side : Side) (k : ℕ) (some more : List Arrival) → given_of side k (some ++ more) ≡ given_of side k some ++ given_of side k more
+given-append side k some more =
+    ap (λ all. map (λ (arrival : Arrival). arrival.frame) all) (filter-append (is_of side k) some more)
+    ∙ map-append (λ (arrival : Arrival). arrival.frame) (filter (is_of side k) some) (filter (is_of side k) more)
+
 pub given-cons : (side : Side) (k : ℕ) (one : Arrival) (more : List Arrival) → given_of side k (one ∷ []) ++ given_of side k more ≡ given_of side k (one ∷ more)
-given-cons side k one more =
-    sym (ap (λ some. map (λ (arrival : Arrival). arrival.frame) some) (filter-append (is_of side k) (one ∷ []) more)
-    ∙ map-append (λ (arrival : Arrival). arrival.frame) (filter (is_of side k) (one ∷ [])) (filter (is_of side k) more))
+given-cons side k one more = sym (given-append side k (one ∷ []) more)
 
 unfoldable pub arrival : Side → ℕ → CameFrame → Arrival
 arrival side flow frame = record { side = side; flow = flow; frame = frame }

@@ -1,8 +1,9 @@
 mod Listing
 mod Settled
 mod SideKept
+mod Kept
 mod SeenMoved
 mod Moves
 mod Aligned
-mod Arrivals
+pub mod Arrivals
 mod InStep

@@ -3,24 +3,23 @@ use Rattle.std.proofs.Common.{◌≡◌, ℕ, ◌-◌, ◌<◌, ◌≤◌, zero,
 use Rattle.std.specs.Result.{is_err}
 use Rattle.std.proofs.lemmas.List.{length-take, length-drop, set-get_or}
 use Rattle.std.proofs.lemmas.List.Quantifiers.{position-Some}
-use Rattle.std.specs.Str.{bytes_eq}
 use Rattle.frame_comparison.specs.declared.counts.ComparedCounts.{ComparedCounts}
 use Rattle.frame_comparison.specs.Frames.{CameFrame, frames_in_both, frames_given_up}
-use Rattle.frame_comparison.specs.Compared.{place_of_equal, own_moved, other_moved, ended, longest_wait}
+use Rattle.frame_comparison.specs.Compared.{are_equal, place_of_equal, own_moved, other_moved, ended, longest_wait}
 use Rattle.frame_comparison.specs.Seen.{SideSeen, side_seen_after, settled_counts, waiting_of}
 use Rattle.frame_comparison.proofs.Listing.{listed-none}
 use Rattle.frame_comparison.proofs.Settled.{given_up-all, in_both-none, given_up-settled, in_both-settled}
-use Rattle.frame_comparison.proofs.SeenMoved.{same-counts}
+use Rattle.frame_comparison.proofs.Kept.{same-counts}
 
 pub empty_frame : CameFrame
-empty_frame = record { time = 0; bytes = [] }
+empty_frame = record { time = 0; byte_count = 0; bytes = [] }
 
 -- the equal waits
-pub place-within : (bytes : List ℕ) (waiting : List CameFrame) (place : ℕ) → place_of_equal bytes waiting ≡ Some place → place < length waiting
-place-within bytes waiting place is = (position-Some (λ (one : CameFrame). bytes_eq one.bytes bytes) waiting place empty_frame is).0
+pub place-within : (frame : CameFrame) (waiting : List CameFrame) (place : ℕ) → place_of_equal frame waiting ≡ Some place → place < length waiting
+place-within frame waiting place is = (position-Some (λ (one : CameFrame). are_equal one frame) waiting place empty_frame is).0
 
-pub place-bytes : (bytes : List ℕ) (waiting : List CameFrame) (place : ℕ) (d : CameFrame) → place_of_equal bytes waiting ≡ Some place → bytes_eq (get_or waiting place d).bytes bytes ≡ true
-place-bytes bytes waiting place d is = (position-Some (λ (one : CameFrame). bytes_eq one.bytes bytes) waiting place d is).1
+pub place-equal : (frame : CameFrame) (waiting : List CameFrame) (place : ℕ) (d : CameFrame) → place_of_equal frame waiting ≡ Some place → are_equal (get_or waiting place d) frame ≡ true
+place-equal frame waiting place d is = (position-Some (λ (one : CameFrame). are_equal one frame) waiting place d is).1
 
 -- where there is an equal
 pub own-both : (place : ℕ) (frame : CameFrame) (waiting : List CameFrame) → 1 ≡ length (frames_in_both (own_moved (Some place) frame waiting).settled)
@@ -50,14 +49,14 @@ other-stays flow side few =
     ∙ ap (λ some. let one : SideSeen = record { waiting = set side.waiting flow (get_or side.waiting flow []); only = some } in one) (listed-none side.only few)
 
 -- as many frames of each side are in both
-both-of : (found : Option ℕ) (bytes : List ℕ) (waiting own : List CameFrame) (frame : CameFrame) → place_of_equal bytes waiting ≡ found
+both-of : (found : Option ℕ) (waiting own : List CameFrame) (frame : CameFrame) → place_of_equal frame waiting ≡ found
     → length (frames_in_both (own_moved found frame own).settled) ≡ length (frames_in_both (other_moved found waiting).settled)
-both-of None bytes waiting own frame is = sym (own-none frame own)
-both-of (Some place) bytes waiting own frame is = sym (own-both place frame own) ∙ other-both place waiting (place-within bytes waiting place is)
+both-of None waiting own frame is = sym (own-none frame own)
+both-of (Some place) waiting own frame is = sym (own-both place frame own) ∙ other-both place waiting (place-within frame waiting place is)
 
-pub same-both : (bytes : List ℕ) (waiting own : List CameFrame) (frame : CameFrame)
-    → length (frames_in_both (own_moved (place_of_equal bytes waiting) frame own).settled) ≡ length (frames_in_both (other_moved (place_of_equal bytes waiting) waiting).settled)
-same-both bytes waiting own frame = both-of (place_of_equal bytes waiting) bytes waiting own frame refl
+pub same-both : (waiting own : List CameFrame) (frame : CameFrame)
+    → length (frames_in_both (own_moved (place_of_equal frame waiting) frame own).settled) ≡ length (frames_in_both (other_moved (place_of_equal frame waiting) waiting).settled)
+same-both waiting own frame = both-of (place_of_equal frame waiting) waiting own frame refl
 
 -- the end of a flow
 pub ended-counts : (analyser here : List CameFrame) (a h : ℕ) → a ≡ length analyser → h ≡ length here

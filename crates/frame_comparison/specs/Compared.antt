@@ -1,17 +1,22 @@
 -- How the frames of two sides are compared, flow by flow and in order, as they come.
-use Rattle.std.specs.Prelude.{ℕ, zero, suc, ◌+◌, ◌-◌, Option, Some, None, List, [], ◌∷◌, ◌++◌, map, take, drop, length, position, replicate, slice_get, slice_set}
+use Rattle.std.specs.Prelude.{ℕ, zero, suc, ◌+◌, ◌-◌, ◌&&◌, Bool, Option, Some, None, List, [], ◌∷◌, ◌++◌, map, take, drop, length, position, replicate, slice_get, slice_set}
 use Rattle.std.specs.Str.{bytes_eq}
 use Rattle.frame_comparison.specs.declared.side.Side.{Side}
 use Rattle.frame_comparison.specs.declared.side.Side.TheVariants.{Analyser, Here}
-use Rattle.frame_comparison.specs.Frames.{CameFrame, SideFrames, FlowFrames, ShownFrame, SettledFrame, in_both, given_up, frames_given_up, shown_of}
+use Rattle.frame_comparison.specs.Frames.{CameFrame, SideFrames, FlowFrames, ShownFrame, SettledFrame, is_short, in_both, given_up, frames_given_up, shown_of}
 
 -- so many frames of a side of a flow wait at most
 abbrev pub longest_wait : ℕ
 longest_wait = 1024
 
--- the place of the first waiting frame with just these bytes, if there is one
-abbrev pub place_of_equal : List ℕ → List CameFrame → Option ℕ
-place_of_equal bytes waiting = position (λ one. bytes_eq one.bytes bytes) waiting
+-- **Two frames are equal** if they have just the same bytes. One that is longer than a MAC frame can
+-- be equals none: nobody sent it, and its bytes aren't kept
+abbrev pub are_equal : CameFrame → CameFrame → Bool
+are_equal one other = is_short one && is_short other && bytes_eq one.bytes other.bytes
+
+-- the place of the first waiting frame that equals this one, if there is one
+abbrev pub place_of_equal : CameFrame → List CameFrame → Option ℕ
+place_of_equal frame waiting = position (λ one. are_equal one frame) waiting
 
 -- **What becomes of the frames of a side that wait, and of one more of the same side.** If the
 -- other side has its equal at this place, it is in both, and those that wait are given up, as their
@@ -36,9 +41,9 @@ other_moved None waiting = record { settled = []; waiting = waiting }
 -- what a frame of one side settles of its flow, of which these frames wait, and what waits then
 abbrev pub moved : Side → CameFrame → List CameFrame → List CameFrame → FlowFrames
 moved Analyser frame analyser here =
-    let place = place_of_equal frame.bytes here in record { analyser = own_moved place frame analyser; here = other_moved place here }
+    let place = place_of_equal frame here in record { analyser = own_moved place frame analyser; here = other_moved place here }
 moved Here frame analyser here =
-    let place = place_of_equal frame.bytes analyser in record { analyser = other_moved place analyser; here = own_moved place frame here }
+    let place = place_of_equal frame analyser in record { analyser = other_moved place analyser; here = own_moved place frame here }
 
 -- in the end all that waits is given up
 abbrev pub all_given_up : List CameFrame → SideFrames

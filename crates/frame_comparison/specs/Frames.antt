@@ -1,13 +1,19 @@
 -- The frames of a flow that came of one side, and what became of them.
-use Rattle.std.specs.Prelude.{ℕ, Bool, true, false, not, List, map, filter, length, take}
+use Rattle.std.specs.Prelude.{ℕ, Bool, true, false, not, nat_le, List, map, filter, length, take, if◌then◌else◌}
+use Rattle.frame_records.specs.Frames.{longest_frame}
 
--- a frame that came
+-- a frame that came, and how many bytes it has
 pub record CameFrame : Type 0 where
   pub time : ℕ
+  pub byte_count : ℕ
   pub bytes : List ℕ
 
 abbrev pub came : ℕ → List ℕ → CameFrame
-came time bytes = record { time = time; bytes = bytes }
+came time bytes = record { time = time; byte_count = length bytes; bytes = bytes }
+
+-- it is no longer than a MAC frame can be
+abbrev pub is_short : CameFrame → Bool
+is_short frame = nat_le frame.byte_count longest_frame
 
 -- a frame of which is known whether both sides have it: else it was given up
 pub record SettledFrame : Type 0 where
@@ -37,6 +43,18 @@ pub record FlowFrames : Type 0 where
   pub analyser : SideFrames
   pub here : SideFrames
 
+-- so many bytes of a frame that only one side has are shown
+abbrev pub shown_bytes : ℕ
+shown_bytes = 16
+
+unfoldable pub shown_front : List ℕ → List ℕ
+shown_front bytes = take shown_bytes bytes
+
+-- **What is kept of a frame that waits**: of one that is longer than a MAC frame can be the bytes
+-- that are shown, and of another all
+abbrev pub kept : CameFrame → CameFrame
+kept frame = record frame { bytes = if is_short frame then frame.bytes else shown_front frame.bytes }
+
 -- what is told of a frame of a flow that only one side has
 pub record ShownFrame : Type 0 where
   pub flow : ℕ
@@ -44,12 +62,5 @@ pub record ShownFrame : Type 0 where
   pub byte_count : ℕ
   pub first : List ℕ
 
--- so many of its bytes are shown
-abbrev pub shown_bytes : ℕ
-shown_bytes = 16
-
-unfoldable pub shown_front : List ℕ → List ℕ
-shown_front bytes = take shown_bytes bytes
-
 abbrev pub shown_of : ℕ → CameFrame → ShownFrame
-shown_of flow frame = record { flow = flow; time = frame.time; byte_count = length frame.bytes; first = shown_front frame.bytes }
+shown_of flow frame = record { flow = flow; time = frame.time; byte_count = frame.byte_count; first = shown_front frame.bytes }

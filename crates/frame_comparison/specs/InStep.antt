@@ -1,7 +1,8 @@
 -- Two sides of which one is ahead of the other.
-use Rattle.std.specs.Prelude.{◌≡◌, ◌≤◌, ◌⊎◌, ℕ, List, [], ◌++◌, take, length}
+use Rattle.std.specs.Prelude.{◌≡◌, ◌≤◌, ◌⊎◌, ℕ, IsTrue, List, [], ◌++◌, take, length}
+use Rattle.std.specs.List.{All}
 use Rattle.frame_comparison.specs.declared.side.Side.TheVariants.{Analyser, Here}
-use Rattle.frame_comparison.specs.Frames.{FlowFrames, frames_given_up}
+use Rattle.frame_comparison.specs.Frames.{FlowFrames, is_short, frames_given_up}
 use Rattle.frame_comparison.specs.Compared.{longest_wait}
 use Rattle.frame_comparison.specs.Aligned.{Arrival, given_of, bytes_of}
 
@@ -16,6 +17,10 @@ abbrev pub StayInStep : ℕ → List Arrival → Type 0
 StayInStep flow arrivals = (count : ℕ) →
     IsAhead (bytes_of (given_of Analyser flow (take count arrivals))) (bytes_of (given_of Here flow (take count arrivals)))
     ⊎ IsAhead (bytes_of (given_of Here flow (take count arrivals))) (bytes_of (given_of Analyser flow (take count arrivals)))
+
+-- no frame of the flow is longer than a MAC frame can be
+abbrev pub AreShort : ℕ → List Arrival → Type 0
+AreShort flow arrivals = All (λ one. one.flow ≡ flow → IsTrue (is_short one.frame)) arrivals
 
 -- no frame of the flow was given up
 pub record NoneAlone (flow : FlowFrames) : Type 0 where

@@ -1,4 +1,5 @@
 pub mod Frames
+pub mod Fingerprint
 pub mod Compared
 pub mod Seen
 pub mod Aligned

@@ -1,10 +1,10 @@
 -- What is kept of a comparison, in bounded memory.
-use Rattle.std.specs.Prelude.{ℕ, ◌+◌, ◌-◌, ◌^◌, ◌==◌, ◌&&◌, Bool, true, min, List, [], ◌++◌, map, take, length, get_or, slice_set}
+use Rattle.std.specs.Prelude.{ℕ, ◌+◌, ◌-◌, ◌^◌, ◌==◌, ◌&&◌, Bool, true, false, min, List, [], ◌++◌, map, take, length, get_or, slice_set}
 use Rattle.std.specs.List.{list_all}
 use Rattle.frame_comparison.specs.declared.side.Side.{Side}
 use Rattle.frame_comparison.specs.declared.side.Side.TheVariants.{Analyser, Here}
 use Rattle.frame_comparison.specs.declared.counts.ComparedCounts.{ComparedCounts}
-use Rattle.frame_comparison.specs.Frames.{CameFrame, FlowFrames, SideFrames, ShownFrame, frames_in_both, frames_given_up}
+use Rattle.frame_comparison.specs.Frames.{CameFrame, FlowFrames, SideFrames, ShownFrame, kept, frames_in_both, frames_given_up}
 use Rattle.frame_comparison.specs.Compared.{Comparison, place_of_equal, own_moved, other_moved, moved, shown_of_all}
 
 -- of each side so many frames are listed that only it has
@@ -42,7 +42,8 @@ settled_counts more = record {
   only_here = length (frames_given_up more.here.settled);
 }
 
--- what is kept of one side: of each flow the frames that wait, and the first that only it has
+-- what is kept of one side: of each flow what is kept of the frames that wait, and the first that
+-- only it has
 pub record SideSeen : Type 0 where
   pub waiting : List (List CameFrame)
   pub only : List ShownFrame
@@ -60,10 +61,10 @@ waiting_of flow side = get_or side.waiting flow []
 
 -- what becomes of a frame's own side, of the other side and of both where a frame of a flow comes
 abbrev pub own_moved_in : ℕ → CameFrame → SideSeen → SideSeen → SideFrames
-own_moved_in flow frame own other = own_moved (place_of_equal frame.bytes (waiting_of flow other)) frame (waiting_of flow own)
+own_moved_in flow frame own other = own_moved (place_of_equal frame (waiting_of flow other)) frame (waiting_of flow own)
 
 abbrev pub other_moved_in : ℕ → CameFrame → SideSeen → SideFrames
-other_moved_in flow frame other = other_moved (place_of_equal frame.bytes (waiting_of flow other)) (waiting_of flow other)
+other_moved_in flow frame other = other_moved (place_of_equal frame (waiting_of flow other)) (waiting_of flow other)
 
 abbrev pub moved_in : Side → ℕ → CameFrame → SideSeen → SideSeen → FlowFrames
 moved_in side flow frame analyser here = moved side frame (waiting_of flow analyser) (waiting_of flow here)
@@ -91,10 +92,17 @@ seen_after flow more seen = record seen {
 abbrev pub seen_of : Comparison → ComparisonSeen
 seen_of comparison = record {
   counts = map counts_of comparison.flows;
-  analyser = record { waiting = map (λ flow. flow.analyser.waiting) comparison.flows; only = listed comparison.only_analyser };
-  here = record { waiting = map (λ flow. flow.here.waiting) comparison.flows; only = listed comparison.only_here };
+  analyser = record { waiting = map (λ flow. map kept flow.analyser.waiting) comparison.flows; only = listed comparison.only_analyser };
+  here = record { waiting = map (λ flow. map kept flow.here.waiting) comparison.flows; only = listed comparison.only_here };
   is_whole = true;
 }
+
+-- an allocation failed: what waited is let go, and nothing more is taken
+abbrev pub none_waits : SideSeen → SideSeen
+none_waits side = record side { waiting = [] }
+
+abbrev pub failed : ComparisonSeen → ComparisonSeen
+failed seen = record seen { analyser = none_waits seen.analyser; here = none_waits seen.here; is_whole = false }
 
 -- no frame of a flow is only one side's
 abbrev pub has_none_alone : ComparedCounts → Bool

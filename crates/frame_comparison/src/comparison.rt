@@ -1,14 +1,15 @@
 //! The frames of two sides, set beside each other as they come.
-ghost use Rattle.std.specs.Prelude.{◌≡◌, ◌<◌, IfOk, OnOk, OnErr, IsTrue, IsFalse, false, length};
+ghost use Rattle.std.specs.Prelude.{◌≡◌, ◌<◌, IfOk, OnOk, OnErr, IsTrue, IsFalse, length};
 ghost use Rattle.frame_comparison.specs.Frames.{came};
 ghost use Rattle.frame_comparison.specs.Compared.{Comparison, ended, with_frame, nothing_came, finished};
-ghost use Rattle.frame_comparison.specs.Seen.{ComparisonSeen, seen_of, seen_after, moved_in, waiting_of, listed_of, have_none_alone};
+ghost use Rattle.frame_comparison.specs.Seen.{ComparisonSeen, seen_of, seen_after, moved_in, waiting_of, listed_of, have_none_alone, failed};
 
+use crate::coming_frame::ComingFrame;
 use crate::counts::ComparedCounts;
 use crate::lonely_frame::LonelyFrame;
-use crate::settle::{FlowFrame, settle_sides};
+use crate::one_side::OneSide;
+use crate::settle::settle_sides;
 use crate::side::Side;
-use crate::side_frames::SideFrames;
 use std::alloc::{AllocError, Global};
 use std::marker::Model;
 
@@ -17,13 +18,13 @@ use std::marker::Model;
 #[derive(Debug, Drop)]
 pub struct FrameComparison {
     counts: Vec<ComparedCounts>,
-    analyser: SideFrames,
-    here: SideFrames,
+    analyser: OneSide,
+    here: OneSide,
     is_whole: bool,
 }
 
 impl Model for FrameComparison {
-    ghost use Rattle.std.specs.Prelude.{◌≡◌, length};
+    ghost use Rattle.std.specs.Prelude.{◌≡◌, IsTrue, length};
     ghost use Rattle.frame_comparison.specs.Seen.{ComparisonSeen};
 
     ghost Value = { ComparisonSeen };
@@ -35,7 +36,8 @@ impl Model for FrameComparison {
       is_whole = all.is_whole;
     } };
 
-    ghost invariant = { λ all. (length all.analyser.waiting ≡ length all.counts.items)
+    ghost invariant = { λ all. IsTrue all.is_whole
+        → (length all.analyser.waiting ≡ length all.counts.items)
         × (length all.here.waiting ≡ length all.counts.items) };
 }
 
@@ -46,8 +48,8 @@ impl FrameComparison {
     {
         Ok(FrameComparison {
             counts: Vec::from_elem(alloc, ComparedCounts::none(), flows)?,
-            analyser: SideFrames::new(alloc, flows)?,
-            here: SideFrames::new(alloc, flows)?,
+            analyser: OneSide::new(alloc, flows)?,
+            here: OneSide::new(alloc, flows)?,
             is_whole: true,
         })
     }
@@ -55,20 +57,21 @@ impl FrameComparison {
     /// Takes the next frame of a flow that one side has, which came at this time, in nanoseconds
     /// since 1970. A flow that there isn't is passed over. If an allocation fails, or failed
     /// before, the comparison is no longer whole and takes nothing more: what was counted and
-    /// listed stays.
+    /// listed stays, and what waited is let go.
     pub fn take(&mut self, alloc: Global, side: Side, flow: usize, time: u64, frame: &[u8])
         ensures taken { (comparison : Comparison) → self.old ≡ seen_of comparison
             → IsTrue self.new.is_whole
             → self.new ≡ seen_of (with_frame side flow (came time frame.now) comparison) }
-        ensures failed { IsFalse self.new.is_whole
-            → self.new ≡ record self.old { is_whole = false } }
+        ensures failed { IsTrue self.old.is_whole → IsFalse self.new.is_whole
+            → self.new ≡ failed self.old }
         ensures stays { IsFalse self.old.is_whole → self.new ≡ self.old }
     {
         if !self.is_whole || flow >= self.counts.len() {
             return;
         }
-        if self.settle(alloc, side, flow, time, frame).is_err() {
-            self.is_whole = false;
+        let frame = ComingFrame::new(time, frame);
+        if self.settle(alloc, side, flow, &frame).is_err() {
+            self.fail();
         }
     }
 
@@ -125,33 +128,33 @@ impl FrameComparison {
         alloc: Global,
         side: Side,
         flow: usize,
-        time: u64,
-        frame: &[u8],
+        frame: &ComingFrame<'_>,
     ) -> Result<(), AllocError>
-        requires { flow < length self.old.counts }
+        requires whole { IsTrue self.old.is_whole }
+        requires flow { flow < length self.old.counts }
         ensures settled { let old = self.old in
-            let more = moved_in side flow (came time frame.now) old.analyser old.here in
+            let more = moved_in side flow frame.now old.analyser old.here in
             OnOk result (self.new ≡ seen_after flow more self.old) }
         ensures refused { OnErr result (self.new ≡ self.old) }
     {
-        let counts = settle_sides(
-            alloc,
-            side,
-            &mut self.analyser,
-            &mut self.here,
-            &FlowFrame {
-                flow,
-                time,
-                bytes: frame,
-            },
-        )?;
+        let counts = settle_sides(alloc, side, &mut self.analyser, &mut self.here, flow, frame)?;
         self.counts[flow].add(counts);
         Ok(())
     }
 
+    /// An allocation failed: what waits is let go.
+    fn fail(&mut self)
+        ensures { self.new ≡ failed self.old }
+    {
+        self.is_whole = false;
+        self.analyser.let_go();
+        self.here.let_go();
+    }
+
     /// Gives up all frames of a flow that wait.
     fn end(&mut self, alloc: Global, flow: usize)
-        requires { flow < length self.old.counts }
+        requires whole { IsTrue self.old.is_whole }
+        requires flow { flow < length self.old.counts }
         ensures { let old = self.old in
             let more = ended (waiting_of flow old.analyser) (waiting_of flow old.here) in
             self.new ≡ seen_after flow more old }

@@ -4,7 +4,7 @@ ghost use Rattle.std.specs.Prelude.{◌≡◌, ◌<◌, ℕ, List};
 ghost use Rattle.frame_comparison.specs.declared.side.Side.TheVariants.{Analyser, Here};
 ghost use Rattle.frame_comparison.specs.Seen.{counts_of};
 ghost use Rattle.frame_comparison.specs.Aligned.{Arrival, AreAligned, FewWait, given_of, flow_then, flow_at_end, bytes_of};
-ghost use Rattle.frame_comparison.specs.InStep.{StayInStep, NoneAlone};
+ghost use Rattle.frame_comparison.specs.InStep.{StayInStep, AreShort, NoneAlone};
 
 /// **The frames in both are the same frames of both sides, in one order.** What a side gave of a
 /// flow is, in its order, what is settled and what waits behind it; and of what is settled the
@@ -30,13 +30,15 @@ pub fn nothing_lonely_means_equal()
         → bytes_of (given_of Analyser flow arrivals) ≡ bytes_of (given_of Here flow arrivals) }
 {}
 
-/// Where at each moment one side gave what the other gave and at most 1,024 frames more, no frame
-/// is given up; and in the end neither, where both sides then gave the same.
+/// Where at each moment one side gave what the other gave and at most 1,024 frames more, none
+/// longer than a MAC frame can be, no frame is given up; and in the end neither, where both sides
+/// then gave the same.
 pub fn equal_sequences_have_nothing_lonely()
     ensures while_they_come { (flows flow : ℕ) (arrivals : List Arrival) → flow < flows
-        → StayInStep flow arrivals → NoneAlone (flow_then flows flow arrivals) }
+        → AreShort flow arrivals → StayInStep flow arrivals
+        → NoneAlone (flow_then flows flow arrivals) }
     ensures at_the_end { (flows flow : ℕ) (arrivals : List Arrival) → flow < flows
-        → StayInStep flow arrivals
+        → AreShort flow arrivals → StayInStep flow arrivals
         → bytes_of (given_of Analyser flow arrivals) ≡ bytes_of (given_of Here flow arrivals)
         → NoneAlone (flow_at_end flows flow arrivals) }
 {}

@@ -3,7 +3,9 @@
 //! A [`FrameComparison`] takes the frames of two sides, flow by flow and in order, as they come,
 //! and tells how many are in both, and which only one side has. Frames are equal where each byte
 //! is. It does so in bounded memory: of each flow and side at most [`LONGEST_WAIT`] frames wait for
-//! their equals, and of each side the first [`MOST_LISTED`] that only it has are listed.
+//! their equals, and of each side the first [`MOST_LISTED`] that only it has are listed. Of a frame
+//! of more than 65,541 bytes, the most that a MAC frame has, only the first 16 are kept: it equals
+//! none.
 //!
 //! A frame's equal is the first waiting frame of the other side with the same bytes. It is in both
 //! then, and what waits before it on the other side, and all that waits on its own, is given up:
@@ -22,19 +24,20 @@
 //! side's.
 #![tactic(auto)]
 
+mod coming_frame;
 mod comparison;
 mod counts;
 pub mod laws;
 mod lines;
 mod lonely_frame;
+mod one_side;
 mod settle;
 mod side;
-mod side_frames;
 mod waiting_frame;
 
 pub use comparison::FrameComparison;
 pub use counts::ComparedCounts;
 pub use lines::put_comparison;
 pub use lonely_frame::{LonelyFrame, MOST_LISTED, SHOWN_BYTES};
+pub use one_side::LONGEST_WAIT;
 pub use side::Side;
-pub use side_frames::LONGEST_WAIT;

@@ -1,52 +1,76 @@
 //! A frame that waits for its equal.
-ghost use Rattle.std.specs.Prelude.{◌≡◌, ◌++◌, ◌∷◌, [], IfOk, OnErr, if◌then◌else◌, drop, length};
-ghost use Rattle.std.specs.Str.{bytes_eq};
-ghost use Rattle.frame_comparison.specs.Frames.{CameFrame, shown_of};
-ghost use Rattle.frame_comparison.specs.Compared.{place_of_equal};
+ghost use Rattle.std.specs.Prelude.{◌≡◌, IfOk};
+ghost use Rattle.frame_comparison.specs.Frames.{shown_of};
+ghost use Rattle.frame_comparison.specs.Compared.{are_equal, place_of_equal};
 
+use crate::coming_frame::ComingFrame;
 use crate::lonely_frame::{LonelyFrame, SHOWN_BYTES};
+use frame_records::LONGEST_FRAME;
 use std::alloc::{AllocError, Global};
 use std::collections::VecDeque;
 use std::marker::Model;
 
-/// A frame that waits for its equal. Contracts see a `CameFrame`.
+/// What is kept of a frame that waits for its equal. Contracts see a `CameFrame`.
 #[derive(Debug, Drop)]
 pub(crate) struct WaitingFrame {
     time: u64,
+    length: usize,
     bytes: Vec<u8>,
+    fingerprint: u64,
 }
 
 impl Model for WaitingFrame {
+    ghost use Rattle.std.specs.Prelude.{◌≡◌};
     ghost use Rattle.frame_comparison.specs.Frames.{CameFrame};
+    ghost use Rattle.frame_comparison.specs.Fingerprint.{fingerprint_of};
 
     ghost Value = { CameFrame };
 
-    ghost view = { λ one. record { time = one.time; bytes = one.bytes.items } };
+    ghost view = { λ one. record {
+      time = one.time;
+      byte_count = one.length;
+      bytes = one.bytes.items;
+    } };
+
+    ghost invariant = { λ one. one.fingerprint ≡ fingerprint_of one.bytes.items };
 }
 
 impl WaitingFrame {
-    /// A frame that came at this time, in nanoseconds since 1970.
-    pub(crate) fn new(alloc: Global, time: u64, bytes: &[u8]) -> Result<WaitingFrame, AllocError>
-        ensures time { IfOk result (λ one. one.time ≡ time) }
-        ensures bytes { IfOk result (λ one. one.bytes ≡ bytes.now) }
+    /// A frame that came and waits.
+    pub(crate) fn new(alloc: Global, frame: &ComingFrame<'_>) -> Result<WaitingFrame, AllocError>
+        ensures { IfOk result (λ one. one ≡ frame.now) }
     {
-        let bytes = Vec::from_slice(alloc, bytes)?;
-        Ok(WaitingFrame { time, bytes })
+        let bytes = Vec::from_slice(alloc, frame.bytes)?;
+        Ok(WaitingFrame {
+            time: frame.time,
+            length: frame.length,
+            bytes,
+            fingerprint: frame.fingerprint,
+        })
     }
 
-    /// Whether it has just these bytes.
-    pub(crate) fn has(&self, bytes: &[u8]) -> bool
-        ensures { result ≡ bytes_eq self.now.bytes bytes.now }
+    /// Whether this frame equals it: both are as long as a MAC frame can be, and each byte is the
+    /// same. Their fingerprints are compared first, so that frames that differ late cost as little
+    /// as others.
+    pub(crate) fn equals(&self, frame: &ComingFrame<'_>) -> bool
+        ensures { result ≡ are_equal self.now frame.now }
     {
-        self.bytes.as_slice() == bytes
+        self.fingerprint == frame.fingerprint
+            && self.length <= LONGEST_FRAME
+            && frame.length <= LONGEST_FRAME
+            && self.bytes.as_slice() == frame.bytes
     }
 
     /// What is told of it where it is given up, as a frame of this flow. It asks for no memory.
     pub(crate) fn into_lonely(self, flow: usize) -> LonelyFrame
         ensures { result ≡ shown_of flow self }
     {
-        let WaitingFrame { time, bytes } = self;
-        let length = bytes.len();
+        let WaitingFrame {
+            time,
+            length,
+            bytes,
+            fingerprint: _,
+        } = self;
         let mut first = bytes;
         first.truncate(SHOWN_BYTES);
         LonelyFrame {
@@ -58,9 +82,12 @@ impl WaitingFrame {
     }
 }
 
-/// The place of the first waiting frame with just these bytes, if there is one.
-pub(crate) fn place_of_equal(waiting: &VecDeque<WaitingFrame>, bytes: &[u8]) -> Option<usize>
-    ensures { result ≡ place_of_equal bytes.now waiting.now.items }
+/// The place of the first waiting frame that equals this one, if there is one.
+pub(crate) fn place_of_equal(
+    waiting: &VecDeque<WaitingFrame>,
+    frame: &ComingFrame<'_>,
+) -> Option<usize>
+    ensures { result ≡ place_of_equal frame.now waiting.now.items }
 {
-    waiting.iter().position(|one| one.has(bytes))
+    waiting.iter().position(|one| one.equals(frame))
 }

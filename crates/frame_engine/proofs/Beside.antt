@@ -2,7 +2,7 @@
 use Rattle.std.proofs.Common.{◌≡◌, ℕ, ◌+◌, ◌-◌, ◌^◌, min, Ok, Err, Option, Some, None, List, [], ◌∷◌, ◌++◌, length, refl, sym, ap, subst, ◌∙◌, append-nil, append_assoc}
 use Rattle.std.specs.Prelude.{IfSome, OnOk, Result}
 use Rattle.std.specs.Io.KnownBytes.{Appends, Consumes, IsAtEnd}
-use Rattle.std.proofs.KnownBytes.{Appends-nil, Appends-trans, Consumes-nil, Consumes-trans, Consumes-all}
+use Rattle.std.proofs.KnownBytes.{Appends-trans, Consumes-nil, Consumes-trans, Consumes-all}
 use Rattle.receiver.specs.Received.{Closes}
 use Rattle.receiver.specs.declared.closing.Closed.{Closed}
 use Rattle.capture.specs.PcapngBlocks.{CaptureParts}
@@ -29,10 +29,9 @@ use Rattle.frame_engine.specs.declared.frame_reading.FrameReading.{FrameReading}
 use Rattle.frame_engine.specs.declared.joining.Joining.{Joining}
 use Rattle.frame_engine.specs.Settings.{inner_accepts}
 use Rattle.frame_engine.specs.Records.{IsBurstOf, passed_over, one_burst, counted}
-use Rattle.frame_engine.specs.Joined.{AreAllFrames}
-use Rattle.frame_engine.specs.Compared.{arrivals_of_steps, Brings, AreArrivals, nothing_yet, one_record, more_steps}
+use Rattle.frame_engine.specs.Compared.{arrivals_of_steps, Brings, one_record, more_steps}
 use Rattle.frame_engine.specs.Comparing.{IsComparing, Takes, TakesBrought, Compares, IsComparedFile}
-use Rattle.frame_engine.specs.Inside.Joins.{PutsCame, HasFiled, HasTaken, HasEnded, HasJoined, HasReadBytes, WritesAll}
+use Rattle.frame_engine.specs.Inside.Joins.{PutsCame, HasTaken, HasReadBytes, WritesAll}
 use Rattle.frame_engine.specs.Inside.Beside.{HasTakenBeside, HasEndedBeside, HasJoinedBeside, HasReadBeside, AreAllBeside, TakesBurstBeside, JoinsSomeBeside, JoinsPieceBeside, JoinsWrittenBeside}
 use Rattle.frame_engine.proofs.Arrivals.{all-append}
 use Rattle.frame_engine.proofs.Filed.{filed-written}

@@ -1,5 +1,5 @@
 -- Where all ended equal, no frame of any flow is only one side's.
-use Rattle.std.proofs.Common.{◌≡◌, ℕ, zero, suc, Bool, true, ◌&&◌, eqb, IsTrue, Option, Some, None, List, [], ◌∷◌, length, map, get_or, refl, sym, ap, ◌∙◌}
+use Rattle.std.proofs.Common.{◌≡◌, ℕ, zero, suc, true, eqb, IsTrue, Option, Some, None, List, [], ◌∷◌, length, map, get_or, refl, sym, ap, ◌∙◌}
 use Rattle.std.specs.List.{list_all}
 use Rattle.std.specs.Prelude.{IfSome}
 use Rattle.std.proofs.lemmas.Bool.{and_parts, eqb-true}
@@ -8,7 +8,7 @@ use Rattle.frame_comparison.specs.declared.counts.ComparedCounts.{ComparedCounts
 use Rattle.frame_comparison.specs.Frames.{FlowFrames}
 use Rattle.frame_comparison.specs.Compared.{Comparison, empty_flow, nothing_came, finished}
 use Rattle.frame_comparison.specs.Aligned.{Arrival, with_all, flow_of, flow_at_end}
-use Rattle.frame_comparison.specs.Seen.{ComparisonSeen, seen_of, counts_of, has_none_alone, have_none_alone}
+use Rattle.frame_comparison.specs.Seen.{ComparisonSeen, counts_of, has_none_alone, have_none_alone}
 use Rattle.frame_engine.specs.declared.comparing.Comparing.{Comparing}
 use Rattle.frame_engine.specs.Comparing.{IsComparing, IsKeptIn, Finishes}
 use Rattle.frame_engine.specs.Judged.{EndsEqual}

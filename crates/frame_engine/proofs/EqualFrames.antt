@@ -1,11 +1,9 @@
 -- Where no frame is only one side's, the frames of a flow are those that the analyser joined.
-use Rattle.std.proofs.Common.{◌≡◌, ◌≢◌, ℕ, Bool, true, false, cond, eqb, Option, Some, None, List, [], ◌∷◌, ◌++◌, map, flat_map, length, refl, sym, ap, subst, ◌∙◌, append-nil, eq-eqb}
+use Rattle.std.proofs.Common.{◌≡◌, ◌≢◌, ℕ, Bool, true, false, cond, eqb, Option, Some, None, List, [], ◌∷◌, ◌++◌, refl, sym, ap, subst, ◌∙◌, append-nil, eq-eqb}
 use Rattle.std.proofs.lemmas.Grind.{flat_map-append}
 use Rattle.std.proofs.lemmas.List.{map-append}
-use Rattle.std.proofs.lemmas.List.Elements.{filter-append}
 use Rattle.std.proofs.lemmas.Bool.{both_ways, eqb-true, ne_eqb}
 use Rattle.std.proofs.lemmas.Option.{none-some, same_Some}
-use Rattle.std.specs.Prelude.{filter}
 use Rattle.capture.specs.PcapngBlocks.{CaptureParts}
 use Rattle.capture_map.specs.declared.map.CaptureMap.{CaptureMap}
 use Rattle.flow_selection.specs.declared.selection.Selection.{Selection}
@@ -14,22 +12,22 @@ use Rattle.frame_comparison.specs.declared.side.Side.{Side}
 use Rattle.frame_comparison.specs.declared.side.Side.TheVariants.{Analyser, Here}
 use Rattle.frame_comparison.specs.Frames.{CameFrame, came}
 use Rattle.frame_comparison.specs.Aligned.{Arrival, is_of, given_of, bytes_of}
-use Rattle.frame_records.specs.Recorded.{FrameParts, HoldsFrame}
+use Rattle.frame_comparison.proofs.Arrivals.{given-append, given-one}
+use Rattle.frame_records.specs.Recorded.{FrameParts}
 use Rattle.timed_frames.specs.declared.timed_step.TimedStep.{TimedStep}
 use Rattle.timed_frames.specs.declared.timed_step.TimedStep.TheVariants.{HandedIn, Frame, Asked, Ended}
 use Rattle.frame_engine.specs.Compared.{arrivals_if, arrivals_of_step, arrivals_of_steps, flow_of_joined, arrivals_of_flow, Brings, a_frame, no_frame, AreArrivals, nothing_yet, one_record, more_steps, frames_in_step, frames_in, AreTheAnalysers, no_record, of_the_flow, of_another, of_none}
 
--- what a side gave, and more
-given-append : (side : Side) (k : ℕ) (arrivals more : List Arrival) → bytes_of (given_of side k (arrivals ++ more)) ≡ bytes_of (given_of side k arrivals) ++ bytes_of (given_of side k more)
-given-append side k arrivals more =
-    ap (λ (all : List Arrival). bytes_of (map (λ (one : Arrival). one.frame) all)) (filter-append (is_of side k) arrivals more)
-    ∙ ap (λ (all : List CameFrame). bytes_of all) (map-append (λ (one : Arrival). one.frame) (filter (is_of side k) arrivals) (filter (is_of side k) more))
+-- the bytes of what a side gave, and of more
+bytes-append : (side : Side) (k : ℕ) (arrivals more : List Arrival) → bytes_of (given_of side k (arrivals ++ more)) ≡ bytes_of (given_of side k arrivals) ++ bytes_of (given_of side k more)
+bytes-append side k arrivals more =
+    ap (λ (all : List CameFrame). bytes_of all) (given-append side k arrivals more)
     ∙ map-append (λ (one : CameFrame). one.bytes) (given_of side k arrivals) (given_of side k more)
 
 -- of one frame
-given-one : (is : Bool) (side : Side) (k : ℕ) (one : Arrival) → is_of side k one ≡ is → bytes_of (given_of side k (one ∷ [])) ≡ cond is (one.frame.bytes ∷ []) []
-given-one true side k one is = rw is refl
-given-one false side k one is = rw is refl
+bytes-one : (is : Bool) (side : Side) (k : ℕ) (one : Arrival) → is_of side k one ≡ is → bytes_of (given_of side k (one ∷ [])) ≡ cond is (one.frame.bytes ∷ []) []
+bytes-one true side k one is = ap (λ (all : List CameFrame). bytes_of all) (given-one true side k one is)
+bytes-one false side k one is = ap (λ (all : List CameFrame). bytes_of all) (given-one false side k one is)
 
 none-either : (taken : Bool) (none : List (List ℕ)) → none ≡ [] → cond taken none [] ≡ []
 none-either true none is = is
@@ -38,7 +36,7 @@ none-either false none is = refl
 module _ (selected : Selection) (k : ℕ) (chosen : is_selected selected k ≡ true) where
   given-if : (taken is : Bool) (side from : Side) (flow : ℕ) (frame : CameFrame) → is_selected selected flow ≡ taken → is_of side k (record { side = from; flow = flow; frame = frame }) ≡ is
       → bytes_of (given_of side k (arrivals_if selected from flow frame)) ≡ cond taken (cond is (frame.bytes ∷ []) []) []
-  given-if true is side from flow frame takes is_it = rw takes (given-one is side k (record { side = from; flow = flow; frame = frame }) is_it)
+  given-if true is side from flow frame takes is_it = rw takes (bytes-one is side k (record { side = from; flow = flow; frame = frame }) is_it)
   given-if false is side from flow frame takes is_it = rw takes refl
 
   given-no : (side from : Side) (flow : ℕ) (frame : CameFrame) → is_of side k (record { side = from; flow = flow; frame = frame }) ≡ false
@@ -68,14 +66,14 @@ module _ (selected : Selection) (k : ℕ) (chosen : is_selected selected k ≡ t
   here-steps : (steps : List TimedStep) → bytes_of (given_of Here k (arrivals_of_steps selected steps)) ≡ frames_in k steps
   here-steps [] = refl
   here-steps (step ∷ steps) =
-      given-append Here k (arrivals_of_step selected step) (arrivals_of_steps selected steps)
+      bytes-append Here k (arrivals_of_step selected step) (arrivals_of_steps selected steps)
       ∙ ap (λ (front : List (List ℕ)). front ++ bytes_of (given_of Here k (arrivals_of_steps selected steps))) (here-step step)
       ∙ ap (λ (back : List (List ℕ)). frames_in_step k step ++ back) (here-steps steps)
 
   analyser-steps : (steps : List TimedStep) → bytes_of (given_of Analyser k (arrivals_of_steps selected steps)) ≡ []
   analyser-steps [] = refl
   analyser-steps (step ∷ steps) =
-      given-append Analyser k (arrivals_of_step selected step) (arrivals_of_steps selected steps)
+      bytes-append Analyser k (arrivals_of_step selected step) (arrivals_of_steps selected steps)
       ∙ ap (λ (front : List (List ℕ)). front ++ bytes_of (given_of Analyser k (arrivals_of_steps selected steps))) (analyser-step step)
       ∙ analyser-steps steps
 
@@ -132,18 +130,18 @@ module _ (selected : Selection) (k : ℕ) (chosen : is_selected selected k ≡ t
     both-sides _ _ _ nothing_yet = (refl, no_record)
     both-sides _ timed _ (one_record {records = records} {before = before} earlier one more brings) =
         let had = both-sides records timed before earlier in (
-          given-append Here k before more ∙ ap (λ (back : List (List ℕ)). bytes_of (given_of Here k before) ++ back) (here-brings one more brings)
+          bytes-append Here k before more ∙ ap (λ (back : List (List ℕ)). bytes_of (given_of Here k before) ++ back) (here-brings one more brings)
               ∙ append-nil (bytes_of (given_of Here k before)) ∙ had.0,
-          subst (λ (all : List (List ℕ)). AreTheAnalysers capture_map k (records ++ one ∷ []) all) (sym (given-append Analyser k before more))
+          subst (λ (all : List (List ℕ)). AreTheAnalysers capture_map k (records ++ one ∷ []) all) (sym (bytes-append Analyser k before more))
               (analyser-brings records (bytes_of (given_of Analyser k before)) one more had.1 brings),
         )
     both-sides records _ _ (more_steps {timed = timed} {before = before} earlier more) =
         let had = both-sides records timed before earlier in (
-          given-append Here k before (arrivals_of_steps selected more)
+          bytes-append Here k before (arrivals_of_steps selected more)
               ∙ ap (λ (front : List (List ℕ)). front ++ bytes_of (given_of Here k (arrivals_of_steps selected more))) had.0
               ∙ ap (λ (back : List (List ℕ)). frames_in k timed ++ back) (here-steps more) ∙ sym (flat_map-append (frames_in_step k) timed more),
           subst (λ (all : List (List ℕ)). AreTheAnalysers capture_map k records all)
-              (sym (given-append Analyser k before (arrivals_of_steps selected more)
+              (sym (bytes-append Analyser k before (arrivals_of_steps selected more)
               ∙ ap (λ (back : List (List ℕ)). bytes_of (given_of Analyser k before) ++ back) (analyser-steps more) ∙ append-nil (bytes_of (given_of Analyser k before))))
               had.1,
         )

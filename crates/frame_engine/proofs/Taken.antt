@@ -31,7 +31,6 @@ use Rattle.frame_engine.specs.Settings.{inner_accepts}
 use Rattle.frame_engine.specs.Records.{IsBurstOf, passed_over, one_burst, counted}
 use Rattle.frame_engine.specs.Joined.{made, check, ComesOf, IsFileOf, AreFramesAtEnd, AreAllFrames}
 use Rattle.frame_engine.specs.Inside.Joins.{PutsCame, HasFiled, HasTaken, HasEnded, HasJoined, TakesBurst}
-use Rattle.timed_frames.specs.declared.timed_step.TimedStep.{TimedStep}
 use Rattle.frame_engine.proofs.Filed.{filed-more, filed-came, filed-file, filed-written}
 
 module _ (settings : CaptureSettings) (capture_map : CaptureMap) where

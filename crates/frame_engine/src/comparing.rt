@@ -1,5 +1,5 @@
 //! The frames of a capture beside those that the analyser joined itself.
-ghost use Rattle.std.specs.Prelude.{◌≡◌, Some, None, List, IfOk, IfSome, min};
+ghost use Rattle.std.specs.Prelude.{◌≡◌, Some, None, List, IfOk, IfSome};
 ghost use Rattle.capture.specs.SeenCapture.{capture_parts};
 ghost use Rattle.captured_flows.specs.Capturing.{IsCapturing};
 ghost use Rattle.frame_comparison.specs.Frames.{came};
@@ -7,11 +7,11 @@ ghost use Rattle.frame_comparison.specs.Aligned.{Arrival, with_all};
 ghost use Rattle.frame_comparison.specs.Compared.{Comparison, nothing_came};
 ghost use Rattle.frame_comparison.specs.Seen.{seen_of};
 ghost use Rattle.frame_engine.specs.Settings.{inner_accepts};
-ghost use Rattle.frame_engine.specs.Records.{greatest_sid};
 ghost use Rattle.frame_engine.specs.Compared.{Brings, arrivals_if, arrivals_of_step, arrivals_of_steps};
 ghost use Rattle.frame_engine.specs.Comparing.{IsKeptOf, Takes, TakesBrought, Finishes};
 
 use crate::inner_check::InnerCheck;
+use crate::record_burst::short_sid;
 use capture::CaptureRecord;
 use captured_flows::CapturedFlows;
 use flow_selection::Selection;
@@ -19,9 +19,6 @@ use frame_comparison::{FrameComparison, Side};
 use frame_records::recorded_frame;
 use std::alloc::{AllocError, Global};
 use timed_frames::TimedStep;
-
-/// The greatest service identifier of 16 bits, which no map has.
-const GREATEST_SID: u32 = 65_535;
 
 /// The frames of a capture beside those that the analyser joined itself, where that is asked for.
 #[derive(Drop)]
@@ -90,14 +87,6 @@ fn take_all(
     for step in steps {
         take_step(comparison, alloc, selected, step);
     }
-}
-
-/// The service identifier of a recorded frame: of one of more than 16 bits it is enough that no map
-/// has it.
-fn short_sid(sid: u32) -> u16
-    ensures { result ≡ min sid greatest_sid }
-{
-    sid.min(GREATEST_SID) as u16
 }
 
 /// Takes the frame that a record holds, if it holds one that the analyser joined and the map has a

@@ -1,8 +1,8 @@
 //! The burst that a record of a capture is to the flows of a map.
-ghost use Rattle.std.specs.Prelude.{◌≡◌, ◌≤◌, length, take};
+ghost use Rattle.std.specs.Prelude.{◌≡◌, ◌≤◌, length, min, take};
 ghost use Rattle.docsis_wire.specs.Checks.{ends_with_its_sequence};
 ghost use Rattle.capture.specs.SeenCapture.{capture_parts};
-ghost use Rattle.frame_engine.specs.Records.{IsBurstOf, burst_in};
+ghost use Rattle.frame_engine.specs.Records.{IsBurstOf, burst_in, greatest_sid};
 
 use capture::{Burst, CaptureRecord, Passed, read_burst};
 use capture_summary::PassedReason;
@@ -11,6 +11,8 @@ use docsis_wire::{Bytes, segment_check};
 
 /// The link type of an XRA analyser's packets.
 const XRA: u32 = 273;
+/// The greatest service identifier of 16 bits, which no map has.
+const GREATEST_SID: u32 = 65_535;
 
 /// Whether the segment header at the front of a burst ends with its check sequence.
 fn is_checked(bytes: &[u8]) -> bool
@@ -21,6 +23,14 @@ fn is_checked(bytes: &[u8]) -> bool
         Some(header) => segment_check(header),
         None => false,
     }
+}
+
+/// The service identifier of a burst, or of a frame that was recorded: of one of more than 16 bits
+/// it is enough that no map has it.
+pub(crate) fn short_sid(sid: u32) -> u16
+    ensures { result ≡ min sid greatest_sid }
+{
+    sid.min(GREATEST_SID) as u16
 }
 
 /// Whether a burst has more bits than its grant, where that is known.
@@ -47,7 +57,7 @@ pub(crate) fn captured(given: CaptureRecord) -> Result<(CapturedBurst, bool), Pa
     };
     let front = given.bytes.len() - burst.bytes.len();
     let channel = burst.channel;
-    let sid = burst.sid.min(0xFFFF) as u16;
+    let sid = short_sid(burst.sid);
     let granted = burst.grant_bits.unwrap_or(0) / 8;
     let burst_id = burst.burst_id;
     let check = is_checked(burst.bytes);

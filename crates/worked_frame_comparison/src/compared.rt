@@ -144,6 +144,32 @@ fn last_byte_and_length_tell_frames_apart(rt: HostRuntime) -> Result<(), Fail> {
     Ok(())
 }
 
+/// A MAC frame has 65,541 bytes at most.
+#[test]
+fn frame_that_nobody_sent_equals_none(rt: HostRuntime) -> Result<(), Fail> {
+    let long = vec![in rt.alloc(); 7u8; 65_542]?;
+    let (whole, sent) = (long.as_slice(), &long[..65_541]);
+    let equal = compared(
+        rt.alloc(),
+        1,
+        &[Came(Analyser, 0, sent), Came(Here, 0, sent)],
+    )?;
+    expect_counts(&rt, &equal, &[counts(1, 0, 0)]);
+    for other in [whole, sent, &long[..16]] {
+        let unequal = compared(
+            rt.alloc(),
+            1,
+            &[Came(Analyser, 0, whole), Came(Here, 0, other)],
+        )?;
+        expect_counts(&rt, &unequal, &[counts(0, 1, 1)]);
+        let Some(frame) = unequal.lonely(Analyser).first() else {
+            return Err(Fail::from(AllocError));
+        };
+        assert!(rt; frame.length == 65_542 && frame.first.as_slice() == &long[..16]);
+    }
+    Ok(())
+}
+
 #[test]
 fn repeats_are_counted_one_by_one(rt: HostRuntime) -> Result<(), Fail> {
     let comparison = compared(

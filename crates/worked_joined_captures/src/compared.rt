@@ -10,7 +10,7 @@ use std::test::Fail;
 const ERROR_ROOM: usize = 1024;
 
 /// Where all frames are in both.
-const EQUAL: &str = "\
+pub(crate) const EQUAL: &str = "\
 comparison with the analyser's frames
   flow 0 (SFID 1): 3 in both, 0 only the analyser's, 0 only here
 ";
@@ -48,22 +48,22 @@ segrx: no frame was compared
 
 /// What the command wrote, and its exit status.
 #[derive(Drop)]
-struct Compared {
-    status: u8,
-    frames: [u8; 96],
+pub(crate) struct Compared {
+    pub(crate) status: u8,
+    pub(crate) frames: [u8; 96],
     said: [u8; ERROR_ROOM],
 }
 
 impl Compared {
     /// What it said on standard error.
-    fn text(&self) -> &[u8] {
+    pub(crate) fn text(&self) -> &[u8] {
         let count = self.said.iter().take_while(|byte| **byte > 0).count();
         self.said.get(..count).unwrap_or_default()
     }
 }
 
 /// Compares the frames of a capture with those that the analyser joined itself.
-fn compare(alloc: Global, bytes: &[u8], options: [&str; 2]) -> Compared {
+pub(crate) fn compare(alloc: Global, bytes: &[u8], options: [&str; 2]) -> Compared {
     let mut compared = Compared {
         status: 0,
         frames: [0; 96],
@@ -81,7 +81,8 @@ fn compare(alloc: Global, bytes: &[u8], options: [&str; 2]) -> Compared {
     compared
 }
 
-const COMPARES: [&str; 2] = ["--compare", "--link=docsis"];
+/// What is asked for.
+pub(crate) const COMPARES: [&str; 2] = ["--compare", "--link=docsis"];
 
 #[test]
 fn frames_in_both(rt: HostRuntime) -> Result<(), Fail> {
@@ -140,25 +141,5 @@ fn frames_of_no_flow_of_the_map(rt: HostRuntime) -> Result<(), Fail> {
     let compared = compare(rt.alloc(), &bytes, COMPARES);
     assert!(rt; compared.status == 0 && compared.frames == FRAMES_APART);
     assert!(rt; compared.text().ends_with(STRANGERS.as_bytes()));
-    Ok(())
-}
-
-/// One of the requests for memory is refused: that is told, or the frames are compared.
-#[test]
-fn comparison_is_refused(rt: HostRuntime) -> Result<(), Fail> {
-    let joined = [Some(frame()); 3];
-    let bytes = match frames_joined_twice(rt.alloc(), joined) {
-        Ok(bytes) => bytes,
-        Err(_) => frames_joined_twice(rt.alloc(), joined)?,
-    };
-    let mut compared = compare(rt.alloc(), &bytes, COMPARES);
-    if compared.status != 0 {
-        println!(rt; "refused")?;
-        assert!(rt; compared.status == 3);
-        assert!(rt; compared.text().ends_with(b"segrx: out of memory\n"));
-        compared = compare(rt.alloc(), &bytes, COMPARES);
-    }
-    assert!(rt; compared.status == 0 && compared.frames == FRAMES_APART);
-    assert!(rt; compared.text().ends_with(EQUAL.as_bytes()));
     Ok(())
 }

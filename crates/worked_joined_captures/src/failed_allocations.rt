@@ -1,8 +1,11 @@
 //! Each allocation of a capture that is joined is refused once: it is reported, what was written
 //! until then is a front of the frames, record for record, and a second call joins the capture.
+use crate::compared::{COMPARES, EQUAL, compare};
 use crate::joined::{InPieces, settings};
 use crate::one_map::{MAP_PATH, OneMap};
-use crate::samples::{FRAMES_APART, REQUESTS_APART, frames_apart, map_of_two_channels};
+use crate::samples::{
+    FRAMES_APART, REQUESTS_APART, frame, frames_apart, frames_joined_twice, map_of_two_channels,
+};
 use crate::words::is_path;
 use capture_command::{CaptureWords, capture_program, read_capture_words};
 use capture_rules::Arrival;
@@ -292,5 +295,25 @@ fn what_waits_is_whole_or_says_so(rt: HostRuntime) -> Result<(), Fail> {
     assert!(rt; timed.waiting().len() == usize::from(BURSTS) && are_in_order(timed.waiting()));
     timed.let_go(rt.alloc());
     assert!(rt; timed.waiting().is_empty());
+    Ok(())
+}
+
+/// One of the requests for memory is refused: that is told, or the frames are compared.
+#[test]
+fn comparison_is_refused(rt: HostRuntime) -> Result<(), Fail> {
+    let joined = [Some(frame()); 3];
+    let bytes = match frames_joined_twice(rt.alloc(), joined) {
+        Ok(bytes) => bytes,
+        Err(_) => frames_joined_twice(rt.alloc(), joined)?,
+    };
+    let mut compared = compare(rt.alloc(), &bytes, COMPARES);
+    if compared.status != 0 {
+        println!(rt; "refused")?;
+        assert!(rt; compared.status == 3);
+        assert!(rt; compared.text().ends_with(b"segrx: out of memory\n"));
+        compared = compare(rt.alloc(), &bytes, COMPARES);
+    }
+    assert!(rt; compared.status == 0 && compared.frames == FRAMES_APART);
+    assert!(rt; compared.text().ends_with(EQUAL.as_bytes()));
     Ok(())
 }

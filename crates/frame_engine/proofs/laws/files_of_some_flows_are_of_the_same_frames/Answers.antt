@@ -1,9 +1,6 @@
 -- The whole file is of what came, too.
-use Rattle.std.proofs.Common.{◌≡◌, ℕ, List, refl, ap}
-use Rattle.capture_map.specs.declared.map.CaptureMap.{CaptureMap}
-use Rattle.timed_frames.specs.declared.timed_step.TimedStep.{TimedStep}
-use Rattle.frame_engine.specs.declared.settings.CaptureSettings.{CaptureSettings}
-use Rattle.frame_engine.specs.Joined.{of_all_flows, file_of, whole_file, IsJoinedFile}
+use Rattle.std.proofs.Common.{refl}
+use Rattle.frame_engine.specs.Joined.{whole_file}
 use Rattle.frame_engine.proofs.Filed.{file-all}
 use Rattle.frame_engine.proofs.laws.files_of_some_flows_are_of_the_same_frames.Goals as goal
 

@@ -1,5 +1,4 @@
 -- Of each flow no frame is only one side's.
-use Rattle.frame_engine.specs.Judged.{HasTheAnalysersFrames}
 use Rattle.frame_engine.proofs.EqualEnds.{none-lonely}
 use Rattle.frame_engine.proofs.laws.files_that_compare_equal_have_the_analysers_frames.Goals as goal
 

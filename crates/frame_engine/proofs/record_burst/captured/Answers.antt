@@ -35,6 +35,6 @@ returns c =
     c.without_front.ensures ∙ ap (λ bytes. drop (c.len.result - length burst.bytes) bytes) (c.from.ensures ∙ sym c.deref.ensures.value)
     ∙ ap (λ n. drop (n - length burst.bytes) held) many
     ∙ burst_left held found.parts burst found.spelled found.burst_is in
-    burst-made (capture_parts c.args.given) burst c.min-sid.result (c.unwrap_or-granted.result / 8) c.is_checked-check.result c.without_front.result
-    c.min-sid.ensures (ap (λ n. n / 8) c.unwrap_or-granted.ensures) c.is_checked-check.ensures left
+    burst-made (capture_parts c.args.given) burst c.short_sid-sid.result (c.unwrap_or-granted.result / 8) c.is_checked-check.result c.without_front.result
+    c.short_sid-sid.ensures (ap (λ n. n / 8) c.unwrap_or-granted.ensures) c.is_checked-check.ensures left
     (is_burst found.parts burst (search rules) (search rules) (sym c.deref.ensures.value ∙ found.spelled) found.burst_is)

@@ -10,7 +10,7 @@ pub returns : goal.returns
 returns c =
     let flow : ℕ = c.args.flow in
     let all : List ComparedCounts = c.self.inside.counts.items in
-    let within : flow < length all = rw (← c.self.view_is) at c.requires in
+    let within : flow < length all = rw (← c.self.view_is) at c.requires.flow in
     let read : c.index_mut.result.now ≡ get_or all flow no_counts = get_or_read all flow c.index_mut.result.now within c.index_mut.ensures.value no_counts in
     let more = ended-counts (waiting_of flow c.self.inside.analyser) (waiting_of flow c.self.inside.here) c.end-only_analyser.result c.end-only_here.result
     c.end-only_analyser.ensures.count c.end-only_here.ensures.count

@@ -2,7 +2,7 @@ use Rattle.std.proofs.Common.{rules}
 use Rattle.std.proofs.lemmas.List.{nil_from_length}
 use Rattle.std.proofs.lemmas.Result.{err_from_is_err_and}
 use Rattle.frame_engine.proofs.Reading.{some-more, some-fault}
-use Rattle.frame_engine.proofs.Beside.{some-beside, all-beside, unread-beside}
+use Rattle.frame_engine.proofs.Beside.{some-beside, all-beside}
 use Rattle.frame_engine.proofs.frame_reading.FrameReading.take_piece.Goals as goal
 
 pub returns-in_err-rest-clause-fault : goal.returns-in_err-rest-clause-fault

@@ -1,5 +1,5 @@
 -- What waited was handed in, and the receiver was closed, or not.
-use Rattle.std.proofs.Common.{List, ℕ, [], ◌++◌, inl, inr, refl, sym, ap, ◌∙◌}
+use Rattle.std.proofs.Common.{List, ℕ, [], ◌++◌, inl, inr, refl, sym, ap}
 use Rattle.std.proofs.lemmas.Result.{on_ok_weaker}
 use Rattle.frame_engine.proofs.Beside.{ended-written-beside, all-then-beside}
 use Rattle.frame_engine.proofs.Ended.{wrote-nothing, ended-then}

@@ -2,7 +2,7 @@ use Rattle.std.proofs.Common.{◌<◌, List, length, map, rules, Global}
 use Rattle.std.specs.declared.collections.VecDeque.{VecDeque}
 use Rattle.frame_comparison.specs.Frames.{CameFrame}
 use Rattle.frame_comparison.proofs.SideKept.{all-kept}
-use Rattle.frame_comparison.proofs.side_frames.SideFrames.give_up_all.Goals as goal
+use Rattle.frame_comparison.proofs.one_side.OneSide.give_up_all.Goals as goal
 
 pub returns-clause-kept : goal.returns-clause-kept
 returns-clause-kept c =

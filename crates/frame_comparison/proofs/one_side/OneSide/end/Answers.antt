@@ -4,7 +4,7 @@ use Rattle.std.specs.declared.collections.VecDeque.{VecDeque}
 use Rattle.frame_comparison.specs.Frames.{CameFrame, shown_of}
 use Rattle.frame_comparison.specs.Seen.{listed}
 use Rattle.frame_comparison.proofs.SideKept.{all-kept}
-use Rattle.frame_comparison.proofs.side_frames.SideFrames.end.Goals as goal
+use Rattle.frame_comparison.proofs.one_side.OneSide.end.Goals as goal
 
 pub returns-clause-kept : goal.returns-clause-kept
 returns-clause-kept c =

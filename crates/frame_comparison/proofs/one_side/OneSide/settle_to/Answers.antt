@@ -2,7 +2,7 @@ use Rattle.std.proofs.Common.{◌<◌, List, length, map, drop, ap, ◌∙◌, G
 use Rattle.std.specs.declared.collections.VecDeque.{VecDeque}
 use Rattle.frame_comparison.specs.Frames.{CameFrame}
 use Rattle.frame_comparison.proofs.SideKept.{settled-kept}
-use Rattle.frame_comparison.proofs.side_frames.SideFrames.settle_to.Goals as goal
+use Rattle.frame_comparison.proofs.one_side.OneSide.settle_to.Goals as goal
 
 pub returns : goal.returns
 returns c =

@@ -1,9 +1,10 @@
 //! What is kept of one side: of each flow the frames that wait, and the first that only it has.
 ghost use Rattle.std.specs.Prelude.{◌≡◌, ◌<◌, ◌≤◌, ◌++◌, ℕ, Some, None, IfOk, OnOk, OnErr, [], drop, take, map, length, get_or, replicate};
-ghost use Rattle.frame_comparison.specs.Frames.{came, shown_of, frames_given_up};
+ghost use Rattle.frame_comparison.specs.Frames.{shown_of, frames_given_up};
 ghost use Rattle.frame_comparison.specs.Compared.{place_of_equal, own_moved, other_moved, all_given_up};
-ghost use Rattle.frame_comparison.specs.Seen.{SideSeen, listed, listed_most, side_seen_after};
+ghost use Rattle.frame_comparison.specs.Seen.{SideSeen, listed, listed_most, side_seen_after, none_waits};
 
+use crate::coming_frame::ComingFrame;
 use crate::lonely_frame::{LonelyFrame, LonelyFrames};
 use crate::waiting_frame::{WaitingFrame, place_of_equal};
 use std::alloc::{AllocError, Global};
@@ -16,12 +17,12 @@ pub const LONGEST_WAIT: usize = 1024;
 
 /// What is kept of one side. Contracts see a `SideSeen`.
 #[derive(Debug, Drop)]
-pub(crate) struct SideFrames {
+pub(crate) struct OneSide {
     waiting: Vec<VecDeque<WaitingFrame>>,
     only: LonelyFrames,
 }
 
-impl Model for SideFrames {
+impl Model for OneSide {
     ghost use Rattle.std.specs.Prelude.{map};
     ghost use Rattle.frame_comparison.specs.Seen.{SideSeen};
 
@@ -33,9 +34,9 @@ impl Model for SideFrames {
     } };
 }
 
-impl SideFrames {
+impl OneSide {
     /// Nothing came of so many flows.
-    pub(crate) fn new(alloc: Global, flows: usize) -> Result<SideFrames, AllocError>
+    pub(crate) fn new(alloc: Global, flows: usize) -> Result<OneSide, AllocError>
         ensures waiting { IfOk result (λ side. side.waiting ≡ replicate flows []) }
         ensures only { IfOk result (λ side. side.only ≡ []) }
     {
@@ -44,7 +45,7 @@ impl SideFrames {
             waiting.push(VecDeque::new(alloc))?;
         }
         let only = LonelyFrames::new(alloc)?;
-        Ok(SideFrames { waiting, only })
+        Ok(OneSide { waiting, only })
     }
 
     /// The frames that only this side has, in the order in which they were given up.
@@ -54,13 +55,13 @@ impl SideFrames {
         self.only.as_slice()
     }
 
-    /// The place of the first frame of a flow that waits and has just these bytes.
-    pub(crate) fn place_of(&self, flow: usize, bytes: &[u8]) -> Option<usize>
+    /// The place of the first frame of a flow that waits and equals this one.
+    pub(crate) fn place_of(&self, flow: usize, frame: &ComingFrame<'_>) -> Option<usize>
         requires { flow < length self.now.waiting }
-        ensures place { result ≡ place_of_equal bytes.now (get_or self.now.waiting flow []) }
+        ensures place { result ≡ place_of_equal frame.now (get_or self.now.waiting flow []) }
         ensures few { length self.now.only ≤ listed_most }
     {
-        place_of_equal(&self.waiting[flow], bytes)
+        place_of_equal(&self.waiting[flow], frame)
     }
 
     /// Gives up all frames of a flow that wait, and answers how many.
@@ -89,6 +90,13 @@ impl SideFrames {
         count
     }
 
+    /// Lets all frames go that wait, of all flows.
+    pub(crate) fn let_go(&mut self)
+        ensures { self.new ≡ none_waits self.old }
+    {
+        self.waiting.clear();
+    }
+
     /// Takes out the frame at this place, and gives up those before it.
     pub(crate) fn settle_to(&mut self, flow: usize, place: usize)
         requires flow { flow < length self.old.waiting }
@@ -107,21 +115,18 @@ impl SideFrames {
         &mut self,
         alloc: Global,
         flow: usize,
-        time: u64,
-        bytes: &[u8],
+        frame: &ComingFrame<'_>,
     ) -> Result<usize, AllocError>
         requires { flow < length self.old.waiting }
-        ensures kept { let frame = came time bytes.now in
-            let more = own_moved None frame (get_or self.old.waiting flow []) in
+        ensures kept { let more = own_moved None frame.now (get_or self.old.waiting flow []) in
             OnOk result (self.new ≡ side_seen_after flow more self.old) }
-        ensures count { let frame = came time bytes.now in
-            let more = own_moved None frame (get_or self.old.waiting flow []) in
+        ensures count { let more = own_moved None frame.now (get_or self.old.waiting flow []) in
             IfOk result (λ count. count ≡ length (frames_given_up more.settled)) }
         ensures refused { OnErr result (self.new ≡ self.old) }
     {
-        let frame = WaitingFrame::new(alloc, time, bytes)?;
+        let waits = WaitingFrame::new(alloc, frame)?;
         let waiting = &mut self.waiting[flow];
-        waiting.push_back(frame)?;
+        waiting.push_back(waits)?;
         let excess = waiting.len().saturating_sub(LONGEST_WAIT);
         give_up(waiting, excess, flow, &mut self.only);
         Ok(excess)

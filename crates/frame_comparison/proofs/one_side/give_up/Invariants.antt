@@ -1,7 +1,7 @@
 use Rattle.std.proofs.Common.{◌≡◌, ◌++◌, drop, take, map}
 use Rattle.frame_comparison.specs.Frames.{shown_of}
 use Rattle.frame_comparison.specs.Seen.{listed}
-use Rattle.frame_comparison.proofs.side_frames.give_up.Given as goal
+use Rattle.frame_comparison.proofs.one_side.give_up.Given as goal
 
 abbrev pub invariant-loop : goal.invariant-loop
 invariant-loop l = (l.waiting.items ≡ drop l.counter l.initial.waiting.items)

@@ -3,7 +3,7 @@ use Rattle.std.proofs.lemmas.List.{drop-drop}
 use Rattle.frame_comparison.specs.Frames.{CameFrame, ShownFrame, shown_of}
 use Rattle.frame_comparison.specs.Seen.{listed}
 use Rattle.frame_comparison.proofs.Listing.{listed-none, listed-more, front-read}
-use Rattle.frame_comparison.proofs.side_frames.give_up.Goals as goal
+use Rattle.frame_comparison.proofs.one_side.give_up.Goals as goal
 
 pub loop-init : goal.loop-init
 loop-init c = (refl, listed-none c.args.only.now.frames.items c.args.only.now.few)

@@ -2,9 +2,8 @@ use Rattle.std.proofs.Common.{◌≡◌, ◌<◌, ◌-◌, List, length, map, ap
 use Rattle.frame_comparison.specs.Compared.{longest_wait}
 use Rattle.std.specs.declared.collections.VecDeque.{VecDeque}
 use Rattle.frame_comparison.specs.Frames.{CameFrame}
-use Rattle.frame_comparison.specs.Frames.{came}
 use Rattle.frame_comparison.proofs.SideKept.{side-refused, waits-kept, waits-count, on_err-always}
-use Rattle.frame_comparison.proofs.side_frames.SideFrames.wait.Goals as goal
+use Rattle.frame_comparison.proofs.one_side.OneSide.wait.Goals as goal
 
 pub returns-in_err-push_back-clause-refused : goal.returns-in_err-push_back-clause-refused
 returns-in_err-push_back-clause-refused c =
@@ -20,8 +19,8 @@ returns-clause-kept c =
     let items : VecDeque CameFrame Global → List CameFrame = λ queue. queue.items in
     let queues : List (VecDeque CameFrame Global) = c.self.inside.waiting.items in
     let within : c.args.flow < length (map items queues) = rw (← c.self.view_is) at c.requires in
-    let frame : CameFrame = c.in_ok-frame.frame in
-    let is : frame ≡ came c.args.time c.args.bytes.now = search rules in
+    let frame : CameFrame = c.in_ok-waits.waits in
+    let is : frame ≡ c.args.frame.now = search rules in
     let excess : c.saturating_sub-excess.result ≡ length c.push_back.new.self.items - longest_wait =
     c.saturating_sub-excess.ensures ∙ ap (λ n. n - 1024) (search (rules, c.len.ensures))
     in
@@ -36,8 +35,8 @@ returns-clause-count c =
     let items : VecDeque CameFrame Global → List CameFrame = λ queue. queue.items in
     let queues : List (VecDeque CameFrame Global) = c.self.inside.waiting.items in
     let within : c.args.flow < length (map items queues) = rw (← c.self.view_is) at c.requires in
-    let frame : CameFrame = c.in_ok-frame.frame in
-    let is : frame ≡ came c.args.time c.args.bytes.now = search rules in
+    let frame : CameFrame = c.in_ok-waits.waits in
+    let is : frame ≡ c.args.frame.now = search rules in
     let excess : c.saturating_sub-excess.result ≡ length c.push_back.new.self.items - longest_wait =
     c.saturating_sub-excess.ensures ∙ ap (λ n. n - 1024) (search (rules, c.len.ensures))
     in

@@ -1,0 +1,76 @@
+//! A frame that comes, and what would be kept of it.
+ghost use Rattle.std.specs.Prelude.{◌≡◌, nat_le, if◌then◌else◌, length};
+ghost use Rattle.frame_records.specs.Frames.{longest_frame};
+ghost use Rattle.frame_comparison.specs.Frames.{came, kept, shown_front};
+ghost use Rattle.frame_comparison.specs.Fingerprint.{fingerprint_of};
+
+use crate::lonely_frame::SHOWN_BYTES;
+use frame_records::LONGEST_FRAME;
+use std::hash::{DefaultHasher, Hasher};
+use std::marker::Model;
+
+/// What is to be kept of a frame that comes. Contracts see a `CameFrame`.
+#[derive(Debug, Drop)]
+pub(crate) struct ComingFrame<'a> {
+    /// When it came, in nanoseconds since 1970.
+    pub(crate) time: u64,
+    /// How many bytes it has.
+    pub(crate) length: usize,
+    /// The bytes that are kept of it: its first 16 where it is longer than a MAC frame can be.
+    pub(crate) bytes: &'a [u8],
+    /// A hash of these bytes.
+    pub(crate) fingerprint: u64,
+}
+
+impl<'a> Model for ComingFrame<'a> {
+    ghost use Rattle.std.specs.Prelude.{◌≡◌};
+    ghost use Rattle.frame_comparison.specs.Frames.{CameFrame};
+    ghost use Rattle.frame_comparison.specs.Fingerprint.{fingerprint_of};
+
+    ghost Value = { CameFrame };
+
+    ghost view = { λ one. record {
+      time = one.time;
+      byte_count = one.length;
+      bytes = one.bytes.now;
+    } };
+
+    ghost invariant = { λ one. one.fingerprint ≡ fingerprint_of one.bytes.now };
+}
+
+impl ComingFrame<'_> {
+    /// What is to be kept of a frame that came at this time, in nanoseconds since 1970.
+    pub(crate) fn new(time: u64, frame: &[u8]) -> ComingFrame<'_>
+        ensures { result ≡ kept (came time frame.now) }
+    {
+        let bytes = kept_bytes(frame);
+        ComingFrame {
+            time,
+            length: frame.len(),
+            bytes,
+            fingerprint: fingerprint(bytes),
+        }
+    }
+}
+
+/// The bytes that are kept of a frame: its first 16 where it is longer than a MAC frame can be.
+fn kept_bytes(frame: &[u8]) -> &[u8]
+    ensures { result.now ≡ (if nat_le (length frame.now) longest_frame then frame.now
+        else shown_front frame.now) }
+{
+    if frame.len() <= LONGEST_FRAME {
+        frame
+    } else {
+        &frame[..SHOWN_BYTES]
+    }
+}
+
+/// A hash of some bytes, SipHash-1-3: that of other bytes is another one, but for very few that are
+/// hard to find.
+fn fingerprint(bytes: &[u8]) -> u64
+    ensures { result ≡ fingerprint_of bytes.now }
+{
+    let mut hasher = DefaultHasher::new();
+    hasher.write(bytes);
+    hasher.finish()
+}
