@@ -1,5 +1,5 @@
 -- What a held receiver is made of.
-use Rattle.std.specs.Prelude.{◌≡◌, ℕ, ◌<◌, IsTrue, List, [], length, map}
+use Rattle.std.specs.Prelude.{◌≡◌, ℕ, ◌<◌, IsTrue, None, List, [], length, map}
 use Rattle.flow_records.specs.declared.record.FlowRecord.{FlowRecord}
 use Rattle.lane.specs.declared.sids.SidRow.{SidRow}
 use Rattle.loss_rule.specs.declared.rule.LossRule.{LossRule}
@@ -49,6 +49,7 @@ pub record IsMade (channels : ℕ) (flows : List PlainFlow) (rows : List PlainRo
   pub no_frame : held.queue.frames.items ≡ []
   pub no_request : held.queue.requests.items ≡ []
   pub whole : IsTrue held.queue.whole
+  pub none_lent : held.lent ≡ None
 
 -- why no receiver is so wide
 abbrev pub IsWidthRefused : ℕ → ℕ → Status → Type 0

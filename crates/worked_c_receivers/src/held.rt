@@ -87,3 +87,14 @@ fn expect_frame(rt: &impl Abort, held: &mut HeldReceiver, wanted: &[u8])
     assert_eq!(rt; frame.flow, 0);
     assert_eq!(rt; room.get(..frame.length), Some(wanted));
 }
+
+/// Lends the first frame that waits, and compares it with this one.
+fn expect_lent(rt: &impl Abort, held: &mut HeldReceiver, wanted: &[u8])
+    requires { IsInUse held.old }
+    ensures { IsInUse held.new }
+{
+    let mut frame = PlainFrame { flow: 7, length: 0 };
+    assert_eq!(rt; held.lend_frame(&mut frame), Status::Done);
+    assert_eq!(rt; (frame.flow, frame.length), (0, wanted.len()));
+    assert_eq!(rt; held.lent_bytes(), wanted);
+}

@@ -5,8 +5,8 @@ ghost use Rattle.std.specs.Prelude.{IfOk};
 ghost use Rattle.c_receiver.specs.Held.{IsInUse};
 
 use super::{
-    FIRST, FIRST_FRAME, REQUEST, SECOND, SECOND_FRAME, THIRD, expect_frame, expect_request, made,
-    no_counts,
+    FIRST, FIRST_FRAME, REQUEST, SECOND, SECOND_FRAME, THIRD, expect_frame, expect_lent,
+    expect_request, made, no_counts,
 };
 use c_receiver::{HeldReceiver, Status};
 use std::alloc::Global;
@@ -124,8 +124,12 @@ fn refused_calls_are_made_again(rt: HostRuntime) -> Result<(), Fail> {
     restart_again(&rt, &mut held)?;
     if held.queue.whole {
         expect_request(&rt, &mut held);
-        expect_frame(&rt, &mut held, &FIRST_FRAME);
+        expect_lent(&rt, &mut held, &FIRST_FRAME);
         expect_frame(&rt, &mut held, &SECOND_FRAME);
+        // The first is lent still.
+        assert_eq!(rt; held.lent_bytes(), FIRST_FRAME);
+        let waiting = held.waiting();
+        assert_eq!(rt; (waiting.frames, waiting.requests), (0, 0));
     } else {
         // Of two frames and a request one is missing, and that is told again.
         assert_eq!(rt; held.queue.frames.len() + held.queue.requests.len(), 2);
