@@ -15,7 +15,7 @@ use crate::open;
 use crate::plain::{PlainCounts, PlainFlow, PlainFrame, PlainRequest, PlainRow, PlainWaiting};
 use crate::queue::{Queue, QueuedFrame};
 use crate::setup::{rule_of, setup_of, width_of};
-use crate::status::Status;
+use crate::status::{MakeFault, Status};
 use docsis_wire::{Bytes, NoCheck};
 use flow_core::FlowCounts;
 use lane::Input;
@@ -56,17 +56,17 @@ impl HeldReceiver {
         flows: &[PlainFlow],
         rows: &[PlainRow],
         rule: u32,
-    ) -> Result<HeldReceiver, Status>
+    ) -> Result<HeldReceiver, MakeFault>
         ensures made { IfOk result (IsMade channels flows.now rows.now rule) }
         ensures fault { IfErr result (IsNotMade channels flows.now rows.now rule) }
         ensures in_use { IfOk result IsInUse }
     {
         let Some(rule) = rule_of(rule) else {
-            return Err(Status::UnknownRule);
+            return Err(MakeFault::UnknownRule);
         };
         let width = width_of(channels, flows.len())?;
         let Ok(setup) = setup_of(alloc, flows, rows) else {
-            return Err(Status::OutOfMemory);
+            return Err(MakeFault::OutOfMemory);
         };
         match Receiver::new(alloc, width, &setup, rule, NoCheck) {
             Ok(receiver) => Ok(HeldReceiver {
@@ -75,7 +75,7 @@ impl HeldReceiver {
                 lent: None,
                 alloc,
             }),
-            Err(error) => Err(Status::Setup(error)),
+            Err(error) => Err(MakeFault::Setup(error)),
         }
     }
 

@@ -26,4 +26,4 @@ mod status;
 pub use held::{HeldReceiver, State, discard};
 pub use plain::{PlainCounts, PlainFlow, PlainFrame, PlainRequest, PlainRow, PlainWaiting};
 pub use queue::{Queue, QueuedFrame};
-pub use status::Status;
+pub use status::{MakeFault, Status};

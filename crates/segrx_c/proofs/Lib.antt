@@ -1,4 +1,4 @@
 pub mod Steps
 pub mod HandedSteps
 pub mod Refusals
-mod Loans
+pub mod Loans

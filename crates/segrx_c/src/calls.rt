@@ -9,8 +9,8 @@ ghost use Rattle.c_receiver.specs.declared.held.HeldReceiver.{HeldReceiver};
 
 use crate::handed::Handed;
 use c_receiver::{
-    HeldReceiver, PlainCounts, PlainFlow, PlainFrame, PlainRequest, PlainRow, PlainWaiting, Status,
-    discard,
+    HeldReceiver, MakeFault, PlainCounts, PlainFlow, PlainFrame, PlainRequest, PlainRow,
+    PlainWaiting, discard,
 };
 use std::alloc::Global;
 
@@ -147,9 +147,9 @@ pub fn make(
     match HeldReceiver::new(alloc, channels, flows, rows, rule) {
         Ok(held) => match Box::new(alloc, held) {
             Ok(boxed) => Handed::of(boxed),
-            Err(_) => Handed::refused(alloc, Status::OutOfMemory.number()),
+            Err(_) => Handed::refused(alloc, MakeFault::OutOfMemory.number()),
         },
-        Err(status) => Handed::refused(alloc, status.number()),
+        Err(fault) => Handed::refused(alloc, fault.number()),
     }
 }
 

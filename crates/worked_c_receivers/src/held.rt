@@ -5,7 +5,7 @@ ghost use Rattle.std.specs.Prelude.{IfOk};
 ghost use Rattle.c_receiver.specs.Held.{IsInUse};
 
 use c_receiver::{
-    HeldReceiver, PlainCounts, PlainFlow, PlainFrame, PlainRequest, PlainRow, Status,
+    HeldReceiver, MakeFault, PlainCounts, PlainFlow, PlainFrame, PlainRequest, PlainRow, Status,
 };
 use std::alloc::Global;
 use std::process::Abort;
@@ -34,7 +34,7 @@ const REQUEST: PlainRequest = PlainRequest {
 };
 
 /// A receiver of three channels and one flow, which decisions alone hold to be lost.
-fn made(alloc: Global) -> Result<HeldReceiver, Status>
+fn made(alloc: Global) -> Result<HeldReceiver, MakeFault>
     ensures { IfOk result IsInUse }
 {
     let flow = PlainFlow {

@@ -7,6 +7,7 @@ use mir.Syntax.{ty_ptr}
 use Rattle.segrx_c.specs.Handle.{boxed_at, handle_at, value_at}
 use Rattle.segrx_c.specs.Loan.{lent_at, perhaps_lent_at}
 use Rattle.segrx_c.specs.Answers.{Numbered, Unless, refused}
+use Rattle.segrx_c.proofs.Loans.{loan_made}
 use Rattle.std.specs.Prelude.{IsSome}
 use Rattle.c_receiver.specs.declared.held.HeldReceiver.{HeldReceiver}
 use Rattle.c_receiver.specs.contracts.held.HeldReceiver.{the_row as R}
@@ -152,7 +153,7 @@ module _ {M : Type 1} {𝓤 : Ura M} (𝓛 : Logic 𝓤) (at_mem : Memory → SP
         move ! (9 ∷ []) $ assigns ! (of_opd ! (get_in ! (fld ! refl (stop !)) (sub ! 0 refl (whole !)))) (through ! refl (stop !)) (store ! 0 refl (tt, tt)) $
         use1 𝓛 (‵ (points_to RawPtr (block_ptr b1 o1) to)) (pointer_in 𝓛 to b1 o1) $
         sets ! (of_opd ! (get ! refl)) refl ((uint_Lawful 𝓛 w32).typed r' _ is).0 $
-        move ! (4 ∷ 9 ∷ []) $ fjoin ! $ move ! (2 ∷ 0 ∷ []) $ fjoin ! $ move ! (2 ∷ 0 ∷ []) $ fjoin ! $
+        move ! (4 ∷ 9 ∷ []) $ fjoin ! $ move ! (3 ∷ 2 ∷ 0 ∷ []) $ use3 𝓛 (‵ (lent_at α2 (block_ptr b0 o0) to ws.0)) (loan_made 𝓛 α2 b0 o0 ws.0 r.ref_ptr.0 r.ref_ptr.1) $
         move ! (0 ∷ 1 ∷ 3 ∷ []) $ use3 𝓛 (raw (Ends (block_ptr b0 o0) (block_ptr b1 o1) (block_ptr b2 o2) r')) (ended-3 𝓛 (F0 (block_ptr b0 o0)) (F1 (block_ptr b1 o1)) (F2 (block_ptr b2 o2)) (Q (block_ptr b0 o0) (block_ptr b1 o1) (block_ptr b2 o2) r') (ws.0, to, ws.1.0, Some α2) (does, still, refl)) $
         move ! (3 ∷ 0 ∷ []) $ returns ! (look_at ! 0 refl) $ free_all ! refl $ keep ! (0 ∷ 1 ∷ []) $ nothing ! $ nothing ! $ fjoin ! $ nothing ! $ fjoin ! $ nothing ! $ fjoin ! $ nothing ! $
         by ! (leaves 𝓛 f.ended stayed c (y (block_ptr b0 o0) (block_ptr b1 o1) (block_ptr b2 o2)) v r' (tt, (tt, (tt, tt))) (tt, (tt, (tt, tt))))))))))))))))))))))))

@@ -8,7 +8,7 @@ use super::{
     FIRST, FIRST_FRAME, REQUEST, SECOND, SECOND_FRAME, THIRD, expect_frame, expect_lent,
     expect_request, made, no_counts,
 };
-use c_receiver::{HeldReceiver, Status};
+use c_receiver::{HeldReceiver, MakeFault, Status};
 use std::alloc::Global;
 use std::process::Abort;
 use std::test::Fail;
@@ -43,15 +43,15 @@ fn made_again(rt: &impl Print, alloc: Global) -> Result<HeldReceiver, Fail>
     ensures { IfOk result IsInUse }
 {
     let mut answer = made(alloc);
-    if let Err(status) = &answer
-        && status.number() == Status::OutOfMemory.number()
+    if let Err(fault) = &answer
+        && fault.number() == MakeFault::OutOfMemory.number()
     {
         say_refused(rt)?;
         answer = made(alloc);
     }
     match answer {
         Ok(held) => Ok(held),
-        Err(status) => Err(Fail::new(format_args!("{status:?}"))),
+        Err(fault) => Err(Fail::new(format_args!("{fault:?}"))),
     }
 }
 
