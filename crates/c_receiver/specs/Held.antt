@@ -5,7 +5,6 @@ use Rattle.docsis_wire.specs.Limits.{sequence_modulus}
 use Rattle.docsis_wire.specs.declared.header_check.NoCheck.{NoCheck}
 use Rattle.flow_records.specs.declared.record.FlowRecord.{FlowRecord}
 use Rattle.flow_core.specs.declared.counts.FlowCounts.{FlowCounts}
-use Rattle.lane.specs.declared.admitted.Request.{Request}
 use Rattle.lane.specs.declared.input.Input.{Input}
 use Rattle.lane.specs.declared.input.Input.TheVariants.{Grant, Burst}
 use Rattle.consumer.specs.declared.given.Given.{Given}
@@ -287,15 +286,6 @@ LendsFrame held frame answer held' frame' = KeepsTheRequests held held' × Lends
 abbrev pub waiting_in : Queue → PlainWaiting
 waiting_in queue = record { frames = length queue.frames.items; requests = length queue.requests.items }
 
-abbrev pub plain_request : Request → PlainRequest
-plain_request request = record {
-  flow = request.flow;
-  units = request.units;
-  sequence = request.sequence;
-  channel = request.channel;
-  cluster = request.cluster;
-}
-
 -- of what waits, only the requests may have changed
 pub record KeepsTheRest (held held' : HeldReceiver) : Type 0 where
   pub frames : held'.queue.frames ≡ held.queue.frames
@@ -304,9 +294,9 @@ pub record KeepsTheRest (held held' : HeldReceiver) : Type 0 where
   pub unmoved : held'.state ≡ held.state
 
 -- no request waits; or the first is told, and waits no more
-abbrev pub GivesFirstRequest : List Request → HeldReceiver → PlainRequest → Status → HeldReceiver → PlainRequest → Type 0
+abbrev pub GivesFirstRequest : List PlainRequest → HeldReceiver → PlainRequest → Status → HeldReceiver → PlainRequest → Type 0
 GivesFirstRequest [] held request answer held' request' = (answer ≡ status.Nothing) × (request' ≡ request) × (held'.queue.requests.items ≡ [])
-GivesFirstRequest (first ∷ rest) held request answer held' request' = (answer ≡ status.Done) × (request' ≡ plain_request first) × (held'.queue.requests.items ≡ rest)
+GivesFirstRequest (first ∷ rest) held request answer held' request' = (answer ≡ status.Done) × (request' ≡ first) × (held'.queue.requests.items ≡ rest)
 
 abbrev pub GivesRequest : HeldReceiver → PlainRequest → Status → HeldReceiver → PlainRequest → Type 0
 GivesRequest held request answer held' request' = KeepsTheRest held held' × GivesFirstRequest held.queue.requests.items held request answer held' request'

@@ -257,7 +257,7 @@ impl HeldReceiver {
     {
         match self.queue.requests.pop_front() {
             Some(first) => {
-                *request = PlainRequest::of(&first);
+                *request = first;
                 Status::Done
             }
             None => Status::Nothing,

@@ -1,6 +1,7 @@
 //! Values as C sees them.
 ghost use Rattle.std.specs.Prelude.{◌≡◌};
-ghost use Rattle.c_receiver.specs.Held.{plain_of, plain_frame, plain_request};
+ghost use Rattle.c_receiver.specs.Held.{plain_of, plain_frame};
+ghost use Rattle.c_receiver.specs.Queued.{plain_request};
 ghost use Rattle.c_receiver.specs.Made.{record_of, row_of};
 
 use crate::queue::QueuedFrame;
