@@ -15,9 +15,9 @@ pub use contract.Running.{tables}
 pub use types.Kit.{‵, raw, ◌⊛◌, some, later, at_ret, ◌$◌, ◌∵◌, !, qed, by, move, keep, drop, use0, use1, use2, use3, split, split3, join, pick, show, fsplit, fjoin, feq_i, feq_l, rewrite, await, updating, now, frame, done}
 pub use types.Tokens.{lft_new, lft_end, lent_back}
 pub use types.SemTy.{Body, Arr, cells}
-pub use types.Run.{of_opd, bin, lit, addr, stop, and_then, no_more, first, branches, skips, exec, assigns, store, fld, returns, returns_within, enter}
+pub use types.Run.{of_opd, bin, lit, addr, from, stop, and_then, no_more, first, branches, skips, exec, assigns, store, fld, hop, returns, returns_within, enter}
 pub use types.Part.{agg, sub, whole}
-pub use types.ByLocal.{alloc_all, pass_all, free_all, look_at, get, get_in, through, sets, lands_as, env}
+pub use types.ByLocal.{alloc_all, pass_all, free_all, look_at, look_in_at, get, get_in, through, sets, lands_as, env}
 pub use sound.WpLaws.{FmC}
 pub use denote.Exit.{yes}
 pub use denote.Laws.{Is, shows}

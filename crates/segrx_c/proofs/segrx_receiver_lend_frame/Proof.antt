@@ -1,6 +1,6 @@
 -- The first frame is lent: the receiver is shared for a lifetime that doesn't end here, and what is
 -- read of it is where the frame's bytes are.
-use Rattle.segrx_c.proofs.Steps.{◌≡◌, ℕ, ◌^◌, ◌<◌, List, [], ◌∷◌, ◌++◌, length, refl, ap, lit<, w32, w64, MutBor, Bor, Ura, full_share, named, Val, vint, vptr, vnull, SProp, ent, sep, ex, id⊢, via, fst∗, Lft, Fml, ftrue, flft, flent, Incl-refl, Memory, Routine, Calls, Loops, WpFn, Logic, sem, Fun, fact, fact_i, fact_use, emp, tables, framed, ‵, raw, ◌⊛◌, some, later, at_ret, ◌$◌, ◌∵◌, !, qed, by, move, keep, drop, use0, use1, use2, use3, split, split3, join, pick, fsplit, fjoin, rewrite, await, lft_new, lft_end, Body, of_opd, bin, lit, addr, stop, fld, and_then, no_more, first, branches, skips, exec, assigns, store, returns, returns_within, enter, sub, whole, alloc_all, pass_all, free_all, look_at, get, get_in, through, sets, lands_as, env, FmC, yes, Is, shows, mem, uint_Makes, uint_Lawful, u8, u32, MutRef, mut_vals, ShrRef, shr_vals, lends_ref, ref_back, lends_shr, part_at, Ptr, block_ptr, null_ptr, ptr_val, RawPtr, rawptr_vals, rawptr_Tells, Testable, tests_null, plain, owned, peeks, heard, nothing, only, Contract, Triple, calls_at, Clauses, lasts, on_entry, triple_of, Stays, stay_dropped, walk_of, Goes-dropped, proved, leaves, typed, boxed-Testable, ended-3, pointer_out, pointer_in, points_to, ShrSlice, slice_val, shr_slice_vals}
+use Rattle.segrx_c.proofs.Steps.{◌≡◌, ℕ, ◌^◌, ◌<◌, List, [], ◌∷◌, ◌++◌, length, refl, ap, lit<, w32, w64, MutBor, Bor, Ura, full_share, named, Val, vint, vptr, vnull, SProp, ent, sep, ex, id⊢, via, fst∗, Lft, Fml, ftrue, flft, flent, Incl-refl, Memory, Routine, Calls, Loops, WpFn, Logic, sem, Fun, fact, fact_i, fact_use, emp, tables, framed, ‵, raw, ◌⊛◌, some, later, at_ret, ◌$◌, ◌∵◌, !, qed, by, move, keep, drop, use0, use1, use2, use3, split, split3, join, pick, fsplit, fjoin, rewrite, await, lft_new, lft_end, Body, of_opd, bin, lit, addr, from, stop, fld, hop, and_then, no_more, first, branches, skips, exec, assigns, store, returns, returns_within, enter, sub, whole, alloc_all, pass_all, free_all, look_at, look_in_at, get, through, sets, lands_as, env, FmC, yes, Is, shows, mem, uint_Makes, uint_Lawful, u8, u32, MutRef, mut_vals, ShrRef, shr_vals, lends_ref, ref_back, lends_shr, part_at, Ptr, block_ptr, null_ptr, ptr_val, RawPtr, rawptr_vals, rawptr_Tells, Testable, tests_null, plain, owned, peeks, heard, nothing, only, Contract, Triple, calls_at, Clauses, lasts, on_entry, triple_of, Stays, stay_dropped, walk_of, Goes-dropped, proved, leaves, typed, boxed-Testable, ended-3, pointer_out, pointer_in, points_to, ShrSlice, slice_val, shr_slice_vals}
 use Rattle.std.proofs.Common.{Option, Some, None}
 use base.Fml.{fat}
 use mir.Syntax.{ty_ptr}
@@ -150,7 +150,7 @@ module _ {M : Type 1} {𝓤 : Ura M} (𝓛 : Logic 𝓤) (at_mem : Memory → SP
         rewrite ! 0 (λ (xs : List ℕ). ‵ ((ShrSlice (named 0) κ2 u8).own_val (record { ref_ptr = r.ref_ptr; now = xs }) (slice_val r.ref_ptr (length xs) ∷ []))) e refl $
         lands_as ! (ap only at.0.0) refl (tt, (tt, (record { fits = at.0.1.0 }, tt))) $
         let to : Ptr = block_ptr r.ref_ptr.0 r.ref_ptr.1 in
-        move ! (9 ∷ []) $ assigns ! (of_opd ! (get_in ! (fld ! refl (stop !)) (sub ! 0 refl (whole !)))) (through ! refl (stop !)) (store ! 0 refl (tt, tt)) $
+        move ! (9 ∷ []) $ sets ! (addr ! (from ! (fld ! refl (hop ! (look_in_at ! 9 (sub ! 0 refl (whole !))) (stop !))))) refl (tt, tt) $ assigns ! (of_opd ! (get ! refl)) (through ! refl (stop !)) (store ! 0 refl (tt, tt)) $
         use1 𝓛 (‵ (points_to RawPtr (block_ptr b1 o1) to)) (pointer_in 𝓛 to b1 o1) $
         sets ! (of_opd ! (get ! refl)) refl ((uint_Lawful 𝓛 w32).typed r' _ is).0 $
         move ! (4 ∷ 9 ∷ []) $ fjoin ! $ move ! (3 ∷ 2 ∷ 0 ∷ []) $ use3 𝓛 (‵ (lent_at α2 (block_ptr b0 o0) to ws.0)) (loan_made 𝓛 α2 b0 o0 ws.0 r.ref_ptr.0 r.ref_ptr.1) $
