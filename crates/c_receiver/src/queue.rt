@@ -59,6 +59,8 @@ impl Consumer for Queue {
 
     ghost after = { HasQueued };
 
+    // Called for each frame: in line, its bytes' place needn't go through memory.
+    #[inline(always)]
     fn frame(&mut self, flow: usize, frame: Bytes) {
         if self.frames.push_back(QueuedFrame { flow, frame }).is_err() {
             self.whole = false;
