@@ -93,12 +93,12 @@ pub data CopiesAndTakes (held : HeldReceiver) (channel : ℕ) (input : Input) (a
   copied : Takes held channel input answer held' → CopiesAndTakes held channel input answer held'
   not_copied : answer ≡ told held.queue.whole status.OutOfMemory → held' ≡ held → CopiesAndTakes held channel input answer held'
 
+abbrev pub TakesGrant : HeldReceiver → ℕ → ℕ → ℕ → ℕ → Status → HeldReceiver → Type 0
+TakesGrant held channel number sid bytes answer held' = Takes held channel (Grant number sid bytes) answer held'
+
 -- the same, with nothing lent any more
 abbrev pub without_loan : HeldReceiver → HeldReceiver
 without_loan held = record held { lent = None }
-
-abbrev pub TakesGrant : HeldReceiver → ℕ → ℕ → ℕ → ℕ → Status → HeldReceiver → Type 0
-TakesGrant held channel number sid bytes answer held' = Takes (without_loan held) channel (Grant number sid bytes) answer held'
 
 abbrev pub TakesBurst : HeldReceiver → ℕ → ℕ → Bool → List ℕ → Status → HeldReceiver → Type 0
 TakesBurst held channel grant hcs_ok bytes answer held' = CopiesAndTakes (without_loan held) channel (Burst grant hcs_ok bytes) answer held'

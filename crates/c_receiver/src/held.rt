@@ -79,19 +79,18 @@ impl HeldReceiver {
         }
     }
 
-    /// Takes a grant that was sent on this channel. What was lent is let go before.
+    /// Takes a grant that was sent on this channel.
     pub fn grant(&mut self, channel: usize, number: u32, sid: u16, bytes: u32) -> Status
         requires in_use { IsInUse self.old }
         ensures takes { TakesGrant self.old channel number sid bytes result self.new }
-        ensures lent { self.new.lent ≡ None }
+        ensures lent { self.new.lent ≡ self.old.lent }
         ensures in_use { IsInUse self.new }
     {
-        self.lent = None;
         self.take(channel, Input::Grant { number, sid, bytes })
     }
 
-    /// Takes a burst that came on this channel. What was lent is let go before, and the bytes of the
-    /// burst are copied.
+    /// Takes a burst that came on this channel. What was lent is let go before, so that its memory
+    /// serves the copy of the burst's bytes.
     pub fn burst(&mut self, channel: usize, grant: u32, hcs_ok: bool, bytes: &[u8]) -> Status
         requires in_use { IsInUse self.old }
         ensures takes { TakesBurst self.old channel grant hcs_ok bytes.now result self.new }
@@ -215,8 +214,8 @@ impl HeldReceiver {
     }
 
     /// Lets the frame go that was lent, if one was, and lends the first one that waits, if one does:
-    /// it is told, waits no more, and is kept, with its bytes where they are, until this or a grant
-    /// or a burst comes next.
+    /// it is told, waits no more, and is kept, with its bytes where they are, until this or a burst
+    /// comes next.
     pub fn lend_frame(&mut self, frame: &mut PlainFrame) -> Status
         requires in_use { IsInUse self.old }
         ensures lends { LendsFrame self.old frame.old result self.new frame.new }
