@@ -8,14 +8,20 @@
  * What it gives waits in the receiver until it is asked for, each frame and each request once, in
  * the order in which it was given. No header of a frame is checked.
  *
+ * A frame is copied or lent, as the caller asks: `segrx_receiver_next_frame` copies its bytes into
+ * the caller's room, `segrx_receiver_lend_frame` tells where they are, which costs no copy and is
+ * good until the next call with that handle. `segrx_receiver_burst_waiting` takes a burst and tells
+ * how much waits, so that nobody has to ask in vain.
+ *
  * Statuses. Each function answers one `enum segrx_status`. A NULL, a length, a channel or a flow
  * out of range is a status, and then nothing was done.
  *
  * Pointers. None may be NULL, also where the length is 0. What a pointer points to has to be there
  * for the length that is given, initialized where it is a struct, writable (also behind a `const`:
  * in no section that is read-only), and used by nothing else during the call. It stays the
- * caller's: no pointer is kept after the call, and none is given but a handle. Two pointers of one
- * call may not overlap.
+ * caller's: no pointer is kept after the call, and none is given but a handle, and by
+ * `segrx_receiver_lend_frame`, which says how long it is good. Two pointers of one call may not
+ * overlap, nor be of bytes that are lent.
  *
  * Handles. `segrx_receiver_new` gives one and `segrx_receiver_free` takes it: after that, or after
  * copying it and freeing one copy, it may not be passed any more. What it points to is the
@@ -38,9 +44,10 @@
  *     if (status != SEGRX_OK) return status;
  *     segrx_receiver_grant(receiver, 0, 1, 17, 1500);
  *     segrx_receiver_burst(receiver, 0, 1, true, bytes, count);
+ *     const uint8_t *lent = NULL;
  *     struct segrx_frame frame = {0};
- *     while (segrx_receiver_next_frame(receiver, room, sizeof room, &frame) == SEGRX_OK)
- *         use(frame.flow, room, frame.length);
+ *     while (segrx_receiver_lend_frame(receiver, &lent, &frame) == SEGRX_OK)
+ *         use(frame.flow, lent, frame.length);
  *     segrx_receiver_free(receiver);
  */
 #ifndef SEGRX_H
@@ -178,6 +185,12 @@ struct segrx_frame {
     size_t length; /* how many bytes it has, its header included */
 };
 
+/* How much waits. */
+struct segrx_waiting {
+    size_t frames;   /* how many frames */
+    size_t requests; /* how many requests */
+};
+
 /* A request for grants, from the header of a segment. */
 struct segrx_request {
     size_t flow;       /* the index of its flow */
@@ -221,6 +234,13 @@ enum segrx_status segrx_receiver_burst(struct segrx_receiver *receiver, size_t c
                                        uint32_t grant, bool check_is_right, const uint8_t *bytes,
                                        size_t count);
 
+/* The same, and tells how much waits then, whatever the status, but where it is SEGRX_NULL or
+ * SEGRX_LENGTH_RANGE. */
+enum segrx_status segrx_receiver_burst_waiting(struct segrx_receiver *receiver, size_t channel,
+                                               uint32_t grant, bool check_is_right,
+                                               const uint8_t *bytes, size_t count,
+                                               struct segrx_waiting *waiting);
+
 /* Takes the decision, a segrx_decision, that segments of a flow are lost: for two kinds with a
  * number, 0 to 8191. */
 enum segrx_status segrx_receiver_decide(struct segrx_receiver *receiver, size_t flow,
@@ -236,6 +256,13 @@ enum segrx_status segrx_receiver_go_on(struct segrx_receiver *receiver, size_t f
  * next. */
 enum segrx_status segrx_receiver_next_frame(struct segrx_receiver *receiver, uint8_t *room,
                                             size_t capacity, struct segrx_frame *frame);
+
+/* Tells the first frame that waits, and where its bytes are: it waits no more, and isn't copied. The
+ * bytes stay the receiver's, and are lent: they may be read, and not written, until the next call
+ * with this handle, whichever it is and whatever it answers. Where no frame waits, `*bytes` points
+ * to no bytes that may be read. */
+enum segrx_status segrx_receiver_lend_frame(struct segrx_receiver *receiver, const uint8_t **bytes,
+                                            struct segrx_frame *frame);
 
 /* Tells the first request that waits, and it waits no more. */
 enum segrx_status segrx_receiver_next_request(struct segrx_receiver *receiver,

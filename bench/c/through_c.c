@@ -1,7 +1,8 @@
 /* Hands in a grant and a burst for each of many segments, and takes the frames behind each burst,
- * as main.rt.txt does it from Rattle: `through_c CHANNELS FLOWS COUNT`. At the end it prints how
- * many segments were sent, in how many nanoseconds they were taken, and how many frames and bytes
- * of frames came. */
+ * as main.rt.txt does it from Rattle: `through_c WAY CHANNELS FLOWS COUNT`. By the way `lent` each
+ * frame is lent, and as many are asked for as the burst told; by `copied` each is copied into a
+ * room, and they are asked for until none waits. At the end it prints how many segments were sent,
+ * in how many nanoseconds they were taken, and how many frames and bytes of frames came. */
 #include <stdint.h>
 #include <stdio.h>
 #include <stdlib.h>
@@ -75,19 +76,45 @@ static void make_round(struct round *round, uint32_t channels, uint32_t flows, u
                          turn / flows * channels + channel);
 }
 
-/* Hands in the segments of a round. */
-static void hand_in(struct segrx_receiver *receiver, struct round *round, struct counted *out) {
+/* Takes a segment's burst, and the frames behind it, which are lent. */
+static void take_lent(struct segrx_receiver *receiver, struct segment *segment, uint8_t *bytes,
+                      struct counted *out) {
+    const uint8_t *lent = NULL;
     struct segrx_frame frame = {0};
+    struct segrx_waiting waiting = {0};
+    need(segrx_receiver_burst_waiting(receiver, segment->channel, segment->number, true, bytes,
+                                      segment->size, &waiting));
+    for (; waiting.frames > 0; waiting.frames--) {
+        need(segrx_receiver_lend_frame(receiver, &lent, &frame));
+        out->frames++;
+        out->bytes += frame.length;
+    }
+}
+
+/* The same with frames that are copied. */
+static void take_copied(struct segrx_receiver *receiver, struct segment *segment, uint8_t *bytes,
+                        struct counted *out) {
+    struct segrx_frame frame = {0};
+    need(segrx_receiver_burst(receiver, segment->channel, segment->number, true, bytes,
+                              segment->size));
+    while (segrx_receiver_next_frame(receiver, room, sizeof room, &frame) == SEGRX_OK) {
+        out->frames++;
+        out->bytes += frame.length;
+    }
+}
+
+/* Hands in the segments of a round. */
+static void hand_in(struct segrx_receiver *receiver, struct round *round, bool copied,
+                    struct counted *out) {
     for (size_t k = 0; k < round->count; k++) {
         struct segment *segment = &round->segments[k];
+        uint8_t *bytes = round->bytes + segment->from;
         need(segrx_receiver_grant(receiver, segment->channel, segment->number, segment->sid,
                                   (uint32_t)segment->size));
-        need(segrx_receiver_burst(receiver, segment->channel, segment->number, true,
-                                  round->bytes + segment->from, segment->size));
-        while (segrx_receiver_next_frame(receiver, room, sizeof room, &frame) == SEGRX_OK) {
-            out->frames++;
-            out->bytes += frame.length;
-        }
+        if (copied)
+            take_copied(receiver, segment, bytes, out);
+        else
+            take_lent(receiver, segment, bytes, out);
     }
 }
 
@@ -115,10 +142,11 @@ static uint64_t now(void) {
 }
 
 int main(int count, char **words) {
-    if (count != 4) return 2;
-    uint32_t channels = (uint32_t)strtoul(words[1], NULL, 10);
-    uint32_t flows = (uint32_t)strtoul(words[2], NULL, 10);
-    uint32_t segments = (uint32_t)strtoul(words[3], NULL, 10);
+    if (count != 5) return 2;
+    bool copied = strcmp(words[1], "copied") == 0;
+    uint32_t channels = (uint32_t)strtoul(words[2], NULL, 10);
+    uint32_t flows = (uint32_t)strtoul(words[3], NULL, 10);
+    uint32_t segments = (uint32_t)strtoul(words[4], NULL, 10);
     uint32_t turns = AT_ONCE / channels, rounds = segments / (turns * channels);
     struct segrx_receiver *receiver = make_receiver(channels, flows);
     struct counted out = {0};
@@ -126,7 +154,7 @@ int main(int count, char **words) {
     for (uint32_t which = 0; which < rounds; which++) {
         make_round(&one_round, channels, flows, turns, which);
         uint64_t began = now();
-        hand_in(receiver, &one_round, &out);
+        hand_in(receiver, &one_round, copied, &out);
         taken += now() - began;
     }
     segrx_receiver_free(receiver);

@@ -38,7 +38,6 @@ Decision = enum.IntEnum("Decision", "GAP GAP_TO SKIP_TO", start=0)
 # What a call returns: that it is done, what became of a segment, or a refusal. Others are raised.
 RETURNED = {Status.OK, Status.LATE, Status.REPEAT, Status.BEYOND}
 RETURNED |= {*range(Status.GRANT_RANGE, Status.BURST_OUT_OF_MEMORY)} - {Status.GRANT_OUT_OF_MEMORY}
-MOST_OF_A_FRAME = 65541
 
 
 class Error(Exception):
@@ -84,6 +83,10 @@ class FrameHead(Plain):
     _fields_ = [("flow", c_size_t), ("length", c_size_t)]
 
 
+class Waiting(Plain):
+    _fields_ = [("frames", c_size_t), ("requests", c_size_t)]
+
+
 class Request(Plain):
     _fields_ = [("flow", c_size_t), ("units", c_uint16), ("sequence", c_uint16)]
     _fields_ += [("channel", c_uint8), ("cluster", c_uint8)]
@@ -98,10 +101,10 @@ SIZE, U16, U32 = checked(c_size_t), checked(c_uint16), checked(c_uint32)
 TAKES = {
     "new": [U32, c_void_p, SIZE, c_void_p, SIZE, U32, c_void_p],
     "grant": [SIZE, U32, U16, U32],
-    "burst": [SIZE, U32, c_bool, c_void_p, SIZE],
+    "burst_waiting": [SIZE, U32, c_bool, c_void_p, SIZE, c_void_p],
     "decide": [SIZE, U32, U16],
     "go_on": [SIZE],
-    "next_frame": [c_void_p, SIZE, c_void_p],
+    "lend_frame": [c_void_p, c_void_p],
     "next_request": [c_void_p],
     "counts": [SIZE, c_void_p],
     "restart": [SIZE, U16, c_void_p],
@@ -134,6 +137,8 @@ class Receiver:
 
     def __init__(self, channels, flows, rows, rule=Rule.DECIDED):
         self._thread, self._handle = threading.get_ident(), c_void_p()
+        # How many frames and requests waited behind the last burst.
+        self.waiting = Waiting()
         setup = *memory_of(Flow, flows), *memory_of(Row, rows)
         status = FUNCTIONS["new"](channels, *setup, rule, ctypes.byref(self._handle))
         if status != Status.OK:
@@ -158,9 +163,11 @@ class Receiver:
         return self._call("grant", channel, number, sid, size)
 
     def burst(self, channel, grant, check_is_right, segment):
-        """OK, LATE, REPEAT or BEYOND, or why the burst is refused."""
+        """OK, LATE, REPEAT or BEYOND, or why the burst is refused. Then `waiting` says how many
+        frames and requests wait."""
         copy = ctypes.create_string_buffer(bytes(segment), len(segment) + 1)
-        return self._call("burst", channel, grant, check_is_right, copy, len(segment))
+        given = channel, grant, check_is_right, copy, len(segment), ctypes.byref(self.waiting)
+        return self._call("burst_waiting", *given)
 
     def decide(self, flow, decision, number=0):
         self._call("decide", flow, decision, number)
@@ -170,9 +177,9 @@ class Receiver:
 
     def frames(self):
         """The frames that wait, each with its flow before it. Each is taken as it is asked for."""
-        head, room = FrameHead(), ctypes.create_string_buffer(MOST_OF_A_FRAME)
-        while self._given("next_frame", room, len(room), ctypes.byref(head)):
-            yield head.flow, ctypes.string_at(room, head.length)
+        head, lent = FrameHead(), c_void_p()
+        while self._given("lend_frame", ctypes.byref(lent), ctypes.byref(head)):
+            yield head.flow, ctypes.string_at(lent, head.length)
 
     def requests(self):
         """The requests that wait. Each is taken as it is asked for."""

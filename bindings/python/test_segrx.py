@@ -48,6 +48,16 @@ class Calls(unittest.TestCase):
         counts = dict(kept=4, late=6, repeat=2, beyond=1, lost=7, frames=3, skipped=5)
         self.assertEqual(named(self.receiver.counts(0)), counts)
 
+    def test_how_much_waits_behind_a_burst(self):
+        for number, waits in ((1, (0, 0)), (0, (2, 1))):
+            self.send(0, segment(number, units=1 - number))
+            self.assertEqual((self.receiver.waiting.frames, self.receiver.waiting.requests), waits)
+        frames = self.receiver.frames()
+        self.assertEqual(next(frames), (0, FRAME))
+        self.assertEqual(self.send(0, segment(2)), Status.OK)
+        self.assertEqual(self.receiver.waiting.frames, 2)
+        self.assertEqual([*frames], [(0, FRAME)] * 2)
+
     def test_refusals_are_returned(self):
         self.assertEqual(self.receiver.burst(0, 1, False, b""), Status.NO_GRANT)
         self.assertEqual(self.receiver.grant(0, 1, 17, 7), Status.GRANT_RANGE)

@@ -27,21 +27,32 @@ static int receive(struct segrx_receiver *receiver) {
         if (granted != SEGRX_OK) return granted;
     }
     for (size_t k = 0; k < COUNT(bursts); k++) {
-        enum segrx_status taken = segrx_receiver_burst(receiver, bursts[k].channel, 1, true,
-                                                       bursts[k].bytes, bursts[k].count);
-        printf("burst on channel %zu: status %d\n", bursts[k].channel, taken);
+        struct segrx_waiting waiting = {0};
+        enum segrx_status taken =
+            segrx_receiver_burst_waiting(receiver, bursts[k].channel, 1, true, bursts[k].bytes,
+                                         bursts[k].count, &waiting);
+        printf("burst on channel %zu: status %d, frames that wait: %zu\n", bursts[k].channel, taken,
+               waiting.frames);
     }
     return segrx_receiver_close(receiver);
 }
 
+static void print_frame(const struct segrx_frame *frame, const uint8_t *bytes) {
+    printf("frame of flow %zu: ", frame->flow);
+    for (size_t k = 0; k < frame->length; k++) printf("%02x", bytes[k]);
+    printf("\n");
+}
+
+/* The first frame is copied into a room, and each other one is lent: its bytes can be read until
+ * the next call. */
 static void print_frames(struct segrx_receiver *receiver) {
     static uint8_t room[SEGRX_LONGEST_FRAME];
     struct segrx_frame frame = {0};
-    while (segrx_receiver_next_frame(receiver, room, sizeof room, &frame) == SEGRX_OK) {
-        printf("frame of flow %zu: ", frame.flow);
-        for (size_t k = 0; k < frame.length; k++) printf("%02x", room[k]);
-        printf("\n");
-    }
+    if (segrx_receiver_next_frame(receiver, room, sizeof room, &frame) == SEGRX_OK)
+        print_frame(&frame, room);
+    const uint8_t *lent = NULL;
+    while (segrx_receiver_lend_frame(receiver, &lent, &frame) == SEGRX_OK)
+        print_frame(&frame, lent);
 }
 
 static void print_requests(struct segrx_receiver *receiver) {

@@ -1,8 +1,9 @@
 /* Calls the functions of segrx.h at random, with arguments by chance, good and bad, on eight
  * receivers that are made and freed at any moment: `hostile_calls COUNT SEED`. It ends with status
  * 1, and says why, where a function answers a status that it may not, writes past the room, or
- * writes a frame of another length than it tells; or where memory is kept at the end. Else it
- * prints how often each status was answered. It takes no memory itself. */
+ * writes or lends a frame of another length than it tells; where another number of frames or
+ * requests waits than was told; or where memory is kept at the end. Else it prints how often each
+ * status was answered. It takes no memory itself. */
 #include <malloc.h>
 #include <stdbool.h>
 #include <stdint.h>
@@ -19,6 +20,7 @@
 
 static uint64_t state;
 static unsigned long answered[STATUSES];
+static volatile unsigned long read_bytes;
 
 /* A number below `most`, by chance. */
 static uint64_t below(uint64_t most) {
@@ -37,6 +39,9 @@ struct receiver {
     uint16_t sequence;
     /* Whether it was told that something is missing. */
     bool is_missing;
+    /* Whether it is known how much waits, and how much. */
+    bool is_known;
+    struct segrx_waiting waiting;
 };
 
 static struct receiver receivers[RECEIVERS];
@@ -66,6 +71,14 @@ static void keeps_telling(struct receiver *receiver, const char *what, enum segr
                      status == SEGRX_CLOSED;
     if (receiver->is_missing && status != SEGRX_NOT_KEPT && !is_before) fail(what, status);
     receiver->is_missing = receiver->is_missing || status == SEGRX_NOT_KEPT;
+    receiver->is_known = false;
+}
+
+/* Of what waits, of which so much is known to, one is taken where the status says so. */
+static void takes_one(const struct receiver *receiver, const char *what, enum segrx_status status, size_t *waits) {
+    if (!receiver->is_known || status == SEGRX_NULL || status == SEGRX_LENGTH_RANGE) return;
+    if ((*waits == 0) != (status == SEGRX_NOTHING)) fail(what, status);
+    if (status == SEGRX_OK) --*waits;
 }
 
 #define HANDED_IN(receiver, ...) keeps_telling(receiver, __func__, TOLD(__VA_ARGS__))
@@ -138,12 +151,22 @@ static void burst(struct receiver *receiver) {
     /* A short frame at the front, so that frames are given. */
     if (count >= 16 && once_in(2)) memcpy(bytes + 8, (uint8_t[]){0, 0, 0, 2, 0, 0, 0xaa, 0xbb}, 8);
     if (once_in(60)) said = once_in(2) ? SIZE_MAX : 65536 + below(1000000);
+    struct segrx_receiver *handle = handle_of(receiver);
+    size_t channel = below(receiver->channels + once_in(30));
+    uint32_t number = (uint32_t)below(12);
+    bool is_right = !once_in(30), tells = once_in(2);
+    uint8_t *given = once_in(50) ? NULL : bytes;
+    struct segrx_waiting waiting = {.frames = SIZE_MAX, .requests = SIZE_MAX}, *to = once_in(50) ? NULL : &waiting;
     HANDED_IN(receiver,
-              segrx_receiver_burst(handle_of(receiver), below(receiver->channels + once_in(30)), (uint32_t)below(12),
-                                   !once_in(30), once_in(50) ? NULL : bytes, said),
+              tells ? segrx_receiver_burst_waiting(handle, channel, number, is_right, given, said, to)
+                    : segrx_receiver_burst(handle, channel, number, is_right, given, said),
               SEGRX_OK, SEGRX_NULL, SEGRX_NO_CHANNEL, SEGRX_CLOSED, SEGRX_FLOW_CLOSING, SEGRX_OUT_OF_MEMORY, SEGRX_UNFINISHED,
               SEGRX_NOT_KEPT, SEGRX_LATE, SEGRX_REPEAT, SEGRX_BEYOND, SEGRX_LENGTH_RANGE, SEGRX_NO_GRANT, SEGRX_TOO_LONG,
               SEGRX_BAD_CHECK, SEGRX_TOO_SHORT, SEGRX_POINTER_PAST);
+    receiver->is_known = waiting.frames != SIZE_MAX;
+    receiver->waiting = waiting;
+    if (tells && handle != NULL && given != NULL && to != NULL && said <= 65535 && !receiver->is_known)
+        fail("a burst that tells nothing", 0);
 }
 
 static void decide(struct receiver *receiver) {
@@ -170,6 +193,7 @@ static void next_frame(struct receiver *receiver) {
     enum segrx_status status =
         TOLD(segrx_receiver_next_frame(handle_of(receiver), once_in(50) ? NULL : room, said, once_in(50) ? NULL : &frame),
              SEGRX_OK, SEGRX_NULL, SEGRX_NOTHING, SEGRX_ROOM_TOO_SMALL, SEGRX_LENGTH_RANGE);
+    takes_one(receiver, "next_frame", status, &receiver->waiting.frames);
     if (room[capacity] != 0x5a) fail("a frame past the room", status);
     if (status == SEGRX_OK && (frame.flow >= receiver->flows || frame.length > capacity)) fail("a frame of no flow", status);
     if (status == SEGRX_ROOM_TOO_SMALL && frame.length <= capacity) fail("a frame for which there is room", status);
@@ -177,10 +201,26 @@ static void next_frame(struct receiver *receiver) {
     if (status == SEGRX_OK && frame.length != 6 + (size_t)room[2] * 256 + room[3]) fail("a frame of another length", status);
 }
 
+static void lend_frame(struct receiver *receiver) {
+    const uint8_t *lent = NULL;
+    struct segrx_frame frame = {.flow = SIZE_MAX, .length = SIZE_MAX};
+    enum segrx_status status =
+        TOLD(segrx_receiver_lend_frame(handle_of(receiver), once_in(50) ? NULL : &lent, once_in(50) ? NULL : &frame), SEGRX_OK,
+             SEGRX_NULL, SEGRX_NOTHING);
+    takes_one(receiver, "lend_frame", status, &receiver->waiting.frames);
+    if (status == SEGRX_NULL && (lent != NULL || frame.length != SIZE_MAX)) fail("a loan that is refused", status);
+    if (status != SEGRX_OK) return;
+    if (frame.flow >= receiver->flows || frame.length < 6) fail("a lent frame of no flow", status);
+    if (frame.length != 6 + (size_t)lent[2] * 256 + lent[3]) fail("a lent frame of another length", status);
+    /* Each byte is read, so that valgrind sees whether it is there. */
+    for (size_t k = 0; k < frame.length; k++) read_bytes += lent[k];
+}
+
 static void next_request(struct receiver *receiver) {
     struct segrx_request request = {0};
     enum segrx_status status =
         TOLD(segrx_receiver_next_request(handle_of(receiver), once_in(50) ? NULL : &request), SEGRX_OK, SEGRX_NULL, SEGRX_NOTHING);
+    takes_one(receiver, "next_request", status, &receiver->waiting.requests);
     if (status == SEGRX_OK && (request.flow >= receiver->flows || request.channel >= receiver->channels || request.units == 0))
         fail("a request that nobody made", status);
 }
@@ -222,7 +262,8 @@ static void call(void) {
     uint64_t which = below(1000);
     if (which < 330) grant(receiver);
     else if (which < 700) burst(receiver);
-    else if (which < 820) next_frame(receiver);
+    else if (which < 760) next_frame(receiver);
+    else if (which < 820) lend_frame(receiver);
     else if (which < 900) next_request(receiver);
     else if (which < 950) decide(receiver);
     else if (which < 970) counts(receiver);

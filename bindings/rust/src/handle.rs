@@ -11,12 +11,16 @@
 //!   length is 0. Those that are lent for a write, or for a read where the header asks for memory
 //!   that is writable and that nothing else uses, come from `&mut` borrows, which also can't
 //!   overlap. They last until the call has returned, and the library keeps none.
+//! - *What is lent.* The bytes of a frame that is lent are good until the next call with the
+//!   handle: they are handed out for as long as the `&mut` borrow of the [`Handle`], without which
+//!   there is no other call, and no drop.
 //! - *Memory.* The library takes its own from `malloc`; Rust's doesn't cross the border.
 #![allow(unsafe_code)]
 
 use crate::status::Status;
-use crate::values::{Counts, Flow, LossRule, Request, Row};
+use crate::values::{Counts, Flow, LossRule, Request, Row, Waiting};
 use std::ptr::{self, NonNull};
+use std::slice;
 
 /// The most bytes of room for a frame.
 const MOST_ROOM: usize = (1 << 31) - 1;
@@ -54,13 +58,14 @@ extern "C" {
         sid: u16,
         bytes: u32,
     ) -> Status;
-    fn segrx_receiver_burst(
+    fn segrx_receiver_burst_waiting(
         receiver: *mut Opaque,
         channel: usize,
         grant: u32,
         check_is_right: bool,
         bytes: *const u8,
         count: usize,
+        waiting: *mut Waiting,
     ) -> Status;
     fn segrx_receiver_decide(
         receiver: *mut Opaque,
@@ -73,6 +78,11 @@ extern "C" {
         receiver: *mut Opaque,
         room: *mut u8,
         capacity: usize,
+        frame: *mut FrameHead,
+    ) -> Status;
+    fn segrx_receiver_lend_frame(
+        receiver: *mut Opaque,
+        bytes: *mut *const u8,
         frame: *mut FrameHead,
     ) -> Status;
     fn segrx_receiver_next_request(receiver: *mut Opaque, request: *mut Request) -> Status;
@@ -122,24 +132,29 @@ impl Handle {
         unsafe { segrx_receiver_grant(self.0.as_ptr(), channel, number, sid, bytes) }
     }
 
+    /// Takes a burst, and tells how much waits then. The bytes are no more than the library takes.
     pub(crate) fn burst(
         &mut self,
         channel: usize,
         grant: u32,
         check_is_right: bool,
         bytes: &mut [u8],
-    ) -> Status {
-        // SAFETY: handle and pointer are as in the head of this module, with the slice's length.
-        unsafe {
-            segrx_receiver_burst(
+    ) -> (Status, Waiting) {
+        let mut waiting = Waiting::default();
+        // SAFETY: handle and pointers are as in the head of this module, with the slice's length.
+        // `Waiting` is laid out as the header's struct, and is initialized.
+        let status = unsafe {
+            segrx_receiver_burst_waiting(
                 self.0.as_ptr(),
                 channel,
                 grant,
                 check_is_right,
                 bytes.as_mut_ptr(),
                 bytes.len(),
+                &mut waiting,
             )
-        }
+        };
+        (status, waiting)
     }
 
     pub(crate) fn decide(&mut self, flow: usize, decision: u32, number: u16) -> Status {
@@ -175,6 +190,23 @@ impl Handle {
             unsafe { room.set_len(frame.length) };
         }
         (status, frame)
+    }
+
+    /// Lends the first frame that waits: the index of its flow, and its bytes. Where there is none
+    /// it says so by its status.
+    pub(crate) fn lend_frame(&mut self) -> Result<(usize, &[u8]), Status> {
+        let mut bytes = ptr::null();
+        let mut frame = FrameHead::default();
+        // SAFETY: handle and pointers are as in the head of this module. `FrameHead` is laid out as
+        // the header's struct, and is initialized.
+        let status = unsafe { segrx_receiver_lend_frame(self.0.as_ptr(), &mut bytes, &mut frame) };
+        if status != Status::OK {
+            return Err(status);
+        }
+        // SAFETY: at SEGRX_OK so many bytes are there, until the next call with the handle, and the
+        // library changes none of them until then.
+        let lent = unsafe { slice::from_raw_parts(bytes, frame.length) };
+        Ok((frame.flow, lent))
     }
 
     pub(crate) fn next_request(&mut self) -> (Status, Request) {

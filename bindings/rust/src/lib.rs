@@ -74,4 +74,6 @@ mod values;
 
 pub use errors::{Error, Refusal, SetupError, Shortage};
 pub use receiver::Receiver;
-pub use values::{Counts, Decision, Flow, Frame, LossRule, Request, Row, Verdict};
+pub use values::{
+    Counts, Decision, Flow, Frame, LentFrame, LossRule, Request, Row, Verdict, Waiting,
+};

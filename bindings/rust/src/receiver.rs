@@ -3,7 +3,9 @@
 use crate::errors::{Error, SetupError, Shortage};
 use crate::handle::Handle;
 use crate::status::Status;
-use crate::values::{Counts, Decision, Flow, Frame, LossRule, Request, Row, Verdict};
+use crate::values::{
+    Counts, Decision, Flow, Frame, LentFrame, LossRule, Request, Row, Verdict, Waiting,
+};
 use std::fmt::{self, Debug, Formatter};
 use std::iter;
 
@@ -38,6 +40,8 @@ pub struct Receiver {
     /// The bytes of a burst. The library asks for memory that is writable and used by nothing else
     /// during the call, which those behind a `&[u8]` may not be.
     burst: Vec<u8>,
+    /// How much waited behind the last burst.
+    waiting: Waiting,
 }
 
 impl Receiver {
@@ -59,6 +63,7 @@ impl Receiver {
         Ok(Receiver {
             handle,
             burst: Vec::new(),
+            waiting: Waiting::default(),
         })
     }
 
@@ -103,9 +108,18 @@ impl Receiver {
         }
         self.burst.clear();
         self.burst.extend_from_slice(bytes);
-        self.handle
-            .burst(channel, grant, check_is_right, &mut self.burst)
-            .verdict()
+        let (status, waiting) = self
+            .handle
+            .burst(channel, grant, check_is_right, &mut self.burst);
+        self.waiting = waiting;
+        status.verdict()
+    }
+
+    /// How many frames and requests waited behind the last [`burst`](Receiver::burst) that was no
+    /// longer than may be. So a caller that takes all of them behind each burst needn't ask in
+    /// vain.
+    pub fn waiting_behind_burst(&self) -> Waiting {
+        self.waiting
     }
 
     /// Takes the decision that segments of a flow are lost.
@@ -149,6 +163,24 @@ impl Receiver {
                 Status::ROOM_TOO_SMALL => room.reserve(frame.length),
                 _ => status.unexpected(),
             }
+        }
+    }
+
+    /// Takes the first frame that waits, if one does, without a copy: its bytes stay where they
+    /// are, and are lent until the next call.
+    ///
+    /// ```compile_fail,E0499
+    /// fn two_at_once(receiver: &mut segrx::Receiver) {
+    ///     let first = receiver.lend_frame();
+    ///     let second = receiver.lend_frame();
+    ///     println!("{:?} {:?}", first, second);
+    /// }
+    /// ```
+    pub fn lend_frame(&mut self) -> Option<LentFrame<'_>> {
+        match self.handle.lend_frame() {
+            Ok((flow, bytes)) => Some(LentFrame { flow, bytes }),
+            Err(Status::NOTHING) => None,
+            Err(status) => status.unexpected(),
         }
     }
 

@@ -70,6 +70,25 @@ pub struct Frame {
     pub bytes: Vec<u8>,
 }
 
+/// A MAC frame whose bytes are the receiver's, which lends them.
+#[derive(Clone, Copy, Debug, PartialEq, Eq)]
+pub struct LentFrame<'a> {
+    /// The index of its flow.
+    pub flow: usize,
+    /// Its bytes, the header included.
+    pub bytes: &'a [u8],
+}
+
+/// How much waits in a receiver.
+#[derive(Clone, Copy, Debug, Default, PartialEq, Eq)]
+#[repr(C)]
+pub struct Waiting {
+    /// How many frames.
+    pub frames: usize,
+    /// How many requests.
+    pub requests: usize,
+}
+
 /// A request for grants, from the header of a segment.
 #[derive(Clone, Copy, Debug, Default, PartialEq, Eq)]
 #[repr(C)]

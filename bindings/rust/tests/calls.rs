@@ -4,7 +4,8 @@ mod common;
 
 use common::{frame, receiver, rows, segment, send, FLOW, SID};
 use segrx::{
-    Counts, Decision, Error, Flow, Frame, LossRule, Receiver, Refusal, Request, Row, Verdict,
+    Counts, Decision, Error, Flow, Frame, LentFrame, LossRule, Receiver, Refusal, Request, Row,
+    Verdict, Waiting,
 };
 
 fn numbered(number: u16) -> Vec<u8> {
@@ -99,6 +100,37 @@ fn the_longest_burst_is_taken() {
         receiver.frames().collect::<Vec<_>>(),
         [Frame { flow: 0, bytes }]
     );
+}
+
+#[test]
+fn frames_are_lent_as_many_as_wait() {
+    let mut receiver = receiver();
+    for (number, units) in [(2, 9), (1, 0)] {
+        let ahead = segment(number, units, &frame(number));
+        assert_eq!(send(&mut receiver, 0, &ahead), Ok(Verdict::Kept));
+        let waiting = receiver.waiting_behind_burst();
+        assert_eq!((waiting.frames, waiting.requests), (0, 1));
+    }
+    assert_eq!(receiver.lend_frame(), None);
+    assert_eq!(send(&mut receiver, 1, &numbered(0)), Ok(Verdict::Kept));
+    let (frames, requests) = (3, 1);
+    assert_eq!(
+        receiver.waiting_behind_burst(),
+        Waiting { frames, requests }
+    );
+    // One is copied between two that are lent.
+    let (first, last, mut room) = (frame(0), frame(2), Vec::new());
+    let lent = |bytes| Some(LentFrame { flow: 0, bytes });
+    assert_eq!(receiver.lend_frame(), lent(&first[..]));
+    assert_eq!(receiver.next_frame(&mut room), Some(0));
+    assert_eq!(room, frame(1));
+    assert_eq!(receiver.lend_frame(), lent(&last[..]));
+    assert_eq!(receiver.lend_frame(), None);
+    assert_eq!(
+        receiver.burst(0, 9, true, &[0; 70_000]).err(),
+        Some(Error::LengthRange)
+    );
+    assert_eq!(receiver.requests().count(), 1);
 }
 
 #[test]

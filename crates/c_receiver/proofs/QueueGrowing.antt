@@ -6,7 +6,7 @@ use Rattle.lane.specs.declared.admitted.Request.{Request}
 use Rattle.consumer.specs.declared.given.Given.{Given}
 use Rattle.consumer.specs.declared.given.Given.TheVariants.{Frame, Asked}
 use Rattle.c_receiver.specs.declared.queue.Queue.{Queue}
-use Rattle.c_receiver.specs.Queued.{GrewBy, HasQueued, one_kept, one_missed, as_frame, as_request}
+use Rattle.c_receiver.specs.Queued.{GrewBy, HasQueued, one_kept, one_missed, as_frame, as_request, plain_request}
 
 -- what was pushed is last
 pub pushed : {A X E : Type 0} (result : Result X E) (items : List A) (item : A) (after : List A) → is_err result ≡ false
@@ -42,7 +42,7 @@ grew-by-frame start now end given flow frame grew is same = record {
 
 -- a request more
 pub grew-by-request : (start now end : Queue) (given : List Given) (request : Request)
-    → GrewBy start given now → end.requests.items ≡ now.requests.items ++ request ∷ [] → end.frames.items ≡ now.frames.items
+    → GrewBy start given now → end.requests.items ≡ now.requests.items ++ plain_request request ∷ [] → end.frames.items ≡ now.frames.items
     → GrewBy start (given ++ Asked request ∷ []) end
 grew-by-request start now end given request grew is same = record {
   frames = at-the-end as_frame given (Asked request ∷ []) _ _ _ [] grew.frames (same ∙ sym (append-nil _)) refl;

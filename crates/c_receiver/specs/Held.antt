@@ -5,7 +5,6 @@ use Rattle.docsis_wire.specs.Limits.{sequence_modulus}
 use Rattle.docsis_wire.specs.declared.header_check.NoCheck.{NoCheck}
 use Rattle.flow_records.specs.declared.record.FlowRecord.{FlowRecord}
 use Rattle.flow_core.specs.declared.counts.FlowCounts.{FlowCounts}
-use Rattle.lane.specs.declared.admitted.Request.{Request}
 use Rattle.lane.specs.declared.input.Input.{Input}
 use Rattle.lane.specs.declared.input.Input.TheVariants.{Grant, Burst}
 use Rattle.consumer.specs.declared.given.Given.{Given}
@@ -35,6 +34,7 @@ use Rattle.c_receiver.specs.declared.held.State.TheVariants as state
 use Rattle.c_receiver.specs.declared.plain.PlainCounts.{PlainCounts}
 use Rattle.c_receiver.specs.declared.plain.PlainFrame.{PlainFrame}
 use Rattle.c_receiver.specs.declared.plain.PlainRequest.{PlainRequest}
+use Rattle.c_receiver.specs.declared.plain.PlainWaiting.{PlainWaiting}
 use Rattle.c_receiver.specs.declared.queue.Queue.{Queue}
 use Rattle.c_receiver.specs.declared.queue.QueuedFrame.{QueuedFrame}
 use Rattle.c_receiver.specs.declared.status.Status.{Status}
@@ -96,8 +96,12 @@ pub data CopiesAndTakes (held : HeldReceiver) (channel : ℕ) (input : Input) (a
 abbrev pub TakesGrant : HeldReceiver → ℕ → ℕ → ℕ → ℕ → Status → HeldReceiver → Type 0
 TakesGrant held channel number sid bytes answer held' = Takes held channel (Grant number sid bytes) answer held'
 
+-- the same, with nothing lent any more
+abbrev pub without_loan : HeldReceiver → HeldReceiver
+without_loan held = record held { lent = None }
+
 abbrev pub TakesBurst : HeldReceiver → ℕ → ℕ → Bool → List ℕ → Status → HeldReceiver → Type 0
-TakesBurst held channel grant hcs_ok bytes answer held' = CopiesAndTakes held channel (Burst grant hcs_ok bytes) answer held'
+TakesBurst held channel grant hcs_ok bytes answer held' = CopiesAndTakes (without_loan held) channel (Burst grant hcs_ok bytes) answer held'
 
 -- ============ A decision ============
 
@@ -231,6 +235,9 @@ Counts held flow counts answer counts' =
 
 -- ============ What waits ============
 
+abbrev pub plain_frame : QueuedFrame → PlainFrame
+plain_frame first = record { flow = first.flow; length = length first.frame }
+
 -- its bytes are at the room's front, and it waits no more
 pub record GivesBytes (first : QueuedFrame) (rest : List QueuedFrame) (held : HeldReceiver) (room : List ℕ) (answer : Status) (held' : HeldReceiver) (room' : List ℕ) : Type 0 where
   pub answered : answer ≡ status.Done
@@ -239,6 +246,7 @@ pub record GivesBytes (first : QueuedFrame) (rest : List QueuedFrame) (held : He
   pub others : held'.queue.frames.items ≡ rest
   pub requests : held'.queue.requests ≡ held.queue.requests
   pub whole : held'.queue.whole ≡ held.queue.whole
+  pub lent : held'.lent ≡ held.lent
   pub unmoved : held'.state ≡ held.state
 
 -- the room is too small, and all stays as it was
@@ -252,31 +260,47 @@ pub record KeepsBytes (first : QueuedFrame) (held : HeldReceiver) (room : List �
 abbrev pub GivesFirst : List QueuedFrame → HeldReceiver → List ℕ → PlainFrame → Status → HeldReceiver → List ℕ → PlainFrame → Type 0
 GivesFirst [] held room frame answer held' room' frame' = (answer ≡ status.Nothing) × (held' ≡ held) × (room' ≡ room) × (frame' ≡ frame)
 GivesFirst (first ∷ rest) held room frame answer held' room' frame' =
-    (frame' ≡ record { flow = first.flow; length = length first.frame })
+    (frame' ≡ plain_frame first)
     × (GivesBytes first rest held room answer held' room' ⊎ KeepsBytes first held room answer held' room')
 
 abbrev pub GivesFrame : HeldReceiver → List ℕ → PlainFrame → Status → HeldReceiver → List ℕ → PlainFrame → Type 0
 GivesFrame held room frame answer held' room' frame' = GivesFirst held.queue.frames.items held room frame answer held' room' frame'
 
-abbrev pub plain_request : Request → PlainRequest
-plain_request request = record {
-  flow = request.flow;
-  units = request.units;
-  sequence = request.sequence;
-  channel = request.channel;
-  cluster = request.cluster;
-}
+-- the bytes of the frame that is lent, and none where none is
+abbrev pub bytes_lent : Option QueuedFrame → List ℕ
+bytes_lent None = []
+bytes_lent (Some lent) = lent.frame
+
+-- of what waits, only the frames may have changed
+pub record KeepsTheRequests (held held' : HeldReceiver) : Type 0 where
+  pub requests : held'.queue.requests ≡ held.queue.requests
+  pub whole : held'.queue.whole ≡ held.queue.whole
+  pub unmoved : held'.state ≡ held.state
+
+-- no frame waits, and none is lent any more; or the first is told and lent, and waits no more
+abbrev pub LendsFirst : List QueuedFrame → HeldReceiver → PlainFrame → Status → HeldReceiver → PlainFrame → Type 0
+LendsFirst [] held frame answer held' frame' = (answer ≡ status.Nothing) × (frame' ≡ frame) × (held'.lent ≡ None) × (held'.queue.frames.items ≡ [])
+LendsFirst (first ∷ rest) held frame answer held' frame' =
+    (answer ≡ status.Done) × (frame' ≡ plain_frame first) × (held'.lent ≡ Some first) × (held'.queue.frames.items ≡ rest)
+
+abbrev pub LendsFrame : HeldReceiver → PlainFrame → Status → HeldReceiver → PlainFrame → Type 0
+LendsFrame held frame answer held' frame' = KeepsTheRequests held held' × LendsFirst held.queue.frames.items held frame answer held' frame'
+
+-- how much waits
+abbrev pub waiting_in : Queue → PlainWaiting
+waiting_in queue = record { frames = length queue.frames.items; requests = length queue.requests.items }
 
 -- of what waits, only the requests may have changed
 pub record KeepsTheRest (held held' : HeldReceiver) : Type 0 where
   pub frames : held'.queue.frames ≡ held.queue.frames
   pub whole : held'.queue.whole ≡ held.queue.whole
+  pub lent : held'.lent ≡ held.lent
   pub unmoved : held'.state ≡ held.state
 
 -- no request waits; or the first is told, and waits no more
-abbrev pub GivesFirstRequest : List Request → HeldReceiver → PlainRequest → Status → HeldReceiver → PlainRequest → Type 0
+abbrev pub GivesFirstRequest : List PlainRequest → HeldReceiver → PlainRequest → Status → HeldReceiver → PlainRequest → Type 0
 GivesFirstRequest [] held request answer held' request' = (answer ≡ status.Nothing) × (request' ≡ request) × (held'.queue.requests.items ≡ [])
-GivesFirstRequest (first ∷ rest) held request answer held' request' = (answer ≡ status.Done) × (request' ≡ plain_request first) × (held'.queue.requests.items ≡ rest)
+GivesFirstRequest (first ∷ rest) held request answer held' request' = (answer ≡ status.Done) × (request' ≡ first) × (held'.queue.requests.items ≡ rest)
 
 abbrev pub GivesRequest : HeldReceiver → PlainRequest → Status → HeldReceiver → PlainRequest → Type 0
 GivesRequest held request answer held' request' = KeepsTheRest held held' × GivesFirstRequest held.queue.requests.items held request answer held' request'

@@ -1,5 +1,5 @@
 -- What a held receiver is made of.
-use Rattle.std.specs.Prelude.{◌≡◌, ℕ, ◌<◌, IsTrue, List, [], length, map}
+use Rattle.std.specs.Prelude.{◌≡◌, ℕ, ◌<◌, IsTrue, None, List, [], length, map}
 use Rattle.flow_records.specs.declared.record.FlowRecord.{FlowRecord}
 use Rattle.lane.specs.declared.sids.SidRow.{SidRow}
 use Rattle.loss_rule.specs.declared.rule.LossRule.{LossRule}
@@ -14,8 +14,8 @@ use Rattle.c_receiver.specs.declared.held.HeldReceiver.{HeldReceiver}
 use Rattle.c_receiver.specs.declared.held.State.TheVariants.{Open}
 use Rattle.c_receiver.specs.declared.plain.PlainFlow.{PlainFlow}
 use Rattle.c_receiver.specs.declared.plain.PlainRow.{PlainRow}
-use Rattle.c_receiver.specs.declared.status.Status.{Status}
-use Rattle.c_receiver.specs.declared.status.Status.TheVariants as status
+use Rattle.c_receiver.specs.declared.status.MakeFault.{MakeFault}
+use Rattle.c_receiver.specs.declared.status.MakeFault.TheVariants as make_fault
 use Rattle.c_receiver.specs.Held.{no_check}
 
 -- the record of a flow. No ring is asked for, but a record has one.
@@ -49,16 +49,16 @@ pub record IsMade (channels : ℕ) (flows : List PlainFlow) (rows : List PlainRo
   pub no_frame : held.queue.frames.items ≡ []
   pub no_request : held.queue.requests.items ≡ []
   pub whole : IsTrue held.queue.whole
+  pub none_lent : held.lent ≡ None
 
 -- why no receiver is so wide
-abbrev pub IsWidthRefused : ℕ → ℕ → Status → Type 0
-IsWidthRefused channels flows (status.Width fault) = IsWidthFault channels flows fault
+abbrev pub IsWidthRefused : ℕ → ℕ → MakeFault → Type 0
+IsWidthRefused channels flows (make_fault.Width fault) = IsWidthFault channels flows fault
 IsWidthRefused channels flows _ = ⊥
 
 -- why none is made: of its setup only where its rule and width are not at fault
-abbrev pub IsNotMade : ℕ → List PlainFlow → List PlainRow → ℕ → Status → Type 0
-IsNotMade channels flows rows number status.UnknownRule = 2 < number
-IsNotMade channels flows rows number (status.Width fault) = IsWidthFault channels (length flows) fault
-IsNotMade channels flows rows number (status.Setup error) = (setup : Setup) × IsSetupOf flows rows setup × IsSetupErrorWithin channels (length flows) setup error
-IsNotMade channels flows rows number status.OutOfMemory = Unit {0}
-IsNotMade channels flows rows number _ = ⊥
+abbrev pub IsNotMade : ℕ → List PlainFlow → List PlainRow → ℕ → MakeFault → Type 0
+IsNotMade channels flows rows number make_fault.UnknownRule = 2 < number
+IsNotMade channels flows rows number (make_fault.Width fault) = IsWidthFault channels (length flows) fault
+IsNotMade channels flows rows number (make_fault.Setup error) = (setup : Setup) × IsSetupOf flows rows setup × IsSetupErrorWithin channels (length flows) setup error
+IsNotMade channels flows rows number make_fault.OutOfMemory = Unit {0}

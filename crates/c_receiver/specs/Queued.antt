@@ -3,17 +3,28 @@ use Rattle.std.specs.Prelude.{◌≡◌, IsTrue, Option, Some, None, List, [], �
 use Rattle.lane.specs.declared.admitted.Request.{Request}
 use Rattle.consumer.specs.declared.given.Given.{Given}
 use Rattle.consumer.specs.declared.given.Given.TheVariants.{Frame, Asked}
+use Rattle.c_receiver.specs.declared.plain.PlainRequest.{PlainRequest}
 use Rattle.c_receiver.specs.declared.queue.QueuedFrame.{QueuedFrame}
 use Rattle.c_receiver.specs.declared.queue.Queue.{Queue}
+
+-- a request as C sees it
+abbrev pub plain_request : Request → PlainRequest
+plain_request request = record {
+  flow = request.flow;
+  units = request.units;
+  sequence = request.sequence;
+  channel = request.channel;
+  cluster = request.cluster;
+}
 
 -- this as a frame that waits, and as a request that does, if it is one
 abbrev pub as_frame : Given → Option QueuedFrame
 as_frame (Frame flow frame) = Some (record { flow = flow; frame = frame })
 as_frame (Asked request) = None
 
-abbrev pub as_request : Given → Option Request
+abbrev pub as_request : Given → Option PlainRequest
 as_request (Frame flow frame) = None
-as_request (Asked request) = Some request
+as_request (Asked request) = Some (plain_request request)
 
 -- all of it waits besides, in order
 pub record GrewBy (start : Queue) (given : List Given) (end : Queue) : Type 0 where

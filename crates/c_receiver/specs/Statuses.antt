@@ -25,6 +25,8 @@ use Rattle.receiver.specs.declared.width.WidthFault.{WidthFault}
 use Rattle.receiver.specs.declared.width.WidthFault.TheVariants as width_fault
 use Rattle.c_receiver.specs.declared.status.Status.{Status}
 use Rattle.c_receiver.specs.declared.status.Status.TheVariants as status
+use Rattle.c_receiver.specs.declared.status.MakeFault.{MakeFault}
+use Rattle.c_receiver.specs.declared.status.MakeFault.TheVariants as make_fault
 
 -- ---- the numbers, as `segrx.h` has them
 abbrev pub number_of_width : WidthFault → ℕ
@@ -50,7 +52,6 @@ status_number status.Null = 1
 status_number status.NoChannel = 2
 status_number status.NoFlow = 3
 status_number status.NumberRange = 4
-status_number status.UnknownRule = 5
 status_number status.UnknownDecision = 6
 status_number status.Nothing = 7
 status_number status.RoomTooSmall = 8
@@ -63,9 +64,13 @@ status_number status.Late = 14
 status_number status.Repeat = 15
 status_number status.Beyond = 16
 status_number status.LengthRange = 17
-status_number (status.Width fault) = number_of_width fault
-status_number (status.Setup error) = number_of_setup error
 status_number (status.Refused refusal) = 32 + refusal_number refusal
+
+abbrev pub fault_number : MakeFault → ℕ
+fault_number make_fault.UnknownRule = 5
+fault_number (make_fault.Width fault) = number_of_width fault
+fault_number (make_fault.Setup error) = number_of_setup error
+fault_number make_fault.OutOfMemory = 11
 
 -- ---- the status for what a receiver answered
 abbrev pub of_not_ready : NotReady → Status

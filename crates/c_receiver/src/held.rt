@@ -1,20 +1,21 @@
 //! A receiver with the queue of what it gave.
-ghost use Rattle.std.specs.Prelude.{◌≡◌, ◌<◌, IfOk, IfErr, IfSome, IfNone};
+ghost use Rattle.std.specs.Prelude.{◌≡◌, ◌<◌, IfOk, IfErr, IfSome, IfNone, None};
 ghost use Rattle.receiver.specs.Receiving.{IsReceiving};
 ghost use Rattle.receiver.specs.Received.{IsBeingClosed};
 ghost use Rattle.c_receiver.specs.Held.{no_check, IsInUse, StateInUse};
 ghost use Rattle.c_receiver.specs.Held.{Takes, TakesGrant, TakesBurst, Decides, DecidesSo};
 ghost use Rattle.c_receiver.specs.Held.{IsDecision};
 ghost use Rattle.c_receiver.specs.Held.{GoesOn, Restarts, Counts, AnswersCounts};
-ghost use Rattle.c_receiver.specs.Held.{GivesFrame, GivesRequest};
+ghost use Rattle.c_receiver.specs.Held.{GivesFrame, LendsFrame, bytes_lent, GivesRequest};
+ghost use Rattle.c_receiver.specs.Held.{waiting_in};
 ghost use Rattle.c_receiver.specs.Held.{Closes, ClosesState, state_after, of_close};
 ghost use Rattle.c_receiver.specs.Made.{IsMade, IsNotMade};
 
 use crate::open;
-use crate::plain::{PlainCounts, PlainFlow, PlainFrame, PlainRequest, PlainRow};
-use crate::queue::Queue;
+use crate::plain::{PlainCounts, PlainFlow, PlainFrame, PlainRequest, PlainRow, PlainWaiting};
+use crate::queue::{Queue, QueuedFrame};
 use crate::setup::{rule_of, setup_of, width_of};
-use crate::status::Status;
+use crate::status::{MakeFault, Status};
 use docsis_wire::{Bytes, NoCheck};
 use flow_core::FlowCounts;
 use lane::Input;
@@ -40,6 +41,8 @@ pub struct HeldReceiver {
     pub state: State,
     /// What waits.
     pub queue: Queue,
+    /// The frame that is lent, if one is. It waits no more.
+    pub lent: Option<QueuedFrame>,
     alloc: Global,
 }
 
@@ -53,25 +56,26 @@ impl HeldReceiver {
         flows: &[PlainFlow],
         rows: &[PlainRow],
         rule: u32,
-    ) -> Result<HeldReceiver, Status>
+    ) -> Result<HeldReceiver, MakeFault>
         ensures made { IfOk result (IsMade channels flows.now rows.now rule) }
         ensures fault { IfErr result (IsNotMade channels flows.now rows.now rule) }
         ensures in_use { IfOk result IsInUse }
     {
         let Some(rule) = rule_of(rule) else {
-            return Err(Status::UnknownRule);
+            return Err(MakeFault::UnknownRule);
         };
         let width = width_of(channels, flows.len())?;
         let Ok(setup) = setup_of(alloc, flows, rows) else {
-            return Err(Status::OutOfMemory);
+            return Err(MakeFault::OutOfMemory);
         };
         match Receiver::new(alloc, width, &setup, rule, NoCheck) {
             Ok(receiver) => Ok(HeldReceiver {
                 state: State::Open(receiver),
                 queue: Queue::new(alloc),
+                lent: None,
                 alloc,
             }),
-            Err(error) => Err(Status::Setup(error)),
+            Err(error) => Err(MakeFault::Setup(error)),
         }
     }
 
@@ -79,17 +83,21 @@ impl HeldReceiver {
     pub fn grant(&mut self, channel: usize, number: u32, sid: u16, bytes: u32) -> Status
         requires in_use { IsInUse self.old }
         ensures takes { TakesGrant self.old channel number sid bytes result self.new }
+        ensures lent { self.new.lent ≡ self.old.lent }
         ensures in_use { IsInUse self.new }
     {
         self.take(channel, Input::Grant { number, sid, bytes })
     }
 
-    /// Takes a burst that came on this channel. Its bytes are copied.
+    /// Takes a burst that came on this channel. What was lent is let go before, so that its memory
+    /// serves the copy of the burst's bytes.
     pub fn burst(&mut self, channel: usize, grant: u32, hcs_ok: bool, bytes: &[u8]) -> Status
         requires in_use { IsInUse self.old }
         ensures takes { TakesBurst self.old channel grant hcs_ok bytes.now result self.new }
+        ensures lent { self.new.lent ≡ None }
         ensures in_use { IsInUse self.new }
     {
+        self.lent = None;
         let Ok(copied) = Vec::from_slice(self.alloc, bytes) else {
             return self.queue.told(Status::OutOfMemory);
         };
@@ -108,6 +116,7 @@ impl HeldReceiver {
     fn take(&mut self, channel: usize, input: Input) -> Status
         requires in_use { IsInUse self.old }
         ensures takes { Takes self.old channel input result self.new }
+        ensures lent { self.new.lent ≡ self.old.lent }
         ensures in_use { IsInUse self.new }
     {
         let State::Open(receiver) = &mut self.state else {
@@ -122,6 +131,7 @@ impl HeldReceiver {
     pub fn decide(&mut self, flow: usize, kind: u32, number: u16) -> Status
         requires in_use { IsInUse self.old }
         ensures decides { Decides self.old flow kind number result self.new }
+        ensures lent { self.new.lent ≡ self.old.lent }
         ensures in_use { IsInUse self.new }
     {
         let Some(decision) = decision_of(kind, number) else {
@@ -134,6 +144,7 @@ impl HeldReceiver {
     fn decide_so(&mut self, flow: usize, decision: FlowDecision) -> Status
         requires in_use { IsInUse self.old }
         ensures decides { DecidesSo self.old flow decision result self.new }
+        ensures lent { self.new.lent ≡ self.old.lent }
         ensures in_use { IsInUse self.new }
     {
         let State::Open(receiver) = &mut self.state else {
@@ -146,6 +157,7 @@ impl HeldReceiver {
     pub fn go_on(&mut self, flow: usize) -> Status
         requires in_use { IsInUse self.old }
         ensures goes_on { GoesOn self.old flow result self.new }
+        ensures lent { self.new.lent ≡ self.old.lent }
         ensures in_use { IsInUse self.new }
     {
         let State::Open(receiver) = &mut self.state else {
@@ -158,6 +170,7 @@ impl HeldReceiver {
     pub fn restart(&mut self, flow: usize, first: u16, counts: &mut PlainCounts) -> Status
         requires in_use { IsInUse self.old }
         ensures restarts { Restarts self.old flow first counts.old result self.new counts.new }
+        ensures lent { self.new.lent ≡ self.old.lent }
         ensures in_use { IsInUse self.new }
     {
         let State::Open(receiver) = &mut self.state else {
@@ -191,16 +204,51 @@ impl HeldReceiver {
             return Status::Nothing;
         };
         let length = first.frame.len();
-        *frame = PlainFrame {
-            flow: first.flow,
-            length,
-        };
+        *frame = PlainFrame::of(first);
         if room.len() < length {
             return Status::RoomTooSmall;
         }
         room[..length].copy_from_slice(first.frame.as_slice());
         self.queue.frames.pop_front();
         Status::Done
+    }
+
+    /// Lets the frame go that was lent, if one was, and lends the first one that waits, if one does:
+    /// it is told, waits no more, and is kept, with its bytes where they are, until this or a burst
+    /// comes next.
+    pub fn lend_frame(&mut self, frame: &mut PlainFrame) -> Status
+        requires in_use { IsInUse self.old }
+        ensures lends { LendsFrame self.old frame.old result self.new frame.new }
+        ensures in_use { IsInUse self.new }
+    {
+        self.lent = self.queue.frames.pop_front();
+        match &self.lent {
+            Some(first) => {
+                *frame = PlainFrame::of(first);
+                Status::Done
+            }
+            None => Status::Nothing,
+        }
+    }
+
+    /// The bytes of the frame that is lent; none where none is.
+    pub fn lent_bytes(&self) -> &[u8]
+        ensures { result.now ≡ bytes_lent self.now.lent }
+    {
+        match &self.lent {
+            Some(lent) => lent.frame.as_slice(),
+            None => &[],
+        }
+    }
+
+    /// How many frames and how many requests wait.
+    pub fn waiting(&self) -> PlainWaiting
+        ensures { result ≡ waiting_in self.now.queue }
+    {
+        PlainWaiting {
+            frames: self.queue.frames.len(),
+            requests: self.queue.requests.len(),
+        }
     }
 
     /// Tells the first request that waits, and it waits no more.
@@ -211,7 +259,7 @@ impl HeldReceiver {
     {
         match self.queue.requests.pop_front() {
             Some(first) => {
-                *request = PlainRequest::of(&first);
+                *request = first;
                 Status::Done
             }
             None => Status::Nothing,
@@ -223,6 +271,7 @@ impl HeldReceiver {
     pub fn close(&mut self) -> Status
         requires in_use { IsInUse self.old }
         ensures closes { Closes self.old result self.new }
+        ensures lent { self.new.lent ≡ self.old.lent }
         ensures in_use { IsInUse self.new }
     {
         let nothing = State::Closed(Closed {

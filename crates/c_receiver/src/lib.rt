@@ -8,8 +8,9 @@
 //! 1. [`HeldReceiver::new`] makes one of the [`PlainFlow`]s and [`PlainRow`]s of a setup.
 //! 2. [`HeldReceiver::grant`], `burst` and `decide` hand something in; `go_on` does what a failed
 //!    allocation left to be done of a flow, and `restart` has one begin anew.
-//! 3. [`HeldReceiver::next_frame`] and `next_request` give what waits, each once, in order.
-//!    [`HeldReceiver::counts`] says what was counted of a flow.
+//! 3. [`HeldReceiver::next_frame`] and `next_request` give what waits, each once, in order; in the
+//!    place of the first, `lend_frame` gives a frame without a copy, by `lent_bytes`. `waiting` says
+//!    how much waits, and [`HeldReceiver::counts`] what was counted of a flow.
 //! 4. [`HeldReceiver::close`] closes it. What waits then can still be taken.
 //!
 //! `segrx_c` exports these calls to C.
@@ -23,6 +24,6 @@ mod setup;
 mod status;
 
 pub use held::{HeldReceiver, State, discard};
-pub use plain::{PlainCounts, PlainFlow, PlainFrame, PlainRequest, PlainRow};
+pub use plain::{PlainCounts, PlainFlow, PlainFrame, PlainRequest, PlainRow, PlainWaiting};
 pub use queue::{Queue, QueuedFrame};
-pub use status::Status;
+pub use status::{MakeFault, Status};

@@ -1,8 +1,10 @@
 //! Values as C sees them.
 ghost use Rattle.std.specs.Prelude.{◌≡◌};
-ghost use Rattle.c_receiver.specs.Held.{plain_of, plain_request};
+ghost use Rattle.c_receiver.specs.Held.{plain_of, plain_frame};
+ghost use Rattle.c_receiver.specs.Queued.{plain_request};
 ghost use Rattle.c_receiver.specs.Made.{record_of, row_of};
 
+use crate::queue::QueuedFrame;
 use flow_core::{FlowCounts, FlowRecord};
 use lane::{Request, SidRow};
 
@@ -40,6 +42,16 @@ pub struct PlainFrame {
     pub flow: usize,
     /// How many bytes the frame has, its header included.
     pub length: usize,
+}
+
+/// How much waits.
+#[repr(C)]
+#[derive(Clone, Copy, Debug, PartialEq, Eq)]
+pub struct PlainWaiting {
+    /// How many frames.
+    pub frames: usize,
+    /// How many requests.
+    pub requests: usize,
 }
 
 /// A request for grants.
@@ -103,6 +115,18 @@ impl PlainRow {
             channel: self.channel,
             sid: self.sid,
             flow: self.flow,
+        }
+    }
+}
+
+impl PlainFrame {
+    /// A frame as C is told of it.
+    pub fn of(first: &QueuedFrame) -> PlainFrame
+        ensures { result ≡ plain_frame first.now }
+    {
+        PlainFrame {
+            flow: first.flow,
+            length: first.frame.len(),
         }
     }
 }

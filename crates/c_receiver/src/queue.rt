@@ -2,6 +2,7 @@
 ghost use Rattle.std.specs.Prelude.{◌≡◌, [], IsTrue};
 ghost use Rattle.c_receiver.specs.Statuses.{told};
 
+use crate::plain::PlainRequest;
 use crate::status::Status;
 use consumer::Consumer;
 use docsis_wire::Bytes;
@@ -24,8 +25,9 @@ pub struct QueuedFrame {
 pub struct Queue {
     /// The frames of all flows.
     pub frames: VecDeque<QueuedFrame>,
-    /// The requests of all channels.
-    pub requests: VecDeque<Request>,
+    /// The requests of all channels, as C sees them: a [`Request`] has seven bytes behind its channel
+    /// that mean nothing, and were copied several times on their way here if it were kept.
+    pub requests: VecDeque<PlainRequest>,
     /// Whether all that was given was kept.
     pub whole: bool,
 }
@@ -57,6 +59,8 @@ impl Consumer for Queue {
 
     ghost after = { HasQueued };
 
+    // Called for each frame: in line, its bytes' place needn't go through memory.
+    #[inline(always)]
     fn frame(&mut self, flow: usize, frame: Bytes) {
         if self.frames.push_back(QueuedFrame { flow, frame }).is_err() {
             self.whole = false;
@@ -64,7 +68,7 @@ impl Consumer for Queue {
     }
 
     fn request(&mut self, request: Request) {
-        if self.requests.push_back(request).is_err() {
+        if self.requests.push_back(PlainRequest::of(&request)).is_err() {
             self.whole = false;
         }
     }

@@ -3,7 +3,7 @@ ghost use Rattle.std.specs.Prelude.{◌≡◌, ◌<◌, IfOk, IfErr, IfSome, IfN
 ghost use Rattle.c_receiver.specs.Made.{IsRule, record_of, row_of, IsWidthRefused};
 
 use crate::plain::{PlainFlow, PlainRow};
-use crate::status::Status;
+use crate::status::MakeFault;
 use flow_core::FlowRecord;
 use lane::SidRow;
 use loss_rule::LossRule;
@@ -24,20 +24,20 @@ pub fn rule_of(number: u32) -> Option<LossRule>
 }
 
 /// The width of so many channels and flows.
-pub fn width_of(channels: u32, flows: usize) -> Result<Width, Status>
+pub fn width_of(channels: u32, flows: usize) -> Result<Width, MakeFault>
     ensures channels { IfOk result (λ width. width.channels ≡ channels) }
     ensures flows { IfOk result (λ width. width.flows ≡ flows) }
     ensures fault { IfErr result (IsWidthRefused channels flows) }
 {
     let Ok(channels) = u8::try_from(channels) else {
-        return Err(Status::Width(WidthFault::TooManyChannels));
+        return Err(MakeFault::Width(WidthFault::TooManyChannels));
     };
     let counted = if flows > usize::from(MOST_FLOWS) {
         MOST_FLOWS + 1
     } else {
         flows as u16
     };
-    Width::new(channels, counted).map_err(Status::Width)
+    Width::new(channels, counted).map_err(MakeFault::Width)
 }
 
 /// The setup of these flows and rows.

@@ -1,12 +1,13 @@
 //! What a call answers.
 ghost use Rattle.std.specs.Prelude.{◌≡◌};
-ghost use Rattle.c_receiver.specs.Statuses.{status_number, number_of_width, number_of_setup};
+ghost use Rattle.c_receiver.specs.Statuses.{status_number, fault_number};
+ghost use Rattle.c_receiver.specs.Statuses.{number_of_width, number_of_setup};
 
 use flow_records::SetupFault;
 use lane::{LaneFault, Refusal};
 use receiver::{SetupError, WidthFault};
 
-/// What a call answers. C sees its [`number`](Status::number).
+/// What a call of a receiver answers. C sees its [`number`](Status::number).
 #[derive(Clone, Copy, Debug, PartialEq, Eq)]
 pub enum Status {
     /// The call is done. Of a burst: it was admitted, and its segment is kept.
@@ -19,8 +20,6 @@ pub enum Status {
     NoFlow,
     /// A sequence number is above 8191. Nothing was done.
     NumberRange,
-    /// There is no such loss rule. Nothing was done.
-    UnknownRule,
     /// There is no such decision. Nothing was done.
     UnknownDecision,
     /// No frame, or no request, waits.
@@ -49,16 +48,27 @@ pub enum Status {
     /// More is passed than may be: of a burst more than 65,535 bytes, of the room for a frame more
     /// than 2^31 - 1, of a setup more than 16,384 flows or 262,144 rows. Nothing was done.
     LengthRange,
-    /// No receiver can be made so wide.
-    Width(WidthFault),
-    /// No receiver can be made of such a setup.
-    Setup(SetupError),
     /// A grant or a burst was refused.
     Refused(Refusal),
 }
 
+/// Why no receiver is made. The first of these is told, but that an allocation may fail before the
+/// setup is looked at. C sees its [`number`](MakeFault::number), which is of one row with those of
+/// the statuses.
+#[derive(Clone, Copy, Debug, PartialEq, Eq)]
+pub enum MakeFault {
+    /// There is no such loss rule.
+    UnknownRule,
+    /// No receiver can be made so wide.
+    Width(WidthFault),
+    /// No receiver can be made of such a setup.
+    Setup(SetupError),
+    /// An allocation failed.
+    OutOfMemory,
+}
+
 impl Status {
-    /// The number by which C knows it: refusals from 33 on, faults of a setup from 20 on.
+    /// The number by which C knows it: refusals from 33 on.
     pub fn number(self) -> u32
         ensures { result ≡ status_number self }
     {
@@ -68,7 +78,6 @@ impl Status {
             Status::NoChannel => 2,
             Status::NoFlow => 3,
             Status::NumberRange => 4,
-            Status::UnknownRule => 5,
             Status::UnknownDecision => 6,
             Status::Nothing => 7,
             Status::RoomTooSmall => 8,
@@ -81,9 +90,21 @@ impl Status {
             Status::Repeat => 15,
             Status::Beyond => 16,
             Status::LengthRange => 17,
-            Status::Width(fault) => width_number(fault),
-            Status::Setup(error) => setup_number(error),
             Status::Refused(refusal) => 32 + u32::from(refusal.number()),
+        }
+    }
+}
+
+impl MakeFault {
+    /// The number by which C knows it: faults of the width and the setup from 20 on.
+    pub fn number(self) -> u32
+        ensures { result ≡ fault_number self }
+    {
+        match self {
+            MakeFault::UnknownRule => 5,
+            MakeFault::Width(fault) => width_number(fault),
+            MakeFault::Setup(error) => setup_number(error),
+            MakeFault::OutOfMemory => 11,
         }
     }
 }

@@ -1,3 +1,4 @@
 pub mod Steps
 pub mod HandedSteps
 pub mod Refusals
+pub mod Loans

@@ -12,20 +12,21 @@ pub use prog.Wp.{Calls, Loops, WpFn}
 pub use types.Logic.{Logic, sem}
 pub use contract.Monad.{Fun, fact, fact_i, fact_use}
 pub use contract.Running.{tables}
-pub use types.Kit.{‵, raw, ◌⊛◌, some, later, at_ret, ◌$◌, ◌∵◌, !, qed, by, move, keep, drop, use0, use1, use2, use3, split, split3, join, pick, show, fsplit, fjoin, feq_i, feq_l, await, frame, done}
+pub use types.Kit.{‵, raw, ◌⊛◌, some, later, at_ret, ◌$◌, ◌∵◌, !, qed, by, move, keep, drop, use0, use1, use2, use3, split, split3, join, pick, show, fsplit, fjoin, feq_i, feq_l, rewrite, await, updating, now, frame, done}
 pub use types.Tokens.{lft_new, lft_end, lent_back}
 pub use types.SemTy.{Body, Arr, cells}
-pub use types.Run.{of_opd, bin, lit, addr, stop, and_then, no_more, first, branches, skips, exec, assigns, store, fld, returns, returns_within, enter}
+pub use types.Run.{of_opd, bin, lit, addr, from, stop, and_then, no_more, first, branches, skips, exec, assigns, store, fld, hop, returns, returns_within, enter}
 pub use types.Part.{agg, sub, whole}
-pub use types.ByLocal.{alloc_all, pass_all, free_all, look_at, get, get_in, through, sets, lands_as, env}
+pub use types.ByLocal.{alloc_all, pass_all, free_all, look_at, look_in_at, get, get_in, through, sets, lands_as, env}
 pub use sound.WpLaws.{FmC}
 pub use denote.Exit.{yes}
 pub use denote.Laws.{Is, shows}
 pub use denote.Memory.{mem, lone}
 pub use denote.Plain.{uint_vals, uint_Tells, uint_Makes, uint_Lawful, bool_vals, bool_Tells, bool_Makes}
 pub use denote.Builtin.{u8, u16, u32, u64, usize, bool}
-pub use denote.Ref.{MutRef, mut_vals}
-pub use denote.Lend.{lends_ref, ref_back, lends_slice, slice_back, lends_shr_slice, Held as LentSlice}
+pub use denote.Memory.{part_at}
+pub use denote.Ref.{MutRef, mut_vals, ShrRef, shr_vals}
+pub use denote.Lend.{lends_ref, ref_back, lends_shr, lends_slice, slice_back, lends_shr_slice, Held as LentSlice}
 pub use denote.RawPtr.{Ptr, block_ptr, null_ptr, ptr_val, RawPtr, rawptr_vals, rawptr_Tells, Testable, tests_null, InBlock}
 pub use denote.Signature.{plain}
 pub use denote.Steps.{owned, only, peeks, heard, nothing}
@@ -42,7 +43,6 @@ use mir.Syntax.{ty_ptr, int_big, Width}
 use mir.Val.{has_ty, WT, Fits}
 use base.Logic.{guard_i}
 use base.Fml.{fat}
-use types.Kit.{rewrite}
 use borrow.Table.OneValue.{part_out, part_in}
 use prog.Wp.{Env}
 use types.Kit.{Item}
@@ -54,7 +54,7 @@ pub use denote.Array.{Array}
 pub use denote.ArrayMemory.{Array-apart, Array-whole}
 pub use denote.Copied.{uint_Copied}
 pub use denote.Index.{whole_in}
-pub use denote.Slice.{ShrSlice, MutSlice, slice_val}
+pub use denote.Slice.{ShrSlice, MutSlice, slice_val, shr_slice_vals}
 use denote.ArrayMemory.{Single}
 use denote.Index.{whole_out}
 use denote.Memory.{shares}

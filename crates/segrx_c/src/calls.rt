@@ -2,13 +2,15 @@
 ghost use Rattle.std.specs.Prelude.{◌≡◌, Some};
 ghost use Rattle.c_receiver.specs.Held.{IsInUse, TakesGrant, TakesBurst, Decides, GoesOn, Restarts};
 ghost use Rattle.c_receiver.specs.Held.{Closes, Counts, GivesFrame, GivesRequest};
+ghost use Rattle.c_receiver.specs.Held.{LendsFrame, bytes_lent, waiting_in};
 ghost use Rattle.segrx_c.specs.Answers.{Numbered};
 ghost use Rattle.segrx_c.specs.Made.{Gives};
 ghost use Rattle.c_receiver.specs.declared.held.HeldReceiver.{HeldReceiver};
 
 use crate::handed::Handed;
 use c_receiver::{
-    HeldReceiver, PlainCounts, PlainFlow, PlainFrame, PlainRequest, PlainRow, Status, discard,
+    HeldReceiver, MakeFault, PlainCounts, PlainFlow, PlainFrame, PlainRequest, PlainRow,
+    PlainWaiting, discard,
 };
 use std::alloc::Global;
 
@@ -34,6 +36,25 @@ pub fn burst(
     ensures in_use { IsInUse held.new }
 {
     held.burst(channel, number, hcs_ok, bytes).number()
+}
+
+/// Takes a burst, and tells how much waits then.
+pub fn burst_waiting(
+    held: &mut HeldReceiver,
+    channel: usize,
+    number: u32,
+    hcs_ok: bool,
+    bytes: &[u8],
+    waiting: &mut PlainWaiting,
+) -> u32
+    requires { IsInUse held.old }
+    ensures does { Numbered (λ answer. TakesBurst held.old channel number hcs_ok bytes.now
+        answer held.new × (waiting.new ≡ waiting_in held.new.queue)) result }
+    ensures in_use { IsInUse held.new }
+{
+    let status = held.burst(channel, number, hcs_ok, bytes);
+    *waiting = held.waiting();
+    status.number()
 }
 
 pub fn decide(held: &mut HeldReceiver, flow: usize, kind: u32, number: u16) -> u32
@@ -79,6 +100,23 @@ pub fn next_frame(held: &mut HeldReceiver, room: &mut [u8], frame: &mut PlainFra
     held.next_frame(room, frame).number()
 }
 
+/// Lends the first frame that waits, and tells it.
+pub fn lend_frame(held: &mut HeldReceiver, frame: &mut PlainFrame) -> u32
+    requires { IsInUse held.old }
+    ensures does { Numbered (λ answer. LendsFrame held.old frame.old answer held.new frame.new)
+        result }
+    ensures in_use { IsInUse held.new }
+{
+    held.lend_frame(frame).number()
+}
+
+/// The bytes of the frame that is lent.
+pub fn lent_bytes(held: &HeldReceiver) -> &[u8]
+    ensures { result.now ≡ bytes_lent held.now.lent }
+{
+    held.lent_bytes()
+}
+
 pub fn next_request(held: &mut HeldReceiver, request: &mut PlainRequest) -> u32
     requires { IsInUse held.old }
     ensures does { Numbered (λ answer. GivesRequest held.old request.old answer
@@ -109,9 +147,9 @@ pub fn make(
     match HeldReceiver::new(alloc, channels, flows, rows, rule) {
         Ok(held) => match Box::new(alloc, held) {
             Ok(boxed) => Handed::of(boxed),
-            Err(_) => Handed::refused(alloc, Status::OutOfMemory.number()),
+            Err(_) => Handed::refused(alloc, MakeFault::OutOfMemory.number()),
         },
-        Err(status) => Handed::refused(alloc, status.number()),
+        Err(fault) => Handed::refused(alloc, fault.number()),
     }
 }
 

@@ -8,9 +8,13 @@
 //!
 //! In a clause [`Opaque`] is what a handle is to C; `was` is what lay behind the pointers, and
 //! `after` what lies there at the return. Of a call that is refused both are the same.
+//!
+//! [`segrx_receiver_lend_frame`] leaves the receiver lent: where its bytes stand they can be read up
+//! to the end of a lifetime that is the C program's to end, and with that end the receiver is there
+//! again for the next call (`loan_ends` of `proofs/Loans.antt`).
 #![tactic(auto)]
 
-ghost use Rattle.std.specs.Prelude.{◌≡◌, ℕ, List, [], ◌∷◌, Option, None, nat_lt};
+ghost use Rattle.std.specs.Prelude.{◌≡◌, ℕ, List, [], ◌∷◌, Option, None, IsSome, nat_lt};
 ghost use denote.Builtin.{u8 as byte};
 ghost use denote.RawPtr.{Ptr, RawPtr, Testable};
 ghost use types.Logic.{sem};
@@ -20,21 +24,27 @@ ghost use Rattle.c_receiver.specs.declared.plain.PlainRow.{PlainRow};
 ghost use Rattle.c_receiver.specs.declared.plain.PlainCounts.{PlainCounts};
 ghost use Rattle.c_receiver.specs.declared.plain.PlainFrame.{PlainFrame};
 ghost use Rattle.c_receiver.specs.declared.plain.PlainRequest.{PlainRequest};
+ghost use Rattle.c_receiver.specs.declared.plain.PlainWaiting.{PlainWaiting};
 ghost use Rattle.c_receiver.specs.contracts.plain.PlainFlow as flow_type;
 ghost use Rattle.c_receiver.specs.contracts.plain.PlainRow as row_type;
 ghost use Rattle.c_receiver.specs.contracts.plain.PlainCounts as counts_type;
 ghost use Rattle.c_receiver.specs.contracts.plain.PlainFrame as frame_type;
 ghost use Rattle.c_receiver.specs.contracts.plain.PlainRequest as request_type;
+ghost use Rattle.c_receiver.specs.contracts.plain.PlainWaiting as waiting_type;
 ghost use Rattle.c_receiver.specs.Held.{IsInUse, TakesGrant, TakesBurst, Decides, GoesOn, Restarts};
 ghost use Rattle.c_receiver.specs.Held.{Closes, Counts, GivesFrame, GivesRequest};
+ghost use Rattle.c_receiver.specs.Held.{LendsFrame, waiting_in};
 ghost use Rattle.segrx_c.specs.Handle.{handle_at, value_at, row_at};
+ghost use Rattle.segrx_c.specs.Loan.{perhaps_lent_at};
 ghost use Rattle.segrx_c.specs.Made.{Gives, made_at};
 ghost use Rattle.segrx_c.specs.Answers.{Numbered, Unless, refused, of_free};
 
 mod calls;
 mod handed;
 
-use c_receiver::{HeldReceiver, PlainCounts, PlainFlow, PlainFrame, PlainRequest, PlainRow};
+use c_receiver::{
+    HeldReceiver, PlainCounts, PlainFlow, PlainFrame, PlainRequest, PlainRow, PlainWaiting,
+};
 use handed::Handed;
 use std::alloc::Global;
 use std::slice;
@@ -188,6 +198,56 @@ pub unsafe extern "C" fn segrx_receiver_burst(
     )
 }
 
+/// Takes a burst, as [`segrx_receiver_burst`] does, and tells how much waits then.
+#[unsafe(no_mangle)]
+pub unsafe extern "C" fn segrx_receiver_burst_waiting(
+    handle: *mut Opaque,
+    channel: usize,
+    grant: u32,
+    hcs_ok: bool,
+    bytes: *const u8,
+    count: usize,
+    waiting: *mut PlainWaiting,
+) -> u32
+    ghost was: { HeldReceiver × List ℕ × PlainWaiting }
+    requires bytes { Testable bytes }
+    requires waiting { Testable waiting }
+    requires* memory { sem 𝓛 (handle_at handle was.0)
+        ∗ sem 𝓛 (row_at byte 65535 bytes count was.1)
+        ∗ sem 𝓛 (value_at waiting_type.the_row waiting was.2) ∗ ⌜ IsInUse was.0 ⌝ }
+    ensures* memory { ∃ₛ (λ (after : HeldReceiver × PlainWaiting).
+        sem 𝓛 (handle_at handle after.0)
+        ∗ sem 𝓛 (row_at byte 65535 bytes count was.1)
+        ∗ sem 𝓛 (value_at waiting_type.the_row waiting after.1)
+        ∗ ⌜ Unless (refused (handle ∷ bytes ∷ waiting ∷ []) (nat_lt 65535 count ∷ [])) result
+        (after ≡ (was.0, was.2)) (Numbered (λ answer.
+        TakesBurst was.0 channel grant hcs_ok was.1 answer after.0
+        × (after.1 ≡ waiting_in after.0.queue)) result
+        × IsInUse after.0) ⌝) }
+{
+    if handle.is_null() {
+        return NULL_GIVEN;
+    }
+    if bytes.is_null() {
+        return NULL_GIVEN;
+    }
+    if waiting.is_null() {
+        return NULL_GIVEN;
+    }
+    if count > MOST_BYTES {
+        return TOO_MANY;
+    }
+    let held = handle as *mut HeldReceiver;
+    calls::burst_waiting(
+        &mut *held,
+        channel,
+        grant,
+        hcs_ok,
+        slice::from_raw_parts(bytes, count),
+        &mut *waiting,
+    )
+}
+
 /// Takes the decision that segments of a flow are lost: of this kind, up to this number.
 #[unsafe(no_mangle)]
 pub unsafe extern "C" fn segrx_receiver_decide(
@@ -269,6 +329,43 @@ pub unsafe extern "C" fn segrx_receiver_next_frame(
         slice::from_raw_parts_mut(room, capacity),
         &mut *frame,
     )
+}
+
+/// Lends the first frame that waits, and tells it and where its bytes are: they stay the receiver's.
+#[unsafe(no_mangle)]
+pub unsafe extern "C" fn segrx_receiver_lend_frame(
+    handle: *mut Opaque,
+    bytes: *mut *const u8,
+    frame: *mut PlainFrame,
+) -> u32
+    ghost was: { HeldReceiver × Ptr × PlainFrame }
+    requires bytes { Testable bytes }
+    requires frame { Testable frame }
+    requires* memory { sem 𝓛 (handle_at handle was.0)
+        ∗ sem 𝓛 (value_at RawPtr bytes was.1)
+        ∗ sem 𝓛 (value_at frame_type.the_row frame was.2) ∗ ⌜ IsInUse was.0 ⌝ }
+    ensures* memory { ∃ₛ (λ (after : HeldReceiver × Ptr × PlainFrame × Option ℕ).
+        sem 𝓛 (perhaps_lent_at after.3 handle after.1 after.0)
+        ∗ sem 𝓛 (value_at RawPtr bytes after.1)
+        ∗ sem 𝓛 (value_at frame_type.the_row frame after.2)
+        ∗ ⌜ Unless (refused (handle ∷ bytes ∷ frame ∷ []) []) result
+        (after ≡ (was.0, was.1, was.2, None)) (Numbered (λ answer.
+        LendsFrame was.0 was.2 answer after.0 after.2) result
+        × IsInUse after.0 × IsSome after.3) ⌝) }
+{
+    if handle.is_null() {
+        return NULL_GIVEN;
+    }
+    if bytes.is_null() {
+        return NULL_GIVEN;
+    }
+    if frame.is_null() {
+        return NULL_GIVEN;
+    }
+    let held = handle as *mut HeldReceiver;
+    let number = calls::lend_frame(&mut *held, &mut *frame);
+    *bytes = calls::lent_bytes(&*held).as_ptr();
+    number
 }
 
 /// Tells the first request that waits, and it waits no more.

@@ -5,7 +5,7 @@ ghost use Rattle.std.specs.Prelude.{IfOk};
 ghost use Rattle.c_receiver.specs.Held.{IsInUse};
 
 use c_receiver::{
-    HeldReceiver, PlainCounts, PlainFlow, PlainFrame, PlainRequest, PlainRow, Status,
+    HeldReceiver, MakeFault, PlainCounts, PlainFlow, PlainFrame, PlainRequest, PlainRow, Status,
 };
 use std::alloc::Global;
 use std::process::Abort;
@@ -34,7 +34,7 @@ const REQUEST: PlainRequest = PlainRequest {
 };
 
 /// A receiver of three channels and one flow, which decisions alone hold to be lost.
-fn made(alloc: Global) -> Result<HeldReceiver, Status>
+fn made(alloc: Global) -> Result<HeldReceiver, MakeFault>
     ensures { IfOk result IsInUse }
 {
     let flow = PlainFlow {
@@ -86,4 +86,15 @@ fn expect_frame(rt: &impl Abort, held: &mut HeldReceiver, wanted: &[u8])
     assert_eq!(rt; held.next_frame(&mut room, &mut frame), Status::Done);
     assert_eq!(rt; frame.flow, 0);
     assert_eq!(rt; room.get(..frame.length), Some(wanted));
+}
+
+/// Lends the first frame that waits, and compares it with this one.
+fn expect_lent(rt: &impl Abort, held: &mut HeldReceiver, wanted: &[u8])
+    requires { IsInUse held.old }
+    ensures { IsInUse held.new }
+{
+    let mut frame = PlainFrame { flow: 7, length: 0 };
+    assert_eq!(rt; held.lend_frame(&mut frame), Status::Done);
+    assert_eq!(rt; (frame.flow, frame.length), (0, wanted.len()));
+    assert_eq!(rt; held.lent_bytes(), wanted);
 }

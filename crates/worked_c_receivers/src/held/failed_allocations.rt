@@ -5,10 +5,10 @@ ghost use Rattle.std.specs.Prelude.{IfOk};
 ghost use Rattle.c_receiver.specs.Held.{IsInUse};
 
 use super::{
-    FIRST, FIRST_FRAME, REQUEST, SECOND, SECOND_FRAME, THIRD, expect_frame, expect_request, made,
-    no_counts,
+    FIRST, FIRST_FRAME, REQUEST, SECOND, SECOND_FRAME, THIRD, expect_frame, expect_lent,
+    expect_request, made, no_counts,
 };
-use c_receiver::{HeldReceiver, Status};
+use c_receiver::{HeldReceiver, MakeFault, Status};
 use std::alloc::Global;
 use std::process::Abort;
 use std::test::Fail;
@@ -43,15 +43,15 @@ fn made_again(rt: &impl Print, alloc: Global) -> Result<HeldReceiver, Fail>
     ensures { IfOk result IsInUse }
 {
     let mut answer = made(alloc);
-    if let Err(status) = &answer
-        && status.number() == Status::OutOfMemory.number()
+    if let Err(fault) = &answer
+        && fault.number() == MakeFault::OutOfMemory.number()
     {
         say_refused(rt)?;
         answer = made(alloc);
     }
     match answer {
         Ok(held) => Ok(held),
-        Err(status) => Err(Fail::new(format_args!("{status:?}"))),
+        Err(fault) => Err(Fail::new(format_args!("{fault:?}"))),
     }
 }
 
@@ -124,8 +124,12 @@ fn refused_calls_are_made_again(rt: HostRuntime) -> Result<(), Fail> {
     restart_again(&rt, &mut held)?;
     if held.queue.whole {
         expect_request(&rt, &mut held);
-        expect_frame(&rt, &mut held, &FIRST_FRAME);
+        expect_lent(&rt, &mut held, &FIRST_FRAME);
         expect_frame(&rt, &mut held, &SECOND_FRAME);
+        // The first is lent still.
+        assert_eq!(rt; held.lent_bytes(), FIRST_FRAME.as_slice());
+        let waiting = held.waiting();
+        assert_eq!(rt; (waiting.frames, waiting.requests), (0, 0));
     } else {
         // Of two frames and a request one is missing, and that is told again.
         assert_eq!(rt; held.queue.frames.len() + held.queue.requests.len(), 2);

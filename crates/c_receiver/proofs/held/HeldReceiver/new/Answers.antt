@@ -20,6 +20,7 @@ returns-in-Ok-new-clause-made c = record {
   no_frame = c.new-in-Ok-new.ensures.frames;
   no_request = c.new-in-Ok-new.ensures.requests;
   whole = c.new-in-Ok-new.ensures.whole;
+  none_lent = refl;
 }
 
 pub returns-clause-fault : goal.returns-clause-fault
