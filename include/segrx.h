@@ -21,7 +21,7 @@
  * in no section that is read-only), and used by nothing else during the call. It stays the
  * caller's: no pointer is kept after the call, and none is given but a handle, and by
  * `segrx_receiver_lend_frame`, which says how long it is good. Two pointers of one call may not
- * overlap, nor be of bytes that are lent.
+ * overlap. Bytes that are lent may be passed to no call, of this handle or of another.
  *
  * Handles. `segrx_receiver_new` gives one and `segrx_receiver_free` takes it: after that, or after
  * copying it and freeing one copy, it may not be passed any more. What it points to is the
@@ -257,10 +257,10 @@ enum segrx_status segrx_receiver_go_on(struct segrx_receiver *receiver, size_t f
 enum segrx_status segrx_receiver_next_frame(struct segrx_receiver *receiver, uint8_t *room,
                                             size_t capacity, struct segrx_frame *frame);
 
-/* Tells the first frame that waits, and where its bytes are: it waits no more, and isn't copied. The
- * bytes stay the receiver's, and are lent: they may be read, and not written, until the next call
- * with this handle, whichever it is and whatever it answers. Where no frame waits, `*bytes` points
- * to no bytes that may be read. */
+/* Tells the first frame that waits, and where its bytes are: it waits no more, and isn't copied.
+ * The bytes stay the receiver's, and are lent: they may be read, neither written nor passed to a
+ * call, until the next call with this handle, whichever it is and whatever it answers. Where no
+ * frame waits, `*bytes` points to no bytes that may be read. */
 enum segrx_status segrx_receiver_lend_frame(struct segrx_receiver *receiver, const uint8_t **bytes,
                                             struct segrx_frame *frame);
 

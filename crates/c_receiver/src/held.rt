@@ -213,9 +213,9 @@ impl HeldReceiver {
         Status::Done
     }
 
-    /// Lets the frame go that was lent, if one was, and lends the first one that waits, if one does:
-    /// it is told, waits no more, and is kept, with its bytes where they are, until this or a burst
-    /// comes next.
+    /// Lets the frame go that was lent, if one was, and lends the first one that waits, if one
+    /// does: it is told, waits no more, and is kept, with its bytes where they are, until this or
+    /// a burst comes next.
     pub fn lend_frame(&mut self, frame: &mut PlainFrame) -> Status
         requires in_use { IsInUse self.old }
         ensures lends { LendsFrame self.old frame.old result self.new frame.new }

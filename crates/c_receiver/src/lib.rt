@@ -9,8 +9,8 @@
 //! 2. [`HeldReceiver::grant`], `burst` and `decide` hand something in; `go_on` does what a failed
 //!    allocation left to be done of a flow, and `restart` has one begin anew.
 //! 3. [`HeldReceiver::next_frame`] and `next_request` give what waits, each once, in order; in the
-//!    place of the first, `lend_frame` gives a frame without a copy, by `lent_bytes`. `waiting` says
-//!    how much waits, and [`HeldReceiver::counts`] what was counted of a flow.
+//!    place of the first, `lend_frame` gives a frame without a copy, by `lent_bytes`. `waiting`
+//!    says how much waits, and [`HeldReceiver::counts`] what was counted of a flow.
 //! 4. [`HeldReceiver::close`] closes it. What waits then can still be taken.
 //!
 //! `segrx_c` exports these calls to C.

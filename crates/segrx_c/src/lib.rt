@@ -9,9 +9,9 @@
 //! In a clause [`Opaque`] is what a handle is to C; `was` is what lay behind the pointers, and
 //! `after` what lies there at the return. Of a call that is refused both are the same.
 //!
-//! [`segrx_receiver_lend_frame`] leaves the receiver lent: where its bytes stand they can be read up
-//! to the end of a lifetime that is the C program's to end, and with that end the receiver is there
-//! again for the next call (`loan_ends` of `proofs/Loans.antt`).
+//! [`segrx_receiver_lend_frame`] leaves the receiver lent: where its bytes stand they can be read
+//! up to the end of a lifetime that is the C program's to end, and with that end the receiver is
+//! there again for the next call (`loan_ends` of `proofs/Loans.antt`).
 #![tactic(auto)]
 
 ghost use Rattle.std.specs.Prelude.{◌≡◌, ℕ, List, [], ◌∷◌, Option, None, IsSome, nat_lt};
@@ -331,7 +331,8 @@ pub unsafe extern "C" fn segrx_receiver_next_frame(
     )
 }
 
-/// Lends the first frame that waits, and tells it and where its bytes are: they stay the receiver's.
+/// Lends the first frame that waits, and tells it and where its bytes are, which stay the
+/// receiver's.
 #[unsafe(no_mangle)]
 pub unsafe extern "C" fn segrx_receiver_lend_frame(
     handle: *mut Opaque,
