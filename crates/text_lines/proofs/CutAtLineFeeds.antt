@@ -1,9 +1,10 @@
 -- Bytes cut at their line feeds: whole lines, and what follows the last line feed.
-use Rattle.std.proofs.Common.{◌≡◌, ℕ, ◌+◌, ◌<◌, ◌≤◌, ◌==◌, Bool, true, false, cond, List, [], ◌∷◌, ◌++◌, length, take, drop, get_or, None, Some, length-append, refl, sym, ap, ◌∙◌, arith, add-one, append-nil, append_assoc, length-take}
+use Rattle.std.proofs.Common.{◌≡◌, ℕ, ◌+◌, ◌<◌, ◌≤◌, ◌==◌, Bool, true, false, cond, List, [], ◌∷◌, ◌++◌, length, take, drop, get_or, Option, None, Some, length-append, refl, sym, ap, subst, ◌∙◌, arith, add-one, append-nil, append_assoc, length-take}
 use Rattle.std.specs.Prelude.{position}
 use Rattle.std.specs.List.{slice_split, onto_first, sum_by}
 use Rattle.std.proofs.lemmas.Bool.{eqb-true, ne_eqb}
 use Rattle.std.proofs.lemmas.List.{get_or-take, take-append-drop}
+use Rattle.std.proofs.lemmas.List.Elements.{All-nil, All-cons, All-append}
 use Rattle.std.proofs.lemmas.List.Quantifiers.{position-Some}
 use Rattle.std.proofs.lemmas.List.Sums.{sum_by-append, sum_by-cons, fails_before_first}
 use Rattle.std.proofs.lemmas.List.Splits.{slice_split_at, slice_split_none}
@@ -217,3 +218,41 @@ module _ (bytes : List ℕ) (lines : List (List ℕ)) (unfinished : List ℕ) (p
       ∙ lines_of_parts-append lines unfinished []
       ∙ ap (λ line. lines ++ lines_of_parts (line ∷ [])) none
       ∙ append-nil lines
+
+-- a text in which there is something has a line
+some_line : (text : List ℕ) → 0 < length text → (cut : Option ℕ) → position is_line_feed text ≡ cut → 1 ≤ length (lines_of text)
+some_line text some None none = omega (arith, ap length (lines_of-one text some (position-none is_line_feed text none)))
+some_line text some (Some end) is =
+    let begins = BeginsWithLine-at text end is in
+    omega (arith, ap (λ text. length (lines_of text)) begins.spelled, ap length (lines_of-line (take end text) (drop (end + 1) text) begins.none))
+
+-- where something follows its first line feed, it has two
+two_lines : (line rest : List ℕ) → HasNoLineFeed line → 0 < length rest → 2 ≤ length (lines_of (line ++ line_feed ∷ rest))
+two_lines line rest none some = omega (arith, ap length (lines_of-line line rest none), some_line rest some (position is_line_feed rest) refl)
+
+-- so in a text of one line at most nothing follows it
+few_before : (text : List ℕ) → length (lines_of text) ≤ 1 → (front : List ℕ) (last : ℕ) → text ≡ front ++ last ∷ [] → (cut : Option ℕ) → position is_line_feed front ≡ cut
+    → HasNoLineFeed front
+few_before text few front last is None none = position-none is_line_feed front none
+few_before text few front last is (Some end) found =
+    let begins = BeginsWithLine-at front end found in
+    let line = take end front in
+    let rest = drop (end + 1) front in
+    let are : text ≡ line ++ line_feed ∷ (rest ++ last ∷ []) =
+    is ∙ ap (λ front. front ++ last ∷ []) begins.spelled ∙ append_assoc line (line_feed ∷ rest) (last ∷ []) in
+    absurd (omega (arith, ap (λ text. length (lines_of text)) are, two_lines line (rest ++ last ∷ []) begins.none (omega (arith, length-append rest (last ∷ [])))))
+
+-- it begins with the line that the line feed at its end ends
+pub begins_whole : (text : List ℕ) → length (lines_of text) ≤ 1 → (line : List ℕ) (last : ℕ) → text ≡ line ++ last ∷ [] → last ≡ line_feed → BeginsWithLine text line []
+begins_whole text few line last is feed = record {
+  spelled = is ∙ ap (λ last. line ++ last ∷ []) feed;
+  none = few_before text few line last is (position is_line_feed line) refl;
+}
+
+-- or has no line feed, where none is at its end
+pub none_without_last : (text : List ℕ) → length (lines_of text) ≤ 1 → (front : List ℕ) (last : ℕ) → text ≡ front ++ last ∷ [] → ¬ (last ≡ line_feed) → HasNoLineFeed text
+none_without_last text few front last is other =
+    let front_none = few_before text few front last is (position is_line_feed front) refl in
+    let not_feed : is_line_feed last ≡ false = ne_eqb last line_feed other in
+    let none : ℕ → Type 0 = λ byte. is_line_feed byte ≡ false in
+    subst HasNoLineFeed (sym is) (All-append none front (last ∷ []) front_none (All-cons none last [] not_feed (All-nil none)))

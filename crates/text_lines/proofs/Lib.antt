@@ -1,6 +1,7 @@
 pub mod FirstBytes
 pub mod SeparatorMarks
 pub mod WordsOfLines
+pub mod HexWords
 pub mod CutAtLineFeeds
 pub mod LinesTaken
 pub mod PiecesTaken

@@ -1,6 +1,6 @@
 -- The first word of a line, split off.
 use Rattle.std.proofs.Common.{◌≡◌, ℕ, zero, suc, ◌+◌, ◌<◌, true, false, not, List, [], ◌∷◌, length, take, drop, get_or, Some, None, refl, sym, ap, ◌∙◌, arith, nat_lt, add-one, add-zero, length-take, length-drop, get_or-drop, inl, inr}
-use Rattle.std.specs.Prelude.{filter, position}
+use Rattle.std.specs.Prelude.{All, filter, position}
 use Rattle.std.specs.List.{slice_split, position_or_len}
 use Rattle.std.proofs.lemmas.Grind.{common_steps}
 use Rattle.std.proofs.lemmas.Bool.{lt-ltb, not-false, not-true, cases_eq}
@@ -86,3 +86,10 @@ words_of-last line words begins h =
     begins.same
     ∙ ap (filter (λ part. nat_lt 0 (length part))) (slice_split_none is_separator words (position-none is_separator words h))
     ∙ words_of_parts-cons words [] begins.some
+
+-- behind a space, bytes that separate no words are one
+pub words_of-one : (word : List ℕ) → 0 < length word → All (λ byte. is_separator byte ≡ false) word → words_of (32 ∷ word) ≡ word ∷ []
+words_of-one word some none =
+    words_of-separator 32 word refl
+    ∙ ap (filter (λ part. nat_lt 0 (length part))) (slice_split_none is_separator word none)
+    ∙ words_of_parts-cons word [] some

@@ -6,6 +6,7 @@ use crate::digit_block::{BLOCK_BYTES, BLOCK_DIGITS};
 use std::simd::prelude::*;
 
 /// Writes the lower-case digits of some bytes, two for each, to a slice of just so many.
+#[inline(always)]
 pub(crate) fn write_digits(bytes: &[u8], digits: &mut [u8])
     requires { length digits.old ≡ 2 * length bytes.now }
     ensures { digits.new ≡ encode_lower bytes.now }

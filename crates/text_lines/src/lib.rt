@@ -11,11 +11,14 @@
 //! - [`LineReader`] does so where the input comes in pieces: [`LineReader::take_piece`] takes the
 //!   lines that end in a piece, [`LineReader::finish`] the last one. It holds the bytes of one
 //!   line, and what was taken is what is taken of all pieces end to end. Who has to do something
-//!   behind each line splits a piece by [`split_behind_line`]. [`LineInput`] is one with
-//!   what is made of its lines, for an input that is read to its end even where a line is faulty.
+//!   behind each line splits a piece by [`split_behind_line`], and each part of it is taken by
+//!   [`LineReader::take_one_line`]. [`LineInput`] is one with what is made of its lines, for an
+//!   input that is read to its end even where a line is faulty.
 //! - [`no_word`], [`only_word`], [`only_two_words`], [`only_three_words`] and [`only_four_words`]
-//!   split what follows the first field of a line, where it has just so many words.
-//! - [`read_number`], [`read_number_in`] and [`read_hex`] read a field; [`put_word`],
+//!   split what follows the first field of a line, where it has just so many words, and
+//!   [`three_words`] where there may be more.
+//! - [`read_number`], [`read_number_in`] and [`read_hex`] read a field, and [`read_only_hex`] what
+//!   is to be the last one of a line; [`put_word`],
 //!   [`put_number`], [`put_spaced`] and [`put_hex`] write one to whatever takes a text,
 //!   [`PutText`]: [`TextBuffer`] keeps it.
 //! - What is wrong with a line is a [`LineFault`], its kind a [`TraceKind`]; a failed allocation,
@@ -43,7 +46,7 @@ mod words;
 
 pub use capacities::{Capacities, DEFAULT_CAPACITY};
 pub use fault::{LineFault, ParseFault, TextFault, TraceFault, TraceKind};
-pub use field::read_hex;
+pub use field::{read_hex, read_only_hex};
 pub use line_input::LineInput;
 pub use line_reader::LineReader;
 pub use lines::{TakeLine, split_behind_line, split_line, take_lines};
@@ -51,5 +54,5 @@ pub use number::{read_number, read_number_in};
 pub use put_text::{PutText, put_hex, put_number, put_spaced, put_word};
 pub use text_buffer::TextBuffer;
 pub use words::{
-    no_word, only_four_words, only_three_words, only_two_words, only_word, split_field,
+    no_word, only_four_words, only_three_words, only_two_words, only_word, split_field, three_words,
 };

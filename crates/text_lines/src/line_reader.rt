@@ -1,8 +1,10 @@
 //! Lines of an input that comes in pieces.
-ghost use Rattle.std.specs.Prelude.{◌≡◌, ℕ, ◌^◌, ◌<◌, List, [], ◌∷◌, ◌++◌, length, OnOk, IfErr};
+ghost use Rattle.std.specs.Prelude.{◌≡◌, ℕ, ◌^◌, ◌<◌, ◌≤◌, List, [], ◌∷◌, ◌++◌, length, OnOk, IfErr};
 
 use crate::fault::ParseFault;
-use crate::lines::{TakeLine, split_whole_line, take_last_line, take_or_skip, take_whole_lines};
+use crate::lines::{
+    TakeLine, ended_line, split_whole_line, take_last_line, take_or_skip, take_whole_lines,
+};
 use std::alloc::{AllocError, Global};
 use std::marker::Model;
 
@@ -86,6 +88,30 @@ impl LineReader {
         taken
     }
 
+    /// Takes a piece of one line at most as [`take_piece`](LineReader::take_piece) does, but looks
+    /// for a line feed at its end alone.
+    pub fn take_one_line<T: TakeLine>(
+        &mut self,
+        alloc: Global,
+        piece: &[u8],
+        taker: &mut T,
+    ) -> Result<(), ParseFault>
+        requires { length (lines_of piece.now) ≤ 1 }
+        ensures taken { OnOk result (TakesPiece T.format T.stands_for taker.old self.old
+            taker.new self.new piece.now) }
+        ensures fault { IfErr result (IsPieceFault T.format T.stands_for taker.old self.old
+            piece.now) }
+        ensures kept { IfErr result (λ fault. self.new.fault ≡ Some fault) }
+        ensures again { (fault : ParseFault) → self.old.fault ≡ Some fault → result ≡ Err fault }
+    {
+        if let Some(fault) = self.fault {
+            return Err(fault);
+        }
+        let took = self.take_or_hold(alloc, piece, taker);
+        self.fault = took.err();
+        took
+    }
+
     /// Takes the last line, which no line feed ends, if there is one.
     ///
     /// Of an input of fewer than 2^64 bytes a fault is what
@@ -127,6 +153,26 @@ impl LineReader {
         let rest = take_whole_lines(alloc, below, &mut self.count, taker)?;
         self.unfinished.extend_from_slice(rest)?;
         Ok(())
+    }
+
+    /// Takes a part of one line at most where no fault came before.
+    fn take_or_hold<T: TakeLine>(
+        &mut self,
+        alloc: Global,
+        part: &[u8],
+        taker: &mut T,
+    ) -> Result<(), ParseFault>
+        requires { length (lines_of part.now) ≤ 1 }
+        ensures taken { OnOk result (TakesPiece T.format T.stands_for taker.old self.old
+            taker.new self.new part.now) }
+        ensures fault { IfErr result (IsPieceFault T.format T.stands_for taker.old self.old
+            part.now) }
+    {
+        let Some(end) = ended_line(part) else {
+            self.unfinished.extend_from_slice(part)?;
+            return Ok(());
+        };
+        self.finish_line(alloc, end, taker)
     }
 
     /// Takes the line that isn't whole yet, which ends so.

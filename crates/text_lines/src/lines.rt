@@ -69,6 +69,17 @@ pub fn split_behind_line(text: &[u8]) -> (&[u8], &[u8])
     }
 }
 
+/// The line before the line feed that ends a text, if one does. The text has one line at most, so
+/// no other line feed is looked for.
+pub(crate) fn ended_line(text: &[u8]) -> Option<&[u8]>
+    requires { length (lines_of text.now) ≤ 1 }
+    ensures { MatchOption result (HasNoLineFeed text.now)
+        (λ line. BeginsWithLine text.now line.now []) }
+{
+    let (last, line) = text.split_last()?;
+    if *last == b'\n' { Some(line) } else { None }
+}
+
 /// Counts a line, and takes it, or skips it where it has no fields.
 pub(crate) fn take_or_skip<T: TakeLine>(
     alloc: Global,

@@ -8,7 +8,10 @@ use crate::digit_writer::write_digits;
 use itoa::Buffer;
 
 /// How many bytes are spelled at once.
-const SPELLED_BYTES: usize = 256;
+const SPELLED_BYTES: usize = 64;
+
+/// How many bytes a space and the digits of a number are at most.
+const SPACED_MAX: usize = 21;
 
 /// Takes a text, piece by piece. It can't refuse: one that can't take what it is given says so
 /// itself, as [`TextBuffer`](crate::TextBuffer) does.
@@ -36,8 +39,13 @@ pub fn put_word<O: PutText>(out: &mut O, word: &str)
 pub fn put_spaced<O: PutText>(out: &mut O, number: u64)
     ensures { Puts O.after out.old (spaced number) out.new }
 {
-    put_word(out, " ");
-    put_number(out, number);
+    if number < 10 {
+        return out.put(&[b' ', b'0' + number as u8]);
+    }
+    let mut text = [0; SPACED_MAX];
+    let start = itoa::write_digits(number, &mut text, SPACED_MAX) - 1;
+    text[start] = b' ';
+    out.put(&text[start..]);
 }
 
 /// Puts the decimal digits of a number.
@@ -51,20 +59,22 @@ pub fn put_number<O: PutText>(out: &mut O, number: u64)
 pub fn put_hex<O: PutText>(out: &mut O, bytes: &[u8])
     ensures { Puts O.after out.old (encode_lower bytes.now) out.new }
 {
-    let mut digits = [0u8; 2 * SPELLED_BYTES];
     let mut rest = bytes;
-    while !rest.is_empty() {
-        let (chunk, more) = rest.split_at(rest.len().min(SPELLED_BYTES));
-        put_spelled(out, chunk, &mut digits);
-        rest = more;
+    while let Some((block, others)) = rest.split_first_chunk::<SPELLED_BYTES>() {
+        put_spelled(out, block);
+        rest = others;
     }
+    put_spelled(out, rest);
 }
 
-/// Puts the digits of at most [`SPELLED_BYTES`] bytes.
-fn put_spelled<O: PutText>(out: &mut O, bytes: &[u8], digits: &mut [u8])
-    requires { 2 * length bytes.now ≤ length digits.old }
+/// Puts the digits of at most [`SPELLED_BYTES`] bytes. Inlined, so that nothing is filled or copied
+/// by a call where there are just so many.
+#[inline(always)]
+fn put_spelled<O: PutText>(out: &mut O, bytes: &[u8])
+    requires { length bytes.now ≤ SPELLED_BYTES }
     ensures put { Puts O.after out.old (encode_lower bytes.now) out.new }
 {
+    let mut digits = [0u8; 2 * SPELLED_BYTES];
     let spelled = &mut digits[..2 * bytes.len()];
     write_digits(bytes, spelled);
     out.put(spelled);

@@ -1,5 +1,5 @@
 //! The words of a line, and its fields: the words of a line that is no comment.
-ghost use Rattle.std.specs.Prelude.{◌≡◌, ◌≢◌, ◌↔◌, ◌∷◌, [], length, IsTrue, MatchOption, map, not, position};
+ghost use Rattle.std.specs.Prelude.{◌≡◌, ◌≢◌, ◌↔◌, ◌<◌, ◌∷◌, [], length, IsTrue, MatchOption, map, not, position};
 ghost use Rattle.std.specs.Simd.Lanes.{mask_l};
 ghost use Rattle.text_lines.specs.Lines.{words_of, fields_of, is_separator};
 
@@ -57,6 +57,7 @@ fn separator_marks(bytes: u8x16) -> u64
 }
 
 /// The first word of a line and what follows it.
+#[inline(always)]
 fn split_word(line: &[u8]) -> Option<(&[u8], &[u8])>
     ensures { MatchOption result (words_of line.now ≡ [])
         (λ r. words_of line.now ≡ r.0.now ∷ words_of r.1.now) }
@@ -90,6 +91,7 @@ pub fn no_word(rest: &[u8]) -> bool
 }
 
 /// The only word, or `None` where there are more or none.
+#[inline(always)]
 pub fn only_word(rest: &[u8]) -> Option<&[u8]>
     ensures { MatchOption result (length (words_of rest.now) ≢ 1)
         (λ word. words_of rest.now ≡ word.now ∷ []) }
@@ -102,6 +104,7 @@ pub fn only_word(rest: &[u8]) -> Option<&[u8]>
 }
 
 /// The only two words, or `None` where there are more or fewer.
+#[inline(always)]
 pub fn only_two_words(rest: &[u8]) -> Option<(&[u8], &[u8])>
     ensures { MatchOption result (length (words_of rest.now) ≢ 2)
         (λ two. words_of rest.now ≡ two.0.now ∷ two.1.now ∷ []) }
@@ -112,6 +115,7 @@ pub fn only_two_words(rest: &[u8]) -> Option<(&[u8], &[u8])>
 }
 
 /// The only three words, or `None` where there are more or fewer.
+#[inline(always)]
 pub fn only_three_words(rest: &[u8]) -> Option<(&[u8], &[u8], &[u8])>
     ensures { MatchOption result (length (words_of rest.now) ≢ 3)
         (λ three. words_of rest.now ≡ three.0.now ∷ three.1.now ∷ three.2.now ∷ []) }
@@ -122,6 +126,7 @@ pub fn only_three_words(rest: &[u8]) -> Option<(&[u8], &[u8], &[u8])>
 }
 
 /// The only four words, or `None` where there are more or fewer.
+#[inline(always)]
 pub fn only_four_words(rest: &[u8]) -> Option<(&[u8], &[u8], &[u8], &[u8])>
     ensures { MatchOption result (length (words_of rest.now) ≢ 4)
         (λ four. words_of rest.now
@@ -130,4 +135,16 @@ pub fn only_four_words(rest: &[u8]) -> Option<(&[u8], &[u8], &[u8], &[u8])>
     let (word, more) = split_word(rest)?;
     let (second, third, fourth) = only_three_words(more)?;
     Some((word, second, third, fourth))
+}
+
+/// The first three words and what follows them, or `None` where there are fewer.
+#[inline(always)]
+pub fn three_words(rest: &[u8]) -> Option<(&[u8], &[u8], &[u8], &[u8])>
+    ensures { MatchOption result (length (words_of rest.now) < 3)
+        (λ r. words_of rest.now ≡ r.0.now ∷ r.1.now ∷ r.2.now ∷ words_of r.3.now) }
+{
+    let (first, behind_first) = split_word(rest)?;
+    let (second, behind_second) = split_word(behind_first)?;
+    let (third, more) = split_word(behind_second)?;
+    Some((first, second, third, more))
 }

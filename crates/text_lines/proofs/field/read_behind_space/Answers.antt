@@ -1,0 +1,22 @@
+use Rattle.std.proofs.Common.{◌≡◌, ℕ, ◌<◌, List, [], ◌∷◌, length, Option, Some, None, Result, Ok, Err, Vec, rules, sym, ap, ◌∙◌}
+use Rattle.std.specs.Prelude.{IfOk, IfSome, MatchOption}
+use Rattle.text_lines.specs.Field.{SpellsBytes, IsHex}
+use Rattle.text_lines.specs.Lines.{words_of}
+use Rattle.text_lines.specs.declared.fault.LineFault.{LineFault}
+use Rattle.text_lines.proofs.HexWords.{only_field}
+use Rattle.text_lines.proofs.field.read_behind_space.Goals as goal
+
+-- Where a field was read behind a space, it is the only word.
+is_only : {B : Type 0} (items : B → List ℕ) (rest field : List ℕ) → rest ≡ 32 ∷ field → 0 < length field → (read : Result (Option B) LineFault)
+    → IfOk read (λ spelled. MatchOption spelled (¬ IsHex field) (λ bytes. SpellsBytes field (items bytes)))
+    → IfOk read (λ spelled. IfSome spelled (λ bytes. (field : List ℕ) × (words_of rest ≡ field ∷ []) × SpellsBytes field (items bytes)))
+is_only items rest field is some (Ok (Some bytes)) spells = (field, ap words_of is ∙ only_field field (items bytes) some spells, spells)
+is_only items rest field is some (Ok None) other = tt
+is_only items rest field is some (Err fault) failed = tt
+
+pub returns-clause-spelled : goal.returns-clause-spelled
+returns-clause-spelled c =
+    let field = c.in-Some.field.now in
+    let space : c.in-Some.first.now ≡ 32 = search rules in
+    let some : 0 < length field = search rules in
+    is_only (λ bytes. bytes.items) c.args.rest.now field (c.in-Some.ensures.cases.0 ∙ ap (λ first. first ∷ field) space) some c.read_if_hex.result c.read_if_hex.ensures.spelled
