@@ -20,10 +20,12 @@ use std::marker::Model;
 /// Contracts see the replay.
 #[derive(Drop)]
 pub struct UnderWay {
-    replaying: Replaying<NoCheck>,
+    /// In a box, since each line of a trace moves it.
+    replaying: Box<Replaying<NoCheck>>,
 }
 
 impl Model for UnderWay {
+    ghost use Rattle.std.specs.Box.{box_value};
     ghost use Rattle.docsis_wire.specs.contracts.header_check.NoCheck as no_check_type;
     ghost use Rattle.docsis_wire.specs.declared.header_check.NoCheck.{NoCheck};
     ghost use Rattle.receiver.specs.contracts.replaying.Replaying as replaying_type;
@@ -35,9 +37,9 @@ impl Model for UnderWay {
 
     ghost coded = { (replaying_type.the_row no_check_type.the_row).coded };
 
-    ghost view = { λ under_way. under_way.replaying };
+    ghost view = { λ under_way. box_value under_way.replaying };
 
-    ghost invariant = { λ under_way. IsReplaying no_check under_way.replaying };
+    ghost invariant = { λ under_way. IsReplaying no_check (box_value under_way.replaying) };
 }
 
 impl UnderWay {
@@ -54,7 +56,7 @@ impl UnderWay {
             → IsOutcomeBy rule any_header setup.now (incoming_in entries) outcome.order.items
             outcome) }
     {
-        self.replaying.finish(alloc, setup)
+        Box::into_inner(self.replaying).finish(alloc, setup)
     }
 }
 
@@ -75,8 +77,9 @@ impl TakeEntries for UnderWay {
         rule: LossRule,
         setup: &Setup,
     ) -> Result<UnderWay, AllocError> {
+        let replaying = Replaying::new(alloc, rule, setup, NoCheck)?;
         Ok(UnderWay {
-            replaying: Replaying::new(alloc, rule, setup, NoCheck)?,
+            replaying: Box::new(alloc, replaying)?,
         })
     }
 

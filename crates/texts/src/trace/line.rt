@@ -15,8 +15,8 @@ use lane::{Input, SidRow};
 use receiver::{Decision, Width};
 use std::alloc::Global;
 use text_lines::{
-    LineFault, TraceKind, only_four_words, only_three_words, only_two_words, only_word, read_hex,
-    read_number_in,
+    LineFault, TraceKind, only_four_words, only_three_words, only_two_words, only_word,
+    read_number_in, read_only_hex, three_words,
 };
 
 /// The greatest service identifier.
@@ -194,14 +194,18 @@ fn read_burst(alloc: Global, width: Width, rest: &[u8]) -> Result<TraceLine, Lin
     ensures fault { (ring : ℕ) → IfErr result (IsLineFault
         (IsLeastFaultByItself (shape_of width ring) (word_of burst_line ∷ words_of rest.now))) }
 {
-    let Some((channel, number, check, hex)) = only_four_words(rest) else {
+    let Some((channel, number, check, behind)) = three_words(rest) else {
         return Err(LineFault::Kind(TraceKind::FieldCount));
     };
+    let spelled = read_only_hex(alloc, behind)?;
     let channel = channel_of(width, channel)?;
+    let grant = number_of(number, u32::MAX)?;
+    let hcs_ok = read_check(check)?;
+    let bytes = spelled.ok_or(LineFault::Kind(TraceKind::NotHex))?;
     let input = Input::Burst {
-        grant: number_of(number, u32::MAX)?,
-        hcs_ok: read_check(check)?,
-        bytes: Bytes::from(read_hex(alloc, hex)?),
+        grant,
+        hcs_ok,
+        bytes: Bytes::from(bytes),
     };
     Ok(TraceLine::Input { channel, input })
 }
