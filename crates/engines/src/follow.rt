@@ -80,7 +80,7 @@ impl Follower {
         requires { length (lines_of piece.now) ≤ 1 }
         ensures { FollowsPiece O.after self.old out.old piece.now self.new out.new result }
     {
-        self.lines.take_piece(alloc, piece, &mut self.input)?;
+        self.lines.take_one_line(alloc, piece, &mut self.input)?;
         let line = self.lines.line_count();
         self.input.put_happened(line, &self.settings, out)?;
         Ok(())

@@ -13,12 +13,12 @@ use Rattle.engines.proofs.FollowedLines.{retaken, taken_told, told_above, fault_
 use Rattle.text_lines.proofs.PutTexts.{puts-nothing}
 use Rattle.engines.proofs.follow.Follower.take_line.Goals as goal
 
-pub returns-in_err-take_piece : goal.returns-in_err-take_piece
-returns-in_err-take_piece g c = λ rule width settings bytes told has.
+pub returns-in_err-take_one_line : goal.returns-in_err-take_one_line
+returns-in_err-take_one_line g c = λ rule width settings bytes told has.
     let p = err_from_is_err_and c.from_residual.result c.from_residual.ensures.1 in
     let fault =
     fault_of_piece _ c.args.self.now.input rule width bytes c.args.piece.now (map happening_of told) c.args.self.now.lines _
-    (retaken _ _ HasFollowedSoFar _ c.args.self.now c.args.self.now.input (λ state stands. stands) _ bytes has.taken) c.in_err-take_piece.ensures.fault in
+    (retaken _ _ HasFollowedSoFar _ c.args.self.now c.args.self.now.input (λ state stands. stands) _ bytes has.taken) c.in_err-take_one_line.ensures.fault in
     rw (p.1, p.2) (
       [],
       puts-nothing g.O.PutText.after c.args.out.now,
@@ -42,7 +42,7 @@ returns g c = λ rule width settings bytes told has.
     let put = c.in_ok-put_happened.ensures.put in
     let line = c.line_count-line.result in
     let was = retaken _ _ HasFollowedSoFar _ c.args.self.now c.args.self.now.input (λ state stands. stands) c.args.self.now.lines bytes has.taken in
-    let taken = c.in_ok-take_piece.ensures.taken _ bytes was in (
+    let taken = c.in_ok-take_one_line.ensures.taken _ bytes was in (
       all_at line put.happened,
       subst (λ (text : List ℕ). Puts g.O.PutText.after c.args.out.now text c.put_happened.new.out) (sym (lines_at settings line put.happened))
           (subst (λ (told_of : FollowSettings). Puts g.O.PutText.after c.args.out.now (flat_map (lines_told told_of line) put.happened) c.put_happened.new.out) has.settings_are put.put),
