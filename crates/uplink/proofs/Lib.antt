@@ -7,6 +7,7 @@ pub mod FirstAssembled
 pub mod AllSettled
 pub mod LanesOpened
 pub mod SourcesServed
+pub mod ChannelsInTurn
 pub mod RequestsByChannel
 pub mod RunAnswer
 pub mod FlowsCollected

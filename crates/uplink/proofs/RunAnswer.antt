@@ -1,8 +1,8 @@
 -- What is known of a running receiver before its start, after its end, and of what it gave.
-use Rattle.std.proofs.Common.{◌≡◌, ℕ, ◌<◌, ◌≤◌, ◌+◌, ◌%◌, ◌==◌, ◌&&◌, nat_lt, ⊎_elim, Bool, true, false, Option, Some, None, IfSome, All, List, [], ◌∷◌, ◌++◌, map, filter, flat_map, length, get_or, slice_get, slice_index_or, if◌then◌else◌, Vec, Global, refl, sym, ap, subst, ◌∙◌, append_assoc, arith}
-use Rattle.std.proofs.lemmas.Bool.{cases_lt, lt-ltb, le-ltb, eq-eqb, ne_eqb}
+use Rattle.std.proofs.Common.{◌≡◌, ℕ, ◌<◌, ◌≤◌, ◌+◌, ◌%◌, ◌==◌, ◌&&◌, nat_lt, ⊎_elim, Bool, true, false, Option, Some, None, IfSome, All, List, [], ◌∷◌, ◌++◌, map, filter, filter_map, flat_map, length, get_or, slice_get, slice_index_or, if◌then◌else◌, Vec, Global, refl, sym, ap, subst, ◌∙◌, append_assoc, arith}
+use Rattle.std.proofs.lemmas.Bool.{cases_lt, lt-ltb, le-ltb, eq-eqb, ne_eqb, eqb-true, and_parts}
 use Rattle.std.proofs.lemmas.List.{length-map, get_or-map, get_or_past}
-use Rattle.std.proofs.lemmas.List.Elements.{All-get_or, All-map, filter_map-append}
+use Rattle.std.proofs.lemmas.List.Elements.{All-get_or, All-map, All-weaker, filter_map-append}
 use Rattle.std.specs.Option.{option_map}
 use Rattle.std.proofs.lemmas.Option.{slice_get_within, slice_get-map, get_or_from_slice_get, same_Some}
 use Rattle.docsis_wire.proofs.StreamPlaces.{element_at}
@@ -71,11 +71,12 @@ use Rattle.uplink.specs.declared.finish.FourNotes.{FourNotes}
 use Rattle.uplink.specs.declared.assembler.Assembled.{Assembled}
 use Rattle.uplink.specs.Fronts.{ComesFirstIn}
 use Rattle.uplink.specs.Headline.{TookAFront}
-use Rattle.uplink.specs.Channels.{incoming_of_sources, AreLanesWithin, items_within, IsMergeWithin, ruled_within}
+use Rattle.uplink.specs.Channels.{incoming_of_sources, AreLanesWithin, items_within, IsMergeWithin, ComesInTurn, ruled_within}
 use Rattle.uplink.specs.Received.{AreFramesOf, AreRequests, IsGivenByRule, IsAnswerBy, AreStraysOfSources, GivesTheFirst}
 use Rattle.uplink.specs.Inside.Feeding.{offered_to, IsClosedAfter}
 use Rattle.uplink.specs.Inside.Offering.{HasOrder, HaveClosed, HasAssembledFirst, HasAssembled}
 use Rattle.uplink.specs.Inside.Running.{IsOpened, HasEnded, CanSettle, HasConcluded, IsConclusionOf, in_order, notes_on, strays_of, HaveNotes, ConcludesAnswer, closed_arrivals, closed_requests, all_posted}
+use Rattle.uplink.proofs.ChannelsInTurn.{own_sender, own-senders, foreign-by, all-own, none-own, served-own}
 use Rattle.uplink.proofs.FramesOffered.{offered-there}
 use Rattle.uplink.proofs.RequestsByChannel.{no-frame, picked-of-port, given-requests}
 use Rattle.uplink.proofs.SourcesServed.{event_from, events_from, request_for, requests_for, seen-of-port, picked-of-sender, senders-below, events-by, events-admitted, requests-admitted, AreServed, HasDone, on-their-channels, source-done}
@@ -327,6 +328,39 @@ module _ {C N : Type 0} (are_of : List AnsweredInput → N → Type 0) (accepts 
     none-past-senders sender past =
         ap (λ p. events_from sender (carried (all_posted (closed_arrivals end) p))) (port-of-others sender (omega arith))
         ∙ events-decided sender ∙ ap (λ b. if b then decided else []) (ne_eqb sender channels (λ same. absurd (omega arith)))
+
+    -- who sends what by the port of a source, of its own channels: all that it admits
+    abbrev own_turns : ℕ → ℕ → List ℕ
+    own_turns source port = filter_map (own_sender (belongs_to channels source)) (carried (all_posted (closed_arrivals end) port))
+
+    all-of-source : (source : ℕ) → source < channel_limit → All (λ (one : ServedInput). belongs_to channels source one.channel ≡ true) (served_by source)
+    all-of-source source below = served-own (belongs_to channels source) (served_by source) (given_by source) (are-served source below).inputs_are
+
+    turns-by-source : (source : ℕ) → source < channel_limit → own_turns source source ≡ senders_of (flat_map sent_in (served_by source))
+    turns-by-source source below =
+        ap (filter_map (own_sender (belongs_to channels source))) (sent-by-source source below)
+        ∙ all-own (belongs_to channels source) (served_by source) (all-of-source source below)
+
+    -- and nothing by another port
+    of-another-source : (port source channel : ℕ) → (port ≡ source → ⊥) → belongs_to channels port channel ≡ true → belongs_to channels source channel ≡ false
+    of-another-source port source channel not is =
+        let at : channel % 4 ≡ port = eqb-true (channel % 4) port (and_parts (nat_lt channel channels) (channel % 4 == port) is).1 in
+        not-its-source channel source (λ same. not (sym (same ∙ at)))
+
+    no-turns-by : (source port : ℕ) → port < senders → (port ≡ source → ⊥) → own_turns source port ≡ []
+    no-turns-by source port below not =
+        ⊎_elim
+        (λ (here : port < channel_limit).
+        ap (filter_map (own_sender (belongs_to channels source))) (sent-by-source port here)
+        ∙ none-own (belongs_to channels source) (served_by port)
+        (All-weaker (λ (one : ServedInput). belongs_to channels port one.channel ≡ true) (λ (one : ServedInput). belongs_to channels source one.channel ≡ false)
+        (λ one is. of-another-source port source one.channel not is) (served_by port) (all-of-source port here)))
+        (λ (last : channel_limit ≤ port).
+        let fifth : channel_limit ≡ port = omega arith in
+        subst (λ p. own_turns source p ≡ []) fifth
+        (ap (filter_map (own_sender (belongs_to channels source))) sent-decided
+        ∙ foreign-by (belongs_to channels source) channels (no-source channels source (omega arith)) decided))
+        (cases_lt port channel_limit)
 
     -- the requests of each port
     asked-by-source : (source : ℕ) → source < channel_limit → all_posted (closed_requests end) source ≡ flat_map asked_in (served_by source)
@@ -615,6 +649,20 @@ module _ {C N : Type 0} (are_of : List AnsweredInput → N → Type 0) (accepts 
           lists_are = λ sender below. picked-of-sender sender all.items ∙ all-from sender ∙ items-by-port sender below;
         }
 
+        -- and each source's channels came in turn
+        in-turn : ComesInTurn channels setup sources incoming order
+        in-turn = record {
+          served = served_by;
+          inputs_are = λ source below. (are-served source below).inputs_are;
+          answered = lanes-answered;
+          in_turn = λ source below.
+              let see = own_sender (belongs_to channels source) in
+              own-senders (belongs_to channels source) all.items
+              ∙ seen-of-port see source all.ports all.items all.has_collected.paired all.has_collected.named
+              (λ other within not. ap (filter_map see) (picked-all other within) ∙ no-turns-by source other within not)
+              ∙ ap (filter_map see) (picked-all source (omega arith)) ∙ turns-by-source source below;
+        }
+
         -- what was given of a flow is what its ring was offered
         given-as-offered : (k : ℕ) (feeder : Feeder) (closed : ClosedFeeder) (first last : Taker) → slice_get opened.rings.feeders.items k ≡ Some feeder
             → slice_get end.feeders.items k ≡ Some closed → slice_get opened.rings.takers.items k ≡ Some first → slice_get end.done.takers.items k ≡ Some last
@@ -729,6 +777,7 @@ module _ {C N : Type 0} (are_of : List AnsweredInput → N → Type 0) (accepts 
           incoming = incoming;
           came = came;
           order = order;
+          in_turn = in-turn;
           ordered = subst (λ (o : Option (Vec ℕ Global)). HasOrder kept order o) (sym says.order_is) all.ordered;
           answer = subst (λ given. IsAnswerBy are_of channels rule accepted setup incoming order frames given concluded.counts.items (notes_on lanes)) (sym same) answer-of-run;
           have_notes = have-notes;

@@ -306,6 +306,7 @@ requests-admitted channel (one ∷ served) own =
 
 -- The inputs of the source's channels were answered so, no others, and what was noted is of them.
 pub record AreServed {N : Type 0} (are_of : List AnsweredInput → N → Type 0) (channels source : ℕ) (setup : Setup) (inputs : List ChannelInput) (served : List ServedInput) (notes : Option (SourceNotes N)) : Type 0 where
+  pub inputs_are : map given_as served ≡ filter (λ one. belongs_to channels source one.channel) inputs
   pub answers : (channel : ℕ) → belongs_to channels source channel ≡ true → AreAnswered (lane_setup setup channel) (answers_on channel served)
   pub inputs_on : (channel : ℕ) → belongs_to channels source channel ≡ true → inputs_of (answers_on channel served) ≡ given_on channel inputs
   pub none_on : (channel : ℕ) → belongs_to channels source channel ≡ false → answers_on channel served ≡ []
@@ -351,6 +352,7 @@ module _ {N : Type 0} (are_of : List AnsweredInput → N → Type 0) (channels s
       record {
         served = is.served;
         are = record {
+          inputs_are = given;
           answers = λ channel own. is.answers channel (opened.own channel ∙ own);
           inputs_on = λ channel own.
               sym (inputs-answered channel is.served) ∙ ap (given_on channel) given ∙ given-own (belongs_to channels source) channel own inputs;

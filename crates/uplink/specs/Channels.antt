@@ -1,5 +1,5 @@
 -- What comes in to a running receiver of so many channels, and in what order it is taken.
-use Rattle.std.specs.Prelude.{◌≡◌, ℕ, ◌<◌, ◌+◌, ◌%◌, nat_lt, All, List, [], length, map, filter, slice_index_or, if◌then◌else◌}
+use Rattle.std.specs.Prelude.{◌≡◌, ℕ, ◌<◌, ◌+◌, ◌%◌, nat_lt, All, List, [], length, map, filter, flat_map, slice_index_or, if◌then◌else◌}
 use Rattle.flow_records.specs.declared.decision.Decision.{Decision}
 use Rattle.flow_records.specs.declared.event.Event.{Event}
 use Rattle.flow_records.specs.declared.record.FlowRecord.{FlowRecord}
@@ -13,7 +13,9 @@ use Rattle.receiver.specs.declared.setup.Setup.{Setup}
 use Rattle.receiver.specs.Items.{Incoming, IsLaneOf}
 use Rattle.receiver.specs.Order.{times_of, picked}
 use Rattle.workers.specs.declared.channel_input.ChannelInput.{ChannelInput}
-use Rattle.workers.specs.Channels.{given_on}
+use Rattle.workers.specs.Channels.{given_on, belongs_to}
+use Rattle.workers.specs.Inside.Carried.{senders_of}
+use Rattle.workers.specs.Inside.Working.{ServedInput, given_as, answers_on, sent_in}
 
 -- What four sources give, and the decisions. A channel belongs to the source whose number it leaves
 -- when divided by four: its inputs are those that this source gives on it.
@@ -57,3 +59,12 @@ pub record IsLawfulWithin (senders : ℕ) (lists : ℕ → List Event) (order : 
 abbrev pub ruled_within : ℕ → List SidRow → ℕ → FlowRecord → RuledFlow
 ruled_within channels rows flow flow_record =
     record { first = flow_record.first; width = flow_record.window; channels = channels_within channels rows flow }
+
+-- What each source gave is taken in the order in which the source gave it, also between its
+-- channels: of each source there are the inputs of its own channels, as it gave them, each with its
+-- answer, and the order names its channels as these admit a segment, one after another.
+pub record ComesInTurn (channels : ℕ) (setup : Setup) (sources : List (List ChannelInput)) (incoming : Incoming) (order : List ℕ) : Type 0 where
+  pub served : ℕ → List ServedInput
+  pub inputs_are : (source : ℕ) → source < 4 → map given_as (served source) ≡ filter (λ one. belongs_to channels source one.channel) (slice_index_or sources source [])
+  pub answered : AreLanesWithin channels setup incoming (λ channel. answers_on channel (served (channel % 4)))
+  pub in_turn : (source : ℕ) → source < 4 → filter (belongs_to channels source) order ≡ senders_of (flat_map sent_in (served source))

@@ -1,5 +1,5 @@
 -- What a receiver on threads gave to its consumer and its scheduler as it ran, and what it counted.
-use Rattle.std.specs.Prelude.{◌≡◌, ℕ, ◌<◌, ◌≤◌, ◌+◌, Bool, All, IsTrue, Option, Some, List, [], ◌∷◌, length, slice_get}
+use Rattle.std.specs.Prelude.{◌≡◌, ℕ, ◌<◌, ◌≤◌, ◌+◌, Bool, false, All, IsTrue, Option, Some, List, [], ◌∷◌, length, slice_get}
 use Rattle.docsis_wire.specs.declared.segment.Segment.{Segment}
 use Rattle.docsis_wire.specs.Cut.{IsLawfulCut}
 use Rattle.flow_records.specs.declared.record.FlowRecord.{FlowRecord}
@@ -25,7 +25,7 @@ use Rattle.workers.specs.declared.channel_input.ChannelInput.{ChannelInput}
 use Rattle.workers.specs.declared.strays.Strays.{Strays}
 use Rattle.workers.specs.Channels.{AreStraysOf, belongs_to}
 use Rattle.workers.specs.Given.{BecameBy}
-use Rattle.uplink.specs.Channels.{incoming_of_sources, AreLanesWithin, items_within, IsIntakeWithin, IsLawfulWithin, ruled_within}
+use Rattle.uplink.specs.Channels.{incoming_of_sources, AreLanesWithin, items_within, IsIntakeWithin, IsLawfulWithin, ComesInTurn, ruled_within}
 use Rattle.uplink.specs.declared.faults.RunFault.TheVariants.{OutOfMemory}
 use Rattle.uplink.specs.declared.receiving.Received.{Received}
 use Rattle.uplink.specs.declared.receiving.ReceiveError.{ReceiveError}
@@ -133,13 +133,15 @@ module _ {F Q : Type 0} (takes : F → List Given → F → Type 0) (asks : Q �
     pub consumer_became : BecameBy takes consumer frames consumer'
     pub scheduler_became : BecameBy asks scheduler requests scheduler'
 
-  -- **What was received**: for some lawful order of what came in, what the two were given keeps the
-  -- headline, and is with what was counted the one-thread answer.
+  -- **What was received**: for some lawful order of what came in, in which the items of each source
+  -- stand as it gave them, what the two were given keeps the headline, and is with what was counted
+  -- the one-thread answer.
   pub record HasReceived (channels : ℕ) (rule : LossRule) (check : List ℕ → Bool) (setup : Setup) (came_in : List (List ChannelInput) → Incoming → Type 0) (consumer : F) (scheduler : Q) (received : Received F Q) : Type 0 where
     pub sources : List (List ChannelInput)
     pub incoming : Incoming
     pub came : came_in sources incoming
     pub order : List ℕ
+    pub in_turn : ComesInTurn channels setup sources incoming order
     pub frames : List Given
     pub requests : List Given
     pub were_given : WereGiven consumer scheduler frames requests received.consumer received.scheduler
@@ -148,11 +150,11 @@ module _ {F Q : Type 0} (takes : F → List Given → F → Type 0) (asks : Q �
     pub lane_count : length received.lanes.items ≡ channels
     pub strays : AreStraysOfSources channels sources received.strays
 
-  -- Both come back with a fault. Where the setup can't be run they are as they were handed in.
-  -- Where the threads began they were given what comes first.
+  -- Both come back with a fault. Where the setup can't be run the threads didn't begin, and they are
+  -- as they were handed in. Where the threads began they were given what comes first.
   pub record GivesBack (channels : ℕ) (rule : LossRule) (check : List ℕ → Bool) (setup : Setup) (came_first : List (List ChannelInput) → Incoming → Type 0) (consumer : F) (scheduler : Q) (error : ReceiveError F Q) : Type 0 where
     pub frames : List Given
     pub requests : List Given
     pub were_given : WereGiven consumer scheduler frames requests error.consumer error.scheduler
     pub first : IsTrue error.began → (sources : List (List ChannelInput)) × (incoming : Incoming) × came_first sources incoming × GivesTheFirst channels rule check setup incoming frames requests
-    pub untouched : ¬ (error.fault ≡ OutOfMemory) → (error.consumer ≡ consumer) × (error.scheduler ≡ scheduler)
+    pub untouched : ¬ (error.fault ≡ OutOfMemory) → (error.began ≡ false) × (error.consumer ≡ consumer) × (error.scheduler ≡ scheduler)

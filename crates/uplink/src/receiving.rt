@@ -73,14 +73,16 @@ pub struct ReceiveError<F, Q> {
 /// isn't its own, or that there isn't, is counted, and changes nothing else.
 ///
 /// **The headline is its contract** (`received`), of what the two were given: there is an order of
-/// the items of the channels and of the decisions that name a flow, a lawful one, such that
-/// the frames of each flow are its whole delivery sequence, if its segments are those of one lawful
-/// cut of a modem's frames and its events are near, and the requests of each channel are those of
-/// its admitted segments, each once and in order. The answer is the one that one thread gives by
-/// the rule for that order. Nothing else is given to either.
+/// the items of the channels and of the decisions that name a flow, a lawful one, in which those of
+/// each source stand as it gave them, also between its channels, such that the frames of each flow
+/// are its whole delivery sequence, if its segments are those of one lawful cut of a modem's frames
+/// and its events are near, and the requests of each channel are those of its admitted segments,
+/// each once and in order. The answer is the one that one thread gives by the rule for that order.
+/// Nothing else is given to either.
 ///
 /// `Setup` and `Lane`: the first fault of the setup, which may be as wide as the receiver.
-/// `NoCapacity`: it has none, and the capacity of the mailboxes is 0. Then nothing was given.
+/// `NoCapacity`: it has none, and the capacity of the mailboxes is 0. Then no thread began, and
+/// nothing was given.
 /// `OutOfMemory`: an allocation failed, in whichever thread, also while it was looked whether an
 /// identifier is given twice, or a thread could not be started. Before all threads are started no
 /// source is asked. Later the worker whose allocation failed asks its source for nothing more, all

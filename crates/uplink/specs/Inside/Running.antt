@@ -42,7 +42,7 @@ use Rattle.uplink.specs.declared.finish.Concluded.{Concluded}
 use Rattle.uplink.specs.declared.finish.FourNotes.{FourNotes}
 use Rattle.uplink.specs.declared.finish.Ran.{Ran}
 use Rattle.uplink.specs.declared.receiving.Received.{Received}
-use Rattle.uplink.specs.Channels.{incoming_of_sources}
+use Rattle.uplink.specs.Channels.{incoming_of_sources, ComesInTurn}
 use Rattle.uplink.specs.Received.{WereGiven, IsAnswerBy, GivesTheFirst, AreStraysOfSources}
 use Rattle.uplink.specs.declared.assembler.Assembled.{Assembled}
 use Rattle.uplink.specs.Inside.Feeding.{IsClosedAfter}
@@ -140,6 +140,7 @@ pub record ConcludesAnswer {N : Type 0} (are_of : List AnsweredInput → N → T
   pub incoming : Incoming
   pub came : came_in sources incoming
   pub order : List ℕ
+  pub in_turn : ComesInTurn channels setup sources incoming order
   pub ordered : HasOrder kept order concluded.order
   pub answer : IsAnswerBy are_of channels rule check setup incoming order frames requests concluded.counts.items (notes_on concluded.lanes)
   pub have_notes : HaveNotes channels concluded.lanes

@@ -32,7 +32,7 @@ returns-in-Err-clause-given_back g c = record {
     scheduler_became = given-nothing g.Q.Consumer.after c.args.scheduler;
   };
   first = λ began. absurd (false≢true began);
-  untouched = λ not. (refl, refl);
+  untouched = λ not. (refl, refl, refl);
 }
 
 -- where other notes are the same, it is the answer with these
@@ -99,6 +99,7 @@ returns-clause-received g c =
       incoming = answers.incoming;
       came = answers.came;
       order = answers.order;
+      in_turn = answers.in_turn;
       frames = has.frames;
       requests = has.requests;
       were_given = record {
