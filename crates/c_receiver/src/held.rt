@@ -195,7 +195,7 @@ impl HeldReceiver {
     }
 
     /// Tells the first frame that waits, and gives its bytes at the front of this room, if it is
-    /// large enough: then the frame waits no more.
+    /// large enough: then the frame is kept as one that is lent, and waits no more.
     pub fn next_frame(&mut self, room: &mut [u8], frame: &mut PlainFrame) -> Status
         requires in_use { IsInUse self.old }
         ensures gives { GivesFrame self.old room.old frame.old result self.new room.new frame.new }
@@ -205,18 +205,17 @@ impl HeldReceiver {
             return Status::Nothing;
         };
         let length = first.frame.len();
-        *frame = PlainFrame::of(first);
         if room.len() < length {
+            *frame = PlainFrame::of(first);
             return Status::RoomTooSmall;
         }
         room[..length].copy_from_slice(first.frame.as_slice());
-        self.queue.frames.pop_front();
-        Status::Done
+        self.lend_frame(frame)
     }
 
     /// Lets the frame go that was lent, if one was, and lends the first one that waits, if one
-    /// does: it is told, waits no more, and is kept, with its bytes where they are, until this or
-    /// a burst comes next.
+    /// does: it is told, waits no more, and is kept, with its bytes where they are, until the next
+    /// burst or frame.
     pub fn lend_frame(&mut self, frame: &mut PlainFrame) -> Status
         requires in_use { IsInUse self.old }
         ensures lends { LendsFrame self.old frame.old result self.new frame.new }
