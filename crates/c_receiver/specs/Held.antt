@@ -238,7 +238,7 @@ Counts held flow counts answer counts' =
 abbrev pub plain_frame : QueuedFrame → PlainFrame
 plain_frame first = record { flow = first.flow; length = length first.frame }
 
--- its bytes are at the room's front, and it waits no more
+-- its bytes are at the room's front, and it waits no more, but is kept until the next burst or frame
 pub record GivesBytes (first : QueuedFrame) (rest : List QueuedFrame) (held : HeldReceiver) (room : List ℕ) (answer : Status) (held' : HeldReceiver) (room' : List ℕ) : Type 0 where
   pub answered : answer ≡ status.Done
   pub fits : length first.frame ≤ length room
@@ -246,7 +246,7 @@ pub record GivesBytes (first : QueuedFrame) (rest : List QueuedFrame) (held : He
   pub others : held'.queue.frames.items ≡ rest
   pub requests : held'.queue.requests ≡ held.queue.requests
   pub whole : held'.queue.whole ≡ held.queue.whole
-  pub lent : held'.lent ≡ held.lent
+  pub lent : held'.lent ≡ Some first
   pub unmoved : held'.state ≡ held.state
 
 -- the room is too small, and all stays as it was

@@ -14,6 +14,7 @@ ghost use Rattle.c_receiver.specs.Made.{IsMade, IsNotMade};
 use crate::open;
 use crate::plain::{PlainCounts, PlainFlow, PlainFrame, PlainRequest, PlainRow, PlainWaiting};
 use crate::queue::{Queue, QueuedFrame};
+use crate::room::copied;
 use crate::setup::{rule_of, setup_of, width_of};
 use crate::status::{MakeFault, Status};
 use docsis_wire::{Bytes, NoCheck};
@@ -89,19 +90,19 @@ impl HeldReceiver {
         self.take(channel, Input::Grant { number, sid, bytes })
     }
 
-    /// Takes a burst that came on this channel. What was lent is let go before, so that its memory
-    /// serves the copy of the burst's bytes.
+    /// Takes a burst that came on this channel. What was lent is let go before, and its memory
+    /// serves the copy of the burst's bytes, if they fit there and fill half of it.
     pub fn burst(&mut self, channel: usize, grant: u32, hcs_ok: bool, bytes: &[u8]) -> Status
         requires in_use { IsInUse self.old }
         ensures takes { TakesBurst self.old channel grant hcs_ok bytes.now result self.new }
         ensures lent { self.new.lent ≡ None }
         ensures in_use { IsInUse self.new }
     {
-        self.lent = None;
-        let Ok(copied) = Vec::from_slice(self.alloc, bytes) else {
+        let let_go = self.lent.take();
+        let Ok(copy) = copied(self.alloc, let_go, bytes) else {
             return self.queue.told(Status::OutOfMemory);
         };
-        let bytes = Bytes::from(copied);
+        let bytes = Bytes::from(copy);
         self.take(
             channel,
             Input::Burst {
@@ -194,7 +195,7 @@ impl HeldReceiver {
     }
 
     /// Tells the first frame that waits, and gives its bytes at the front of this room, if it is
-    /// large enough: then the frame waits no more.
+    /// large enough: then the frame is kept as one that is lent, and waits no more.
     pub fn next_frame(&mut self, room: &mut [u8], frame: &mut PlainFrame) -> Status
         requires in_use { IsInUse self.old }
         ensures gives { GivesFrame self.old room.old frame.old result self.new room.new frame.new }
@@ -204,18 +205,17 @@ impl HeldReceiver {
             return Status::Nothing;
         };
         let length = first.frame.len();
-        *frame = PlainFrame::of(first);
         if room.len() < length {
+            *frame = PlainFrame::of(first);
             return Status::RoomTooSmall;
         }
         room[..length].copy_from_slice(first.frame.as_slice());
-        self.queue.frames.pop_front();
-        Status::Done
+        self.lend_frame(frame)
     }
 
     /// Lets the frame go that was lent, if one was, and lends the first one that waits, if one
-    /// does: it is told, waits no more, and is kept, with its bytes where they are, until this or
-    /// a burst comes next.
+    /// does: it is told, waits no more, and is kept, with its bytes where they are, until the next
+    /// burst or frame.
     pub fn lend_frame(&mut self, frame: &mut PlainFrame) -> Status
         requires in_use { IsInUse self.old }
         ensures lends { LendsFrame self.old frame.old result self.new frame.new }

@@ -20,6 +20,7 @@ mod held;
 mod open;
 mod plain;
 mod queue;
+mod room;
 mod setup;
 mod status;
 

@@ -126,8 +126,8 @@ fn refused_calls_are_made_again(rt: HostRuntime) -> Result<(), Fail> {
         expect_request(&rt, &mut held);
         expect_lent(&rt, &mut held, &FIRST_FRAME);
         expect_frame(&rt, &mut held, &SECOND_FRAME);
-        // The first is lent still.
-        assert_eq!(rt; held.lent_bytes(), FIRST_FRAME.as_slice());
+        // It is kept until the next burst or frame.
+        assert_eq!(rt; held.lent_bytes(), SECOND_FRAME.as_slice());
         let waiting = held.waiting();
         assert_eq!(rt; (waiting.frames, waiting.requests), (0, 0));
     } else {
