@@ -8,3 +8,4 @@ pub mod Arrivals
 pub mod Beside
 pub mod EqualFrames
 pub mod EqualEnds
+pub mod Told

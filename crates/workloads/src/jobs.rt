@@ -240,7 +240,7 @@ fn done(status: u8) -> Result<()> {
 }
 
 /// Gives a recording to `segrx capture` with these words, and answers how many segments it has.
-fn capture<T: Files>(
+fn capture<T: Files + Clock>(
     alloc: Global,
     rt: &T,
     words: &[&str],

@@ -1,0 +1,89 @@
+//! How far the reading of a capture is, and who is told.
+ghost use Rattle.std.specs.Prelude.{◌≡◌, List, []};
+ghost use Rattle.frame_engine.specs.Progress.{KeepsTold, TakesProgress, AreCounted, TellsProgress};
+
+use crate::frame_reading::FrameReading;
+use crate::tally::CaptureTally;
+use capture_summary::both_counts;
+use flow_core::FlowCounts;
+
+/// How far the reading of a capture is. Each count stays at its greatest value, 2^64 − 1.
+#[derive(Clone, Copy, Debug, PartialEq, Eq)]
+pub struct CaptureProgress {
+    /// Bytes that were read.
+    pub bytes: u64,
+    /// Records that were read whole.
+    pub records: u64,
+    /// Frames that were joined, of the selected flows.
+    pub frames: u64,
+    /// Segments that were lost, of the selected flows.
+    pub lost: u64,
+}
+
+/// Who is told how far the reading of a capture is.
+pub trait TakeProgress {
+    // The first became the second by taking these, in order.
+    ghost after: { Self → List CaptureProgress → Self → Type 0 };
+
+    /// Whether it is to be told now.
+    fn is_due(&mut self) -> bool
+        ensures { KeepsTold after self.old self.new };
+
+    /// Takes how far the reading is, or passes it over.
+    fn take(&mut self, progress: CaptureProgress)
+        ensures { TakesProgress after self.old progress self.new };
+}
+
+/// Takes nothing.
+#[derive(Clone, Copy, Debug)]
+pub struct NoProgress;
+
+impl TakeProgress for NoProgress {
+    ghost after = { λ start told end. told ≡ [] };
+
+    fn is_due(&mut self) -> bool {
+        false
+    }
+
+    fn take(&mut self, _progress: CaptureProgress) {}
+}
+
+/// What was counted so far of the flows that are selected, together: of each until it began anew,
+/// and since.
+fn counts_so_far(reading: &FrameReading, tally: &CaptureTally) -> FlowCounts
+    ensures { AreCounted reading.now tally.now.summary.flows.items result }
+{
+    let mut counts = FlowCounts::none();
+    for flow in 0..tally.summary.flows.len() {
+        let summary = &tally.summary.flows[flow];
+        if summary.is_selected {
+            counts = both_counts(counts, summary.counts);
+            if let Some(since) = reading.joining.flows.counts(flow) {
+                counts = both_counts(counts, since);
+            }
+        }
+    }
+    counts
+}
+
+/// Tells how far the reading is, of which so many bytes were read, where that is due.
+pub(crate) fn tell_progress<P: TakeProgress>(
+    reading: &FrameReading,
+    bytes: u64,
+    tally: &CaptureTally,
+    told: &mut P,
+)
+    ensures { TellsProgress reading.now P.after tally.now.summary.flows.items bytes
+        told.old told.new }
+{
+    if !told.is_due() {
+        return;
+    }
+    let counts = counts_so_far(reading, tally);
+    told.take(CaptureProgress {
+        bytes,
+        records: reading.joining.records,
+        frames: counts.frames,
+        lost: counts.lost,
+    });
+}
