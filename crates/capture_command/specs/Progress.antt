@@ -40,11 +40,10 @@ module _ {W : Type 0} (contents : W → Option (List ℕ)) where
     pub quiet : start.last ≡ None → (told ≡ []) × (end.last ≡ None) × (end.writer.now ≡ start.writer.now)
 
   -- the summary of what was counted was written, and more behind it, or nothing was
-  abbrev pub SaysSummary : Device W → Device W → Type 0
-  SaysSummary writer writer' =
-      (writer' ≡ writer)
-      ⊎ ((summary : CaptureSummary) × (more : List ℕ) × (result : Result (Unit {0}) WriteFault)
-      × IsWritten contents (summary_text summary ++ more) writer writer' result)
+  pub data SaysSummary (writer writer' : Device W) : Type 0 where
+    nothing_said : writer' ≡ writer → SaysSummary writer writer'
+    summary_said : (summary : CaptureSummary) (more : List ℕ) (result : Result (Unit {0}) WriteFault)
+        → IsWritten contents (summary_text summary ++ more) writer writer' result → SaysSummary writer writer'
 
   -- what stands behind the lines of progress: a summary and more, or nothing
   abbrev pub BeginsWithSummary : List ℕ → Type 0

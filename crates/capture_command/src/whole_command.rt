@@ -91,6 +91,18 @@ fn sfids_of(alloc: Global, summary: &CaptureSummary) -> Result<Vec<u32>, AllocEr
     Ok(sfids)
 }
 
+/// Puts how many of the analyser's frames no flow has, if there are some.
+fn put_strangers<O: PutText>(out: &mut O, count: u64)
+    ensures { (text : List ℕ) × Puts O.after out.old text out.new }
+{
+    if count == 0 {
+        return;
+    }
+    put_word(out, "  the analyser's of no flow of the map: ");
+    put_number(out, count);
+    put_word(out, "\n");
+}
+
 /// Puts how the frames compare with the analyser's, and how many of these no flow has.
 fn put_compared<O: PutText>(
     out: &mut O,
@@ -101,11 +113,17 @@ fn put_compared<O: PutText>(
     ensures { (text : List ℕ) × Puts O.after out.old text out.new }
 {
     put_comparison(out, comparison, sfids);
-    if comparing.strangers() > 0 {
-        put_word(out, "  the analyser's of no flow of the map: ");
-        put_number(out, comparing.strangers());
-        put_word(out, "\n");
-    }
+    put_strangers(out, comparing.strangers());
+}
+
+/// Puts that, where frames are compared.
+fn put_comparing<O: PutText>(out: &mut O, comparing: &Comparing, sfids: &[u32])
+    ensures { (text : List ℕ) × Puts O.after out.old text out.new }
+{
+    let Some(comparison) = comparing.comparison() else {
+        return;
+    };
+    put_compared(out, comparing, comparison, sfids);
 }
 
 /// Puts the summary of what was counted, and how the frames compare with the analyser's, where they
@@ -115,9 +133,7 @@ fn put_counted<O: PutText>(out: &mut O, tally: &CaptureTally, comparing: &Compar
         × Puts O.after out.old (summary_text tally.now.summary ++ more) out.new }
 {
     put_summary(out, &tally.summary);
-    if let Some(comparison) = comparing.comparison() {
-        put_compared(out, comparing, comparison, sfids);
-    }
+    put_comparing(out, comparing, sfids);
 }
 
 /// Writes that. The room is empty, and no other memory is taken.

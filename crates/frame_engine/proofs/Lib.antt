@@ -9,3 +9,4 @@ pub mod Beside
 pub mod EqualFrames
 pub mod EqualEnds
 pub mod Told
+pub mod Counted

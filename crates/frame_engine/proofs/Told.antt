@@ -1,5 +1,5 @@
 -- What was told of how far a capture was read.
-use Rattle.std.proofs.Common.{◌≡◌, ◌≤◌, ◌⊎◌, inl, inr, ℕ, ◌+◌, ◌-◌, ◌^◌, min, Option, List, [], ◌∷◌, ◌++◌, length, refl, sym, ap, subst, ◌∙◌, append-nil, rules, arith}
+use Rattle.std.proofs.Common.{◌≡◌, ◌≤◌, ◌⊎◌, inl, inr, ℕ, ◌+◌, ◌-◌, ◌^◌, min, Option, List, [], ◌∷◌, ◌++◌, length, refl, sym, ap, subst, ◌∙◌, append-nil, length-append, arith}
 use Rattle.std.specs.Io.KnownBytes.{Keeps, Consumes}
 use Rattle.std.proofs.KnownBytes.{Consumes-nil, Consumes-trans, Consumes-kept}
 use Rattle.capture_map.specs.declared.map.CaptureMap.{CaptureMap}
@@ -10,12 +10,25 @@ use Rattle.frame_engine.specs.declared.settings.CaptureSettings.{CaptureSettings
 use Rattle.frame_engine.specs.declared.frame_reading.FrameReading.{FrameReading}
 use Rattle.frame_engine.specs.declared.progress.CaptureProgress.{CaptureProgress}
 use Rattle.frame_engine.specs.Inside.Joins.{HasReadBytes}
-use Rattle.frame_engine.specs.Progress.{IsProgressOf, TellsProgress, IsProgressAt, AreProgressOf, none_told, read_on, one_told, HasToldProgress}
+use Rattle.frame_engine.specs.Progress.{KeepsTold, TakesProgress, IsProgressOf, TellsProgress, IsProgressAt, AreProgressOf, none_told, read_on, one_told, HasToldProgress}
+
+counted_plain : (given given' count a b : ℕ) → given ≡ min a (2 ^ 64 - 1) → given' ≡ min (given + count) (2 ^ 64 - 1) → count ≡ b → given' ≡ min (a + b) (2 ^ 64 - 1)
+counted_plain given given' count a b was is long = grind arith
 
 -- a reader that counts these bytes counts more behind them
 counted_more : (bytes more : List ℕ) (given given' count : ℕ) → given ≡ min (length bytes) (2 ^ 64 - 1) → given' ≡ min (given + count) (2 ^ 64 - 1) → count ≡ length more
     → given' ≡ min (length (bytes ++ more)) (2 ^ 64 - 1)
-counted_more bytes more given given' count was is long = grind arith
+counted_more bytes more given given' count was is long =
+    subst (λ (n : ℕ). given' ≡ min n (2 ^ 64 - 1)) (sym (length-append bytes more)) (counted_plain given given' count (length bytes) (length more) was is long)
+
+-- it was told how far the reading is, or passed over
+pub tells : {P : Type 0} (after : P → List CaptureProgress → P → Type 0) (reading : FrameReading) (flows : List FlowSummary) (bytes : ℕ) (progress : CaptureProgress) (old middle new : P)
+    → KeepsTold after old middle → IsProgressOf reading flows bytes progress → TakesProgress after middle progress new → TellsProgress reading after flows bytes old new
+tells {P} after reading flows bytes progress old middle new kept is takes start told came = by_case (takes start told (kept start told came)) where
+  by_case : after start told new ⊎ after start (told ++ progress ∷ []) new
+      → after start told new ⊎ ((progress : CaptureProgress) × IsProgressOf reading flows bytes progress × after start (told ++ progress ∷ []) new)
+  by_case (inl same) = inl same
+  by_case (inr more) = inr (progress, is, more)
 
 module _ {R P : Type 0} (remaining : R → Option (List ℕ)) (after : P → List CaptureProgress → P → Type 0) (settings : CaptureSettings) (capture_map : CaptureMap) (reader : Device R)
     (start : P) where

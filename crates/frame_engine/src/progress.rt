@@ -1,10 +1,11 @@
 //! How far the reading of a capture is, and who is told.
-ghost use Rattle.std.specs.Prelude.{◌≡◌, List, []};
-ghost use Rattle.frame_engine.specs.Progress.{KeepsTold, TakesProgress, AreCounted, TellsProgress};
+ghost use Rattle.std.specs.Prelude.{◌≡◌, true, false, List, []};
+ghost use Rattle.capture_summary.specs.Counting.{both_counts};
+ghost use Rattle.frame_engine.specs.Progress.{KeepsTold, TakesProgress, with_since, AreCounted, TellsProgress};
 
 use crate::frame_reading::FrameReading;
 use crate::tally::CaptureTally;
-use capture_summary::both_counts;
+use capture_summary::{FlowSummary, both_counts};
 use flow_core::FlowCounts;
 
 /// How far the reading of a capture is. Each count stays at its greatest value, 2^64 − 1.
@@ -22,6 +23,8 @@ pub struct CaptureProgress {
 
 /// Who is told how far the reading of a capture is.
 pub trait TakeProgress {
+    ghost use Rattle.frame_engine.specs.declared.progress.CaptureProgress.{CaptureProgress};
+
     // The first became the second by taking these, in order.
     ghost after: { Self → List CaptureProgress → Self → Type 0 };
 
@@ -48,20 +51,30 @@ impl TakeProgress for NoProgress {
     fn take(&mut self, _progress: CaptureProgress) {}
 }
 
-/// What was counted so far of the flows that are selected, together: of each until it began anew,
-/// and since.
+/// What was counted of flows with one more, if it is selected: until it began anew, and since.
+fn with_flow(counts: FlowCounts, one: &FlowSummary, since: Option<FlowCounts>) -> FlowCounts
+    ensures selected { one.now.is_selected ≡ true
+        → result ≡ with_since (both_counts counts one.now.counts) since }
+    ensures other { one.now.is_selected ≡ false → result ≡ counts }
+{
+    if !one.is_selected {
+        return counts;
+    }
+    let counts = both_counts(counts, one.counts);
+    match since {
+        Some(since) => both_counts(counts, since),
+        None => counts,
+    }
+}
+
+/// What was counted so far of the flows that are selected, together.
 fn counts_so_far(reading: &FrameReading, tally: &CaptureTally) -> FlowCounts
     ensures { AreCounted reading.now tally.now.summary.flows.items result }
 {
     let mut counts = FlowCounts::none();
     for flow in 0..tally.summary.flows.len() {
-        let summary = &tally.summary.flows[flow];
-        if summary.is_selected {
-            counts = both_counts(counts, summary.counts);
-            if let Some(since) = reading.joining.flows.counts(flow) {
-                counts = both_counts(counts, since);
-            }
-        }
+        let since = reading.joining.flows.counts(flow);
+        counts = with_flow(counts, &tally.summary.flows[flow], since);
     }
     counts
 }

@@ -1,7 +1,8 @@
 -- The capture was joined, or whatever ended it.
-use Rattle.std.proofs.Common.{◌≡◌, inl, inr, take, length, refl, sym, ap, subst, ◌∙◌, rules}
+use Rattle.std.proofs.Common.{◌≡◌, inl, inr, [], take, length, refl, sym, ap, subst, ◌∙◌, rules}
 use Rattle.std.specs.Io.KnownBytes.{Consumes}
 use Rattle.std.proofs.KnownBytes.{Keeps-refl}
+use Rattle.std.proofs.lemmas.List.{length-take-le}
 use Rattle.std.proofs.lemmas.Result.{err_from_is_err_and, on_ok_weaker}
 use Rattle.engines.specs.Device.{inner_of}
 use Rattle.engines.proofs.FollowedDevices.{stays_flushed}
@@ -9,6 +10,7 @@ use Rattle.engines.proofs.ReadLines.{of_room}
 use Rattle.frame_engine.specs.declared.frame_reading.FrameReading.{FrameReading}
 use Rattle.frame_engine.proofs.Devices.{capture-refused, capture-unheaded, far-begun, capture-unread, far-more, capture-stopped, capture-finished}
 use Rattle.frame_engine.proofs.Beside.{beside-begun, beside-more, beside-finished}
+use Rattle.frame_engine.proofs.Reading.{bytes-written}
 use Rattle.frame_engine.proofs.Told.{told-nothing, told-begun, told-unread, told-read, told-more}
 use Rattle.frame_engine.proofs.capturing.join_capture.Goals as goal
 
@@ -39,8 +41,7 @@ loop-init g c =
           c.write.ensures.link c.write.ensures.channels c.write.ensures.selected wrote.none_left wrote.written;
       told = λ settings capture_map begun start came.
           told-begun g.R.Read.remaining g.P.TakeProgress.after settings capture_map c.args.reader.now start _ new c.args.told.now
-          (far-begun g.R.Read.remaining g.W.Write.contents settings capture_map c.args.reader.now c.args.writer.now c.write.new.writer old new begun refl c.write.ensures.link
-          c.write.ensures.channels c.write.ensures.selected wrote.none_left wrote.written wrote.left_flushed wrote.sound).has c.requires.reader.1 came;
+          (bytes-written settings capture_map [] [] old new begun refl c.write.ensures.link c.write.ensures.channels c.write.ensures.selected wrote.none_left) c.requires.reader.1 came;
       ready = c.requires.reading;
       empty = wrote.none_left;
       flushed = stays_flushed _ _ c.requires.writer.2 wrote.left_flushed;
@@ -109,7 +110,8 @@ loop-preserved g c =
           c.read_behind.new.reader (take c.in-Ok.count c.deref.result.now)
           (subst (Consumes (g.R.Read.remaining (inner_of c.loop.reader)) (g.R.Read.remaining (inner_of c.read_behind.new.reader)))
           (sym (ap (take c.in-Ok.count) piece ∙ front_is)) c.in-Ok.ensures.taken)
-          c.in-Ok.count _ c.join_piece.new.self _ c.tell_progress.new.told c.in-Ok.ensures.given (search (arith, rules)) joined.1.0
+          c.in-Ok.count _ c.join_piece.new.self _ c.tell_progress.new.told c.in-Ok.ensures.given
+          (sym (ap length (ap (take c.in-Ok.count) piece ∙ front_is) ∙ length-take-le c.in-Ok.count front c.in-Ok.ensures.within)) joined.1.0
           (rw c.given.ensures at c.tell_progress.ensures);
       ready = c.in-Ok-join_piece.ensures.ready;
       empty = c.in-Ok-join_piece.ensures.empty;
