@@ -7,7 +7,7 @@ _segrx_options() {
         replay) echo --losses --flows --shard ;;
         run) echo --losses --mailbox --ring ;;
         follow) echo --losses --channels --events --flows --shard ;;
-        capture) echo --losses --wait --reorder --link --no-check --flows --shard --compare --report --json --requests --picture ;;
+        capture) echo --losses --wait --reorder --link --no-check --flows --shard --compare --report --json --requests --picture --progress ;;
     esac
     echo -h --help
 }

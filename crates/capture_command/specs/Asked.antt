@@ -62,10 +62,14 @@ pub record AskForSettings (words : List (List ℕ)) (settings : CaptureSettings)
 abbrev pub AskToCompare : List (List ℕ) → Bool → Type 0
 AskToCompare words compares = IsTrue compares ↔ HasWord (codes "--compare") words
 
+-- it is said on the way how far the reading is just if one of the words asks for that
+abbrev pub AskForProgress : List (List ℕ) → Bool → Type 0
+AskForProgress words progress = IsTrue progress ↔ HasWord (codes "--progress") words
+
 -- a word asks for help
 abbrev pub AskForHelp : List (List ℕ) → Type 0
 AskForHelp words = HasWord (codes "-h") words ⊎ HasWord (codes "--help") words
 
 abbrev pub AskToCapture : List (List ℕ) → CaptureWords → Type 0
-AskToCapture words (Capture asked) = AskForSettings words asked.settings × AskToCompare words asked.compares
+AskToCapture words (Capture asked) = AskForSettings words asked.settings × AskToCompare words asked.compares × AskForProgress words asked.progress
 AskToCapture words (Help text) = AskForHelp words

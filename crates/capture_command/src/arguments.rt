@@ -47,6 +47,7 @@ pub fn capture_line<'a>(alloc: Global) -> Result<Command<'a>, AllocError> {
     let json = "Also write the counts to this file, as JSON";
     let requests = "Also write the requests to this file, as CSV";
     let picture = "Also draw the segments of the flows into this file, as SVG";
+    let progress = "Say on standard error once a second how far it is";
     Command::new(alloc, "capture")
         .about("Joins the bursts of a capture, and writes their frames as pcap")
         .override_usage(USAGE)
@@ -73,5 +74,6 @@ pub fn capture_line<'a>(alloc: Global) -> Result<Command<'a>, AllocError> {
         .arg(option(alloc, "report", "FILE", report))?
         .arg(option(alloc, "json", "FILE", json))?
         .arg(option(alloc, "requests", "FILE", requests))?
-        .arg(option(alloc, "picture", "FILE", picture))
+        .arg(option(alloc, "picture", "FILE", picture))?
+        .arg(flag(alloc, "progress", progress))
 }

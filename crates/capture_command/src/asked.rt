@@ -54,6 +54,8 @@ pub struct CaptureAsked {
     /// Whether the frames are to be compared with those that the analyser joined itself.
     pub compares: bool,
     pub files: AskedFiles,
+    /// Whether it is to be said on the way how far the reading is.
+    pub progress: bool,
 }
 
 /// What the words ask for.
@@ -195,5 +197,6 @@ pub fn read_capture_words<'a, S: AsStr>(
             requests: read_path(alloc, &matches, "requests")?,
             picture: read_path(alloc, &matches, "picture")?,
         },
+        progress: has_word(words, "--progress"),
     }))
 }

@@ -5,6 +5,7 @@ mod arguments;
 mod asked;
 mod fault;
 mod files;
+mod progress_lines;
 mod whole_command;
 
 pub use asked::{CaptureAsked, CaptureWords, asks_to_capture, read_capture_words};

@@ -1,8 +1,12 @@
 //! The command `capture` over any runtime with files, any reader and any two writers.
-ghost use Rattle.std.specs.Prelude.{◌≡◌, true, false, None, Err, map, Result, OnOk, OnErr, IfOk, IfErr, IfSome};
+ghost use Rattle.std.specs.Prelude.{◌≡◌, ◌++◌, true, false, None, Err, ℕ, List, [], map, Result, OnOk, OnErr, IfOk, IfErr, IfSome};
 ghost use Rattle.std.specs.Io.KnownBytes.{Appends};
-ghost use Rattle.engines.specs.Device.{inner_of, IsFresh};
+ghost use Rattle.engines.specs.Device.{inner_of, has_failed, IsFresh};
 ghost use Rattle.engines.specs.Transfer.{AppendsFront};
+ghost use Rattle.engines.specs.Writing.{IsWritten};
+ghost use Rattle.text_lines.specs.Putting.{Puts};
+ghost use Rattle.capture_summary.specs.SummaryText.{summary_text};
+ghost use Rattle.capture_command.specs.Progress.{SaysSummary, SaysProgress};
 ghost use Rattle.frame_engine.specs.Begun.{ComparesNothing};
 ghost use Rattle.frame_engine.specs.Judged.{EndsEqual};
 ghost use Rattle.engines.specs.declared.fault.EngineFault.TheVariants.{Write};
@@ -14,18 +18,19 @@ ghost use Rattle.capture_command.specs.Program.{Captures, Obeys, ComesOf, status
 use crate::asked::{AskedFiles, CaptureAsked, CaptureWords, read_capture_words};
 use crate::fault::CaptureCommandFault;
 use crate::files::{created, map_of_file};
+use crate::progress_lines::ProgressLines;
 use capture_json::summary_json;
 use capture_map::CaptureMap;
 use capture_picture::put_picture;
 use capture_summary::{CaptureSummary, put_report, put_summary};
-use engines::{Device, EngineFault, TextWriter, held_room, write_text};
+use engines::{Device, EngineFault, TextWriter, WriteFault, held_room, write_text};
 use flow_selection::Selection;
 use frame_comparison::{FrameComparison, put_comparison};
 use frame_engine::{CaptureTally, Comparing, FrameReading, join_capture};
 use std::alloc::{AllocError, Global};
 use std::convert::AsStr;
 use std::io::{Read, Write};
-use std::rt::Files;
+use std::rt::{Clock, Files};
 use text_lines::{PutText, put_number, put_word};
 
 /// What a file shows of a capture.
@@ -86,37 +91,84 @@ fn sfids_of(alloc: Global, summary: &CaptureSummary) -> Result<Vec<u32>, AllocEr
     Ok(sfids)
 }
 
+/// Puts how many of the analyser's frames no flow has, if there are some.
+fn put_strangers<O: PutText>(out: &mut O, count: u64)
+    ensures { (text : List ℕ) × Puts O.after out.old text out.new }
+{
+    if count == 0 {
+        return;
+    }
+    put_word(out, "  the analyser's of no flow of the map: ");
+    put_number(out, count);
+    put_word(out, "\n");
+}
+
 /// Puts how the frames compare with the analyser's, and how many of these no flow has.
 fn put_compared<O: PutText>(
     out: &mut O,
     comparing: &Comparing,
     comparison: &FrameComparison,
     sfids: &[u32],
-) {
+)
+    ensures { (text : List ℕ) × Puts O.after out.old text out.new }
+{
     put_comparison(out, comparison, sfids);
-    if comparing.strangers() > 0 {
-        put_word(out, "  the analyser's of no flow of the map: ");
-        put_number(out, comparing.strangers());
-        put_word(out, "\n");
-    }
+    put_strangers(out, comparing.strangers());
 }
 
-/// Writes the summary of what was counted, and how the frames compare with the analyser's, where
-/// they are compared.
+/// Puts that, where frames are compared.
+fn put_comparing<O: PutText>(out: &mut O, comparing: &Comparing, sfids: &[u32])
+    ensures { (text : List ℕ) × Puts O.after out.old text out.new }
+{
+    let Some(comparison) = comparing.comparison() else {
+        return;
+    };
+    put_compared(out, comparing, comparison, sfids);
+}
+
+/// Puts the summary of what was counted, and how the frames compare with the analyser's, where they
+/// are compared.
+fn put_counted<O: PutText>(out: &mut O, tally: &CaptureTally, comparing: &Comparing, sfids: &[u32])
+    ensures { (more : List ℕ)
+        × Puts O.after out.old (summary_text tally.now.summary ++ more) out.new }
+{
+    put_summary(out, &tally.summary);
+    put_comparing(out, comparing, sfids);
+}
+
+/// Writes that. The room is empty, and no other memory is taken.
+fn write_counted<E: Write>(
+    tally: &CaptureTally,
+    comparing: &Comparing,
+    sfids: &[u32],
+    room: &mut Vec<u8>,
+    err: &mut Device<E>,
+) -> Result<(), WriteFault>
+    requires { room.old.items ≡ [] }
+    ensures { (more : List ℕ) × IsWritten E.contents (summary_text tally.now.summary ++ more)
+        err.old err.new result }
+{
+    let mut text = TextWriter::new(err, room);
+    put_counted(&mut text, tally, comparing, sfids);
+    text.finish()
+}
+
+/// Writes the summary. It fails too where a write failed before, as one of how far the reading was.
 fn write_summary<E: Write>(
     alloc: Global,
     tally: &CaptureTally,
     comparing: &Comparing,
     sfids: &[u32],
     err: &mut Device<E>,
-) -> Result<(), CaptureCommandFault> {
+) -> Result<(), CaptureCommandFault>
+    ensures said { SaysSummary E.contents err.old err.new }
+    ensures sound { OnOk result (has_failed err.new ≡ false) }
+{
     let mut room = held_room(alloc)?;
-    let mut text = TextWriter::new(err, &mut room);
-    put_summary(&mut text, &tally.summary);
-    if let Some(comparison) = comparing.comparison() {
-        put_compared(&mut text, comparing, comparison, sfids);
+    write_counted(tally, comparing, sfids, &mut room, err)?;
+    if err.failed() {
+        return Err(CaptureCommandFault::Engine(EngineFault::Write));
     }
-    text.finish()?;
     Ok(())
 }
 
@@ -165,7 +217,9 @@ fn write_counts<F: Files, E: Write>(
     sfids: &[u32],
     err: &mut Device<E>,
 ) -> Result<(), CaptureCommandFault>
-    ensures { OnOk result (EndsEqual comparing.now) }
+    ensures equal { OnOk result (EndsEqual comparing.now) }
+    ensures said { SaysSummary E.contents err.old err.new }
+    ensures sound { OnOk result (has_failed err.new ≡ false) }
 {
     let summary = write_summary(alloc, tally, comparing, sfids, err);
     let report = write_file(alloc, rt, &files.report, tally, Shown::Report);
@@ -211,9 +265,20 @@ fn new_comparing(
     Comparing::new(alloc, capture_map.flows.len())
 }
 
+/// The file for the requests, made anew, if one is asked for.
+fn created_requests<F: Files>(
+    rt: &F,
+    files: &AskedFiles,
+) -> Result<Option<Device<F::File>>, CaptureCommandFault> {
+    match &files.requests {
+        Some(path) => Ok(Some(Device::new(created(rt, path.as_str())?))),
+        None => Ok(None),
+    }
+}
+
 /// Joins the capture that the reader gives, and writes what was counted, also where a fault ends
-/// it.
-fn capture<F: Files, R: Read, W: Write, E: Write>(
+/// it. How far it is goes to `err` on the way, where that is asked for.
+fn capture<F: Files + Clock, R: Read, W: Write, E: Write>(
     alloc: Global,
     rt: &F,
     asked: CaptureAsked,
@@ -223,14 +288,19 @@ fn capture<F: Files, R: Read, W: Write, E: Write>(
 ) -> Result<(), CaptureCommandFault>
     requires reader { IsFresh reader.old }
     requires out { IsFresh out.old }
-    ensures { Captures R.remaining W.contents F.File.remaining asked.settings asked.compares
-        reader.old reader.new out.old out.new result }
+    ensures captures { Captures R.remaining W.contents F.File.remaining asked.settings
+        asked.compares reader.old reader.new out.old out.new result }
+    ensures says { SaysProgress R.remaining E.contents asked.settings asked.progress
+        reader.old reader.new err.old err.new }
+    // All that was said was written where all was done.
+    ensures sound { OnOk result (has_failed err.new ≡ false) }
 {
     let CaptureAsked {
         map,
         settings,
         compares,
         files,
+        progress,
     } = asked;
     frame_engine::laws::files_that_compare_equal_have_the_analysers_frames();
     let capture_map = map_of_file(alloc, rt, map.as_str())?;
@@ -238,10 +308,8 @@ fn capture<F: Files, R: Read, W: Write, E: Write>(
     let mut comparing = new_comparing(alloc, &capture_map, compares)?;
     let sfids = sfids_of(alloc, &tally.summary)?;
     let reading = FrameReading::new(alloc, settings, capture_map)?;
-    let mut requests = match &files.requests {
-        Some(path) => Some(Device::new(created(rt, path.as_str())?)),
-        None => None,
-    };
+    let mut requests = created_requests(rt, &files)?;
+    let mut told = ProgressLines::new(alloc, rt, err, progress);
     let joined = join_capture(
         alloc,
         reading,
@@ -250,6 +318,7 @@ fn capture<F: Files, R: Read, W: Write, E: Write>(
         &mut requests,
         reader,
         out,
+        &mut told,
     );
     if let Some(file) = requests {
         file.into_inner();
@@ -275,7 +344,7 @@ fn print_help<W: Write>(out: &mut Device<W>, text: &str) -> Result<(), CaptureCo
 }
 
 /// Does what the words ask for.
-fn obey<S: AsStr, F: Files, R: Read, W: Write, E: Write>(
+fn obey<S: AsStr, F: Files + Clock, R: Read, W: Write, E: Write>(
     alloc: Global,
     rt: &F,
     words: &[S],
@@ -311,7 +380,8 @@ fn report_outcome<E: Write>(outcome: &Result<(), CaptureCommandFault>, err: &mut
 /// The whole command: it does what the words ask for, the program's name first, and answers the
 /// exit status: 0 where it was done, also for help; 1 for a fault of the map or of the capture, 2
 /// for usage, 3 for out of memory, 4 for a failed read or write, 5 where frames that were to be
-/// compared differ or there are none. A fault's line goes to `err`, behind the summary.
+/// compared differ or there are none. A fault's line goes to `err`, behind the summary, and before
+/// that, where it is asked for, once a second how far the reading is.
 pub fn capture_program<S, F, R, O, E>(
     alloc: Global,
     rt: &F,
@@ -322,7 +392,7 @@ pub fn capture_program<S, F, R, O, E>(
 ) -> u8
 where
     S: AsStr,
-    F: Files,
+    F: Files + Clock,
     R: Read + Drop,
     O: Write + Drop,
     E: Write + Drop,

@@ -8,3 +8,5 @@ pub mod Arrivals
 pub mod Beside
 pub mod EqualFrames
 pub mod EqualEnds
+pub mod Told
+pub mod Counted

@@ -8,3 +8,4 @@ pub mod Joined
 pub mod Joining
 pub mod Inside
 pub mod Begun
+pub mod Progress

@@ -1,5 +1,5 @@
 //! The command `capture`: the frames of a capture are written as they are joined.
-ghost use Rattle.std.specs.Prelude.{◌≡◌, IfSome, OnOk};
+ghost use Rattle.std.specs.Prelude.{◌≡◌, [], IfSome, OnOk};
 ghost use Rattle.engines.specs.Device.{inner_of, IsFresh};
 ghost use Rattle.engines.specs.Engine.{WritesText};
 ghost use Rattle.capture_map.specs.declared.map.CaptureMap.{CaptureMap};
@@ -7,9 +7,11 @@ ghost use Rattle.frame_engine.specs.declared.settings.CaptureSettings.{CaptureSe
 ghost use Rattle.frame_engine.specs.Joining.{JoinsCapture};
 ghost use Rattle.frame_engine.specs.Begun.{IsBegun, IsBegunBeside, ComparesNothing, CanJoin};
 ghost use Rattle.frame_engine.specs.Comparing.{IsComparedFile};
+ghost use Rattle.frame_engine.specs.Progress.{HasToldProgress};
 
 use crate::comparing::Comparing;
 use crate::frame_reading::FrameReading;
+use crate::progress::{TakeProgress, tell_progress};
 use crate::tally::CaptureTally;
 use engines::{Device, EngineFault, read_behind, zeros};
 use std::alloc::Global;
@@ -23,13 +25,13 @@ const PIECE_BYTES: usize = 262_144;
 /// first, and what a piece brings is written and flushed before the next is read. It reads without
 /// a limit, up to 2^64 - 1 bytes. What is counted on the way comes into the tally, and its lines of
 /// requests go to a writer of their own, if there is one. Frames are compared where that is asked
-/// for.
+/// for. Behind each piece it is told how far the reading is, where that is due.
 ///
 /// `Read`: the reader failed, or gave more. `Capture`: the capture is malformed behind so many
 /// records, or ends too early. `OutOfMemory`: an allocation failed. Whichever comes, the frames of
 /// the records before were written and flushed; what waited then isn't handed in. `Write`: the
 /// writer failed, and a front of the file may have gone out.
-pub fn join_capture<R: Read, W: Write, Q: Write>(
+pub fn join_capture<R: Read, W: Write, Q: Write, P: TakeProgress>(
     alloc: Global,
     mut reading: FrameReading,
     tally: &mut CaptureTally,
@@ -37,6 +39,7 @@ pub fn join_capture<R: Read, W: Write, Q: Write>(
     requests: &mut Option<Device<Q>>,
     reader: &mut Device<R>,
     writer: &mut Device<W>,
+    told: &mut P,
 ) -> Result<(), EngineFault>
     requires reading { CanJoin reading }
     requires reader { IsFresh reader.old }
@@ -52,6 +55,11 @@ pub fn join_capture<R: Read, W: Write, Q: Write>(
         → OnOk result (IfSome (R.remaining (inner_of reader.old)) (WritesText
         (IsComparedFile settings capture_map comparing.new)
         (W.contents (inner_of writer.old)) (W.contents (inner_of writer.new)))) }
+    // What was told is how far the reading was at fronts of what was read, in order.
+    ensures told { (settings : CaptureSettings) (capture_map : CaptureMap)
+        → IsBegun settings capture_map reading → (start : P) → P.after start [] told.old
+        → HasToldProgress settings capture_map R.remaining P.after
+        reader.old reader.new start told.new }
 {
     let mut piece = zeros(alloc, PIECE_BYTES)?;
     reading.joining.file.write(writer)?;
@@ -70,7 +78,10 @@ pub fn join_capture<R: Read, W: Write, Q: Write>(
             return ended;
         }
         match reading.join_piece(alloc, &piece[..count], tally, comparing, writer) {
-            Ok(()) => tally.write_requests(alloc, requests),
+            Ok(()) => {
+                tally.write_requests(alloc, requests);
+                tell_progress(&reading, reader.given(), tally, told);
+            }
             Err(fault) => {
                 reading.note_all(tally);
                 tally.write_requests(alloc, requests);

@@ -6,7 +6,8 @@
 //! 2. [`join_capture`] reads a capture of any length to its end, piece by piece, and writes a pcap
 //!    file of the frames that its bursts hold. What a piece brings is written and flushed before the
 //!    next is read. Of the capture it holds a piece, one record or block, and what the receiver and
-//!    the bursts that wait take.
+//!    the bursts that wait take. How far it is [`TakeProgress`] takes behind each piece, if it
+//!    wants to; [`NoProgress`] doesn't.
 //!
 //! What matters most: the frames that are written are those which the receiver's definitions give
 //! for the bursts of the records, each with the time and the origin of the burst that completed it
@@ -22,6 +23,7 @@ mod frame_reading;
 mod inner_check;
 mod joining;
 pub mod laws;
+mod progress;
 mod record_burst;
 mod settings;
 mod tally;
@@ -30,5 +32,6 @@ pub use capturing::join_capture;
 pub use comparing::Comparing;
 pub use frame_reading::FrameReading;
 pub use inner_check::InnerCheck;
+pub use progress::{CaptureProgress, NoProgress, TakeProgress};
 pub use settings::CaptureSettings;
 pub use tally::CaptureTally;

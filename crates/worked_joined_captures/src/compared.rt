@@ -1,6 +1,6 @@
 //! Frames beside those that the analyser joined itself.
 use crate::joined::InPieces;
-use crate::one_map::{MAP_PATH, OneMap};
+use crate::one_map::{MAP_PATH, ONE_MAP};
 use crate::samples::{FRAMES_APART, frame, frames_joined_twice, put_joined};
 use capture_command::capture_program;
 use std::alloc::Global;
@@ -76,7 +76,7 @@ pub(crate) fn compare(alloc: Global, bytes: &[u8], options: [&str; 2]) -> Compar
         size: 50,
     };
     let (out, err) = (&mut compared.frames[..], &mut compared.said[..]);
-    let status = capture_program(alloc, &OneMap, &words, reader, out, err);
+    let status = capture_program(alloc, &ONE_MAP, &words, reader, out, err);
     compared.status = status;
     compared
 }

@@ -2,7 +2,7 @@
 //! until then is a front of the frames, record for record, and a second call joins the capture.
 use crate::compared::{COMPARES, EQUAL, compare};
 use crate::joined::{InPieces, settings};
-use crate::one_map::{MAP_PATH, OneMap};
+use crate::one_map::{MAP_PATH, ONE_MAP};
 use crate::samples::{
     FRAMES_APART, REQUESTS_APART, frame, frames_apart, frames_joined_twice, map_of_two_channels,
 };
@@ -14,7 +14,7 @@ use command_line::UsageFault;
 use docsis_wire::Bytes;
 use engines::{Device, EngineFault};
 use flow_selection::Selection;
-use frame_engine::{CaptureTally, Comparing, FrameReading, join_capture};
+use frame_engine::{CaptureTally, Comparing, FrameReading, NoProgress, join_capture};
 use frame_records::FrameLink;
 use receiver::SetupError;
 use std::alloc::{AllocError, Global};
@@ -58,6 +58,7 @@ fn try_to_join(alloc: Global, frames: &mut [u8], lines: &mut [u8]) -> Result<Joi
         &mut requests,
         &mut reader,
         &mut writer,
+        &mut NoProgress,
     );
     reader.into_inner();
     let left = writer.into_inner().len();
@@ -176,7 +177,7 @@ fn program_into(alloc: Global, bytes: &[u8], out: &mut [u8], err: &mut [u8]) -> 
         rest: bytes,
         size: 50,
     };
-    capture_program(alloc, &OneMap, &words, reader, out, err)
+    capture_program(alloc, &ONE_MAP, &words, reader, out, err)
 }
 
 /// Where lines of requests or of the report are lost all frames are written, and the status is 4.

@@ -7,7 +7,7 @@ use captured_flows::Waits;
 use engines::{Device, EngineFault};
 use flow_selection::Selection;
 use frame_engine::{
-    CaptureSettings, CaptureTally, Comparing, FrameReading, InnerCheck, join_capture,
+    CaptureSettings, CaptureTally, Comparing, FrameReading, InnerCheck, NoProgress, join_capture,
 };
 use frame_records::FrameLink;
 use loss_rule::LossRule;
@@ -107,6 +107,7 @@ pub(crate) fn join_by(
         &mut lines,
         &mut reader,
         &mut writer,
+        &mut NoProgress,
     );
     reader.into_inner();
     writer.into_inner();
@@ -228,6 +229,7 @@ fn times_are_told_where_a_read_fails(rt: HostRuntime) -> Result<(), Fail> {
         &mut lines,
         &mut reader,
         &mut writer,
+        &mut NoProgress,
     );
     reader.into_inner();
     writer.into_inner();
@@ -292,6 +294,7 @@ fn kept_without_room(alloc: Global, room: &mut [u8]) -> Result<u64, Fail> {
         &mut lines,
         &mut reader,
         &mut writer,
+        &mut NoProgress,
     );
     reader.into_inner();
     writer.into_inner();

@@ -14,6 +14,8 @@ mod joined;
 #[cfg(test)]
 mod one_map;
 #[cfg(test)]
+mod progress;
+#[cfg(test)]
 mod samples;
 #[cfg(test)]
 mod shards;

@@ -3,7 +3,8 @@ use std::alloc::Allocator;
 use std::fs::{Metadata, OpenFile, OpenOptions};
 use std::io;
 use std::io::{Error, ErrorKind, Read, Seek, SeekFrom, Write};
-use std::rt::Files;
+use std::rt::{Clock, Files};
+use std::time::Duration;
 
 /// The path of the map.
 pub(crate) const MAP_PATH: &str = "two_channels.map";
@@ -16,8 +17,38 @@ sid 0 7 0
 sid 1 7 0
 ";
 
-/// A runtime with this map at its path, and where each other path is a new file.
-pub(crate) struct OneMap;
+/// A runtime with this map at its path, where each other path is a new file, and with a clock.
+#[derive(Drop)]
+pub(crate) struct OneMap<C> {
+    pub(crate) clock: C,
+}
+
+/// One whose clock fails.
+pub(crate) const ONE_MAP: OneMap<NoClock> = OneMap { clock: NoClock };
+
+/// A clock that fails.
+#[derive(Drop)]
+pub(crate) struct NoClock;
+
+impl Clock for NoClock {
+    fn monotonic(&self) -> io::Result<Duration> {
+        refused()
+    }
+
+    fn since_1970(&self) -> io::Result<Duration> {
+        refused()
+    }
+}
+
+impl<C: Clock> Clock for OneMap<C> {
+    fn monotonic(&self) -> io::Result<Duration> {
+        self.clock.monotonic()
+    }
+
+    fn since_1970(&self) -> io::Result<Duration> {
+        self.clock.since_1970()
+    }
+}
 
 /// A file that gives a text, and takes all that is written.
 #[derive(Drop)]
@@ -73,7 +104,7 @@ impl OpenFile for MapFile {
     }
 }
 
-impl Files for OneMap {
+impl<C> Files for OneMap<C> {
     type File = MapFile;
 
     type Dir = MapFile;

@@ -56,6 +56,7 @@ fn options_are_read(rt: HostRuntime) -> Result<(), Fail> {
         "--json",
         "j",
         "--picture=p",
+        "--progress",
     ];
     match read_capture_words(rt.alloc(), &words)? {
         CaptureWords::Capture(asked) => {
@@ -64,7 +65,7 @@ fn options_are_read(rt: HostRuntime) -> Result<(), Fail> {
             assert!(rt; asked.settings.waits.reorder == 3_600_000_000_000);
             assert!(rt; asked.settings.check == InnerCheck::Nothing);
             assert!(rt; asked.settings.link == FrameLink::Xra);
-            assert!(rt; asked.compares);
+            assert!(rt; asked.compares && asked.progress);
             assert!(rt; is_path(&asked.files.report, "r") && is_path(&asked.files.requests, "q"));
             assert!(rt; is_path(&asked.files.json, "j") && is_path(&asked.files.picture, "p"));
         }
@@ -78,7 +79,7 @@ fn flows_are_asked_for(rt: HostRuntime) -> Result<(), Fail> {
     let words = ["segrx", "capture", "m", "--flows=16383,0-7"];
     match read_capture_words(rt.alloc(), &words)? {
         CaptureWords::Capture(asked) => {
-            assert!(rt; !asked.compares);
+            assert!(rt; !asked.compares && !asked.progress);
             let selected = &asked.settings.selected;
             assert!(rt; selected.has(16_383) && selected.has(0) && selected.has(7));
             assert!(rt; !selected.has(8) && !selected.has(16_382));

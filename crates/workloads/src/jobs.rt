@@ -11,7 +11,7 @@ use commands::program;
 use loss_rule::LossRule;
 use std::alloc::Global;
 use std::io::{Error, ErrorKind, Result};
-use std::rt::Files;
+use std::rt::{Clock, Files};
 use std::sync::Wait;
 use std::thread::Threads;
 
@@ -240,7 +240,7 @@ fn done(status: u8) -> Result<()> {
 }
 
 /// Gives a recording to `segrx capture` with these words, and answers how many segments it has.
-fn capture<T: Files>(
+fn capture<T: Files + Clock>(
     alloc: Global,
     rt: &T,
     words: &[&str],
@@ -342,7 +342,7 @@ fn put_in_order<T: Threads + Wait + Copy + Send + 'static>(
 }
 
 /// Does a job, and answers how many segments were made for it.
-pub fn do_job<T: Files + Threads + Wait + Copy + Send + 'static>(
+pub fn do_job<T: Files + Clock + Threads + Wait + Copy + Send + 'static>(
     alloc: Global,
     rt: T,
     job: Job,

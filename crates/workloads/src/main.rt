@@ -22,14 +22,14 @@ use digest::Digest;
 use jobs::{JOBS, Job, Scale, do_job};
 use std::env;
 use std::io::{Error, ErrorKind, Result};
-use std::rt::Files;
+use std::rt::{Clock, Files};
 use std::sync::Wait;
 use std::thread::Threads;
 
 /// Does a job, and prints its digest, how many bytes that is of, and of how many segments.
 fn show<T>(rt: T, job: Job, scale: Scale, seed: u64, map: &str) -> Result<()>
 where
-    T: AllocGlobal + Print + Files + Threads + Wait + Copy + Send + 'static,
+    T: AllocGlobal + Print + Files + Clock + Threads + Wait + Copy + Send + 'static,
 {
     let mut digest = Digest::new();
     let segments = do_job(

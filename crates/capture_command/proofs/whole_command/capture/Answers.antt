@@ -1,8 +1,9 @@
 -- The capture was joined with its map.
-use Rattle.std.proofs.Common.{◌≡◌, ℕ, Bool, true, inl, List, Option, Some, None, Result, Ok, Err, refl}
+use Rattle.std.proofs.Common.{◌≡◌, ℕ, Bool, true, inl, List, Option, Some, None, Result, Ok, Err, refl, ◌∙◌, rules}
 use Rattle.std.specs.Prelude.{IfSome, OnOk}
 use Rattle.std.proofs.lemmas.Result.{err_from_is_err_and, on_ok_weaker}
 use Rattle.engines.specs.Engine.{WritesText}
+use Rattle.capture_command.proofs.Said.{told-none, says-nothing, says-told}
 use Rattle.capture_command.proofs.whole_command.capture.Goals as goal
 
 -- what holds holds where it was done
@@ -16,8 +17,8 @@ written-so : (known old new : Option (List ℕ)) (P Q : List ℕ → List ℕ �
 written-so None old new P Q so is = tt
 written-so (Some input) old new P Q so is = (is.0, so input is.0 is.1, is.2)
 
-pub returns-in_err-joined : goal.returns-in_err-joined
-returns-in_err-joined g c =
+pub returns-in_err-joined-clause-captures : goal.returns-in_err-joined-clause-captures
+returns-in_err-joined-clause-captures g c =
     let p = err_from_is_err_and c.from_residual-in_err-joined.result c.from_residual-in_err-joined.ensures.1 in
     rw (p.1, p.2)
     (inl (record {
@@ -29,8 +30,8 @@ returns-in_err-joined g c =
       same = λ compares. tt;
     }))
 
-pub returns : goal.returns
-returns g c =
+pub returns-clause-captures : goal.returns-clause-captures
+returns-clause-captures g c =
     let settings = c.args.asked.settings in
     let capture_map = c.in_ok-capture_map.capture_map in
     inl (record {
@@ -47,5 +48,45 @@ returns g c =
           (λ input text is. c.files_that_compare_equal_have_the_analysers_frames.ensures settings capture_map c.join_capture-joined.new.comparing c.finish.new.self input text is
           c.finish.ensures equal)
           (rw c.in_ok-joined.was at compared))
-          c.write_counts-counted.ensures;
+          c.write_counts-counted.ensures.equal;
     })
+
+-- ---- what was said
+
+pub returns-in_err-capture_map-clause-says : goal.returns-in_err-capture_map-clause-says
+returns-in_err-capture_map-clause-says g c = says-nothing g.R.Read.remaining g.E.Write.contents c.args.asked.settings c.args.asked.progress c.args.reader.now c.args.err.now
+
+pub returns-in_err-tally-clause-says : goal.returns-in_err-tally-clause-says
+returns-in_err-tally-clause-says g c = says-nothing g.R.Read.remaining g.E.Write.contents c.args.asked.settings c.args.asked.progress c.args.reader.now c.args.err.now
+
+pub returns-in_err-comparing-clause-says : goal.returns-in_err-comparing-clause-says
+returns-in_err-comparing-clause-says g c = says-nothing g.R.Read.remaining g.E.Write.contents c.args.asked.settings c.args.asked.progress c.args.reader.now c.args.err.now
+
+pub returns-in_err-sfids-clause-says : goal.returns-in_err-sfids-clause-says
+returns-in_err-sfids-clause-says g c = says-nothing g.R.Read.remaining g.E.Write.contents c.args.asked.settings c.args.asked.progress c.args.reader.now c.args.err.now
+
+pub returns-in_err-reading-clause-says : goal.returns-in_err-reading-clause-says
+returns-in_err-reading-clause-says g c = says-nothing g.R.Read.remaining g.E.Write.contents c.args.asked.settings c.args.asked.progress c.args.reader.now c.args.err.now
+
+pub returns-in_err-requests-clause-says : goal.returns-in_err-requests-clause-says
+returns-in_err-requests-clause-says g c = says-nothing g.R.Read.remaining g.E.Write.contents c.args.asked.settings c.args.asked.progress c.args.reader.now c.args.err.now
+
+pub returns-in_err-joined-clause-says : goal.returns-in_err-joined-clause-says
+returns-in_err-joined-clause-says g c =
+    let settings = c.args.asked.settings in
+    let capture_map = c.in_ok-capture_map.capture_map in
+    let told = c.join_capture-joined.ensures.told settings capture_map c.in_ok-reading.ensures.begun c.new-told.result (told-none g.E.Write.contents c.new-told.result) in
+    let name = told.came.same ∙ c.new-told.ensures.same_reference in
+    rw c.new-told.ensures.same_writer at
+    (says-told g.R.Read.remaining g.E.Write.contents settings c.args.asked.progress c.args.reader.now c.join_capture-joined.new.reader capture_map c.new-told.result
+    c.join_capture-joined.new.told _ c.write_counts-counted.new.err c.new-told.ensures.unasked told c.write_counts-counted.ensures.said (search (rules, name)))
+
+pub returns-clause-says : goal.returns-clause-says
+returns-clause-says g c =
+    let settings = c.args.asked.settings in
+    let capture_map = c.in_ok-capture_map.capture_map in
+    let told = c.join_capture-joined.ensures.told settings capture_map c.in_ok-reading.ensures.begun c.new-told.result (told-none g.E.Write.contents c.new-told.result) in
+    let name = told.came.same ∙ c.new-told.ensures.same_reference in
+    rw c.new-told.ensures.same_writer at
+    (says-told g.R.Read.remaining g.E.Write.contents settings c.args.asked.progress c.args.reader.now c.join_capture-joined.new.reader capture_map c.new-told.result
+    c.join_capture-joined.new.told _ c.write_counts-counted.new.err c.new-told.ensures.unasked told c.write_counts-counted.ensures.said (search (rules, name)))

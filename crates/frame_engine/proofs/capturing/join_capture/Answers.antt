@@ -1,7 +1,8 @@
 -- The capture was joined, or whatever ended it.
-use Rattle.std.proofs.Common.{◌≡◌, inl, inr, take, length, refl, sym, ap, subst, ◌∙◌, rules}
+use Rattle.std.proofs.Common.{◌≡◌, inl, inr, [], take, length, refl, sym, ap, subst, ◌∙◌, rules}
 use Rattle.std.specs.Io.KnownBytes.{Consumes}
 use Rattle.std.proofs.KnownBytes.{Keeps-refl}
+use Rattle.std.proofs.lemmas.List.{length-take-le}
 use Rattle.std.proofs.lemmas.Result.{err_from_is_err_and, on_ok_weaker}
 use Rattle.engines.specs.Device.{inner_of}
 use Rattle.engines.proofs.FollowedDevices.{stays_flushed}
@@ -9,6 +10,8 @@ use Rattle.engines.proofs.ReadLines.{of_room}
 use Rattle.frame_engine.specs.declared.frame_reading.FrameReading.{FrameReading}
 use Rattle.frame_engine.proofs.Devices.{capture-refused, capture-unheaded, far-begun, capture-unread, far-more, capture-stopped, capture-finished}
 use Rattle.frame_engine.proofs.Beside.{beside-begun, beside-more, beside-finished}
+use Rattle.frame_engine.proofs.Reading.{bytes-written}
+use Rattle.frame_engine.proofs.Told.{told-nothing, told-begun, told-unread, told-read, told-more}
 use Rattle.frame_engine.proofs.capturing.join_capture.Goals as goal
 
 pub returns-in_err-piece-clause-joins : goal.returns-in_err-piece-clause-joins
@@ -36,6 +39,9 @@ loop-init g c =
           let has = begun c.args.comparing.now none in
           beside-begun g.R.Read.remaining g.W.Write.contents settings capture_map c.args.reader.now c.args.writer.now c.write.new.writer old c.write.new.self c.args.comparing.now has
           c.write.ensures.link c.write.ensures.channels c.write.ensures.selected wrote.none_left wrote.written;
+      told = λ settings capture_map begun start came.
+          told-begun g.R.Read.remaining g.P.TakeProgress.after settings capture_map c.args.reader.now start _ new c.args.told.now
+          (bytes-written settings capture_map [] [] old new begun refl c.write.ensures.link c.write.ensures.channels c.write.ensures.selected wrote.none_left) c.requires.reader.1 came;
       ready = c.requires.reading;
       empty = wrote.none_left;
       flushed = stays_flushed _ _ c.requires.writer.2 wrote.left_flushed;
@@ -97,6 +103,16 @@ loop-preserved g c =
           (subst (Consumes (g.R.Read.remaining (inner_of c.loop.reader)) (g.R.Read.remaining (inner_of c.read_behind.new.reader)))
           (sym (ap (take c.in-Ok.count) piece ∙ front_is)) c.in-Ok.ensures.taken)
           c.join_piece.new.writer c.join_piece.new.self c.join_piece.new.comparing c.in-Ok-join_piece.ensures.compared;
+      told = λ settings capture_map begun start came.
+          let far = c.loop.invariant.told settings capture_map begun start came in
+          let joined = c.in-Ok-join_piece.ensures.joins settings capture_map far.bytes far.written far.has in
+          told-more g.R.Read.remaining g.P.TakeProgress.after settings capture_map c.args.reader.now start c.loop.reader c.loop.reading c.loop.told far
+          c.read_behind.new.reader (take c.in-Ok.count c.deref.result.now)
+          (subst (Consumes (g.R.Read.remaining (inner_of c.loop.reader)) (g.R.Read.remaining (inner_of c.read_behind.new.reader)))
+          (sym (ap (take c.in-Ok.count) piece ∙ front_is)) c.in-Ok.ensures.taken)
+          c.in-Ok.count _ c.join_piece.new.self _ c.tell_progress.new.told c.in-Ok.ensures.given
+          (sym (ap length (ap (take c.in-Ok.count) piece ∙ front_is) ∙ length-take-le c.in-Ok.count front c.in-Ok.ensures.within)) joined.1.0
+          (rw c.given.ensures at c.tell_progress.ensures);
       ready = c.in-Ok-join_piece.ensures.ready;
       empty = c.in-Ok-join_piece.ensures.empty;
       flushed = stays_flushed _ _ c.loop.invariant.flushed c.in-Ok-join_piece.ensures.flushed;
@@ -123,3 +139,33 @@ returns-then-count-eq0-clause-compared g c = λ settings capture_map begun nothi
     c.read_behind.new.reader read (c.in-Ok.ensures.end none) c.finish-ended.new.writer c.finish-ended.new.comparing
     (finishes settings capture_map far.bytes far.text far.has))
     c.finish-ended.ensures.compared
+
+-- ---- what was told
+
+pub returns-in_err-piece-clause-told : goal.returns-in_err-piece-clause-told
+returns-in_err-piece-clause-told g c = λ settings capture_map begun start came.
+    told-nothing g.R.Read.remaining g.P.TakeProgress.after settings capture_map c.args.reader.now start c.args.told.now came
+
+pub returns-in_err-write-clause-told : goal.returns-in_err-write-clause-told
+returns-in_err-write-clause-told g c = λ settings capture_map begun start came.
+    told-nothing g.R.Read.remaining g.P.TakeProgress.after settings capture_map c.args.reader.now start c.args.told.now came
+
+pub returns-in-Err-clause-told : goal.returns-in-Err-clause-told
+returns-in-Err-clause-told g c = λ settings capture_map begun start came.
+    told-unread g.R.Read.remaining g.P.TakeProgress.after settings capture_map c.args.reader.now start c.loop.reader c.loop.reading c.loop.told
+    (c.loop.invariant.told settings capture_map begun start came) c.read_behind.new.reader c.in-Err.ensures.kept
+
+pub returns-then-count-eq0-clause-told : goal.returns-then-count-eq0-clause-told
+returns-then-count-eq0-clause-told g c = λ settings capture_map begun start came.
+    told-read g.R.Read.remaining g.P.TakeProgress.after settings capture_map c.args.reader.now start c.loop.reader c.loop.reading c.loop.told
+    (c.loop.invariant.told settings capture_map begun start came) c.read_behind.new.reader _ c.in-Ok.ensures.taken
+
+pub returns-in-Err-join_piece-clause-told : goal.returns-in-Err-join_piece-clause-told
+returns-in-Err-join_piece-clause-told g c = λ settings capture_map begun start came.
+    told-read g.R.Read.remaining g.P.TakeProgress.after settings capture_map c.args.reader.now start c.loop.reader c.loop.reading c.loop.told
+    (c.loop.invariant.told settings capture_map begun start came) c.read_behind.new.reader _ c.in-Ok.ensures.taken
+
+pub returns-clause-told : goal.returns-clause-told
+returns-clause-told g c = λ settings capture_map begun start came.
+    told-unread g.R.Read.remaining g.P.TakeProgress.after settings capture_map c.args.reader.now start c.loop.reader c.loop.reading c.loop.told
+    (c.loop.invariant.told settings capture_map begun start came) c.loop.reader (Keeps-refl (g.R.Read.remaining (inner_of c.loop.reader)))

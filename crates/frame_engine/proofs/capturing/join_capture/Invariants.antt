@@ -6,6 +6,7 @@ use Rattle.frame_engine.specs.declared.settings.CaptureSettings.{CaptureSettings
 use Rattle.frame_engine.specs.Begun.{IsBegun, IsBegunBeside, ComparesNothing, CanJoin}
 use Rattle.frame_engine.proofs.Devices.{JoinsSoFar}
 use Rattle.frame_engine.proofs.Beside.{ComparesSoFar}
+use Rattle.frame_engine.proofs.Told.{TellsSoFar}
 use Rattle.frame_engine.proofs.capturing.join_capture.Given as goal
 
 abbrev pub invariant-loop : goal.invariant-loop
@@ -18,6 +19,8 @@ invariant-loop g l = record {
   empty : l.reading.joining.file.bytes.items ≡ [];
   flushed : is_flushed l.writer ≡ true;
   behind : is_read_behind_flushes l.reader ≡ true;
+  told : (settings : CaptureSettings) (capture_map : CaptureMap) → IsBegun settings capture_map l.fn.reading → (start : _) → g.P.TakeProgress.after start [] l.fn.told
+      → TellsSoFar g.R.Read.remaining g.P.TakeProgress.after settings capture_map l.fn.reader start l.reader l.reading l.told;
   counted : l.counter ≤ given_of l.reader;
   room : vec_len l.piece ≡ 262144;
 }

@@ -1,0 +1,39 @@
+-- What was counted of flows, one after another.
+use Rattle.std.proofs.Common.{◌≡◌, ◌≤◌, ◌<◌, ◌+◌, ℕ, Bool, true, false, Option, Some, None, List, [], ◌∷◌, ◌++◌, length, take, get_or, refl, sym, subst, ◌∙◌, arith}
+use Rattle.std.specs.Prelude.{◌↔◌, IfSome, slice_get}
+use Rattle.std.proofs.lemmas.List.{take_more, length-take-le}
+use Rattle.flow_records.specs.declared.record.FlowRecord.{FlowRecord}
+use Rattle.flow_core.specs.declared.counts.FlowCounts.{FlowCounts}
+use Rattle.consumer.specs.declared.given.Given.{Given}
+use Rattle.bonded_flows.specs.Table.{TableSetup}
+use Rattle.receiver.specs.HandedIn.{HandedIn}
+use Rattle.receiver.specs.Receiving.{StandsFor, IsSettledAt, HasGivenSince}
+use Rattle.capture_summary.specs.Counting.{both_counts}
+use Rattle.capture_summary.specs.declared.flow_summary.FlowSummary.{FlowSummary}
+use Rattle.frame_engine.specs.Settings.{inner_accepts}
+use Rattle.frame_engine.specs.declared.frame_reading.FrameReading.{FrameReading}
+use Rattle.frame_engine.specs.Progress.{with_since, IsCountedSince, AreCounted, passed_over, one_flow}
+
+module _ (reading : FrameReading) where
+  -- what a receiver says of a flow is what was counted of it
+  pub is-since : (flow : ℕ) (since : Option FlowCounts) → (since ≡ None ↔ (length reading.joining.flows.receiver.flows.slots.items ≤ flow))
+      → IfSome since (λ counts. (check : List ℕ → Bool) (made : TableSetup) (handed : List HandedIn) (given : List Given) (flow_record : FlowRecord)
+      → StandsFor inner_accepts reading.joining.flows.receiver check made handed given → slice_get made.records flow ≡ Some flow_record
+      → IsSettledAt reading.joining.flows.receiver flow → HasGivenSince check made flow flow_record handed given counts)
+      → IsCountedSince reading flow since
+  is-since flow None none some = none.0 refl
+  is-since flow (Some since) none some = some
+
+  -- one more flow was counted
+  pub counted-more : (flows : List FlowSummary) (flow : ℕ) (one : FlowSummary) (since : Option FlowCounts) (counts counts' : FlowCounts) → flow < length flows
+      → take (flow + 1) flows ≡ take flow flows ++ one ∷ [] → IsCountedSince reading flow since
+      → (one.is_selected ≡ true → counts' ≡ with_since (both_counts counts one.counts) since) → (one.is_selected ≡ false → counts' ≡ counts)
+      → AreCounted reading (take flow flows) counts → AreCounted reading (take (flow + 1) flows) counts'
+  counted-more flows flow one since counts counts' within more is selected other was =
+      subst (λ (some : List FlowSummary). AreCounted reading some counts') (sym more) (by_case one.is_selected refl) where
+        since_is : IsCountedSince reading (length (take flow flows)) since
+        since_is = subst (λ (k : ℕ). IsCountedSince reading k since) (sym (length-take-le flow flows (omega (arith, within)))) is
+
+        by_case : (is_selected : Bool) → one.is_selected ≡ is_selected → AreCounted reading (take flow flows ++ one ∷ []) counts'
+        by_case true is = subst (λ (all : FlowCounts). AreCounted reading (take flow flows ++ one ∷ []) all) (sym (selected is)) (one_flow one since was is since_is)
+        by_case false is = subst (λ (all : FlowCounts). AreCounted reading (take flow flows ++ one ∷ []) all) (sym (other is)) (passed_over one was is)
