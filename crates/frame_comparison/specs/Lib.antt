@@ -4,4 +4,5 @@ pub mod Compared
 pub mod Seen
 pub mod Aligned
 pub mod ComparisonText
+pub mod ComparisonReport
 pub mod InStep
