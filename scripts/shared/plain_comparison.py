@@ -142,7 +142,7 @@ def comparison_report(reading):
     for side, words in ((ANALYSER, "only analyser"), (HERE, "only here")):
         for flow, one in comparison.listed[side]:
             first = one.frame[:FIRST_BYTES].hex() or "-"
-            yield f"{words} {flow} {seconds(one.time)} {len(one.frame)} {first}"
+            yield f"{words} {flow} {one.time} {len(one.frame)} {first}"
     yield f"comparison whole strangers {comparison.strangers}"
 
 

@@ -4,5 +4,4 @@ pub mod Compared
 pub mod Seen
 pub mod Aligned
 pub mod ComparisonText
-pub mod ComparisonReport
 pub mod InStep

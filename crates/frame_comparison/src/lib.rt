@@ -15,8 +15,7 @@
 //! The calls, in the order of use: [`FrameComparison::new`], [`FrameComparison::take`] for each
 //! frame of either [`Side`], [`FrameComparison::finish`] once, and then
 //! [`FrameComparison::counts`], [`FrameComparison::lonely`] and [`FrameComparison::is_equal`], or
-//! [`put_comparison`], which puts them as lines for people, and [`put_comparison_report`] as lines
-//! for programs.
+//! [`put_comparison`], which puts them as lines for people.
 //!
 //! What matters most: what is counted and listed is what the definitions `with_frame` and
 //! `finished` make of all that was taken, as long as no allocation failed
@@ -32,7 +31,6 @@ pub mod laws;
 mod lines;
 mod lonely_frame;
 mod one_side;
-mod report;
 mod settle;
 mod side;
 mod waiting_frame;
@@ -42,5 +40,4 @@ pub use counts::ComparedCounts;
 pub use lines::put_comparison;
 pub use lonely_frame::{LonelyFrame, MOST_LISTED, SHOWN_BYTES};
 pub use one_side::LONGEST_WAIT;
-pub use report::put_comparison_report;
 pub use side::Side;

@@ -14,7 +14,7 @@ use text_lines::{PutText, put_hex, put_number, put_word};
 const SECOND: u64 = 1_000_000_000;
 
 /// Puts a time in seconds, with nine digits behind the point.
-pub(crate) fn put_seconds<O: PutText>(out: &mut O, nanoseconds: u64)
+fn put_seconds<O: PutText>(out: &mut O, nanoseconds: u64)
     ensures { Puts O.after out.old (seconds_text nanoseconds) out.new }
 {
     put_number(out, nanoseconds / SECOND);
@@ -39,7 +39,7 @@ fn put_sfid<O: PutText>(out: &mut O, sfid: Option<u32>)
 }
 
 /// Whether nothing was counted of a flow.
-pub(crate) fn is_quiet(counts: &ComparedCounts) -> bool
+fn is_quiet(counts: &ComparedCounts) -> bool
     ensures { result ≡ is_quiet counts.now }
 {
     counts.both == 0 && counts.only_analyser == 0 && counts.only_here == 0

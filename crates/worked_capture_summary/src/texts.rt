@@ -6,6 +6,7 @@ use capture_summary::{
     CaptureSummary, ChannelSummary, FlowSummary, PassedCounts, RefusalCounts, RequestLines,
     put_report, put_summary,
 };
+use comparison_report::put_comparison_report;
 use csv::{ByteRecord, ReaderBuilder};
 use flow_core::FlowCounts;
 use frame_comparison::{FrameComparison, Side};
@@ -394,10 +395,11 @@ const JSON: &str = "\
 /// How frames compare, behind what stands before it where nothing else came.
 const COMPARISON: &str = "\
 {\"channels\":[],\"clock_crowded\":6,\"clock_set_back\":5,\"comparison\":{\
-\"flows\":[{\"both\":1,\"flow\":0,\"only_analyser\":0,\"only_here\":0,\"sfid\":100},\
+\"flows\":[{\"both\":1,\"flow\":0,\"only_analyser\":0,\"only_here\":1,\"sfid\":100},\
 {\"both\":0,\"flow\":2,\"only_analyser\":1,\"only_here\":0,\"sfid\":null}],\
 \"only_analyser\":[{\"bytes\":2,\"first\":\"0aff\",\"flow\":2,\"nanoseconds\":7,\
-\"seconds\":2,\"sfid\":null}],\"only_here\":[],\"strangers\":4,\"whole\":true},\
+\"seconds\":2,\"sfid\":null}],\"only_here\":[{\"bytes\":0,\"first\":\"\",\"flow\":0,\
+\"nanoseconds\":1,\"seconds\":0,\"sfid\":100}],\"strangers\":4,\"whole\":true},\
 \"earlier\":3,";
 
 /// How frames of three flows compare, of which the map has two.
@@ -406,8 +408,27 @@ fn some_compared(alloc: Global) -> Result<FrameComparison, AllocError> {
     comparison.take(alloc, Side::Here, 0, 1, b"\x01");
     comparison.take(alloc, Side::Analyser, 0, 1, b"\x01");
     comparison.take(alloc, Side::Analyser, 2, 2_000_000_007, b"\x0a\xff");
+    comparison.take(alloc, Side::Here, 0, 1, b"");
     comparison.finish(alloc);
     Ok(comparison)
+}
+
+/// The lines of that comparison, where four frames are of no flow.
+const COMPARISON_REPORT: &str = "\
+compared 0 both 1 analyser 0 here 1
+compared 2 both 0 analyser 1 here 0
+only analyser 2 2000000007 2 0aff
+only here 0 1 0 -
+comparison whole strangers 4
+";
+
+#[test]
+fn report_tells_how_frames_compare(rt: HostRuntime) -> Result<(), Fail> {
+    let comparison = some_compared(rt.alloc())?;
+    let mut text = TextBuffer::new(rt.alloc());
+    put_comparison_report(&mut text, &comparison, 4);
+    assert!(rt; text.finish()?.as_slice() == COMPARISON_REPORT.as_bytes());
+    Ok(())
 }
 
 #[test]

@@ -1,14 +1,24 @@
-//! The lines of a comparison for programs.
+//! The lines of a comparison of frames for programs.
+//!
+//! [`put_comparison_report`] puts them, behind those of a capture's report.
+//!
+//! What matters most: what is put is the text of the definition `report_text`.
+#![tactic(auto)]
+
 ghost use Rattle.std.specs.Prelude.{◌≡◌, flat_map};
 ghost use Rattle.text_lines.specs.Putting.{Puts, numbered_texts};
-ghost use Rattle.frame_comparison.specs.ComparisonReport.{compared_line, hex_field, only_line, whole_word, comparison_line, report_text};
+ghost use Rattle.frame_comparison.specs.ComparisonText.{is_quiet};
+ghost use Rattle.comparison_report.specs.ReportLines.{compared_line, hex_field, only_line, whole_word, comparison_line, report_text};
 
-use crate::comparison::FrameComparison;
-use crate::counts::ComparedCounts;
-use crate::lines::{is_quiet, put_seconds};
-use crate::lonely_frame::LonelyFrame;
-use crate::side::Side;
+use frame_comparison::{ComparedCounts, FrameComparison, LonelyFrame, Side};
 use text_lines::{PutText, put_hex, put_spaced, put_word};
+
+/// Whether nothing was counted of a flow.
+fn is_quiet(counts: &ComparedCounts) -> bool
+    ensures { result ≡ is_quiet counts.now }
+{
+    counts.both == 0 && counts.has_none_alone()
+}
 
 /// Puts the line of a flow, if something came of it.
 fn put_compared<O: PutText>(out: &mut O, flow: usize, counts: &ComparedCounts)
@@ -53,8 +63,7 @@ fn put_only<O: PutText>(out: &mut O, words: &str, frame: &LonelyFrame)
 {
     put_word(out, words);
     put_spaced(out, frame.flow as u64);
-    put_word(out, " ");
-    put_seconds(out, frame.time);
+    put_spaced(out, frame.time);
     put_spaced(out, frame.length as u64);
     put_word(out, " ");
     put_hex_field(out, &frame.first);
@@ -90,8 +99,8 @@ fn put_last<O: PutText>(out: &mut O, is_whole: bool, strangers: u64)
 
 /// Puts the lines of a comparison for programs: one for each flow of which something was counted,
 /// by its index, one for each frame that is listed, first the analyser's, and a last one. So many
-/// frames of the analyser's are of no flow, and were compared with none. The times are in seconds
-/// since 1970.
+/// frames of the analyser's are of no flow, and were compared with none. The times are in
+/// nanoseconds since 1970.
 pub fn put_comparison_report<O: PutText>(out: &mut O, comparison: &FrameComparison, strangers: u64)
     ensures { Puts O.after out.old (report_text comparison.now strangers) out.new }
 {

@@ -1,7 +1,7 @@
-use Rattle.frame_comparison.specs.ComparisonReport.{compared_line}
+use Rattle.comparison_report.specs.ReportLines.{compared_line}
 use Rattle.frame_comparison.specs.Seen.{no_counts}
 use Rattle.text_lines.proofs.PutTexts.{puts-one-more-numbered}
-use Rattle.frame_comparison.proofs.report.put_all_compared.Goals as goal
+use Rattle.comparison_report.proofs.put_all_compared.Goals as goal
 
 pub loop-flow-preserved : goal.loop-flow-preserved
 loop-flow-preserved g c =

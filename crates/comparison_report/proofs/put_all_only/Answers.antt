@@ -1,6 +1,6 @@
-use Rattle.frame_comparison.specs.ComparisonReport.{only_line}
+use Rattle.comparison_report.specs.ReportLines.{only_line}
 use Rattle.text_lines.proofs.PutTexts.{puts-one-more}
-use Rattle.frame_comparison.proofs.report.put_all_only.Goals as goal
+use Rattle.comparison_report.proofs.put_all_only.Goals as goal
 
 pub loop-frame-preserved : goal.loop-frame-preserved
 loop-frame-preserved g c =

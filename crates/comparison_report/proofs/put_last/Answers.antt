@@ -1,5 +1,5 @@
 use Rattle.text_lines.proofs.PutTexts.{puts-then}
-use Rattle.frame_comparison.proofs.report.put_last.Goals as goal
+use Rattle.comparison_report.proofs.put_last.Goals as goal
 
 pub returns : goal.returns
 returns g c =

@@ -1,5 +1,5 @@
 use Rattle.text_lines.proofs.PutTexts.{puts-then}
-use Rattle.frame_comparison.proofs.report.put_comparison_report.Goals as goal
+use Rattle.comparison_report.proofs.put_comparison_report.Goals as goal
 
 pub returns : goal.returns
 returns g c =

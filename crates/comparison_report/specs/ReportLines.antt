@@ -1,12 +1,11 @@
--- The lines of a comparison for programs.
+-- The lines of a comparison of frames for programs.
 use Rattle.std.specs.Prelude.{ℕ, Bool, true, false, List, [], ◌∷◌, ◌++◌, flat_map, codes, if◌then◌else◌}
-use Rattle.std.specs.Fmt.{decimal}
 use Rattle.hex.specs.Hex.{encode_lower}
 use Rattle.text_lines.specs.Putting.{numbered_texts, spaced}
 use Rattle.frame_comparison.specs.declared.counts.ComparedCounts.{ComparedCounts}
 use Rattle.frame_comparison.specs.Frames.{ShownFrame}
 use Rattle.frame_comparison.specs.Seen.{ComparisonSeen}
-use Rattle.frame_comparison.specs.ComparisonText.{is_quiet, seconds_text}
+use Rattle.frame_comparison.specs.ComparisonText.{is_quiet}
 
 -- a flow of which something came
 abbrev pub compared_line : ℕ → ComparedCounts → List ℕ
@@ -23,7 +22,7 @@ hex_field (byte ∷ bytes) = encode_lower (byte ∷ bytes)
 -- a frame that only one side has, behind these words
 abbrev pub only_line : List ℕ → ShownFrame → List ℕ
 only_line words frame =
-    words ++ spaced frame.flow ++ codes " " ++ seconds_text frame.time ++ spaced frame.byte_count ++ codes " " ++ hex_field frame.first ++ codes "\n"
+    words ++ spaced frame.flow ++ spaced frame.time ++ spaced frame.byte_count ++ codes " " ++ hex_field frame.first ++ codes "\n"
 
 -- whether all that came was compared, and how many frames of the analyser's no flow has
 abbrev pub whole_word : Bool → List ℕ
