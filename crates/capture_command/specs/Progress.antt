@@ -26,6 +26,10 @@ progress_line progress =
 abbrev pub progress_lines : List CaptureProgress → List ℕ
 progress_lines told = flat_map progress_line told
 
+-- what stands behind them: a summary and more, or nothing
+abbrev pub BeginsWithSummary : List ℕ → Type 0
+BeginsWithSummary text = (text ≡ []) ⊎ ((summary : CaptureSummary) × (more : List ℕ) × (text ≡ summary_text summary ++ more))
+
 module _ {W : Type 0} (contents : W → Option (List ℕ)) where
   -- **A line of each of these was written**, and nothing else; the last may be cut off, where the
   -- writer failed.
@@ -44,10 +48,6 @@ module _ {W : Type 0} (contents : W → Option (List ℕ)) where
     nothing_said : writer' ≡ writer → SaysSummary writer writer'
     summary_said : (summary : CaptureSummary) (more : List ℕ) (result : Result (Unit {0}) WriteFault)
         → IsWritten contents (summary_text summary ++ more) writer writer' result → SaysSummary writer writer'
-
-  -- what stands behind the lines of progress: a summary and more, or nothing
-  abbrev pub BeginsWithSummary : List ℕ → Type 0
-  BeginsWithSummary text = (text ≡ []) ⊎ ((summary : CaptureSummary) × (more : List ℕ) × (text ≡ summary_text summary ++ more))
 
 module _ {R W : Type 0} (remaining : R → Option (List ℕ)) (contents : W → Option (List ℕ)) where
   -- **What a capture says on standard error**, where no write failed: how far its reading was, at
