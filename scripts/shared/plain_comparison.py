@@ -108,18 +108,39 @@ class ComparedReading(CaptureReading):
             self.comparison.take(HERE, given.flow, given.time, given.frame)
 
 
+def compared_flows(reading):
+    """Of each flow of which a frame was compared its index, its SFID and its counts."""
+    comparison = reading.comparison
+    for index, flow in enumerate(reading.captured):
+        counts = comparison.both[index], comparison.lonely[ANALYSER, index], comparison.lonely[HERE, index]
+        if any(counts):
+            yield index, flow.setup.sfid, *counts
+
+
+def seconds(time):
+    return f"{time // 10**9}.{time % 10**9:09}"
+
+
 def comparison_lines(reading):
     """The lines of a comparison, behind those of the summary."""
     comparison = reading.comparison
     yield "comparison with the analyser's frames"
-    for index, flow in enumerate(reading.captured):
-        counts = comparison.both[index], comparison.lonely[ANALYSER, index], comparison.lonely[HERE, index]
-        if any(counts):
-            both, analyser, here = counts
-            yield f"  flow {index} (SFID {flow.setup.sfid}): {both} in both, {analyser} {ANALYSER}, {here} {HERE}"
+    for index, sfid, both, analyser, here in compared_flows(reading):
+        yield f"  flow {index} (SFID {sfid}): {both} in both, {analyser} {ANALYSER}, {here} {HERE}"
     for side in (ANALYSER, HERE):
         for flow, one in comparison.listed[side]:
-            time = f"{one.time // 10**9}.{one.time % 10**9:09}"
-            yield f"  {side}: flow {flow}, at {time}, {len(one.frame)} bytes: {one.frame[:FIRST_BYTES].hex()}"
+            yield f"  {side}: flow {flow}, at {seconds(one.time)}, {len(one.frame)} bytes: {one.frame[:FIRST_BYTES].hex()}"
     if comparison.strangers:
         yield f"  the analyser's of no flow of the map: {comparison.strangers}"
+
+
+def comparison_report(reading):
+    """The lines of a comparison for programs, behind those of the report."""
+    comparison = reading.comparison
+    for index, _, both, analyser, here in compared_flows(reading):
+        yield f"compared {index} both {both} analyser {analyser} here {here}"
+    for side, words in ((ANALYSER, "only analyser"), (HERE, "only here")):
+        for flow, one in comparison.listed[side]:
+            first = one.frame[:FIRST_BYTES].hex() or "-"
+            yield f"{words} {flow} {one.time} {len(one.frame)} {first}"
+    yield f"comparison whole strangers {comparison.strangers}"

@@ -18,6 +18,7 @@ use capture_json::summary_json;
 use capture_map::CaptureMap;
 use capture_picture::put_picture;
 use capture_summary::{CaptureSummary, put_report, put_summary};
+use comparison_report::put_comparison_report;
 use engines::{Device, EngineFault, TextWriter, held_room, write_text};
 use flow_selection::Selection;
 use frame_comparison::{FrameComparison, put_comparison};
@@ -37,17 +38,26 @@ enum Shown {
     Picture,
 }
 
+/// Puts the report, and how the frames compare with the analyser's, where they are compared.
+fn put_whole_report<O: PutText>(out: &mut O, tally: &CaptureTally, comparing: &Comparing) {
+    put_report(out, &tally.summary);
+    if let Some(comparison) = comparing.comparison() {
+        put_comparison_report(out, comparison, comparing.strangers());
+    }
+}
+
 /// Writes a file.
 fn write_shown<W: Write>(
     alloc: Global,
     tally: &CaptureTally,
+    comparing: &Comparing,
     shown: Shown,
     file: &mut Device<W>,
 ) -> Result<(), CaptureCommandFault> {
     let mut room = held_room(alloc)?;
     let mut text = TextWriter::new(file, &mut room);
     match shown {
-        Shown::Report => put_report(&mut text, &tally.summary),
+        Shown::Report => put_whole_report(&mut text, tally, comparing),
         Shown::Json => text.put(&summary_json(alloc, &tally.summary)?),
         Shown::Picture => match tally.picture() {
             Some(picture) => put_picture(&mut text, picture),
@@ -66,13 +76,14 @@ fn write_file<F: Files>(
     rt: &F,
     path: &Option<String>,
     tally: &CaptureTally,
+    comparing: &Comparing,
     shown: Shown,
 ) -> Result<(), CaptureCommandFault> {
     let Some(path) = path else {
         return Ok(());
     };
     let mut file = Device::new(created(rt, path.as_str())?);
-    let written = write_shown(alloc, tally, shown, &mut file);
+    let written = write_shown(alloc, tally, comparing, shown, &mut file);
     file.into_inner();
     written
 }
@@ -168,9 +179,9 @@ fn write_counts<F: Files, E: Write>(
     ensures { OnOk result (EndsEqual comparing.now) }
 {
     let summary = write_summary(alloc, tally, comparing, sfids, err);
-    let report = write_file(alloc, rt, &files.report, tally, Shown::Report);
-    let json = write_file(alloc, rt, &files.json, tally, Shown::Json);
-    let picture = write_file(alloc, rt, &files.picture, tally, Shown::Picture);
+    let report = write_file(alloc, rt, &files.report, tally, comparing, Shown::Report);
+    let json = write_file(alloc, rt, &files.json, tally, comparing, Shown::Json);
+    let picture = write_file(alloc, rt, &files.picture, tally, comparing, Shown::Picture);
     summary?;
     report?;
     json?;

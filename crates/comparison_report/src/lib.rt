@@ -1,0 +1,111 @@
+//! The lines of a comparison of frames for programs.
+//!
+//! [`put_comparison_report`] puts them, behind those of a capture's report.
+//!
+//! What matters most: what is put is the text of the definition `report_text`.
+#![tactic(auto)]
+
+ghost use Rattle.std.specs.Prelude.{◌≡◌, flat_map};
+ghost use Rattle.text_lines.specs.Putting.{Puts, numbered_texts};
+ghost use Rattle.frame_comparison.specs.ComparisonText.{is_quiet};
+ghost use Rattle.comparison_report.specs.ReportLines.{compared_line, hex_field, only_line, whole_word, comparison_line, report_text};
+
+use frame_comparison::{ComparedCounts, FrameComparison, LonelyFrame, Side};
+use text_lines::{PutText, put_hex, put_spaced, put_word};
+
+/// Whether nothing was counted of a flow.
+fn is_quiet(counts: &ComparedCounts) -> bool
+    ensures { result ≡ is_quiet counts.now }
+{
+    counts.both == 0 && counts.has_none_alone()
+}
+
+/// Puts the line of a flow, if something came of it.
+fn put_compared<O: PutText>(out: &mut O, flow: usize, counts: &ComparedCounts)
+    ensures { Puts O.after out.old (compared_line flow counts.now) out.new }
+{
+    if is_quiet(counts) {
+        return;
+    }
+    put_word(out, "compared");
+    put_spaced(out, flow as u64);
+    put_word(out, " both");
+    put_spaced(out, counts.both);
+    put_word(out, " analyser");
+    put_spaced(out, counts.only_analyser);
+    put_word(out, " here");
+    put_spaced(out, counts.only_here);
+    put_word(out, "\n");
+}
+
+/// Puts the lines of flows.
+fn put_all_compared<O: PutText>(out: &mut O, counts: &[ComparedCounts])
+    ensures { Puts O.after out.old (numbered_texts compared_line counts.now) out.new }
+{
+    for (flow, one) in counts.iter().enumerate() {
+        put_compared(out, flow, one);
+    }
+}
+
+/// Puts bytes as a field, `-` for none.
+fn put_hex_field<O: PutText>(out: &mut O, bytes: &[u8])
+    ensures { Puts O.after out.old (hex_field bytes.now) out.new }
+{
+    if bytes.is_empty() {
+        return put_word(out, "-");
+    }
+    put_hex(out, bytes);
+}
+
+/// Puts the line of a frame that only one side has, behind these words.
+fn put_only<O: PutText>(out: &mut O, words: &str, frame: &LonelyFrame)
+    ensures { Puts O.after out.old (only_line words.now frame.now) out.new }
+{
+    put_word(out, words);
+    put_spaced(out, frame.flow as u64);
+    put_spaced(out, frame.time);
+    put_spaced(out, frame.length as u64);
+    put_word(out, " ");
+    put_hex_field(out, &frame.first);
+    put_word(out, "\n");
+}
+
+/// Puts the lines of frames that only one side has.
+fn put_all_only<O: PutText>(out: &mut O, words: &str, frames: &[LonelyFrame])
+    ensures { Puts O.after out.old (flat_map (only_line words.now) frames.now) out.new }
+{
+    for frame in frames {
+        put_only(out, words, frame);
+    }
+}
+
+/// The word for whether a comparison is whole.
+fn whole_word(is_whole: bool) -> &'static str
+    ensures { result.now ≡ whole_word is_whole }
+{
+    if is_whole { "whole" } else { "partial" }
+}
+
+/// Puts the last line.
+fn put_last<O: PutText>(out: &mut O, is_whole: bool, strangers: u64)
+    ensures { Puts O.after out.old (comparison_line is_whole strangers) out.new }
+{
+    put_word(out, "comparison ");
+    put_word(out, whole_word(is_whole));
+    put_word(out, " strangers");
+    put_spaced(out, strangers);
+    put_word(out, "\n");
+}
+
+/// Puts the lines of a comparison for programs: one for each flow of which something was counted,
+/// by its index, one for each frame that is listed, first the analyser's, and a last one. So many
+/// frames of the analyser's are of no flow, and were compared with none. The times are in
+/// nanoseconds since 1970.
+pub fn put_comparison_report<O: PutText>(out: &mut O, comparison: &FrameComparison, strangers: u64)
+    ensures { Puts O.after out.old (report_text comparison.now strangers) out.new }
+{
+    put_all_compared(out, comparison.counts());
+    put_all_only(out, "only analyser", comparison.lonely(Side::Analyser));
+    put_all_only(out, "only here", comparison.lonely(Side::Here));
+    put_last(out, comparison.is_whole(), strangers);
+}
