@@ -143,14 +143,15 @@ def channel_as_json(reading, channel, lane):
     }
 
 
-def json_of(reading, is_selected):
-    """The line of JSON of a reading."""
+def json_of(reading, is_selected, compared=None):
+    """The line of JSON of a reading, with how frames compare, where they are compared."""
     passed = {why.lower().replace(" ", "_"): count for why, count in reading.passed.items()}
     told = {
         "records": reading.records,
         "earlier": reading.earlier_times,
         "clock_set_back": sum(flow.set_back for flow in reading.captured),
         "clock_crowded": sum(flow.crowded for flow in reading.captured),
+        "comparison": compared,
         "flows": [flow_as_json(reading, index, flow) for index, flow in flows_left(reading, is_selected)],
         "channels": [channel_as_json(reading, channel, lane) for channel, lane in sorted(reading.lanes.items())],
         "passed": dict.fromkeys(PASSED_NAMES, 0) | passed,

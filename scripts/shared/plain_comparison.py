@@ -144,3 +144,27 @@ def comparison_report(reading):
             first = one.frame[:FIRST_BYTES].hex() or "-"
             yield f"{words} {flow} {one.time} {len(one.frame)} {first}"
     yield f"comparison whole strangers {comparison.strangers}"
+
+
+def frame_as_json(reading, flow, one):
+    return {
+        "flow": flow,
+        "sfid": reading.captured[flow].setup.sfid,
+        "seconds": one.time // 10**9,
+        "nanoseconds": one.time % 10**9,
+        "bytes": len(one.frame),
+        "first": one.frame[:FIRST_BYTES].hex(),
+    }
+
+
+def comparison_as_json(reading):
+    """How frames compare, as the JSON of a reading has it."""
+    comparison, names = reading.comparison, ["flow", "sfid", "both", "only_analyser", "only_here"]
+    listed = {side: [frame_as_json(reading, *frame) for frame in comparison.listed[side]] for side in (ANALYSER, HERE)}
+    return {
+        "flows": [dict(zip(names, counts)) for counts in compared_flows(reading)],
+        "only_analyser": listed[ANALYSER],
+        "only_here": listed[HERE],
+        "strangers": comparison.strangers,
+        "whole": True,
+    }

@@ -46,6 +46,20 @@ fn put_whole_report<O: PutText>(out: &mut O, tally: &CaptureTally, comparing: &C
     }
 }
 
+/// The JSON of what was counted, and of how the frames compare.
+fn whole_json(
+    alloc: Global,
+    tally: &CaptureTally,
+    comparing: &Comparing,
+) -> Result<Vec<u8>, AllocError> {
+    summary_json(
+        alloc,
+        &tally.summary,
+        comparing.comparison(),
+        comparing.strangers(),
+    )
+}
+
 /// Writes a file.
 fn write_shown<W: Write>(
     alloc: Global,
@@ -58,7 +72,7 @@ fn write_shown<W: Write>(
     let mut text = TextWriter::new(file, &mut room);
     match shown {
         Shown::Report => put_whole_report(&mut text, tally, comparing),
-        Shown::Json => text.put(&summary_json(alloc, &tally.summary)?),
+        Shown::Json => text.put(&whole_json(alloc, tally, comparing)?),
         Shown::Picture => match tally.picture() {
             Some(picture) => put_picture(&mut text, picture),
             None => return Err(CaptureCommandFault::Engine(EngineFault::OutOfMemory)),

@@ -62,11 +62,13 @@ passed_data passed = numbers
     ∷ (codes "no_segment_header", passed.no_segment_header) ∷ (codes "other_link_type", passed.other_link_type) ∷ (codes "other_type", passed.other_type)
     ∷ (codes "unknown_channel", passed.unknown_channel) ∷ (codes "unknown_sid", passed.unknown_sid) ∷ [])
 
--- **All that was counted**, of flows that of those which are selected
-abbrev pub summary_data : CaptureSummary → Data
-summary_data summary = object
+-- **All that was counted**, of flows that of those which are selected, and how frames compare
+abbrev pub summary_data : Data → CaptureSummary → Data
+summary_data compared summary = object
     (member (codes "channels") (array (items_of (map channel_data summary.channels.items)))
-    (numbers_then ((codes "clock_crowded", summary.crowded) ∷ (codes "clock_set_back", summary.set_back) ∷ (codes "earlier", summary.earlier) ∷ [])
+    (numbers_then ((codes "clock_crowded", summary.crowded) ∷ (codes "clock_set_back", summary.set_back) ∷ [])
+    (member (codes "comparison") compared
+    (numbers_then ((codes "earlier", summary.earlier) ∷ [])
     (member (codes "flows") (array (items_of (map flow_data (selected_flows summary.flows.items))))
     (member (codes "passed") (passed_data summary.passed)
-    (numbers_then ((codes "records", summary.records) ∷ []) no_members)))))
+    (numbers_then ((codes "records", summary.records) ∷ []) no_members)))))))

@@ -4,7 +4,7 @@
 //! there, whatever came of the capture.
 #![tactic(auto)]
 
-ghost use Rattle.std.specs.Prelude.{◌≡◌, ◌∷◌, ◌++◌, [], false, IfOk, map};
+ghost use Rattle.std.specs.Prelude.{◌≡◌, ◌∷◌, ◌++◌, [], false, IfOk, map, option_map};
 ghost use Rattle.serde_json.specs.View.{view};
 ghost use Rattle.serde_json.specs.Written.{compact_text, has_float};
 ghost use Rattle.text_lines.specs.Lines.{line_feed};
@@ -13,8 +13,13 @@ ghost use Rattle.capture_json.specs.Counted.{segments_data, frames_data, flow_da
 ghost use Rattle.capture_json.specs.Counted.{refused_grants_data, refused_bursts_data};
 ghost use Rattle.capture_json.specs.Counted.{channel_data};
 ghost use Rattle.capture_json.specs.Counted.{passed_data, summary_data};
+ghost use Rattle.capture_json.specs.Compared.{compared_or_null};
 
+mod compared;
+
+use crate::compared::compared_or_null;
 use capture_summary::{CaptureSummary, ChannelSummary, FlowSummary, PassedCounts, RefusalCounts};
+use frame_comparison::FrameComparison;
 use lane::Refusal;
 use serde_json::{Value, json};
 use std::alloc::{AllocError, Global};
@@ -146,9 +151,13 @@ fn all_channels(alloc: Global, channels: &[ChannelSummary]) -> Result<Vec<Value>
     Ok(values)
 }
 
-/// All that was counted.
-fn summary_value(alloc: Global, summary: &CaptureSummary) -> Result<Value, AllocError>
-    ensures { IfOk result (λ value. view value ≡ summary_data summary.now) }
+/// All that was counted, and how frames compare.
+fn summary_value(
+    alloc: Global,
+    summary: &CaptureSummary,
+    compared: Value,
+) -> Result<Value, AllocError>
+    ensures { IfOk result (λ value. view value ≡ summary_data (view compared) summary.now) }
 {
     let channels = all_channels(alloc, &summary.channels)?;
     let flows = all_flows(alloc, &summary.flows)?;
@@ -157,6 +166,7 @@ fn summary_value(alloc: Global, summary: &CaptureSummary) -> Result<Value, Alloc
         "channels": channels,
         "clock_crowded": summary.crowded,
         "clock_set_back": summary.set_back,
+        "comparison": compared,
         "earlier": summary.earlier,
         "flows": flows,
         "passed": passed,
@@ -174,11 +184,21 @@ fn line_of(alloc: Global, value: &Value) -> Result<Vec<u8>, AllocError>
     Ok(text)
 }
 
-/// The text of all that was counted, a line. Otherwise it reports that an allocation failed.
-pub fn summary_json(alloc: Global, summary: &CaptureSummary) -> Result<Vec<u8>, AllocError>
-    ensures { IfOk result (λ text. text.items
-        ≡ compact_text (summary_data summary.now) ++ line_feed ∷ []) }
+/// The text of all that was counted, a line, with how frames compare, where they are compared. So
+/// many frames of the analyser's are then of no flow. Otherwise it reports that an allocation
+/// failed.
+pub fn summary_json(
+    alloc: Global,
+    summary: &CaptureSummary,
+    comparison: Option<&FrameComparison>,
+    strangers: u64,
+) -> Result<Vec<u8>, AllocError>
+    ensures { let seen = option_map (λ one. one.now) comparison.entry in
+        let compared = compared_or_null summary.now.flows.items strangers seen in
+        IfOk result (λ text. text.items
+        ≡ compact_text (summary_data compared summary.now) ++ line_feed ∷ []) }
 {
-    let value = summary_value(alloc, summary)?;
+    let compared = compared_or_null(alloc, &summary.flows, comparison, strangers)?;
+    let value = summary_value(alloc, summary, compared)?;
     line_of(alloc, &value)
 }

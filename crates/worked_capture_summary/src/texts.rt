@@ -6,8 +6,10 @@ use capture_summary::{
     CaptureSummary, ChannelSummary, FlowSummary, PassedCounts, RefusalCounts, RequestLines,
     put_report, put_summary,
 };
+use comparison_report::put_comparison_report;
 use csv::{ByteRecord, ReaderBuilder};
 use flow_core::FlowCounts;
+use frame_comparison::{FrameComparison, Side};
 use lane::{Refusal, Request};
 use std::alloc::{AllocError, Global};
 use std::test::Fail;
@@ -265,7 +267,8 @@ fn flows_that_are_not_selected_are_not_told(rt: HostRuntime) -> Result<(), Fail>
     put_summary(&mut text, &summary);
     put_summary(&mut wanted, &others);
     assert!(rt; text.finish()? == wanted.finish()?);
-    assert!(rt; summary_json(alloc, &summary)? == summary_json(alloc, &others)?);
+    let text = summary_json(alloc, &summary, None, 0)?;
+    assert!(rt; text == summary_json(alloc, &others, None, 0)?);
     Ok(())
 }
 
@@ -367,7 +370,8 @@ const JSON: &str = "\
 \"id\":0,\"refused_bursts\":{\"bad_check\":0,\"no_grant\":0,\"out_of_memory\":0,\
 \"pointer_past_the_end\":0,\"too_long\":0,\"too_short\":0},\
 \"refused_grants\":{\"known\":0,\"out_of_memory\":0,\"out_of_range\":0,\"too_many\":0,\
-\"unknown_sid\":0}}],\"clock_crowded\":6,\"clock_set_back\":5,\"earlier\":3,\
+\"unknown_sid\":0}}],\"clock_crowded\":6,\"clock_set_back\":5,\
+\"comparison\":null,\"earlier\":3,\
 \"flows\":[{\"frames\":{\"all\":120,\"encrypted\":4,\"fcs_right\":114,\"fcs_wrong\":2},\
 \"requests\":{\"all\":2,\"units\":65544},\"restarts\":1,\"segments\":{\"beyond\":3,\
 \"kept\":300,\"late\":1,\"lost\":10,\"repeated\":2},\"sfid\":100,\"skipped_bytes\":4567},\
@@ -388,9 +392,58 @@ const JSON: &str = "\
 \"unknown_sid\":8},\"records\":1234}
 ";
 
+/// How frames compare, behind what stands before it where nothing else came.
+const COMPARISON: &str = "\
+{\"channels\":[],\"clock_crowded\":6,\"clock_set_back\":5,\"comparison\":{\
+\"flows\":[{\"both\":1,\"flow\":0,\"only_analyser\":0,\"only_here\":1,\"sfid\":100},\
+{\"both\":0,\"flow\":2,\"only_analyser\":1,\"only_here\":0,\"sfid\":null}],\
+\"only_analyser\":[{\"bytes\":2,\"first\":\"0aff\",\"flow\":2,\"nanoseconds\":7,\
+\"seconds\":2,\"sfid\":null}],\"only_here\":[{\"bytes\":0,\"first\":\"\",\"flow\":0,\
+\"nanoseconds\":1,\"seconds\":0,\"sfid\":100}],\"strangers\":4,\"whole\":true},\
+\"earlier\":3,";
+
+/// How frames of three flows compare, of which the map has two.
+fn some_compared(alloc: Global) -> Result<FrameComparison, AllocError> {
+    let mut comparison = FrameComparison::new(alloc, 3)?;
+    comparison.take(alloc, Side::Here, 0, 1, b"\x01");
+    comparison.take(alloc, Side::Analyser, 0, 1, b"\x01");
+    comparison.take(alloc, Side::Analyser, 2, 2_000_000_007, b"\x0a\xff");
+    comparison.take(alloc, Side::Here, 0, 1, b"");
+    comparison.finish(alloc);
+    Ok(comparison)
+}
+
+/// The lines of that comparison, where four frames are of no flow.
+const COMPARISON_REPORT: &str = "\
+compared 0 both 1 analyser 0 here 1
+compared 2 both 0 analyser 1 here 0
+only analyser 2 2000000007 2 0aff
+only here 0 1 0 -
+comparison whole strangers 4
+";
+
+#[test]
+fn report_tells_how_frames_compare(rt: HostRuntime) -> Result<(), Fail> {
+    let comparison = some_compared(rt.alloc())?;
+    let mut text = TextBuffer::new(rt.alloc());
+    put_comparison_report(&mut text, &comparison, 4);
+    assert!(rt; text.finish()?.as_slice() == COMPARISON_REPORT.as_bytes());
+    Ok(())
+}
+
+#[test]
+fn json_tells_how_frames_compare(rt: HostRuntime) -> Result<(), Fail> {
+    let flows = [BUSY_FLOW, FlowSummary::new(6)];
+    let summary = summary_of(rt.alloc(), &flows, &[], PassedCounts::none())?;
+    let comparison = some_compared(rt.alloc())?;
+    let text = summary_json(rt.alloc(), &summary, Some(&comparison), 4)?;
+    assert!(rt; text.as_slice().starts_with(COMPARISON.as_bytes()));
+    Ok(())
+}
+
 #[test]
 fn json_tells_all_that_was_counted(rt: HostRuntime) -> Result<(), Fail> {
-    let text = summary_json(rt.alloc(), &much(rt.alloc())?)?;
+    let text = summary_json(rt.alloc(), &much(rt.alloc())?, None, 0)?;
     assert!(rt; text.as_slice() == JSON.as_bytes());
     Ok(())
 }

@@ -1,0 +1,165 @@
+//! How frames compare as JSON.
+ghost use Rattle.std.specs.Prelude.{◌≡◌, ◌++◌, IfOk, OnOk, map, option_map, slice_get};
+ghost use Rattle.serde_json.specs.View.{view};
+ghost use Rattle.capture_json.specs.Compared.{sfid_data, compared_data, told_if, only_data, compared_flows};
+ghost use Rattle.capture_json.specs.Compared.{comparison_data, compared_or_null};
+ghost use Rattle.frame_comparison.specs.ComparisonText.{is_quiet};
+
+use capture_summary::FlowSummary;
+use frame_comparison::{ComparedCounts, FrameComparison, LonelyFrame, Side};
+use serde_json::{Value, json};
+use std::alloc::{AllocError, Global};
+
+/// So many nanoseconds are a second.
+const SECOND: u64 = 1_000_000_000;
+
+/// The flow with this index, if there is one.
+fn flow_at(flows: &[FlowSummary], flow: usize) -> Option<FlowSummary>
+    ensures { result ≡ slice_get flows.now flow }
+{
+    flows.get(flow).copied()
+}
+
+/// The service flow identifier of a flow, if there is such a flow.
+fn sfid_value(flow: Option<FlowSummary>) -> Value
+    ensures { view result ≡ sfid_data flow }
+{
+    match flow {
+        Some(flow) => Value::from(flow.sfid),
+        None => Value::Null,
+    }
+}
+
+/// A flow, and what was counted of it.
+fn compared_value(
+    alloc: Global,
+    flows: &[FlowSummary],
+    flow: usize,
+    counts: &ComparedCounts,
+) -> Result<Value, AllocError>
+    ensures { IfOk result (λ value. view value ≡ compared_data flows.now (flow, counts.now)) }
+{
+    let sfid = sfid_value(flow_at(flows, flow));
+    json!(in alloc; {
+        "both": counts.both,
+        "flow": flow,
+        "only_analyser": counts.only_analyser,
+        "only_here": counts.only_here,
+        "sfid": sfid
+    })
+}
+
+/// Whether nothing was counted of a flow.
+fn is_quiet(counts: &ComparedCounts) -> bool
+    ensures { result ≡ is_quiet counts.now }
+{
+    counts.both == 0 && counts.has_none_alone()
+}
+
+/// Adds a flow, if something came of it.
+fn push_compared(
+    alloc: Global,
+    values: &mut Vec<Value>,
+    flows: &[FlowSummary],
+    flow: usize,
+    counts: &ComparedCounts,
+) -> Result<(), AllocError>
+    ensures { OnOk result (map view values.new.items
+        ≡ map view values.old.items ++ map (compared_data flows.now) (told_if (flow, counts.now))) }
+{
+    if is_quiet(counts) {
+        return Ok(());
+    }
+    values.push(compared_value(alloc, flows, flow, counts)?)?;
+    Ok(())
+}
+
+/// The flows of which something came.
+fn all_compared(
+    alloc: Global,
+    flows: &[FlowSummary],
+    all: &[ComparedCounts],
+) -> Result<Vec<Value>, AllocError>
+    ensures { IfOk result (λ values. map view values.items
+        ≡ map (compared_data flows.now) (compared_flows all.now)) }
+{
+    let mut values = Vec::new(alloc);
+    for (flow, counts) in all.iter().enumerate() {
+        push_compared(alloc, &mut values, flows, flow, counts)?;
+    }
+    Ok(values)
+}
+
+/// A frame that only one side has.
+fn only_value(
+    alloc: Global,
+    flows: &[FlowSummary],
+    frame: &LonelyFrame,
+) -> Result<Value, AllocError>
+    ensures { IfOk result (λ value. view value ≡ only_data flows.now frame.now) }
+{
+    let first = hex::encode(alloc, frame.first.as_slice())?;
+    let sfid = sfid_value(flow_at(flows, frame.flow));
+    json!(in alloc; {
+        "bytes": frame.length,
+        "first": first,
+        "flow": frame.flow,
+        "nanoseconds": frame.time % SECOND,
+        "seconds": frame.time / SECOND,
+        "sfid": sfid
+    })
+}
+
+/// The frames that only one side has.
+fn all_only(
+    alloc: Global,
+    flows: &[FlowSummary],
+    frames: &[LonelyFrame],
+) -> Result<Vec<Value>, AllocError>
+    ensures { IfOk result (λ values.
+        map view values.items ≡ map (only_data flows.now) frames.now) }
+{
+    let mut values = Vec::with_capacity(alloc, frames.len())?;
+    for frame in frames {
+        values.push(only_value(alloc, flows, frame)?)?;
+    }
+    Ok(values)
+}
+
+/// How frames compare, and how many of the analyser's are of no flow.
+fn comparison_value(
+    alloc: Global,
+    flows: &[FlowSummary],
+    comparison: &FrameComparison,
+    strangers: u64,
+) -> Result<Value, AllocError>
+    ensures { IfOk result (λ value.
+        view value ≡ comparison_data flows.now strangers comparison.now) }
+{
+    let compared = all_compared(alloc, flows, comparison.counts())?;
+    let analyser = all_only(alloc, flows, comparison.lonely(Side::Analyser))?;
+    let here = all_only(alloc, flows, comparison.lonely(Side::Here))?;
+    json!(in alloc; {
+        "flows": compared,
+        "only_analyser": analyser,
+        "only_here": here,
+        "strangers": strangers,
+        "whole": comparison.is_whole()
+    })
+}
+
+/// How frames compare, or null where they aren't compared.
+pub(crate) fn compared_or_null(
+    alloc: Global,
+    flows: &[FlowSummary],
+    comparison: Option<&FrameComparison>,
+    strangers: u64,
+) -> Result<Value, AllocError>
+    ensures { let seen = option_map (λ one. one.now) comparison.entry in
+        IfOk result (λ value. view value ≡ compared_or_null flows.now strangers seen) }
+{
+    match comparison {
+        Some(comparison) => comparison_value(alloc, flows, comparison, strangers),
+        None => Ok(Value::Null),
+    }
+}
