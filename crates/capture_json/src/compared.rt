@@ -5,7 +5,7 @@ ghost use Rattle.capture_json.specs.Compared.{sfid_data, compared_data, told_if,
 ghost use Rattle.capture_json.specs.Compared.{comparison_data, compared_or_null};
 ghost use Rattle.frame_comparison.specs.ComparisonText.{is_quiet};
 
-use capture_summary::FlowSummary;
+use capture_summary::{CaptureSummary, FlowSummary};
 use frame_comparison::{ComparedCounts, FrameComparison, LonelyFrame, Side};
 use serde_json::{Value, json};
 use std::alloc::{AllocError, Global};
@@ -151,15 +151,16 @@ fn comparison_value(
 /// How frames compare, or null where they aren't compared.
 pub(crate) fn compared_or_null(
     alloc: Global,
-    flows: &[FlowSummary],
+    summary: &CaptureSummary,
     comparison: Option<&FrameComparison>,
     strangers: u64,
 ) -> Result<Value, AllocError>
     ensures { let seen = option_map (λ one. one.now) comparison.entry in
-        IfOk result (λ value. view value ≡ compared_or_null flows.now strangers seen) }
+        let flows = summary.now.flows.items in
+        IfOk result (λ value. view value ≡ compared_or_null flows strangers seen) }
 {
     match comparison {
-        Some(comparison) => comparison_value(alloc, flows, comparison, strangers),
+        Some(comparison) => { comparison_value(alloc, &summary.flows, comparison, strangers) }
         None => Ok(Value::Null),
     }
 }

@@ -198,7 +198,7 @@ pub fn summary_json(
         IfOk result (λ text. text.items
         ≡ compact_text (summary_data compared summary.now) ++ line_feed ∷ []) }
 {
-    let compared = compared_or_null(alloc, &summary.flows, comparison, strangers)?;
+    let compared = compared_or_null(alloc, summary, comparison, strangers)?;
     let value = summary_value(alloc, summary, compared)?;
     line_of(alloc, &value)
 }
