@@ -1,12 +1,12 @@
 -- Flows by their places, one after another.
-use Rattle.std.proofs.Common.{◌≡◌, ℕ, ◌+◌, ◌<◌, List, [], ◌∷◌, ◌++◌, length, take, get_or, sym, ap, ◌∙◌, add-zero, arith, length-take}
-use Rattle.std.specs.Prelude.{map, filter, not, true, false}
+use Rattle.std.proofs.Common.{◌≡◌, ℕ, ◌+◌, ◌<◌, List, [], ◌∷◌, ◌++◌, length, take, get_or, sym, ap, ◌∙◌, add-zero, append-nil, arith, length-take}
+use Rattle.std.specs.Prelude.{flat_map}
 use Rattle.std.specs.List.{enumerate_from}
 use Rattle.std.proofs.lemmas.List.{take_more}
+use Rattle.std.proofs.lemmas.Grind.{flat_map-append}
 use Rattle.frame_comparison.specs.declared.counts.ComparedCounts.{ComparedCounts}
-use Rattle.frame_comparison.specs.ComparisonText.{is_quiet}
 use Rattle.frame_comparison.specs.Seen.{no_counts}
-use Rattle.capture_json.specs.Compared.{compared_flows}
+use Rattle.capture_json.specs.Compared.{told_if, compared_flows}
 
 enumerate_from-push : (n : ℕ) (all : List ComparedCounts) (one : ComparedCounts)
     → enumerate_from n (all ++ one ∷ []) ≡ enumerate_from n all ++ (n + length all, one) ∷ []
@@ -16,12 +16,20 @@ enumerate_from-push n (first ∷ all) one =
     ap (λ others. (n, first) ∷ others) (enumerate_from-push (n + 1) all one ∙ ap (λ k. enumerate_from (n + 1) all ++ (k, one) ∷ []) place)
 
 -- one more flow has the next place
-pub places-one-more : (all : List ComparedCounts) (i : ℕ) → i < length all
+places-more : (all : List ComparedCounts) (i : ℕ) → i < length all
     → enumerate_from 0 (take (i + 1) all) ≡ enumerate_from 0 (take i all) ++ (i, get_or all i no_counts) ∷ []
-places-one-more all i within =
+places-more all i within =
     ap (enumerate_from 0) (take_more all i no_counts within)
     ∙ enumerate_from-push 0 (take i all) (get_or all i no_counts)
     ∙ ap (λ k. enumerate_from 0 (take i all) ++ (k, get_or all i no_counts) ∷ []) place
   where
     place : 0 + length (take i all) ≡ i
     place = omega (arith, length-take i all, within)
+
+-- it is told if something came of it
+pub flows-more : (all : List ComparedCounts) (i : ℕ) → i < length all
+    → compared_flows (take (i + 1) all) ≡ compared_flows (take i all) ++ told_if (i, get_or all i no_counts)
+flows-more all i within =
+    ap (flat_map told_if) (places-more all i within)
+    ∙ flat_map-append told_if (enumerate_from 0 (take i all)) ((i, get_or all i no_counts) ∷ [])
+    ∙ ap (λ more. compared_flows (take i all) ++ more) (append-nil (told_if (i, get_or all i no_counts)))

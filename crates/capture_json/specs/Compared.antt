@@ -1,5 +1,5 @@
 -- How frames compare, as JSON. The members of an object are in the order of their names.
-use Rattle.std.specs.Prelude.{ℕ, ◌/◌, ◌%◌, not, Option, Some, None, List, [], ◌∷◌, map, filter, codes, slice_get}
+use Rattle.std.specs.Prelude.{ℕ, ◌/◌, ◌%◌, Option, Some, None, List, [], ◌∷◌, map, flat_map, codes, if◌then◌else◌, slice_get}
 use Rattle.std.specs.List.{enumerate_from}
 use Rattle.hex.specs.Hex.{encode_lower}
 use Rattle.serde_json.specs.Data.{Data, object, array, number, string, boolean, null, unsigned, member, no_members}
@@ -17,8 +17,11 @@ sfid_data (Some flow) = number (unsigned flow.sfid)
 sfid_data None = null
 
 -- the flows of which something came, by their places
+abbrev pub told_if : ℕ × ComparedCounts → List (ℕ × ComparedCounts)
+told_if one = if is_quiet one.1 then [] else one ∷ []
+
 abbrev pub compared_flows : List ComparedCounts → List (ℕ × ComparedCounts)
-compared_flows counts = filter (λ one. not (is_quiet one.1)) (enumerate_from 0 counts)
+compared_flows counts = flat_map told_if (enumerate_from 0 counts)
 
 module _ (flows : List FlowSummary) where
   -- a flow, and what was counted of it

@@ -1,11 +1,11 @@
 //! How frames compare as JSON.
-ghost use Rattle.std.specs.Prelude.{◌≡◌, IfOk, map, option_map, slice_get};
+ghost use Rattle.std.specs.Prelude.{◌≡◌, ◌++◌, IfOk, OnOk, map, option_map, slice_get};
 ghost use Rattle.serde_json.specs.View.{view};
-ghost use Rattle.capture_json.specs.Compared.{sfid_data, compared_data, only_data, compared_flows};
+ghost use Rattle.capture_json.specs.Compared.{sfid_data, compared_data, told_if, only_data, compared_flows};
 ghost use Rattle.capture_json.specs.Compared.{comparison_data, compared_or_null};
 ghost use Rattle.frame_comparison.specs.ComparisonText.{is_quiet};
 
-use capture_summary::FlowSummary;
+use capture_summary::{CaptureSummary, FlowSummary};
 use frame_comparison::{ComparedCounts, FrameComparison, LonelyFrame, Side};
 use serde_json::{Value, json};
 use std::alloc::{AllocError, Global};
@@ -13,11 +13,18 @@ use std::alloc::{AllocError, Global};
 /// So many nanoseconds are a second.
 const SECOND: u64 = 1_000_000_000;
 
-/// The service flow identifier of a flow, if there is such a flow.
-fn sfid_value(flows: &[FlowSummary], flow: usize) -> Value
-    ensures { view result ≡ sfid_data (slice_get flows.now flow) }
+/// The flow with this index, if there is one.
+fn flow_at(flows: &[FlowSummary], flow: usize) -> Option<FlowSummary>
+    ensures { result ≡ slice_get flows.now flow }
 {
-    match flows.get(flow) {
+    flows.get(flow).copied()
+}
+
+/// The service flow identifier of a flow, if there is such a flow.
+fn sfid_value(flow: Option<FlowSummary>) -> Value
+    ensures { view result ≡ sfid_data flow }
+{
+    match flow {
         Some(flow) => Value::from(flow.sfid),
         None => Value::Null,
     }
@@ -32,7 +39,7 @@ fn compared_value(
 ) -> Result<Value, AllocError>
     ensures { IfOk result (λ value. view value ≡ compared_data flows.now (flow, counts.now)) }
 {
-    let sfid = sfid_value(flows, flow);
+    let sfid = sfid_value(flow_at(flows, flow));
     json!(in alloc; {
         "both": counts.both,
         "flow": flow,
@@ -49,6 +56,24 @@ fn is_quiet(counts: &ComparedCounts) -> bool
     counts.both == 0 && counts.has_none_alone()
 }
 
+/// Adds a flow, if something came of it.
+fn push_compared(
+    alloc: Global,
+    values: &mut Vec<Value>,
+    flows: &[FlowSummary],
+    flow: usize,
+    counts: &ComparedCounts,
+) -> Result<(), AllocError>
+    ensures { OnOk result (map view values.new.items
+        ≡ map view values.old.items ++ map (compared_data flows.now) (told_if (flow, counts.now))) }
+{
+    if is_quiet(counts) {
+        return Ok(());
+    }
+    values.push(compared_value(alloc, flows, flow, counts)?)?;
+    Ok(())
+}
+
 /// The flows of which something came.
 fn all_compared(
     alloc: Global,
@@ -60,9 +85,7 @@ fn all_compared(
 {
     let mut values = Vec::new(alloc);
     for (flow, counts) in all.iter().enumerate() {
-        if !is_quiet(counts) {
-            values.push(compared_value(alloc, flows, flow, counts)?)?;
-        }
+        push_compared(alloc, &mut values, flows, flow, counts)?;
     }
     Ok(values)
 }
@@ -76,7 +99,7 @@ fn only_value(
     ensures { IfOk result (λ value. view value ≡ only_data flows.now frame.now) }
 {
     let first = hex::encode(alloc, frame.first.as_slice())?;
-    let sfid = sfid_value(flows, frame.flow);
+    let sfid = sfid_value(flow_at(flows, frame.flow));
     json!(in alloc; {
         "bytes": frame.length,
         "first": first,
@@ -128,15 +151,16 @@ fn comparison_value(
 /// How frames compare, or null where they aren't compared.
 pub(crate) fn compared_or_null(
     alloc: Global,
-    flows: &[FlowSummary],
+    summary: &CaptureSummary,
     comparison: Option<&FrameComparison>,
     strangers: u64,
 ) -> Result<Value, AllocError>
-    ensures { let seen = option_map (λ one. one.now) comparison in
-        IfOk result (λ value. view value ≡ compared_or_null flows.now strangers seen) }
+    ensures { let seen = option_map (λ one. one.now) comparison.entry in
+        let flows = summary.now.flows.items in
+        IfOk result (λ value. view value ≡ compared_or_null flows strangers seen) }
 {
     match comparison {
-        Some(comparison) => comparison_value(alloc, flows, comparison, strangers),
+        Some(comparison) => { comparison_value(alloc, &summary.flows, comparison, strangers) }
         None => Ok(Value::Null),
     }
 }

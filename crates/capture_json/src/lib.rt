@@ -193,12 +193,12 @@ pub fn summary_json(
     comparison: Option<&FrameComparison>,
     strangers: u64,
 ) -> Result<Vec<u8>, AllocError>
-    ensures { let seen = option_map (λ one. one.now) comparison in
+    ensures { let seen = option_map (λ one. one.now) comparison.entry in
         let compared = compared_or_null summary.now.flows.items strangers seen in
         IfOk result (λ text. text.items
         ≡ compact_text (summary_data compared summary.now) ++ line_feed ∷ []) }
 {
-    let compared = compared_or_null(alloc, &summary.flows, comparison, strangers)?;
+    let compared = compared_or_null(alloc, summary, comparison, strangers)?;
     let value = summary_value(alloc, summary, compared)?;
     line_of(alloc, &value)
 }
