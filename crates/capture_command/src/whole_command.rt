@@ -24,7 +24,7 @@ use capture_map::CaptureMap;
 use capture_picture::put_picture;
 use capture_summary::{CaptureSummary, put_report, put_summary};
 use comparison_report::put_comparison_report;
-use engines::{Device, EngineFault, TextWriter, held_room, write_text};
+use engines::{Device, EngineFault, TextWriter, WriteFault, held_room, write_text};
 use flow_selection::Selection;
 use frame_comparison::{FrameComparison, put_comparison};
 use frame_engine::{CaptureTally, Comparing, FrameReading, join_capture};
