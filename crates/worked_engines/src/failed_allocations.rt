@@ -2,12 +2,13 @@
 //! at one place of each call. Each test takes out of memory as lawful there, says so by the word
 //! `refused`, and calls again; where nothing failed it says nothing. Where the name of a test ends
 //! in `without_memory` all later allocations fail, too.
+use crate::devices::{Engine, run_between};
 use crate::followed::{FOLLOWED, all_flows};
-use commands::{program, run_text, run_text_by};
+use commands::program;
 use docsis_wire::FillByte;
 use engines::{
-    Command, Device, EngineFault, UsageFault, WriteFault, cut_text, follow_text, join_text,
-    read_words, replay_text, replay_text_by, status, write_fault,
+    Command, Device, EngineFault, UsageFault, WriteFault, follow_text, read_words, status,
+    write_fault,
 };
 use loss_rule::LossRule;
 use receiver::Width;
@@ -18,106 +19,56 @@ use std::sync::Wait;
 use std::test::Fail;
 use std::thread::Threads;
 use texts::{TraceFault, TraceKind};
-use uplink::{NoTap, Taps};
 use worked_texts::samples::{
-    FRAMES, FRAMES_AND_PIECES, LOST_REPORT, LOST_TRACE, REPORT, RULED_TRACE, SEGMENTS, SLID_REPORT,
-    TRACE,
+    FRAMES, LOST_REPORT, LOST_TRACE, REPORT, RULED_TRACE, SEGMENTS, SLID_REPORT, TRACE,
 };
 
-/// Joins the segments into an array that is just large enough for their frames.
-fn join_into(alloc: Global, text: &mut [u8]) -> Result<(), EngineFault> {
-    let mut reader = Device::new(SEGMENTS.as_bytes());
-    let mut writer = Device::new(text);
-    let done = join_text(alloc, &mut reader, &mut writer);
-    reader.into_inner();
-    writer.into_inner();
-    done
+/// Runs an engine, again where an allocation fails, and looks at what it writes into an array of
+/// zeros that is just large enough for the text.
+fn expect_text_or_refused<T>(rt: T, engine: Engine, text: &mut [u8]) -> Result<(), Fail>
+where
+    T: Abort + AllocGlobal + Print + Threads + Wait + Copy + Send + 'static,
+{
+    let input = engine.input().as_bytes();
+    let mut done = run_between(rt.alloc(), rt, engine, input, &mut *text).done;
+    if done == Err(EngineFault::OutOfMemory) {
+        println!(rt; "refused")?;
+        assert!(rt; text.iter().all(|byte| *byte == 0));
+        done = run_between(rt.alloc(), rt, engine, input, &mut *text).done;
+    }
+    assert!(rt; done == Ok(()));
+    assert!(rt; &*text == engine.text().as_bytes());
+    Ok(())
 }
 
 #[test]
 fn join_text_is_refused(rt: HostRuntime) -> Result<(), Fail> {
-    let mut text = [0u8; 36];
-    let mut done = join_into(rt.alloc(), &mut text);
-    if done == Err(EngineFault::OutOfMemory) {
-        println!(rt; "refused")?;
-        assert_eq!(rt; text.as_slice(), [0u8; 36].as_slice());
-        done = join_into(rt.alloc(), &mut text);
-    }
-    assert_eq!(rt; done, Ok(()));
-    assert_eq!(rt; text.as_slice(), FRAMES.as_bytes());
-    Ok(())
-}
-
-/// Cuts the frames into an array that is just large enough for their segments.
-fn cut_into(alloc: Global, text: &mut [u8]) -> Result<(), EngineFault> {
-    let mut reader = Device::new(FRAMES_AND_PIECES.as_bytes());
-    let mut writer = Device::new(text);
-    let done = cut_text(alloc, 0, FillByte::Zero, &mut reader, &mut writer);
-    reader.into_inner();
-    writer.into_inner();
-    done
+    expect_text_or_refused(rt, Engine::Join, &mut [0u8; 36])
 }
 
 #[test]
 fn cut_text_is_refused(rt: HostRuntime) -> Result<(), Fail> {
-    let mut text = [0u8; 85];
-    let mut done = cut_into(rt.alloc(), &mut text);
-    if done == Err(EngineFault::OutOfMemory) {
-        println!(rt; "refused")?;
-        assert_eq!(rt; text.as_slice(), [0u8; 85].as_slice());
-        done = cut_into(rt.alloc(), &mut text);
-    }
-    assert_eq!(rt; done, Ok(()));
-    assert_eq!(rt; text.as_slice(), SEGMENTS.as_bytes());
-    Ok(())
-}
-
-/// Replays the trace into an array that is just large enough for its report.
-fn replay_into(alloc: Global, text: &mut [u8]) -> Result<(), EngineFault> {
-    let mut reader = Device::new(TRACE.as_bytes());
-    let mut writer = Device::new(text);
-    let done = replay_text(alloc, &mut reader, &mut writer);
-    reader.into_inner();
-    writer.into_inner();
-    done
+    expect_text_or_refused(rt, Engine::Cut, &mut [0u8; 85])
 }
 
 #[test]
 fn replay_text_is_refused(rt: HostRuntime) -> Result<(), Fail> {
-    let mut text = [0u8; 233];
-    let mut done = replay_into(rt.alloc(), &mut text);
-    if done == Err(EngineFault::OutOfMemory) {
-        println!(rt; "refused")?;
-        assert_eq!(rt; text.as_slice(), [0u8; 233].as_slice());
-        done = replay_into(rt.alloc(), &mut text);
-    }
-    assert_eq!(rt; done, Ok(()));
-    assert_eq!(rt; text.as_slice(), REPORT.as_bytes());
-    Ok(())
-}
-
-/// Replays a trace by the rule with the most to do into an array that is just large enough.
-fn replay_by_rule_into(alloc: Global, text: &mut [u8]) -> Result<(), EngineFault> {
-    let mut reader = Device::new(RULED_TRACE.as_bytes());
-    let mut writer = Device::new(text);
-    let done = replay_text_by(LossRule::PassedOrSlid, alloc, &mut reader, &mut writer);
-    reader.into_inner();
-    writer.into_inner();
-    done
+    expect_text_or_refused(rt, Engine::Replay, &mut [0u8; 233])
 }
 
 #[test]
 fn replay_text_by_is_refused(rt: HostRuntime) -> Result<(), Fail> {
-    let mut text = [0u8; 317];
-    let mut done = replay_by_rule_into(rt.alloc(), &mut text);
-    if done == Err(EngineFault::OutOfMemory) {
-        println!(rt; "refused")?;
-        assert_eq!(rt; text.as_slice(), [0u8; 317].as_slice());
-        done = replay_by_rule_into(rt.alloc(), &mut text);
-    }
-    assert_eq!(rt; done, Ok(()));
-    assert_eq!(rt; text.as_slice(), SLID_REPORT.as_bytes());
-    Ok(())
+    expect_text_or_refused(rt, Engine::ReplayBy, &mut [0u8; 317])
+}
+
+#[test]
+fn run_text_is_refused(rt: HostRuntime) -> Result<(), Fail> {
+    expect_text_or_refused(rt, Engine::Run, &mut [0u8; 208])
+}
+
+#[test]
+fn run_text_by_is_refused(rt: HostRuntime) -> Result<(), Fail> {
+    expect_text_or_refused(rt, Engine::RunBy, &mut [0u8; 208])
 }
 
 #[test]
@@ -170,103 +121,37 @@ fn follow_text_is_refused(rt: HostRuntime) -> Result<(), Fail> {
         assert!(rt; FOLLOWED.as_bytes().starts_with(&text[..printed]));
         done = follow_into(rt.alloc(), &mut text);
     }
-    assert_eq!(rt; done, Ok(()));
-    assert_eq!(rt; text.as_slice(), FOLLOWED.as_bytes());
+    assert!(rt; done == Ok(()));
+    assert!(rt; text.as_slice() == FOLLOWED.as_bytes());
     Ok(())
 }
 
-/// Receives the trace on threads into an array that is just large enough for its report.
-fn run_into<T>(alloc: Global, rt: T, text: &mut [u8]) -> Result<(), EngineFault>
-where
-    T: Threads + Wait + Copy + Send + 'static,
-{
-    let mut reader = Device::new(LOST_TRACE.as_bytes());
-    let mut writer = Device::new(text);
-    let taps = Taps {
-        frames: NoTap,
-        requests: NoTap,
-    };
-    let done = run_text(alloc, rt, 1, 1, taps, &mut reader, &mut writer);
-    reader.into_inner();
-    writer.into_inner();
-    done
-}
-
-#[test]
-fn run_text_is_refused(rt: HostRuntime) -> Result<(), Fail> {
-    let mut text = [0u8; 208];
-    let mut done = run_into(rt.alloc(), rt, &mut text);
-    if done == Err(EngineFault::OutOfMemory) {
-        println!(rt; "refused")?;
-        assert_eq!(rt; text.as_slice(), [0u8; 208].as_slice());
-        done = run_into(rt.alloc(), rt, &mut text);
+/// Reads some words, again where an allocation fails.
+fn read_again(rt: &(impl AllocGlobal + Print), words: &[&str]) -> Result<Command, Fail> {
+    match read_words(rt.alloc(), words) {
+        Ok(command) => Ok(command),
+        Err(UsageFault::OutOfMemory) => {
+            println!(rt; "refused")?;
+            Ok(read_words(rt.alloc(), words)?)
+        }
+        Err(_) => Err("the words are not understood".into()),
     }
-    assert_eq!(rt; done, Ok(()));
-    assert_eq!(rt; text.as_slice(), LOST_REPORT.as_bytes());
-    Ok(())
-}
-
-/// Receives the trace on threads by a rule, which has nothing to add to what the close loses.
-fn run_by_rule_into<T>(alloc: Global, rt: T, text: &mut [u8]) -> Result<(), EngineFault>
-where
-    T: Threads + Wait + Copy + Send + 'static,
-{
-    let mut reader = Device::new(LOST_TRACE.as_bytes());
-    let mut writer = Device::new(text);
-    let taps = Taps {
-        frames: NoTap,
-        requests: NoTap,
-    };
-    let rule = LossRule::PassedOrSlid;
-    let done = run_text_by(rule, alloc, rt, 1, 1, taps, &mut reader, &mut writer);
-    reader.into_inner();
-    writer.into_inner();
-    done
-}
-
-#[test]
-fn run_text_by_is_refused(rt: HostRuntime) -> Result<(), Fail> {
-    let mut text = [0u8; 208];
-    let mut done = run_by_rule_into(rt.alloc(), rt, &mut text);
-    if done == Err(EngineFault::OutOfMemory) {
-        println!(rt; "refused")?;
-        assert_eq!(rt; text.as_slice(), [0u8; 208].as_slice());
-        done = run_by_rule_into(rt.alloc(), rt, &mut text);
-    }
-    assert_eq!(rt; done, Ok(()));
-    assert_eq!(rt; text.as_slice(), LOST_REPORT.as_bytes());
-    Ok(())
 }
 
 #[test]
 fn read_words_is_refused(rt: HostRuntime) -> Result<(), Fail> {
-    let words = ["segrx", "--help"];
-    let mut read = read_words(rt.alloc(), &words);
-    if let Err(UsageFault::OutOfMemory) = read {
-        println!(rt; "refused")?;
-        read = read_words(rt.alloc(), &words);
-    }
-    match &read {
-        Ok(Command::Help(text)) => assert!(rt; text.contains("Usage: segrx")),
-        _ => assert!(rt; false, "no help"),
+    match read_again(&rt, &["segrx", "--help"])? {
+        Command::Help(text) => assert!(rt; text.contains("Usage: segrx")),
+        _ => return Err("no help".into()),
     }
     Ok(())
 }
 
 #[test]
 fn words_of_cut_are_refused(rt: HostRuntime) -> Result<(), Fail> {
-    let words = ["segrx", "cut", "--first=5", "--fill=ones"];
-    let mut read = read_words(rt.alloc(), &words);
-    if let Err(UsageFault::OutOfMemory) = read {
-        println!(rt; "refused")?;
-        read = read_words(rt.alloc(), &words);
-    }
-    match read {
-        Ok(Command::Cut { first, fill }) => {
-            assert_eq!(rt; first, 5);
-            assert_eq!(rt; fill, FillByte::Ones);
-        }
-        _ => assert!(rt; false, "no cut"),
+    match read_again(&rt, &["segrx", "cut", "--first=5", "--fill=ones"])? {
+        Command::Cut { first, fill } => assert!(rt; first == 5 && fill == FillByte::Ones),
+        _ => return Err("no cut".into()),
     }
     Ok(())
 }
@@ -274,23 +159,13 @@ fn words_of_cut_are_refused(rt: HostRuntime) -> Result<(), Fail> {
 #[test]
 fn words_of_run_are_refused(rt: HostRuntime) -> Result<(), Fail> {
     let words = ["segrx", "run", "--losses=slid", "--ring", "2"];
-    let mut read = read_words(rt.alloc(), &words);
-    if let Err(UsageFault::OutOfMemory) = read {
-        println!(rt; "refused")?;
-        read = read_words(rt.alloc(), &words);
-    }
-    match read {
-        Ok(
-            Command::Run {
-                rule,
-                mailbox,
-                ring,
-            },
-        ) => {
-            assert_eq!(rt; rule, LossRule::PassedOrSlid);
-            assert_eq!(rt; (mailbox, ring), (1024, 2));
-        }
-        _ => assert!(rt; false, "no run"),
+    match read_again(&rt, &words)? {
+        Command::Run {
+            rule,
+            mailbox,
+            ring,
+        } => assert!(rt; rule == LossRule::PassedOrSlid && mailbox == 1024 && ring == 2),
+        _ => return Err("no run".into()),
     }
     Ok(())
 }
@@ -308,14 +183,14 @@ fn run_program<T: Abort + AllocGlobal + Print + Threads + Wait + Copy + Send + '
     let mut status = program(rt.alloc(), rt, words, input, &mut *out, &mut err[..]);
     if status == 3 {
         println!(rt; "refused")?;
-        assert_eq!(rt; err.as_slice(), b"segrx: out of memory\n".as_slice());
+        assert!(rt; err.as_slice() == b"segrx: out of memory\n".as_slice());
         assert!(rt; out.iter().all(|byte| *byte == 0));
         err = [0; 21];
         status = program(rt.alloc(), rt, words, input, &mut *out, &mut err[..]);
     }
-    assert_eq!(rt; status, 0);
-    assert_eq!(rt; &*out, text.as_bytes());
-    assert_eq!(rt; err.as_slice(), [0u8; 21].as_slice());
+    assert!(rt; status == 0);
+    assert!(rt; &*out == text.as_bytes());
+    assert!(rt; err.as_slice() == [0u8; 21].as_slice());
     Ok(())
 }
 
@@ -382,14 +257,7 @@ fn words_of_follow_are_refused(rt: HostRuntime) -> Result<(), Fail> {
         "--events",
         "--flows=0,2-3",
     ];
-    let mut read = read_words(rt.alloc(), &words);
-    if let Err(UsageFault::OutOfMemory) = read {
-        println!(rt; "refused")?;
-        read = read_words(rt.alloc(), &words);
-    }
-    let Ok(command) = read else {
-        return Err("no command".into());
-    };
+    let command = read_again(&rt, &words)?;
     assert!(rt; asks_to_follow(&command), "no follow");
     Ok(())
 }
@@ -457,13 +325,13 @@ fn running_program_with_a_window_that_slides_is_refused(rt: HostRuntime) -> Resu
 fn devices_without_memory(rt: HostRuntime) -> Result<(), Fail> {
     let mut reader = Device::new("abc".as_bytes());
     assert!(rt; !reader.failed());
-    assert_eq!(rt; reader.given(), 0);
+    assert!(rt; reader.given() == 0);
     let mut room = [0u8; 2];
     assert!(rt; matches!(reader.read(&mut room), Ok(2)));
-    assert_eq!(rt; room.as_slice(), b"ab".as_slice());
+    assert!(rt; room.as_slice() == b"ab".as_slice());
     assert!(rt; !reader.failed());
-    assert_eq!(rt; reader.given(), 2);
-    assert_eq!(rt; reader.into_inner(), b"c".as_slice());
+    assert!(rt; reader.given() == 2);
+    assert!(rt; reader.into_inner() == b"c".as_slice());
     match Vec::<u8>::with_capacity(rt.alloc(), 1) {
         Ok(_) => println!(rt; "memory after all calls")?,
         Err(_) => println!(rt; "all calls were made without memory")?,
@@ -481,18 +349,18 @@ fn faults_without_memory(rt: HostRuntime) -> Result<(), Fail> {
     });
     let mut line = [0u8; 57];
     let mut writer = Device::new(&mut line[..]);
-    assert_eq!(rt; write_fault(&fault, &mut writer), Ok(()));
+    assert!(rt; write_fault(&fault, &mut writer) == Ok(()));
     assert!(rt; !writer.failed());
     writer.into_inner();
     let text = "segrx: line 18446744073709551615: wrong number of fields\n";
-    assert_eq!(rt; line.as_slice(), text.as_bytes());
+    assert!(rt; line.as_slice() == text.as_bytes());
 
     let mut front = [0u8; 3];
     let mut writer = Device::new(&mut front[..]);
-    assert_eq!(rt; write_fault(&fault, &mut writer), Err(WriteFault));
+    assert!(rt; write_fault(&fault, &mut writer) == Err(WriteFault));
     assert!(rt; writer.failed());
     writer.into_inner();
-    assert_eq!(rt; front.as_slice(), b"seg".as_slice());
+    assert!(rt; front.as_slice() == b"seg".as_slice());
 
     let faults = [
         (fault, 1),
@@ -502,7 +370,7 @@ fn faults_without_memory(rt: HostRuntime) -> Result<(), Fail> {
         (EngineFault::Write, 4),
     ];
     for (fault, code) in faults {
-        assert_eq!(rt; status(&fault), code);
+        assert!(rt; status(&fault) == code);
     }
     match Vec::<u8>::with_capacity(rt.alloc(), 1) {
         Ok(_) => println!(rt; "memory after all calls")?,

@@ -56,11 +56,11 @@ fn expect_line(
 ) -> Result<(), AllocError> {
     let mut written = Vec::new(alloc);
     let mut writer = Device::new(&mut written);
-    assert_eq!(rt; write_fault(&fault, &mut writer), Ok(()), "{text}");
+    assert!(rt; write_fault(&fault, &mut writer) == Ok(()), "{text}");
     writer.into_inner();
     let line = format!(in alloc; "segrx: {text}\n")?;
-    assert_eq!(rt; written.as_slice(), line.as_bytes(), "{text}");
-    assert_eq!(rt; status(&fault), code, "{text}");
+    assert!(rt; written.as_slice() == line.as_bytes(), "{text}");
+    assert!(rt; status(&fault) == code, "{text}");
     Ok(())
 }
 
@@ -86,10 +86,10 @@ fn reports_that_a_line_cannot_be_written(rt: HostRuntime) {
     let mut written = Vec::new(rt.alloc());
     let mut writer = Device::new(FitfulWriter::new(&mut written, 3, Full::TakesNothing));
     let reported = write_fault(&EngineFault::Usage, &mut writer);
-    assert_eq!(rt; reported, Err(WriteFault));
+    assert!(rt; reported == Err(WriteFault));
     assert!(rt; writer.failed());
     writer.into_inner();
-    assert_eq!(rt; written.as_slice(), b"seg".as_slice());
+    assert!(rt; written.as_slice() == b"seg".as_slice());
 }
 
 /// Faults of engines, and how they are displayed.
@@ -115,7 +115,7 @@ const DISPLAYED: [(EngineFault, &str); 6] = [
 fn displays_faults_of_engines(rt: HostRuntime) -> Result<(), Fail> {
     for (fault, text) in DISPLAYED {
         let shown = fault.to_string(rt.alloc())?;
-        assert_eq!(rt; shown.as_str(), text);
+        assert!(rt; shown.as_str() == text);
     }
     Ok(())
 }
@@ -130,9 +130,9 @@ const OF_WORDS: [(UsageFault, &str); 2] = [
 fn displays_other_faults(rt: HostRuntime) -> Result<(), Fail> {
     for (fault, text) in OF_WORDS {
         let shown = fault.to_string(rt.alloc())?;
-        assert_eq!(rt; shown.as_str(), text);
+        assert!(rt; shown.as_str() == text);
     }
     let shown = WriteFault.to_string(rt.alloc())?;
-    assert_eq!(rt; shown.as_str(), "write failed");
+    assert!(rt; shown.as_str() == "write failed");
     Ok(())
 }

@@ -38,8 +38,8 @@ fn join_many<W: Write + Drop>(alloc: Global, writer: W) -> Result<(), EngineFaul
 fn joins_pieces_and_writes_each_frame_once(rt: HostRuntime) -> Result<(), Fail> {
     let frames = repeated(rt.alloc(), FRAME)?;
     let mut written = Vec::new(rt.alloc());
-    assert_eq!(rt; join_many(rt.alloc(), &mut written), Ok(()));
-    assert_eq!(rt; written.len(), frames.len());
+    assert!(rt; join_many(rt.alloc(), &mut written) == Ok(()));
+    assert!(rt; written.len() == frames.len());
     assert!(rt; written.as_slice() == frames.as_slice());
     Ok(())
 }
@@ -50,7 +50,7 @@ fn writes_nothing_behind_a_failed_write(rt: HostRuntime) -> Result<(), Fail> {
     for room in [65_535usize, 65_536, 65_552, 100_000] {
         let mut written = Vec::new(rt.alloc());
         let writer = FitfulWriter::new(&mut written, room, Full::Fails(ErrorKind::StorageFull));
-        assert_eq!(rt; join_many(rt.alloc(), writer), Err(EngineFault::Write));
+        assert!(rt; join_many(rt.alloc(), writer) == Err(EngineFault::Write));
         assert!(rt; room <= frames.len());
         assert!(rt; written.as_slice() == &frames[..room], "after {room}");
     }

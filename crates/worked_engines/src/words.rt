@@ -4,9 +4,10 @@ use engines::{Command, UsageFault, read_words};
 use flow_selection::Selection;
 use loss_rule::LossRule;
 use std::alloc::Global;
+use std::process::Abort;
 
 /// What some words are read as.
-#[derive(Clone, Copy, Debug, PartialEq, Eq)]
+#[derive(Clone, Copy, PartialEq, Eq)]
 enum Asked {
     Join,
     Cut(u16, FillByte),
@@ -76,8 +77,10 @@ fn what_is_asked(alloc: Global, words: &[&str]) -> Asked {
 /// What is asked for where the words are wrong.
 const USAGE: Asked = Asked::Fault(UsageFault::Usage);
 
-/// Words, each with the name of its case, and what is asked for.
-const WORDS: [(&str, &[&str], Asked); 56] = [
+/// The name of a case, its words, and what is asked for.
+type Case = (&'static str, &'static [&'static str], Asked);
+
+const WORDS: [Case; 56] = [
     ("no words at all", &[], Asked::Join),
     ("no command", &["segrx"], Asked::Join),
     ("join", &["segrx", "join"], Asked::Join),
@@ -282,7 +285,7 @@ const WORDS: [(&str, &[&str], Asked); 56] = [
 ];
 
 /// Words that ask for some flows, and the first that ask for none.
-const FLOW_WORDS: [(&str, &[&str], Asked); 19] = [
+const FLOW_WORDS: [Case; 19] = [
     (
         "a shard of replay",
         &["segrx", "replay", "--shard", "1/4"],
@@ -367,7 +370,7 @@ const FLOW_WORDS: [(&str, &[&str], Asked); 19] = [
 ];
 
 /// More words that ask for no flows.
-const WORDS_WITHOUT_FLOWS: [(&str, &[&str], Asked); 14] = [
+const WORDS_WITHOUT_FLOWS: [Case; 14] = [
     ("flow 64", &["segrx", "replay", "--flows=0,64"], USAGE),
     (
         "a range up to flow 64",
@@ -428,25 +431,26 @@ const WORDS_WITHOUT_FLOWS: [(&str, &[&str], Asked); 14] = [
     ),
 ];
 
+/// Ends the test if words are read as something else.
+fn expect_asked(rt: &impl Abort, alloc: Global, cases: &[Case]) {
+    for (case, words, want) in cases {
+        assert!(rt; what_is_asked(alloc, words) == *want, "{case}");
+    }
+}
+
 #[test]
 fn reads_words(rt: HostRuntime) {
-    for (case, words, want) in &WORDS {
-        assert_eq!(rt; what_is_asked(rt.alloc(), words), *want, "{case}");
-    }
+    expect_asked(&rt, rt.alloc(), &WORDS);
 }
 
 #[test]
 fn reads_which_flows_are_asked_for(rt: HostRuntime) {
-    for (case, words, want) in &FLOW_WORDS {
-        assert_eq!(rt; what_is_asked(rt.alloc(), words), *want, "{case}");
-    }
+    expect_asked(&rt, rt.alloc(), &FLOW_WORDS);
 }
 
 #[test]
 fn refuses_what_asks_for_no_flows(rt: HostRuntime) {
-    for (case, words, want) in &WORDS_WITHOUT_FLOWS {
-        assert_eq!(rt; what_is_asked(rt.alloc(), words), *want, "{case}");
-    }
+    expect_asked(&rt, rt.alloc(), &WORDS_WITHOUT_FLOWS);
 }
 
 /// The help that some words ask for, or no text.

@@ -44,6 +44,6 @@ fn close_and_take<R: Abort + Wait>(
     ensures mouth { places mouth.new ≡ places mouth.old }
 {
     let closed = close_port(rt, port);
-    assert_eq!(rt; mouth.next(rt), Taken::End { from });
+    assert!(rt; mouth.next(rt) == Taken::End { from });
     closed
 }

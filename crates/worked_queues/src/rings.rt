@@ -25,7 +25,7 @@ fn takes(rt: &impl Abort, taker: &mut Taker, frame: &[u8])
     let Took::Frame(taken) = taker.take() else {
         panic!(rt; "no frame was taken");
     };
-    assert_eq!(rt; taken.as_slice(), frame);
+    assert!(rt; taken.as_slice() == frame);
 }
 
 fn close_feeder(rt: &impl Abort, feeder: Feeder) -> ClosedFeeder
@@ -51,7 +51,7 @@ fn no_ring_without_capacity(rt: HostRuntime) {
     let Err(fault) = ring(rt.alloc(), 0) else {
         panic!(&rt; "a ring without capacity");
     };
-    assert_eq!(rt; fault, OpenFault::NoCapacity);
+    assert!(rt; fault == OpenFault::NoCapacity);
 }
 
 /// The two frames, offered to a ring with room for `capacity`.
@@ -73,15 +73,15 @@ fn take_both_from_one_place(rt: &impl Abort, feeder: Feeder, taker: Taker)
     let mut feeder = feeder;
     let mut taker = taker;
     takes(rt, &mut taker, PLAIN);
-    assert_eq!(rt; taker.take(), Took::NothingYet);
-    assert_eq!(rt; feeder.flush(), 0);
+    assert!(rt; taker.take() == Took::NothingYet);
+    assert!(rt; feeder.flush() == 0);
     let feeder = comes_back(rt, feeder);
     takes(rt, &mut taker, EXTENDED);
     let mut feeder = close_feeder(rt, feeder);
-    assert_eq!(rt; settle(&mut feeder, &mut taker), 0);
-    assert_eq!(rt; taker.take(), Took::Closed);
-    assert_eq!(rt; taker.take(), Took::Closed);
-    assert_eq!(rt; settle(&mut feeder, &mut taker), 0);
+    assert!(rt; settle(&mut feeder, &mut taker) == 0);
+    assert!(rt; taker.take() == Took::Closed);
+    assert!(rt; taker.take() == Took::Closed);
+    assert!(rt; settle(&mut feeder, &mut taker) == 0);
 }
 
 #[test]
@@ -95,13 +95,13 @@ fn second_frame_waits_and_the_end_mark_after_it(rt: HostRuntime) -> Result<(), F
 fn abandon_the_second(rt: &impl Abort, feeder: Feeder, taker: Taker) {
     let mut taker = taker;
     let backlog = feeder.abandon();
-    assert_eq!(rt; backlog.len(), 1);
+    assert!(rt; backlog.len() == 1);
     for frame in backlog {
-        assert_eq!(rt; frame.as_slice(), EXTENDED);
+        assert!(rt; frame.as_slice() == EXTENDED);
     }
     takes(rt, &mut taker, PLAIN);
-    assert_eq!(rt; taker.take(), Took::NothingYet);
-    assert_eq!(rt; taker.take(), Took::NothingYet);
+    assert!(rt; taker.take() == Took::NothingYet);
+    assert!(rt; taker.take() == Took::NothingYet);
 }
 
 #[test]
@@ -115,15 +115,15 @@ fn abandoned_feeder_gives_its_backlog(rt: HostRuntime) -> Result<(), Fail> {
 fn close_three_times(rt: &impl Abort, feeder: Feeder, taker: Taker) {
     let mut taker = taker;
     let mut feeder = comes_back(rt, feeder);
-    assert_eq!(rt; feeder.flush(), 1);
+    assert!(rt; feeder.flush() == 1);
     assert!(rt; feeder.has_backlog());
     takes(rt, &mut taker, PLAIN);
-    assert_eq!(rt; feeder.flush(), 0);
+    assert!(rt; feeder.flush() == 0);
     assert!(rt; !feeder.has_backlog());
     let feeder = comes_back(rt, feeder);
     takes(rt, &mut taker, EXTENDED);
     close_feeder(rt, feeder);
-    assert_eq!(rt; taker.take(), Took::Closed);
+    assert!(rt; taker.take() == Took::Closed);
 }
 
 #[test]
@@ -140,10 +140,10 @@ fn settle_before_the_second_is_taken(rt: &impl Abort, feeder: Feeder, taker: Tak
     let mut taker = taker;
     let mut feeder = close_feeder(rt, feeder);
     takes(rt, &mut taker, PLAIN);
-    assert_eq!(rt; settle(&mut feeder, &mut taker), 1);
+    assert!(rt; settle(&mut feeder, &mut taker) == 1);
     takes(rt, &mut taker, EXTENDED);
-    assert_eq!(rt; settle(&mut feeder, &mut taker), 0);
-    assert_eq!(rt; taker.take(), Took::Closed);
+    assert!(rt; settle(&mut feeder, &mut taker) == 0);
+    assert!(rt; taker.take() == Took::Closed);
 }
 
 #[test]
@@ -157,11 +157,11 @@ fn frame_that_was_not_taken_is_left(rt: HostRuntime) -> Result<(), Fail> {
 fn ring_that_was_never_used(rt: HostRuntime) -> Result<(), Fail> {
     let (feeder, mut taker) = ring(rt.alloc(), 1)?;
     assert!(rt; feeder.abandon().is_empty());
-    assert_eq!(rt; taker.take(), Took::NothingYet);
+    assert!(rt; taker.take() == Took::NothingYet);
     let (feeder, mut taker) = ring(rt.alloc(), 1)?;
     let mut feeder = close_feeder(&rt, feeder);
-    assert_eq!(rt; settle(&mut feeder, &mut taker), 0);
-    assert_eq!(rt; taker.take(), Took::Closed);
+    assert!(rt; settle(&mut feeder, &mut taker) == 0);
+    assert!(rt; taker.take() == Took::Closed);
     Ok(())
 }
 
@@ -176,20 +176,20 @@ fn greatest_ring_and_longest_frame(rt: HostRuntime) -> Result<(), Fail> {
         offer(rt.alloc(), &mut feeder, &number.to_be_bytes())?;
     }
     offer(rt.alloc(), &mut feeder, &[])?;
-    assert_eq!(rt; feeder.flush(), 65537);
+    assert!(rt; feeder.flush() == 65537);
     takes(&rt, &mut taker, &longest);
     for number in 1_u32..65535 {
         takes(&rt, &mut taker, &number.to_be_bytes());
     }
-    assert_eq!(rt; taker.take(), Took::NothingYet);
-    assert_eq!(rt; feeder.flush(), 2);
+    assert!(rt; taker.take() == Took::NothingYet);
+    assert!(rt; feeder.flush() == 2);
     for number in 65535_u32..131070 {
         takes(&rt, &mut taker, &number.to_be_bytes());
     }
     close_feeder(&rt, feeder);
     takes(&rt, &mut taker, &131070_u32.to_be_bytes());
     takes(&rt, &mut taker, &[]);
-    assert_eq!(rt; taker.take(), Took::Closed);
+    assert!(rt; taker.take() == Took::Closed);
     Ok(())
 }
 
@@ -208,7 +208,7 @@ fn full_ring(alloc: Global) -> Result<(Feeder, Taker), Fail> {
 fn ends_dropped_with_frames_left(rt: HostRuntime) -> Result<(), Fail> {
     let (mut feeder, taker) = full_ring(rt.alloc())?;
     drop(taker);
-    assert_eq!(rt; feeder.flush(), 1);
+    assert!(rt; feeder.flush() == 1);
     offer(rt.alloc(), &mut feeder, EXTENDED)?;
     drop(feeder);
 
@@ -221,7 +221,7 @@ fn ends_dropped_with_frames_left(rt: HostRuntime) -> Result<(), Fail> {
     takes(&rt, &mut taker, PLAIN);
     drop(feeder.abandon());
     takes(&rt, &mut taker, EXTENDED);
-    assert_eq!(rt; taker.take(), Took::NothingYet);
+    assert!(rt; taker.take() == Took::NothingYet);
 
     let (feeder, mut taker) = full_ring(rt.alloc())?;
     takes(&rt, &mut taker, PLAIN);

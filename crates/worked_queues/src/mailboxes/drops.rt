@@ -43,13 +43,13 @@ fn dropped_with_the_ports(rt: HostRuntime) -> Result<(), Fail> {
     assert!(rt; ports.p1.post(&rt, item(&drops)?).is_ok());
     assert!(rt; ports.p0.post(&rt, item(&drops)?).is_ok());
     assert!(rt; ports.p0.post(&rt, item(&drops)?).is_err());
-    assert_eq!(rt; drops.load(Ordering::SeqCst), 1);
+    assert!(rt; drops.load(Ordering::SeqCst) == 1);
     take_one(&rt, &mut mouth);
-    assert_eq!(rt; drops.load(Ordering::SeqCst), 2);
+    assert!(rt; drops.load(Ordering::SeqCst) == 2);
     drop(mouth);
-    assert_eq!(rt; drops.load(Ordering::SeqCst), 2);
+    assert!(rt; drops.load(Ordering::SeqCst) == 2);
     drop(ports);
-    assert_eq!(rt; drops.load(Ordering::SeqCst), 4);
+    assert!(rt; drops.load(Ordering::SeqCst) == 4);
     Ok(())
 }
 
@@ -60,9 +60,9 @@ fn dropped_with_the_mouth(rt: HostRuntime) -> Result<(), Fail> {
     assert!(rt; ports.p4.post(&rt, item(&drops)?).is_ok());
     assert!(rt; ports.p4.post(&rt, item(&drops)?).is_ok());
     drop(ports);
-    assert_eq!(rt; drops.load(Ordering::SeqCst), 0);
+    assert!(rt; drops.load(Ordering::SeqCst) == 0);
     drop(mouth);
-    assert_eq!(rt; drops.load(Ordering::SeqCst), 2);
+    assert!(rt; drops.load(Ordering::SeqCst) == 2);
     Ok(())
 }
 
@@ -87,7 +87,7 @@ fn dropped_by_settle(rt: HostRuntime) -> Result<(), Fail> {
     let p3 = close_port(&rt, p3);
     let p4 = close_port(&rt, p4);
     let settled = settle(&rt, ClosedPorts { p0, p1, p2, p3, p4 }, mouth);
-    assert_eq!(rt; settled.left[2], 2);
-    assert_eq!(rt; drops.load(Ordering::SeqCst), 3);
+    assert!(rt; settled.left[2] == 2);
+    assert!(rt; drops.load(Ordering::SeqCst) == 3);
     Ok(())
 }

@@ -76,15 +76,15 @@ fn five_threads(rt: HostRuntime) -> Result<(), Fail> {
         }
         match mouth.next(&rt) {
             Taken::Item { from, item } => {
-                assert_eq!(rt; next[usize::from(from)], item);
+                assert!(rt; next[usize::from(from)] == item);
                 assert!(rt; item < 100);
                 next[usize::from(from)] += 1;
             }
-            Taken::End { from } => assert_eq!(rt; next[usize::from(from)], 100),
+            Taken::End { from } => assert!(rt; next[usize::from(from)] == 100),
             Taken::Empty => thread::yield_now(),
         }
     }
-    assert_eq!(rt; next, [100; 5]);
+    assert!(rt; next == [100; 5]);
     let ports = ClosedPorts {
         p0: t0.join(&rt),
         p1: t1.join(&rt),
@@ -93,6 +93,6 @@ fn five_threads(rt: HostRuntime) -> Result<(), Fail> {
         p4: t4.join(&rt),
     };
     let settled = settle(&rt, ports, mouth);
-    assert_eq!(rt; settled, Settled { left: [0; 5] });
+    assert!(rt; settled == Settled { left: [0; 5] });
     Ok(())
 }
