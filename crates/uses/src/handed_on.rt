@@ -1,12 +1,13 @@
 //! A running receiver whose consumer hands the frames of a flow on to another thread.
-ghost use Rattle.std.specs.Prelude.{◌≡◌, ◌++◌, ◌∷◌, [], IsTrue, IfOk, IfSome};
+ghost use Rattle.std.specs.Prelude.{◌≡◌, ◌<◌, ◌++◌, ◌∷◌, [], IsTrue, IfOk, IfErr, IfSome};
 ghost use Rattle.delivery.specs.Frames.{frames_in};
 ghost use Rattle.delivery.specs.Feeders.{feeder_ring, offered, closed_ring, closed_offered};
 ghost use Rattle.delivery.specs.Takers.{taker_ring, taken};
+ghost use Rattle.uplink.specs.Faults.{CanRunWithin};
 ghost use Rattle.uplink.specs.Received.{CameFrom};
 ghost use Rattle.workers.specs.Given.{Yields};
 ghost use Rattle.uses.specs.DeliveryRun.{IsServed};
-ghost use Rattle.uses.specs.HandedOn.{TookOfFlow};
+ghost use Rattle.uses.specs.HandedOn.{TookOfFlow, IsHandingFault};
 
 use crate::delivery_run::{ConsumerPromise, Served, close, start_consumer};
 use consumer::{Consumer, Forgets};
@@ -80,6 +81,10 @@ pub enum HandingFault {
 /// Receives until all sources and decisions are used up. The frames of the flow
 /// with this index go through a ring of this capacity to a thread of their own, as they come. The
 /// answer is what that thread took.
+///
+/// `Ring`: the ring has no capacity, or there is no memory for it. Then `Run`: the receiver's
+/// fault, or an allocation failed or a thread could not be started, here or there. No source is
+/// asked for anything where the ring can't be made or the setup has a fault.
 pub fn take_elsewhere<S0, S1, S2, S3, D, C, R>(
     alloc: Global,
     rt: R,
@@ -100,10 +105,13 @@ where
     D: LiveDecisions + Drop + Send + 'static,
     C: HeaderCheck + Drop,
     R: Threads + Wait + Copy + Send + 'static,
-    ensures { IfOk result (TookOfFlow width.channels rule (C.accepts check) setup
+    ensures taken { IfOk result (TookOfFlow width.channels rule (C.accepts check) setup
         (CameFrom (Yields S0.gave S0.is_over sources.s0) (Yields S1.gave S1.is_over sources.s1)
         (Yields S2.gave S2.is_over sources.s2) (Yields S3.gave S3.is_over sources.s3)
         (Yields D.gave D.is_over decisions)) flow) }
+    ensures can_run { IfOk result
+        (λ _. (0 < capacity) × CanRunWithin width.channels width.flows setup) }
+    ensures fault { IfErr result (IsHandingFault width.channels width.flows setup capacity) }
 {
     let (feeder, taker) = match ring(alloc, capacity) {
         Ok(ends) => ends,

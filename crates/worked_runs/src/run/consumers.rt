@@ -4,6 +4,7 @@ ghost use Rattle.std.specs.Prelude.{◌≡◌};
 mod failed_allocations;
 mod slow;
 
+use super::held_up::{Calls, Counting};
 use super::meeting::{Attending, Meeting};
 use super::receivers::{no_decisions, no_inputs, sources_of};
 use super::{TWO_FRAMES, eight_requests, numbered};
@@ -17,7 +18,7 @@ use std::test::Fail;
 use std::thread::Threads;
 use uplink::{
     Collected, Consumer, Counts, Foreknown, Forgets, ListDecisions, ListSource, Lists, LossRule,
-    ReceiveError, Received, Request, Setup, Source, Sources, Width, receive,
+    ReceiveError, Received, Request, RunFault, Setup, Source, Sources, Width, receive,
 };
 use worked_traces::outcomes::NO_COUNTS;
 use worked_traces::traces::*;
@@ -207,6 +208,20 @@ fn requests_counted(answer: Answer<Forgets, Counts>) -> Option<u64> {
 fn goes_on_with_what_it_is_handed(rt: HostRuntime) -> Result<(), Fail> {
     let answer = count_on(rt.alloc(), rt)?;
     expect_same(&rt, "requests", requests_counted(answer), Some(9));
+    Ok(())
+}
+
+/// A source isn't asked for anything where the setup can't be run.
+#[test]
+fn unusable_setup_asks_no_source(rt: HostRuntime) -> Result<(), Fail> {
+    let calls = Calls::none(rt.alloc())?;
+    let source = Counting::new(no_inputs(rt.alloc()), &calls)?;
+    let mut setup = numbered::narrow(rt.alloc(), 16)?;
+    setup.mailbox = 0;
+    let answer = receive_on_channel_0(rt.alloc(), rt, setup, source, Forgets, Forgets);
+    let error = answer.err().ok_or("no fault")?;
+    assert!(rt; error.fault == RunFault::NoCapacity && !error.began);
+    assert!(rt; calls.made() == 0);
     Ok(())
 }
 

@@ -14,8 +14,8 @@ take_rest-requires g c =
     let handed = c.in-Ok-receive.ensures.received.were_given.consumer_became start [] (hands-on-begins start) in
     handed.ring ∙ c.in-Ok.ensures.ring ∙ ap (λ (taker : Taker). taker_ring taker) (sym c.in-Ok-start_consumer.ensures)
 
-pub returns-in-Some : goal.returns-in-Some
-returns-in-Some g c =
+pub returns-in-Some-clause-taken : goal.returns-in-Some-clause-taken
+returns-in-Some-clause-taken g c =
     let has = c.in-Ok-receive.ensures.received in
     let start : HandsOn g.row.R.Denot = record { rt = c.args.rt; flow = c.args.flow; feeder = c.in-Ok.ends.0; is_whole = true } in
     let handed = has.were_given.consumer_became start [] (hands-on-begins start) in
