@@ -111,6 +111,7 @@ fn bursts_come_to_their_flow(rt: HostRuntime) -> Result<(), Fail> {
         kept = kept_of_all(rt.alloc(), &mut log);
     }
     assert!(rt; kept == Ok(1));
-    assert!(rt; log.is_front_of(&wanted) && log.count == wanted.len());
+    assert!(rt; log.is_front_of(&wanted));
+    assert!(rt; log.count == wanted.len());
     Ok(())
 }

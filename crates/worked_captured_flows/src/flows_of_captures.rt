@@ -159,12 +159,14 @@ fn bursts_are_passed_over_refused_and_handed_in(rt: HostRuntime) -> Result<(), F
     assert!(rt; matches!(spoiled, BurstTaken::Refused(Reply::Refused(_))));
     let first = captured.take(alloc, burst(alloc, 1, 100, 6, true)?, &mut noted)?;
     let second = captured.take(alloc, burst(alloc, 2, 100, 5, true)?, &mut noted)?;
-    assert!(rt; first == BurstTaken::Waits(0) && second == BurstTaken::Waits(0));
+    assert!(rt; first == BurstTaken::Waits(0));
+    assert!(rt; second == BurstTaken::Waits(0));
     let last = vec![in alloc; burst(alloc, 9, 100, 7, true)?]?;
     captured.take_all(alloc, last, &mut noted)?;
     assert!(rt; noted.times.as_slice() == [2, 1].as_slice());
     captured.end_waiting(alloc, &mut noted)?;
-    assert!(rt; noted.is_whole && noted.times.as_slice() == [2, 1, 9].as_slice());
+    assert!(rt; noted.is_whole);
+    assert!(rt; noted.times.as_slice() == [2, 1, 9].as_slice());
     let closed = captured.into_receiver().close(alloc, &mut noted).ok();
     assert!(rt; closed.is_some_and(|closed| closed.flows.len() == 1 && closed.flows[0].kept == 3));
     Ok(())
@@ -193,9 +195,11 @@ fn clocks_of_all_flows_are_counted(rt: HostRuntime) -> Result<(), Fail> {
         set_back: 1,
         crowded: 0,
     };
-    assert!(rt; captured.clock_counts() == counts && noted.times.as_slice() == [30, 28].as_slice());
+    assert!(rt; captured.clock_counts() == counts);
+    assert!(rt; noted.times.as_slice() == [30, 28].as_slice());
     captured.end_waiting(alloc, &mut noted)?;
-    assert!(rt; captured.clock_counts() == counts && noted.times.len() == 4);
+    assert!(rt; captured.clock_counts() == counts);
+    assert!(rt; noted.times.len() == 4);
     let closed = captured.into_receiver().close(alloc, &mut noted).ok();
     assert!(rt; closed.is_some_and(|closed| closed.flows.len() == 1 && closed.flows[0].kept == 4));
     Ok(())
@@ -270,7 +274,8 @@ fn what_is_given_stands_behind_its_burst(rt: HostRuntime) -> Result<(), Fail> {
     let mut noted = Noted::new(alloc);
     captured.take_all(alloc, bursts_of_each_kind(alloc)?, &mut noted)?;
     captured.end_waiting(alloc, &mut noted)?;
-    assert!(rt; noted.is_whole && noted.seen.as_slice() == given_of_each_kind().as_slice());
+    assert!(rt; noted.is_whole);
+    assert!(rt; noted.seen.as_slice() == given_of_each_kind().as_slice());
     let closed = captured.into_receiver().close(alloc, &mut noted).ok();
     assert!(rt; closed.is_some_and(|closed| closed.flows.len() == 1 && closed.flows[0].kept == 1));
     Ok(())

@@ -258,14 +258,14 @@ fn packets_that_are_passed_over(rt: HostRuntime) {
 #[test]
 fn a_packet_and_its_tlvs(rt: HostRuntime) -> Result<(), Fail> {
     let packet = read_packet(tdma()).ok_or("a packet")?;
-    assert_eq!(rt; packet.version, 1);
-    assert_eq!(rt; packet.kind, 0x41);
-    assert_eq!(rt; packet.payload, SEGMENT.as_slice());
+    assert!(rt; packet.version == 1);
+    assert!(rt; packet.kind == 0x41);
+    assert!(rt; packet.payload == SEGMENT.as_slice());
     let (first, rest) = split_tlv(packet.tlvs).ok_or("a TLV")?;
-    assert_eq!(rt; first.kind, 10);
-    assert_eq!(rt; first.value, [3].as_slice());
-    assert_eq!(rt; rest.len(), 25);
-    assert_eq!(rt; last_value(packet.tlvs, 18), Some([1].as_slice()));
-    assert_eq!(rt; last_value(packet.tlvs, 19), None);
+    assert!(rt; first.kind == 10);
+    assert!(rt; first.value == [3].as_slice());
+    assert!(rt; rest.len() == 25);
+    assert!(rt; last_value(packet.tlvs, 18) == Some([1].as_slice()));
+    assert!(rt; last_value(packet.tlvs, 19) == None);
     Ok(())
 }

@@ -87,7 +87,8 @@ fn equal_frames_are_equal_in_any_order_of_arrival(rt: HostRuntime) -> Result<(),
         }
         comparison.finish(rt.alloc());
         expect_counts(&rt, &comparison, &[counts(3, 0, 0)]);
-        assert!(rt; comparison.lonely(Analyser).is_empty() && comparison.lonely(Here).is_empty());
+        assert!(rt; comparison.lonely(Analyser).is_empty());
+        assert!(rt; comparison.lonely(Here).is_empty());
     }
     Ok(())
 }
@@ -144,28 +145,38 @@ fn last_byte_and_length_tell_frames_apart(rt: HostRuntime) -> Result<(), Fail> {
     Ok(())
 }
 
+/// One frame of the analyser, and one that is joined here.
+fn two_compared(alloc: Global, one: &[u8], other: &[u8]) -> Result<FrameComparison, AllocError> {
+    compared(alloc, 1, &[Came(Analyser, 0, one), Came(Here, 0, other)])
+}
+
+/// The first so many bytes.
+fn front(bytes: &[u8], count: usize) -> &[u8] {
+    bytes.get(..count).unwrap_or_default()
+}
+
+/// The first frame that is listed has this length and begins so.
+fn expect_shown(rt: &impl Abort, listed: &[LonelyFrame], length: usize, first: &[u8]) {
+    match listed.first() {
+        Some(frame) => {
+            assert!(rt; frame.length == length);
+            assert!(rt; frame.first.as_slice() == first);
+        }
+        None => assert!(rt; false),
+    }
+}
+
 /// A MAC frame has 65,541 bytes at most.
 #[test]
 fn frame_that_nobody_sent_equals_none(rt: HostRuntime) -> Result<(), Fail> {
     let long = vec![in rt.alloc(); 7u8; 65_542]?;
-    let (whole, sent) = (long.as_slice(), &long[..65_541]);
-    let equal = compared(
-        rt.alloc(),
-        1,
-        &[Came(Analyser, 0, sent), Came(Here, 0, sent)],
-    )?;
+    let sent = front(&long, 65_541);
+    let equal = two_compared(rt.alloc(), sent, sent)?;
     expect_counts(&rt, &equal, &[counts(1, 0, 0)]);
-    for other in [whole, sent, &long[..16]] {
-        let unequal = compared(
-            rt.alloc(),
-            1,
-            &[Came(Analyser, 0, whole), Came(Here, 0, other)],
-        )?;
+    for length in [65_542, 65_541, 16] {
+        let unequal = two_compared(rt.alloc(), &long, front(&long, length))?;
         expect_counts(&rt, &unequal, &[counts(0, 1, 1)]);
-        let Some(frame) = unequal.lonely(Analyser).first() else {
-            return Err(Fail::from(AllocError));
-        };
-        assert!(rt; frame.length == 65_542 && frame.first.as_slice() == &long[..16]);
+        expect_shown(&rt, unequal.lonely(Analyser), 65_542, front(&long, 16));
     }
     Ok(())
 }
@@ -301,7 +312,8 @@ fn sixteen_bytes_are_told(rt: HostRuntime) -> Result<(), Fail> {
         let Some(frame) = listed.first() else {
             return Err(Fail::from(AllocError));
         };
-        assert!(rt; listed.len() == 1 && frame.length == length);
+        assert!(rt; listed.len() == 1);
+        assert!(rt; frame.length == length);
         assert!(rt; frame.first.as_slice() == &long[..length.min(16)]);
     }
     Ok(())

@@ -4,7 +4,8 @@ use crate::compared::{COMPARES, EQUAL, compare};
 use crate::joined::{InPieces, settings};
 use crate::one_map::{MAP_PATH, ONE_MAP};
 use crate::samples::{
-    FRAMES_APART, REQUESTS_APART, frame, frames_apart, frames_joined_twice, map_of_two_channels,
+    FRAMES_APART, REQUESTS_APART, are_frames_apart, frame, frames_apart, frames_joined_twice,
+    map_of_two_channels,
 };
 use crate::words::is_path;
 use capture_command::{CaptureWords, capture_program, read_capture_words};
@@ -126,7 +127,8 @@ fn a_capture_is_joined(rt: HostRuntime) -> Result<(), Fail> {
         lost_requests: None,
     };
     assert!(rt; joined == wanted);
-    assert!(rt; frames == FRAMES_APART && lines == REQUESTS_APART);
+    assert!(rt; are_frames_apart(&frames));
+    assert!(rt; lines == REQUESTS_APART);
     Ok(())
 }
 
@@ -194,7 +196,8 @@ fn program_is_refused(rt: HostRuntime) -> Result<(), Fail> {
         if status == 3 {
             assert!(rt; took_last(&err, "segrx: out of memory\n"));
         } else {
-            assert!(rt; status == 4 && out == FRAMES_APART);
+            assert!(rt; status == 4);
+            assert!(rt; are_frames_apart(&out));
             assert!(rt; took_last(&err, "segrx: a file cannot be written\n"));
         }
         let ends = [0, 24, 48, 72, 96];
@@ -203,7 +206,7 @@ fn program_is_refused(rt: HostRuntime) -> Result<(), Fail> {
         status = program_into(rt.alloc(), &bytes, &mut out, &mut err);
     }
     assert!(rt; status == 0);
-    assert!(rt; out == FRAMES_APART);
+    assert!(rt; are_frames_apart(&out));
     assert!(rt; took(&err, SUMMARY));
     Ok(())
 }
@@ -219,7 +222,8 @@ fn words_of_capture_are_refused(rt: HostRuntime) -> Result<(), Fail> {
     match read {
         Ok(CaptureWords::Capture(asked)) => {
             assert!(rt; asked.map.as_str() == "m");
-            assert!(rt; is_path(&asked.files.report, "r") && is_path(&asked.files.requests, "q"));
+            assert!(rt; is_path(&asked.files.report, "r"));
+            assert!(rt; is_path(&asked.files.requests, "q"));
         }
         _ => return Err("another answer".into()),
     }
@@ -293,7 +297,8 @@ fn what_waits_is_whole_or_says_so(rt: HostRuntime) -> Result<(), Fail> {
         timed = handed_in(rt.alloc())?;
     }
     assert!(rt; timed.is_whole());
-    assert!(rt; timed.waiting().len() == usize::from(BURSTS) && are_in_order(timed.waiting()));
+    assert!(rt; timed.waiting().len() == usize::from(BURSTS));
+    assert!(rt; are_in_order(timed.waiting()));
     timed.let_go(rt.alloc());
     assert!(rt; timed.waiting().is_empty());
     Ok(())
@@ -314,7 +319,8 @@ fn comparison_is_refused(rt: HostRuntime) -> Result<(), Fail> {
         assert!(rt; compared.text().ends_with(b"segrx: out of memory\n"));
         compared = compare(rt.alloc(), &bytes, COMPARES);
     }
-    assert!(rt; compared.status == 0 && compared.frames == FRAMES_APART);
+    assert!(rt; compared.status == 0);
+    assert!(rt; compared.has_all_frames());
     assert!(rt; compared.text().ends_with(EQUAL.as_bytes()));
     Ok(())
 }

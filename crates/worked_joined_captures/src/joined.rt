@@ -143,16 +143,23 @@ fn a_capture_is_counted(rt: HostRuntime) -> Result<(), Fail> {
     let bytes = two_segments(rt.alloc())?;
     let joined = join(rt.alloc(), &bytes, 50, FrameLink::Docsis)?;
     let summary = &joined.tally.summary;
-    assert!(rt; summary.records == 3 && summary.earlier == 0);
+    assert!(rt; summary.records == 3);
+    assert!(rt; summary.earlier == 0);
     assert!(rt; summary.passed.unknown_channel == 1);
     let Some(flow) = summary.flows.first() else {
         return Err("no flow".into());
     };
-    assert!(rt; flow.counts.kept == 2 && flow.counts.frames == 1 && flow.counts.lost == 0);
-    assert!(rt; flow.wrong == 1 && flow.requests == 1 && flow.units == 9);
+    assert!(rt; flow.counts.kept == 2);
+    assert!(rt; flow.counts.frames == 1);
+    assert!(rt; flow.counts.lost == 0);
+    assert!(rt; flow.wrong == 1);
+    assert!(rt; flow.requests == 1);
+    assert!(rt; flow.units == 9);
     assert!(rt; flow.restarts == 0);
     for channel in &summary.channels {
-        assert!(rt; channel.bursts == 1 && channel.admitted == 1 && channel.refused.is_empty());
+        assert!(rt; channel.bursts == 1);
+        assert!(rt; channel.admitted == 1);
+        assert!(rt; channel.refused.is_empty());
     }
     assert!(rt; joined.tally.lost_requests().is_none());
     Ok(())
@@ -164,17 +171,18 @@ fn a_clock_that_is_set_back_is_told(rt: HostRuntime) -> Result<(), Fail> {
     let joined = join(rt.alloc(), &bytes, 50, FrameLink::Docsis)?;
     let summary = &joined.tally.summary;
     assert!(rt; joined.done.is_ok());
-    assert!(rt; summary.earlier == 1 && summary.set_back == 1 && summary.crowded == 0);
-    assert!(rt;
-        summary
-            .flows
-            .first()
-            .is_some_and(|flow| flow.counts.frames == 1)
-    );
+    assert!(rt; summary.earlier == 1);
+    assert!(rt; summary.set_back == 1);
+    assert!(rt; summary.crowded == 0);
+    let Some(flow) = summary.flows.first() else {
+        return Err("no flow".into());
+    };
+    assert!(rt; flow.counts.frames == 1);
     // Also where a fault ends the capture.
     bytes.push(0)?;
     let joined = join(rt.alloc(), &bytes, 50, FrameLink::Docsis)?;
-    assert!(rt; joined.done.is_err() && joined.tally.summary.set_back == 1);
+    assert!(rt; joined.done.is_err());
+    assert!(rt; joined.tally.summary.set_back == 1);
     Ok(())
 }
 
@@ -183,8 +191,11 @@ fn bursts_that_are_handed_on_early_are_told(rt: HostRuntime) -> Result<(), Fail>
     let bytes = still_segments(rt.alloc(), 2060)?;
     let joined = join(rt.alloc(), &bytes, 5000, FrameLink::Docsis)?;
     let summary = &joined.tally.summary;
-    assert!(rt; joined.done.is_ok() && summary.records == 2060);
-    assert!(rt; summary.earlier == 0 && summary.set_back == 0 && summary.crowded == 12);
+    assert!(rt; joined.done.is_ok());
+    assert!(rt; summary.records == 2060);
+    assert!(rt; summary.earlier == 0);
+    assert!(rt; summary.set_back == 0);
+    assert!(rt; summary.crowded == 12);
     Ok(())
 }
 
@@ -237,7 +248,8 @@ fn times_are_told_where_a_read_fails(rt: HostRuntime) -> Result<(), Fail> {
         lines.into_inner();
     }
     assert!(rt; matches!(done, Err(EngineFault::Read)));
-    assert!(rt; tally.summary.records == 3 && tally.summary.set_back == 1);
+    assert!(rt; tally.summary.records == 3);
+    assert!(rt; tally.summary.set_back == 1);
     Ok(())
 }
 
@@ -251,7 +263,9 @@ fn what_came_before_a_fault_is_counted(rt: HostRuntime) -> Result<(), Fail> {
         return Err("no flow".into());
     };
     // The second of the two that came whole waits for its neighbours.
-    assert!(rt; flow.counts.kept == 1 && flow.counts.frames == 1 && flow.wrong == 1);
+    assert!(rt; flow.counts.kept == 1);
+    assert!(rt; flow.counts.frames == 1);
+    assert!(rt; flow.wrong == 1);
     Ok(())
 }
 

@@ -196,6 +196,11 @@ pub(crate) const FRAMES_APART: [u8; 96] = [
     0, 8, 0, 0, 0, 0, 0, 0, 2, 0xcc, 0xdf, 0xaa, 0xbb,
 ];
 
+/// Whether these bytes are that file.
+pub(crate) fn are_frames_apart(bytes: &[u8]) -> bool {
+    bytes == FRAMES_APART.as_slice()
+}
+
 /// The lines of the requests in that capture.
 pub(crate) const REQUESTS_APART: [u8; 80] = *b"time,channel,sid,flow,cluster,units\n\
     1.000000001,0,7,0,0,9\n\

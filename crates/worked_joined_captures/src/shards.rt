@@ -167,12 +167,14 @@ fn frames_of_listed_flows_are_written_and_counted(rt: HostRuntime) -> Result<(),
         let Some(of_whole) = whole.tally.summary.flows.get(k) else {
             return Err("no flow".into());
         };
-        assert!(rt; flow.is_selected == (k % 2 == 0) && of_whole.is_selected);
+        assert!(rt; flow.is_selected == (k % 2 == 0));
+        assert!(rt; of_whole.is_selected);
         assert!(rt; !flow.is_selected || flow == of_whole);
     }
     assert!(rt; joined.tally.summary.channels == whole.tally.summary.channels);
     let listed = Selection::Listed(FlowList::new(alloc, Vec::new(alloc))?);
     let none = join_some(alloc, &bytes, listed)?;
-    assert!(rt; none.frames.len() == 24 && none.requests == whole.requests);
+    assert!(rt; none.frames.len() == 24);
+    assert!(rt; none.requests == whole.requests);
     Ok(())
 }

@@ -22,7 +22,7 @@ fn many_pieces(alloc: Global) -> Result<Vec<u8>, AllocError> {
 fn cuts_into_seventy_thousand_pieces(rt: HostRuntime) -> Result<(), Fail> {
     let input = many_pieces(rt.alloc())?;
     let text = cut_lines(rt.alloc(), input, 8191, FillByte::Zero)?;
-    assert_eq!(rt; text.len(), 17 * PIECES);
+    assert!(rt; text.len() == 17 * PIECES);
     assert!(rt; text.starts_with(b"0000fff800000000\n0000000000000000\n"));
     // The last one has the number 8191 + 69,999 modulo 8192, 4,462.
     assert!(rt; text.ends_with(b"\n00008b7000000000\n"));
@@ -33,7 +33,7 @@ fn cuts_into_seventy_thousand_pieces(rt: HostRuntime) -> Result<(), Fail> {
 fn cuts_the_greatest_frame_by_the_greatest_piece(rt: HostRuntime) -> Result<(), Fail> {
     let input = greatest_frame_after(rt.alloc(), b"piece 65535 0\npiece 6 65535\nframe ")?;
     let text = cut_lines(rt.alloc(), input, 0, FillByte::Ones)?;
-    assert_eq!(rt; text.len(), 2 * (8 + 65_535 + 8 + 6 + 65_535) + 2);
+    assert!(rt; text.len() == 2 * (8 + 65_535 + 8 + 6 + 65_535) + 2);
     assert!(rt; text.starts_with(b"80000000000000000101ffff00"));
     assert!(rt; text.ends_with(b"ffff\n"));
     Ok(())

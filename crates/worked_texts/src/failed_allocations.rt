@@ -26,7 +26,7 @@ fn join_lines_is_refused(rt: HostRuntime) -> Result<(), Fail> {
         println!(rt; "refused")?;
         text = join_lines(rt.alloc(), SEGMENTS.as_bytes());
     }
-    assert_eq!(rt; text?.as_slice(), FRAMES.as_bytes());
+    assert!(rt; text?.as_slice() == FRAMES.as_bytes());
     Ok(())
 }
 
@@ -43,7 +43,7 @@ fn cut_lines_is_refused(rt: HostRuntime) -> Result<(), Fail> {
         println!(rt; "refused")?;
         text = cut_copy(rt.alloc());
     }
-    assert_eq!(rt; text?.as_slice(), SEGMENTS.as_bytes());
+    assert!(rt; text?.as_slice() == SEGMENTS.as_bytes());
     Ok(())
 }
 
@@ -53,7 +53,7 @@ fn take_cut_lines(rt: &impl Abort, alloc: Global) -> Result<Vec<u8>, ParseFault>
     let mut reader = LineReader::new(alloc);
     for piece in b"one two\nthree four\nfive six".chunks(5) {
         if let Err(fault) = reader.take_piece(alloc, piece, &mut taken) {
-            assert_eq!(rt; reader.take_piece(alloc, b"", &mut taken), Err(fault));
+            assert!(rt; reader.take_piece(alloc, b"", &mut taken) == Err(fault));
             return Err(fault);
         }
     }
@@ -68,10 +68,7 @@ fn line_reader_is_refused(rt: HostRuntime) -> Result<(), Fail> {
         println!(rt; "refused")?;
         text = take_cut_lines(&rt, rt.alloc());
     }
-    assert_eq!(rt;
-        text?.as_slice(),
-        b"one two|three four|five six|".as_slice()
-    );
+    assert!(rt; text?.as_slice() == b"one two|three four|five six|".as_slice());
     Ok(())
 }
 
@@ -100,8 +97,8 @@ fn parse_trace_is_refused(rt: HostRuntime) -> Result<(), Fail> {
         parsed = parse_short(rt.alloc());
     }
     let (counts, tags) = parsed?;
-    assert_eq!(rt; counts, [1, 1, 2, 1]);
-    assert_eq!(rt; tags.as_slice(), [2, 2, 4].as_slice());
+    assert!(rt; counts == [1, 1, 2, 1]);
+    assert!(rt; tags.as_slice() == [2, 2, 4].as_slice());
     Ok(())
 }
 
@@ -117,7 +114,7 @@ fn replay_lines_is_refused(rt: HostRuntime) -> Result<(), Fail> {
         println!(rt; "refused")?;
         text = replay_copy(rt.alloc());
     }
-    assert_eq!(rt; text?.as_slice(), REPORT.as_bytes());
+    assert!(rt; text?.as_slice() == REPORT.as_bytes());
     Ok(())
 }
 
@@ -134,7 +131,7 @@ fn replay_lines_by_is_refused(rt: HostRuntime) -> Result<(), Fail> {
         println!(rt; "refused")?;
         text = replay_copy_by_rule(rt.alloc());
     }
-    assert_eq!(rt; text?.as_slice(), SLID_REPORT.as_bytes());
+    assert!(rt; text?.as_slice() == SLID_REPORT.as_bytes());
     Ok(())
 }
 
@@ -217,6 +214,6 @@ lane 1 admitted 18446744073709551615 refused -
 lane 2 admitted 2 refused 6 3 10
 lane 3 admitted 0 refused -
 ";
-    assert_eq!(rt; text?.as_slice(), lines.as_bytes());
+    assert!(rt; text?.as_slice() == lines.as_bytes());
     Ok(())
 }

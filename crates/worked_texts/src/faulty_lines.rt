@@ -13,7 +13,7 @@ pub(crate) fn expect_no_trace(
 ) {
     let fault = parse_trace(alloc, input.as_bytes(), 1, 1).err();
     let wanted = ParseFault::Line(TraceFault { line, kind });
-    assert_eq!(rt; fault, Some(wanted), "{input}");
+    assert!(rt; fault == Some(wanted), "{input}");
 }
 
 /// No text stands for an input, since this line of it is the first one with a fault, of this kind.
@@ -25,5 +25,5 @@ pub(crate) fn expect_no_text(
     kind: TraceKind,
 ) {
     let wanted = TextFault::Trace(TraceFault { line, kind });
-    assert_eq!(rt; text.err(), Some(wanted), "{input}");
+    assert!(rt; text.err() == Some(wanted), "{input}");
 }

@@ -10,7 +10,7 @@ fn joins_the_greatest_frame(rt: HostRuntime) -> Result<(), Fail> {
     let mut input = greatest_frame_after(rt.alloc(), b"8000000000000000")?;
     input.push(b'\n')?;
     let text = join_lines(rt.alloc(), &input)?;
-    assert_eq!(rt; text.len(), 2 * 65_541 + 1);
+    assert!(rt; text.len() == 2 * 65_541 + 1);
     assert!(rt; text.starts_with(b"0101ffff0000"));
     assert!(rt; text.ends_with(b"0000\n"));
     Ok(())

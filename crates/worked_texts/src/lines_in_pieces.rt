@@ -28,9 +28,8 @@ fn takes_the_same_in_pieces_of_any_length(rt: HostRuntime) -> Result<(), Fail> {
     for size in 1..=INPUT.len() {
         let mut taken = TakenLines::new(rt.alloc());
         take_in_pieces(rt.alloc(), INPUT.as_bytes(), size, &mut taken)?;
-        assert_eq!(rt;
-            taken.text.as_slice(),
-            LINES.as_bytes(),
+        assert!(rt;
+            taken.text.as_slice() == LINES.as_bytes(),
             "in pieces of {size}"
         );
     }
@@ -63,12 +62,12 @@ fn reports_the_same_line_in_pieces_of_any_length(rt: HostRuntime) {
         for size in 1..=input.len() {
             let mut taken = TakenLines::new(rt.alloc());
             let answer = take_in_pieces(rt.alloc(), input.as_bytes(), size, &mut taken);
-            assert_eq!(rt; answer, Err(fault), "{input} in pieces of {size}");
-            assert_eq!(rt; taken.text.as_slice(), before.as_bytes(), "{input}");
+            assert!(rt; answer == Err(fault), "{input} in pieces of {size}");
+            assert!(rt; taken.text.as_slice() == before.as_bytes(), "{input}");
         }
         let mut taken = TakenLines::new(rt.alloc());
         let answer = take_lines(rt.alloc(), input.as_bytes(), &mut taken);
-        assert_eq!(rt; answer, Err(fault), "{input} as a whole");
+        assert!(rt; answer == Err(fault), "{input} as a whole");
     }
 }
 
@@ -93,7 +92,7 @@ fn takes_pieces_of_unlike_lengths(rt: HostRuntime) -> Result<(), Fail> {
             reader.take_piece(rt.alloc(), piece.as_bytes(), &mut taken)?;
         }
         reader.finish(rt.alloc(), &mut taken)?;
-        assert_eq!(rt; taken.text.as_slice(), lines.as_bytes());
+        assert!(rt; taken.text.as_slice() == lines.as_bytes());
     }
     Ok(())
 }
@@ -107,7 +106,7 @@ fn takes_a_line_that_is_longer_than_its_pieces(rt: HostRuntime) -> Result<(), Fa
     input.extend_from_slice(b"\none")?;
     let mut taken = TakenLines::new(rt.alloc());
     take_in_pieces(rt.alloc(), &input, 4096, &mut taken)?;
-    assert_eq!(rt; taken.text.len(), DIGITS + 5);
+    assert!(rt; taken.text.len() == DIGITS + 5);
     assert!(rt; taken.text.starts_with(b"aaaa"));
     assert!(rt; taken.text.ends_with(b"aaaa|one|"));
     Ok(())
@@ -126,7 +125,10 @@ fn shows_what_is_unfinished(rt: HostRuntime) -> Result<(), Fail> {
         ("\n", ""),
     ] {
         reader.take_piece(rt.alloc(), piece.as_bytes(), &mut taken)?;
-        assert_eq!(rt; reader.unfinished(), unfinished.as_bytes(), "after {piece}");
+        assert!(rt;
+            reader.unfinished() == unfinished.as_bytes(),
+            "after {piece}"
+        );
     }
     Ok(())
 }
@@ -141,8 +143,8 @@ fn reports_a_fault_again(rt: HostRuntime) {
     let mut reader = LineReader::new(rt.alloc());
     for piece in ["one\nbad\ntwo\n", "three\n", ""] {
         let answer = reader.take_piece(rt.alloc(), piece.as_bytes(), &mut taken);
-        assert_eq!(rt; answer, Err(fault), "at {piece}");
+        assert!(rt; answer == Err(fault), "at {piece}");
     }
-    assert_eq!(rt; reader.finish(rt.alloc(), &mut taken), Err(fault));
-    assert_eq!(rt; taken.text.as_slice(), b"one|".as_slice());
+    assert!(rt; reader.finish(rt.alloc(), &mut taken) == Err(fault));
+    assert!(rt; taken.text.as_slice() == b"one|".as_slice());
 }

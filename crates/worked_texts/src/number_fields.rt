@@ -23,6 +23,6 @@ const FIELDS: [(&str, u32, Option<u32>); 15] = [
 #[test]
 fn reads_numbers_at_their_edges(rt: HostRuntime) {
     for (field, most, number) in &FIELDS {
-        assert_eq!(rt; read_number(field.as_bytes(), *most), *number, "{field}");
+        assert!(rt; read_number(field.as_bytes(), *most) == *number, "{field}");
     }
 }

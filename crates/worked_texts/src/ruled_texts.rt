@@ -16,10 +16,10 @@ fn each_rule_has_its_report(rt: HostRuntime) -> Result<(), Fail> {
     for (rule, report) in REPORTS {
         let input = Vec::from_slice(rt.alloc(), RULED_TRACE.as_bytes())?;
         let text = replay_lines_by(rule, rt.alloc(), input)?;
-        assert_eq!(rt; text.as_slice(), report.as_bytes(), "{rule:?}");
+        assert!(rt; text.as_slice() == report.as_bytes(), "{rule:?}");
     }
     let input = Vec::from_slice(rt.alloc(), RULED_TRACE.as_bytes())?;
     let text = replay_lines(rt.alloc(), input)?;
-    assert_eq!(rt; text.as_slice(), DECIDED_REPORT.as_bytes());
+    assert!(rt; text.as_slice() == DECIDED_REPORT.as_bytes());
     Ok(())
 }

@@ -80,9 +80,9 @@ const ROWS: [SidRow; 2] = [
 #[test]
 fn reads_the_setup(rt: HostRuntime) -> Result<(), Fail> {
     let setup = setup_of(rt.alloc(), TRACE)?;
-    assert_eq!(rt; setup.flows.as_slice(), [FLOW].as_slice());
-    assert_eq!(rt; setup.sids.as_slice(), ROWS.as_slice());
-    assert_eq!(rt; setup.mailbox, 5);
+    assert!(rt; setup.flows.as_slice() == [FLOW].as_slice());
+    assert!(rt; setup.sids.as_slice() == ROWS.as_slice());
+    assert!(rt; setup.mailbox == 5);
     Ok(())
 }
 
@@ -92,9 +92,9 @@ const DECIDED: &str = "flow 1 0 16 1\nflow 2 0 16 1\ngap 1\nburst 3 7 bad -\ngap
 #[test]
 fn reads_the_senders(rt: HostRuntime) -> Result<(), Fail> {
     let tags = tags_of(rt.alloc(), TRACE)?;
-    assert_eq!(rt; tags.as_slice(), [0, 1, 0, 1, 0, 0].as_slice());
+    assert!(rt; tags.as_slice() == [0, 1, 0, 1, 0, 0].as_slice());
     let tags = tags_of(rt.alloc(), DECIDED)?;
-    assert_eq!(rt; tags.as_slice(), [4, 3, 4].as_slice());
+    assert!(rt; tags.as_slice() == [4, 3, 4].as_slice());
     Ok(())
 }
 
@@ -119,7 +119,7 @@ fn expect_inputs(
     let lists = lists_of(alloc, trace)?;
     for (inputs, lines) in lists.inputs.iter().zip(came) {
         let text = lines_of(alloc, inputs)?;
-        assert_eq!(rt; text.as_str(), *lines);
+        assert!(rt; text.as_str() == *lines);
     }
     Ok(())
 }
@@ -145,7 +145,7 @@ const DECISIONS: [Decision; 2] = [
 #[test]
 fn reads_decisions(rt: HostRuntime) -> Result<(), Fail> {
     let lists = lists_of(rt.alloc(), DECIDED)?;
-    assert_eq!(rt; lists.decisions.as_slice(), DECISIONS.as_slice());
+    assert!(rt; lists.decisions.as_slice() == DECISIONS.as_slice());
     let lists = lists_of(rt.alloc(), TRACE)?;
     assert!(rt; lists.decisions.is_empty());
     Ok(())
@@ -175,7 +175,7 @@ fn counts_flows_and_rows(rt: HostRuntime) -> Result<(), Fail> {
     for (lines, flows, rows) in &COUNTED {
         let input = below_flows(rt.alloc(), *flows, lines)?;
         let counts = counts_of(rt.alloc(), &input)?;
-        assert_eq!(rt; counts, [*flows as usize, *rows, 0], "{lines}");
+        assert!(rt; counts == [*flows as usize, *rows, 0], "{lines}");
     }
     Ok(())
 }

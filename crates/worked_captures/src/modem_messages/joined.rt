@@ -48,7 +48,7 @@ fn a_message_in_two_parts(rt: HostRuntime) -> Result<(), Fail> {
     let mut unfinished = Unfinished::new(rt.alloc());
     let kept = take(rt.alloc(), &mut unfinished, first());
     assert!(rt; is_kept(&kept));
-    assert_eq!(rt; unfinished.count(), 1);
+    assert!(rt; unfinished.count() == 1);
     let given = take(rt.alloc(), &mut unfinished, second())?.ok_or("a message")?;
     assert!(rt; given.modem == MODEM);
     assert!(rt;
@@ -60,7 +60,7 @@ fn a_message_in_two_parts(rt: HostRuntime) -> Result<(), Fail> {
     );
     let told = told_by(rt.alloc(), &given.tlvs)?;
     assert!(rt; told.as_slice() == told_by_response().as_slice());
-    assert_eq!(rt; unfinished.count(), 0);
+    assert!(rt; unfinished.count() == 0);
     Ok(())
 }
 
@@ -70,7 +70,7 @@ fn messages_in_one_part(rt: HostRuntime) {
     for (packet, bytes) in [(whole(), 149), (change(), 37), (whole(), 149)] {
         let taken = take(rt.alloc(), &mut unfinished, packet);
         assert!(rt; given(&taken) == Some(bytes));
-        assert_eq!(rt; unfinished.count(), 0);
+        assert!(rt; unfinished.count() == 0);
     }
 }
 
@@ -83,7 +83,7 @@ fn a_first_part_begins_anew(rt: HostRuntime) {
         let kept = take(rt.alloc(), &mut unfinished, first());
         assert!(rt; is_kept(&kept));
     }
-    assert_eq!(rt; unfinished.count(), 1);
+    assert!(rt; unfinished.count() == 1);
     let joined = take(rt.alloc(), &mut unfinished, second());
     assert!(rt; given(&joined) == Some(149));
     let again = take(rt.alloc(), &mut unfinished, second());
@@ -134,7 +134,7 @@ fn parts_of_two_modems(rt: HostRuntime) {
         let kept = unfinished.take(rt.alloc(), part(modem, 1, 2, 1, &[1]));
         assert!(rt; is_kept(&kept));
     }
-    assert_eq!(rt; unfinished.count(), 2);
+    assert!(rt; unfinished.count() == 2);
     for modem in [7, 8] {
         let taken = unfinished.take(rt.alloc(), part(modem, 1, 2, 2, &[2]));
         assert!(rt; given(&taken) == Some(2));
@@ -166,7 +166,7 @@ fn as_many_messages_as_may_be(rt: HostRuntime) {
         let kept = unfinished.take(rt.alloc(), part(modem, 1, 2, 1, &[1]));
         assert!(rt; is_kept(&kept));
     }
-    assert_eq!(rt; unfinished.count(), MOST_UNDER_WAY);
+    assert!(rt; unfinished.count() == MOST_UNDER_WAY);
     let more = unfinished.take(rt.alloc(), part(1000, 1, 2, 1, &[1]));
     assert!(rt; more.err() == Some(JoinFault::TooManyUnderWay));
     let whole = unfinished.take(rt.alloc(), part(1000, 1, 1, 1, &[1]));
@@ -174,7 +174,7 @@ fn as_many_messages_as_may_be(rt: HostRuntime) {
     let anew = unfinished.take(rt.alloc(), part(0, 2, 2, 1, &[1]));
     assert!(rt; is_kept(&anew));
     unfinished.forget();
-    assert_eq!(rt; unfinished.count(), 0);
+    assert!(rt; unfinished.count() == 0);
     let late = unfinished.take(rt.alloc(), part(1, 1, 2, 2, &[1]));
     assert!(rt; late.err() == Some(JoinFault::NoBeginning));
 }

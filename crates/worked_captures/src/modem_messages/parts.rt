@@ -36,7 +36,8 @@ fn parts_of_messages(rt: HostRuntime) -> Result<(), Fail> {
         let part = read_part(bytes).ok().ok_or(name)?;
         assert!(rt; part.modem == MODEM, "{name}");
         assert!(rt; part.message == message, "{name}");
-        assert!(rt; (part.of, part.number) == (of, number), "{name}");
+        assert!(rt; part.of == of, "{name}");
+        assert!(rt; part.number == number, "{name}");
         assert!(rt; part.tlvs.len() == length, "{name}");
     }
     Ok(())

@@ -55,12 +55,12 @@ fn what_a_map_cannot_say_is_left_out(rt: HostRuntime) -> Result<(), Fail> {
     all.push(told(2, 8, 100, 1, ADD))?;
     all.push(told(2, 0, 100, 16_384, ADD))?;
     let text = map_of(rt.alloc(), &all)?;
-    assert_eq!(rt; count_of(&text, b"flow"), 1);
-    assert_eq!(rt; count_of(&text, b"flow 1 auto 1024 8"), 1);
-    assert_eq!(rt; count_of(&text, b"channel"), 16);
-    assert_eq!(rt; count_of(&text, b"channel 15 115"), 1);
-    assert_eq!(rt; count_of(&text, b"sid"), 16);
-    assert_eq!(rt; count_of(&text, b"# left out, as a map can't say it: "), 3);
+    assert!(rt; count_of(&text, b"flow") == 1);
+    assert!(rt; count_of(&text, b"flow 1 auto 1024 8") == 1);
+    assert!(rt; count_of(&text, b"channel") == 16);
+    assert!(rt; count_of(&text, b"channel 15 115") == 1);
+    assert!(rt; count_of(&text, b"sid") == 16);
+    assert!(rt; count_of(&text, b"# left out, as a map can't say it: ") == 3);
     Ok(())
 }
 
@@ -77,9 +77,9 @@ fn a_flow_has_its_greatest_cluster_and_a_channel_its_first_line(
             told(1, 1, 9, 2, ADD),
         ],
     )?;
-    assert_eq!(rt; count_of(&text, b"flow 1 auto 1024 6"), 1);
-    assert_eq!(rt; count_of(&text, b"channel"), 1);
-    assert_eq!(rt; count_of(&text, b"sid"), 2);
+    assert!(rt; count_of(&text, b"flow 1 auto 1024 6") == 1);
+    assert!(rt; count_of(&text, b"channel") == 1);
+    assert!(rt; count_of(&text, b"sid") == 2);
     Ok(())
 }
 
@@ -90,8 +90,8 @@ fn remarks_beyond_the_most_are_counted(rt: HostRuntime) -> Result<(), Fail> {
         all.push(told(1, 0, 9, 1, DELETE))?;
     }
     let text = map_of(rt.alloc(), &all)?;
-    assert_eq!(rt; count_of(&text, b"# deleted later: "), MOST_REMARKS);
-    assert_eq!(rt; count_of(&text, b"# and 3 more like these"), 1);
-    assert_eq!(rt; count_of(&text, b"flow"), 0);
+    assert!(rt; count_of(&text, b"# deleted later: ") == MOST_REMARKS);
+    assert!(rt; count_of(&text, b"# and 3 more like these") == 1);
+    assert!(rt; count_of(&text, b"flow") == 0);
     Ok(())
 }
