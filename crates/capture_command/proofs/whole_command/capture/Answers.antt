@@ -54,22 +54,22 @@ returns-clause-captures g c =
 -- ---- what was said
 
 pub returns-in_err-capture_map-clause-says : goal.returns-in_err-capture_map-clause-says
-returns-in_err-capture_map-clause-says g c = says-nothing g.R.Read.remaining g.E.Write.contents c.args.asked.settings c.args.asked.progress c.args.reader.now c.args.err.now
+returns-in_err-capture_map-clause-says g c = says-nothing g.R.Read.remaining g.E.Write.contents c.args.asked.settings c.args.asked.progress c.args.reader.now c.args.reader.now c.args.err.now
 
 pub returns-in_err-tally-clause-says : goal.returns-in_err-tally-clause-says
-returns-in_err-tally-clause-says g c = says-nothing g.R.Read.remaining g.E.Write.contents c.args.asked.settings c.args.asked.progress c.args.reader.now c.args.err.now
+returns-in_err-tally-clause-says g c = says-nothing g.R.Read.remaining g.E.Write.contents c.args.asked.settings c.args.asked.progress c.args.reader.now c.args.reader.now c.args.err.now
 
 pub returns-in_err-comparing-clause-says : goal.returns-in_err-comparing-clause-says
-returns-in_err-comparing-clause-says g c = says-nothing g.R.Read.remaining g.E.Write.contents c.args.asked.settings c.args.asked.progress c.args.reader.now c.args.err.now
+returns-in_err-comparing-clause-says g c = says-nothing g.R.Read.remaining g.E.Write.contents c.args.asked.settings c.args.asked.progress c.args.reader.now c.args.reader.now c.args.err.now
 
 pub returns-in_err-sfids-clause-says : goal.returns-in_err-sfids-clause-says
-returns-in_err-sfids-clause-says g c = says-nothing g.R.Read.remaining g.E.Write.contents c.args.asked.settings c.args.asked.progress c.args.reader.now c.args.err.now
+returns-in_err-sfids-clause-says g c = says-nothing g.R.Read.remaining g.E.Write.contents c.args.asked.settings c.args.asked.progress c.args.reader.now c.args.reader.now c.args.err.now
 
 pub returns-in_err-reading-clause-says : goal.returns-in_err-reading-clause-says
-returns-in_err-reading-clause-says g c = says-nothing g.R.Read.remaining g.E.Write.contents c.args.asked.settings c.args.asked.progress c.args.reader.now c.args.err.now
+returns-in_err-reading-clause-says g c = says-nothing g.R.Read.remaining g.E.Write.contents c.args.asked.settings c.args.asked.progress c.args.reader.now c.args.reader.now c.args.err.now
 
 pub returns-in_err-requests-clause-says : goal.returns-in_err-requests-clause-says
-returns-in_err-requests-clause-says g c = says-nothing g.R.Read.remaining g.E.Write.contents c.args.asked.settings c.args.asked.progress c.args.reader.now c.args.err.now
+returns-in_err-requests-clause-says g c = says-nothing g.R.Read.remaining g.E.Write.contents c.args.asked.settings c.args.asked.progress c.args.reader.now c.args.reader.now c.args.err.now
 
 pub returns-in_err-joined-clause-says : goal.returns-in_err-joined-clause-says
 returns-in_err-joined-clause-says g c =
