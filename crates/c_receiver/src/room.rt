@@ -1,5 +1,5 @@
 //! Memory that serves again.
-ghost use Rattle.std.specs.Prelude.{◌≡◌, [], IfOk, IfSome};
+ghost use Rattle.std.specs.Prelude.{◌≡◌, ◌≤◌, ◌*◌, [], IfOk, IfSome, vec_capacity};
 
 use crate::queue::QueuedFrame;
 use docsis_wire::Bytes;
@@ -25,11 +25,13 @@ pub fn copied(
 /// The memory of a frame that is let go, with nothing in it, if it has room for so many bytes and
 /// for at most twice as many; else it is freed.
 fn room_again(let_go: Option<QueuedFrame>, count: usize) -> Option<Vec<u8>>
-    ensures { IfSome result (λ room. room.items ≡ []) }
+    ensures empty { IfSome result (λ room. room.items ≡ []) }
+    ensures enough { IfSome result (λ room. count ≤ vec_capacity room) }
+    ensures at_most_twice { IfSome result (λ room. vec_capacity room ≤ 2 * count) }
 {
     let room = emptied(let_go?.frame);
     let capacity = room.capacity();
-    if capacity < count || capacity / 2 > count {
+    if capacity < count || capacity - count > count {
         return None;
     }
     Some(room)
