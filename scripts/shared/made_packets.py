@@ -9,6 +9,7 @@ from shared.written_captures import number, short_number, tlv, xra_packet
 
 BAD_CHECK, POINTER_PAST, GRANT_RANGE = "bad check", "pointer past the end", "grant out of range"
 USAGE_TLV = 12  # the IUC of a burst
+INNER_ID_TLV = 1  # the number of a burst within TLV 14
 # Types that are none of a burst's, of both directions, among them ones that nobody uses.
 OTHER_TYPES = [0, 1, 2, 8, 11, 64, 66, 67, 68, 69, 70, 71, 73, UPSTREAM_FRAME, 81, 127, 0xC1]
 # What no map of a made capture says.
@@ -125,7 +126,19 @@ def without_segment_header_tlv(rng, channel_id, sid, payload):
     return packet_of(rng, values, payload)
 
 
-def frame_packet(rng, channel_id, sid, frame):
-    """A frame as an analyser that joins segments itself records it."""
-    tlvs = tlv(CHANNEL_TLV, short_number(channel_id)) + tlv(SID_TLV, number(sid, 2)) + burst_info(rng) + burst_info(rng)
+def named_burst(rng, burst_id):
+    """A TLV that names a burst by its number, among other TLVs. Of a number twice the last counts."""
+    inner = [tlv(INNER_ID_TLV, rng.choice([short_number(burst_id), number(burst_id, 8)])), tlv(USAGE_TLV, rng.randbytes(1))]
+    if rng.random() < 0.1:
+        inner.insert(0, tlv(INNER_ID_TLV, rng.randbytes(rng.choice([0, 2, 9]))))
+    return tlv(BURST_INFO_TLV, b"".join(inner))
+
+
+def frame_packet(rng, channel_id, sid, frame, bursts=()):
+    """A frame as an analyser that joins segments itself records it, and of which these bursts are
+    named, among TLVs that name none."""
+    tlvs = tlv(CHANNEL_TLV, short_number(channel_id)) + tlv(SID_TLV, number(sid, 2))
+    tlvs += burst_info(rng) + b"".join(named_burst(rng, one) for one in bursts) + burst_info(rng)
+    if bursts and rng.random() < 0.1:
+        tlvs += tlv(BURST_INFO_TLV, b"\x01\x02\x03")
     return xra_packet(UPSTREAM_FRAME, tlvs, frame)

@@ -41,6 +41,7 @@ MOST_WAITING = 2048
 DOCSIS = 143  # the link type of frames
 UPSTREAM_FRAME = 80  # the type of a packet that holds one
 UNKNOWN_CHANNEL, UNKNOWN_SID = "unknown channel", "unknown SID"
+WAITS = "waits"  # a burst that its lane will admit, until it is handed in
 # The types of the elements of an extended header that say whether a frame is encrypted.
 PRIVACY = (3, 7)
 RIGHT, WRONG, ENCRYPTED, NO_SEQUENCE = "right", "wrong", "encrypted", "no frame check sequence"
@@ -183,6 +184,7 @@ class CapturedFlow:
         self.skip_to_the_old(time)
         self.reading.admit(self.index, coming)
         verdict, _ = self.live.told(coming.channel, coming.burst.bytes)
+        self.reading.tell(coming.burst, verdict)
         if verdict == "kept":
             self.kept_at[self.live.index(coming.number)] = time
         self.handed_in = coming
@@ -246,6 +248,8 @@ class CaptureReading:
         self.last_time = record.nanoseconds
         burst = burst_in(record)
         reason = self.reason_to_pass_over(burst) if isinstance(burst, CapturedBurst) else burst
+        if reason in (UNKNOWN_CHANNEL, UNKNOWN_SID):
+            self.tell(burst, reason)
         if reason is None:
             self.take_burst(record.nanoseconds, burst)
         else:
@@ -264,9 +268,10 @@ class CaptureReading:
         self.above_grant[channel] += exceeds_grant(burst)
         coming = Coming(time, channel, burst, header(burst.bytes).number)
         if self.would_admit(coming):
+            self.tell(burst, WAITS)
             self.captured[self.sids[channel, burst.sid]].come(coming)
         else:
-            self.hand_to_lane(coming)
+            self.tell(burst, self.hand_to_lane(coming))
 
     def would_admit(self, coming):
         """Whether its lane will admit the burst: it answers by the burst alone."""
@@ -283,6 +288,10 @@ class CaptureReading:
         if head.request and head.cluster < self.flows[flow].clusters:
             request = coming.time, coming.channel, coming.burst.sid, flow, head.cluster, head.request
             self.requests.append(GivenRequest(*request))
+
+    def tell(self, burst, fate):
+        """What became of a burst: why it is of no flow, the number of its refusal, that it waits, or
+        what became of its segment."""
 
     def give(self, given):
         self.sequences[given.flow, sequence_of(given.frame)] += 1

@@ -6,12 +6,19 @@ if one that waits on the other side has the same bytes, the first such one is it
 before that one, and all that waits on its own side, has none. Otherwise it waits itself; of more
 than 1,024 that wait then on its side the first has none. What waits at the end has none either, nor
 has a frame that is longer than a MAC frame can be.
+
+Of each frame that is listed as only the analyser's the reason is told: the first of the bursts that
+its packet names, of the first 16, that isn't kept, and what was told last of it among the last
+32,768 things that were told of bursts, once all is done that the record brought by which the frame
+came to be listed.
 """
 
 import collections
+import itertools
 
-from shared.plain_capture import UPSTREAM_FRAME, CaptureReading
-from shared.plain_packets import CHANNEL_TLV, SID_TLV, XRA, last_value, packet_in
+from shared.plain_capture import UNKNOWN_CHANNEL, UNKNOWN_SID, UPSTREAM_FRAME, WAITS, CaptureReading
+from shared.plain_packets import BURST_INFO_TLV, CHANNEL_TLV, SID_TLV, XRA, last_value, packet_in, tlvs_in
+from shared.plain_receiver import Lane
 
 ANALYSER, HERE = "only the analyser's", "only here"
 LONGEST_WAIT, LONGEST_FRAME = 1024, 6 + 65535
@@ -20,12 +27,42 @@ DIFFER, NONE_COMPARED = "segrx: the frames differ from the analyser's", "segrx: 
 # So many frames that only one side has are listed of each side, with so many bytes of each.
 MOST_LISTED, FIRST_BYTES = 100, 16
 
-RecordedFrame = collections.namedtuple("RecordedFrame", "time channel sid frame")
-WaitingFrame = collections.namedtuple("WaitingFrame", "time frame")
+# So many bursts of a frame are looked at, and so many things that were told of bursts are kept.
+MOST_BURSTS, MOST_TOLD = 16, 32768
+INNER_ID_TLV = 1  # the number of a burst within TLV 14
+# What became of a burst: the word for it, and what people read of it.
+KEPT = "kept"
+FATES = {
+    UNKNOWN_CHANNEL: ("unknown_channel", "is of no channel of the map"),
+    UNKNOWN_SID: ("unknown_sid", "is of no flow of the map"),
+    WAITS: ("waits", "waits"),
+    KEPT: (KEPT, "was kept"),
+    "late": ("late", "came late"),
+    "repeat": ("repeat", "came again"),
+    "beyond": ("beyond", "was beyond the window"),
+    Lane.NO_GRANT: ("no_grant", "was refused: no_grant"),
+    Lane.TOO_LONG: ("too_long", "was refused: too_long"),
+    Lane.BAD_CHECK: ("bad_check", "was refused: bad_check"),
+    Lane.TOO_SHORT: ("too_short", "was refused: too_short"),
+    Lane.POINTER_PAST: ("pointer_past_the_end", "was refused: pointer_past_the_end"),
+}
+NEVER_CAME, NOT_SEEN = ("never_came", "never came"), ("not_seen_lately", "wasn't seen lately")
+UNNAMED, ALL_KEPT = ("unnamed", "its bursts aren't named"), (KEPT, "its bursts were kept")
+
+RecordedFrame = collections.namedtuple("RecordedFrame", "time channel sid frame bursts")
+WaitingFrame = collections.namedtuple("WaitingFrame", "time frame bursts")
+Reason = collections.namedtuple("Reason", "word text burst")
 
 
-def number_in(value):
-    return int.from_bytes(value, "big") if value is not None and 1 <= len(value) <= 4 else None
+def number_in(value, most=4):
+    return int.from_bytes(value, "big") if value is not None and 1 <= len(value) <= most else None
+
+
+def named_bursts(tlvs):
+    """The numbers of the first bursts that TLVs name."""
+    inner = [tlvs_in(value) for kind, value in tlvs if kind == BURST_INFO_TLV]
+    ids = [number_in(last_value(one, INNER_ID_TLV), 8) for one in inner if one is not None]
+    return [one for one in ids if one is not None][:MOST_BURSTS]
 
 
 def recorded_frame(record):
@@ -38,7 +75,7 @@ def recorded_frame(record):
     channel, sid = (number_in(last_value(packet.tlvs, kind)) for kind in (CHANNEL_TLV, SID_TLV))
     if channel is None or sid is None:
         return None
-    return RecordedFrame(record.nanoseconds, channel, sid, packet.payload)
+    return RecordedFrame(record.nanoseconds, channel, sid, packet.payload, named_bursts(packet.tlvs))
 
 
 class Comparison:
@@ -50,12 +87,12 @@ class Comparison:
         self.strangers = 0  # frames of the analyser's of no flow of the map
         self.listed = {ANALYSER: [], HERE: []}
 
-    def take(self, side, flow, time, frame):
+    def take(self, side, flow, time, frame, bursts=()):
         waiting, other = self.waiting[flow], HERE if side == ANALYSER else ANALYSER
         equal = (place for place, one in enumerate(waiting[other]) if one.frame == frame and len(frame) <= LONGEST_FRAME)
         place = next(equal, None)
         if place is None:
-            waiting[side].append(WaitingFrame(time, frame))
+            waiting[side].append(WaitingFrame(time, frame, bursts))
             self.give_up(side, flow, len(waiting[side]) - LONGEST_WAIT)
             return
         self.both[flow] += 1
@@ -89,6 +126,8 @@ class ComparedReading(CaptureReading):
     def __init__(self, capture_map, settings, is_selected):
         super().__init__(capture_map, settings)
         self.is_selected, self.comparison = is_selected, Comparison(len(capture_map.flows))
+        # What was told of bursts, by their numbers, and the reasons of the frames that are listed.
+        self.told, self.reasons = collections.deque(maxlen=MOST_TOLD), []
         # Behind how many records each frame was joined.
         self.joined_behind = []
 
@@ -97,9 +136,47 @@ class ComparedReading(CaptureReading):
         channel = None if found is None else self.channel_of.get(found.channel)
         flow = None if channel is None else self.sids.get((channel, found.sid))
         if flow is not None and self.is_selected(flow):
-            self.comparison.take(ANALYSER, flow, found.time, found.frame)
+            self.comparison.take(ANALYSER, flow, found.time, found.frame, found.bursts)
         self.comparison.strangers += found is not None and flow is None
         super().take(record)
+        self.explain()
+
+    def tell(self, burst, fate):
+        if burst.burst_id is not None:
+            self.told.append((burst.burst_id, fate))
+
+    def reason_of(self, bursts):
+        """Why a frame is missing that came of these bursts, by what was told until now."""
+        fates = dict(self.told)
+        unknown = NOT_SEEN if len(self.told) == MOST_TOLD else NEVER_CAME
+        for burst in bursts:
+            word, text = FATES[fates[burst]] if burst in fates else unknown
+            if word != KEPT:
+                return Reason(word, f"burst {burst} {text}", burst)
+        return Reason(*(ALL_KEPT if bursts else UNNAMED), None)
+
+    def explain(self):
+        """The frames that are listed and have no reason yet get theirs."""
+        for _, one in self.comparison.listed[ANALYSER][len(self.reasons) :]:
+            self.reasons.append(self.reason_of(one.bursts))
+
+    def finish(self):
+        for flow in self.captured:
+            flow.end_waiting()
+        self.explain()
+        for flow in self.captured:
+            flow.finish()
+        self.explain()
+
+    def finish_comparison(self):
+        """Nothing more is compared."""
+        self.comparison.finish()
+        self.explain()
+
+    def listed(self, side):
+        """The frames that are listed of a side, each with its flow and its reason, if it has one."""
+        reasons = self.reasons if side == ANALYSER else itertools.repeat(None)
+        return [(flow, one, reason) for (flow, one), reason in zip(self.comparison.listed[side], reasons)]
 
     def give(self, given):
         super().give(given)
@@ -128,8 +205,9 @@ def comparison_lines(reading):
     for index, sfid, both, analyser, here in compared_flows(reading):
         yield f"  flow {index} (SFID {sfid}): {both} in both, {analyser} {ANALYSER}, {here} {HERE}"
     for side in (ANALYSER, HERE):
-        for flow, one in comparison.listed[side]:
-            yield f"  {side}: flow {flow}, at {seconds(one.time)}, {len(one.frame)} bytes: {one.frame[:FIRST_BYTES].hex()}"
+        for flow, one, reason in reading.listed(side):
+            why = "" if reason is None else f"; {reason.text}"
+            yield f"  {side}: flow {flow}, at {seconds(one.time)}, {len(one.frame)} bytes: {one.frame[:FIRST_BYTES].hex()}{why}"
     if comparison.strangers:
         yield f"  the analyser's of no flow of the map: {comparison.strangers}"
 
@@ -140,13 +218,15 @@ def comparison_report(reading):
     for index, _, both, analyser, here in compared_flows(reading):
         yield f"compared {index} both {both} analyser {analyser} here {here}"
     for side, words in ((ANALYSER, "only analyser"), (HERE, "only here")):
-        for flow, one in comparison.listed[side]:
+        for flow, one, reason in reading.listed(side):
             first = one.frame[:FIRST_BYTES].hex() or "-"
-            yield f"{words} {flow} {one.time} {len(one.frame)} {first}"
+            why = "" if reason is None else f" {reason.word} {'-' if reason.burst is None else reason.burst}"
+            yield f"{words} {flow} {one.time} {len(one.frame)} {first}{why}"
     yield f"comparison whole strangers {comparison.strangers}"
 
 
-def frame_as_json(reading, flow, one):
+def frame_as_json(reading, flow, one, reason):
+    why = {} if reason is None else {"why": {"burst": reason.burst, "reason": reason.word}}
     return {
         "flow": flow,
         "sfid": reading.captured[flow].setup.sfid,
@@ -154,13 +234,14 @@ def frame_as_json(reading, flow, one):
         "nanoseconds": one.time % 10**9,
         "bytes": len(one.frame),
         "first": one.frame[:FIRST_BYTES].hex(),
+        **why,
     }
 
 
 def comparison_as_json(reading):
     """How frames compare, as the JSON of a reading has it."""
     comparison, names = reading.comparison, ["flow", "sfid", "both", "only_analyser", "only_here"]
-    listed = {side: [frame_as_json(reading, *frame) for frame in comparison.listed[side]] for side in (ANALYSER, HERE)}
+    listed = {side: [frame_as_json(reading, *frame) for frame in reading.listed(side)] for side in (ANALYSER, HERE)}
     return {
         "flows": [dict(zip(names, counts)) for counts in compared_flows(reading)],
         "only_analyser": listed[ANALYSER],

@@ -96,7 +96,7 @@ pub data CopiesAndTakes (held : HeldReceiver) (channel : ℕ) (input : Input) (a
 abbrev pub TakesGrant : HeldReceiver → ℕ → ℕ → ℕ → ℕ → Status → HeldReceiver → Type 0
 TakesGrant held channel number sid bytes answer held' = Takes held channel (Grant number sid bytes) answer held'
 
--- the same, with nothing lent any more
+-- the same, with no frame kept any more, lent or copied
 abbrev pub without_loan : HeldReceiver → HeldReceiver
 without_loan held = record held { lent = None }
 
@@ -238,7 +238,8 @@ Counts held flow counts answer counts' =
 abbrev pub plain_frame : QueuedFrame → PlainFrame
 plain_frame first = record { flow = first.flow; length = length first.frame }
 
--- its bytes are at the room's front, and it waits no more, but is kept until the next burst or frame
+-- its bytes are at the room's front, and it waits no more, but is kept until the next burst or
+-- frame, as one that is lent is
 pub record GivesBytes (first : QueuedFrame) (rest : List QueuedFrame) (held : HeldReceiver) (room : List ℕ) (answer : Status) (held' : HeldReceiver) (room' : List ℕ) : Type 0 where
   pub answered : answer ≡ status.Done
   pub fits : length first.frame ≤ length room
@@ -266,7 +267,7 @@ GivesFirst (first ∷ rest) held room frame answer held' room' frame' =
 abbrev pub GivesFrame : HeldReceiver → List ℕ → PlainFrame → Status → HeldReceiver → List ℕ → PlainFrame → Type 0
 GivesFrame held room frame answer held' room' frame' = GivesFirst held.queue.frames.items held room frame answer held' room' frame'
 
--- the bytes of the frame that is lent, and none where none is
+-- the bytes of the frame that is kept, lent or copied, and none where none is
 abbrev pub bytes_lent : Option QueuedFrame → List ℕ
 bytes_lent None = []
 bytes_lent (Some lent) = lent.frame
@@ -277,7 +278,7 @@ pub record KeepsTheRequests (held held' : HeldReceiver) : Type 0 where
   pub whole : held'.queue.whole ≡ held.queue.whole
   pub unmoved : held'.state ≡ held.state
 
--- no frame waits, and none is lent any more; or the first is told and lent, and waits no more
+-- no frame waits, and none is kept any more; or the first is told and lent, and waits no more
 abbrev pub LendsFirst : List QueuedFrame → HeldReceiver → PlainFrame → Status → HeldReceiver → PlainFrame → Type 0
 LendsFirst [] held frame answer held' frame' = (answer ≡ status.Nothing) × (frame' ≡ frame) × (held'.lent ≡ None) × (held'.queue.frames.items ≡ [])
 LendsFirst (first ∷ rest) held frame answer held' frame' =

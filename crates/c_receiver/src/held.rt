@@ -42,7 +42,7 @@ pub struct HeldReceiver {
     pub state: State,
     /// What waits.
     pub queue: Queue,
-    /// The frame that is lent, if one is. It waits no more.
+    /// The frame that was given last, lent or copied, if it is still kept. It waits no more.
     pub lent: Option<QueuedFrame>,
     alloc: Global,
 }
@@ -90,8 +90,9 @@ impl HeldReceiver {
         self.take(channel, Input::Grant { number, sid, bytes })
     }
 
-    /// Takes a burst that came on this channel. What was lent is let go before, and its memory
-    /// serves the copy of the burst's bytes, if they fit there and fill half of it.
+    /// Takes a burst that came on this channel. The frame that was given last, lent or copied, is
+    /// let go before, and its memory serves the copy of the burst's bytes, if they fit there and
+    /// fill half of it.
     pub fn burst(&mut self, channel: usize, grant: u32, hcs_ok: bool, bytes: &[u8]) -> Status
         requires in_use { IsInUse self.old }
         ensures takes { TakesBurst self.old channel grant hcs_ok bytes.now result self.new }
@@ -195,7 +196,8 @@ impl HeldReceiver {
     }
 
     /// Tells the first frame that waits, and gives its bytes at the front of this room, if it is
-    /// large enough: then the frame is kept as one that is lent, and waits no more.
+    /// large enough: then the frame waits no more, and is kept until the next burst or frame, as
+    /// one that is lent is.
     pub fn next_frame(&mut self, room: &mut [u8], frame: &mut PlainFrame) -> Status
         requires in_use { IsInUse self.old }
         ensures gives { GivesFrame self.old room.old frame.old result self.new room.new frame.new }
@@ -213,9 +215,9 @@ impl HeldReceiver {
         self.lend_frame(frame)
     }
 
-    /// Lets the frame go that was lent, if one was, and lends the first one that waits, if one
-    /// does: it is told, waits no more, and is kept, with its bytes where they are, until the next
-    /// burst or frame.
+    /// Lets the frame go that was given last, if it is still kept, and lends the first one that
+    /// waits, if one does: it is told, waits no more, and is kept, with its bytes where they are,
+    /// until the next burst or frame.
     pub fn lend_frame(&mut self, frame: &mut PlainFrame) -> Status
         requires in_use { IsInUse self.old }
         ensures lends { LendsFrame self.old frame.old result self.new frame.new }
@@ -231,7 +233,7 @@ impl HeldReceiver {
         }
     }
 
-    /// The bytes of the frame that is lent; none where none is.
+    /// The bytes of the frame that is kept, lent or copied; none where none is.
     pub fn lent_bytes(&self) -> &[u8]
         ensures { result.now ≡ bytes_lent self.now.lent }
     {

@@ -1,5 +1,6 @@
 -- The exit status of a fault.
 use Rattle.std.specs.Prelude.{ℕ}
+use Rattle.command_line.specs.declared.command.UsageFault.{UsageFault}
 use Rattle.capture_map.specs.declared.fault.MapFault.{MapFault}
 use Rattle.capture_map.specs.declared.fault.MapFault.TheVariants as map
 use Rattle.receiver.specs.declared.setup.SetupError.{SetupError}
@@ -10,10 +11,13 @@ use Rattle.engines.specs.Fault as engines
 use Rattle.capture_command.specs.declared.fault.CaptureCommandFault.{CaptureCommandFault}
 use Rattle.capture_command.specs.declared.fault.CaptureCommandFault.TheVariants.{Map, Setup, MapFile, OutputFile, Differs, Uncompared, Engine}
 
--- what is reported of a fault of the engine, of a map, and of what a map sets up; that memory ran
--- out is told in one way
+-- what is reported of a fault of the engine, of words, of a map, and of what a map sets up; that
+-- memory ran out is told in one way
 abbrev pub engine_fault : EngineFault → CaptureCommandFault
 engine_fault fault = Engine fault
+
+abbrev pub words_fault : UsageFault → CaptureCommandFault
+words_fault fault = Engine (engines.usage_fault fault)
 
 abbrev pub map_fault : MapFault → CaptureCommandFault
 map_fault (map.Line number kind) = Map (map.Line number kind)

@@ -1,20 +1,22 @@
 -- What the command `capture` does.
-use Rattle.std.specs.Prelude.{◌≡◌, ◌⊎◌, ℕ, Bool, true, List, Option, Result, Ok, Err, IfSome, IfErr, OnOk, OnErr}
+use Rattle.std.specs.Prelude.{◌≡◌, ◌⊎◌, ℕ, Bool, true, List, [], Option, Result, Ok, Err, IfSome, IfErr, OnOk, OnErr}
 use Rattle.capture_map.specs.declared.map.CaptureMap.{CaptureMap}
 use Rattle.capture_map.specs.Reading.{IsMap}
 use Rattle.engines.specs.declared.device.Device.{Device}
 use Rattle.engines.specs.declared.fault.EngineFault.{EngineFault}
 use Rattle.engines.specs.Device.{inner_of, IsFresh}
 use Rattle.frame_engine.specs.declared.settings.CaptureSettings.{CaptureSettings}
-use Rattle.frame_engine.specs.Joining.{JoinsCapture}
+use Rattle.frame_engine.specs.Joining.{JoinsCapture, IsFileSoFar}
 use Rattle.capture_command.specs.declared.fault.CaptureCommandFault.{CaptureCommandFault}
 use Rattle.capture_command.specs.declared.fault.CaptureCommandFault.TheVariants.{Engine}
 use Rattle.engines.specs.declared.fault.EngineFault.TheVariants.{Write}
 use Rattle.engines.specs.Engine.{WritesText}
+use Rattle.engines.specs.FlushedReads.{FlushedRead, ReadsBehindText}
 use Rattle.engines.specs.Transfer.{AppendsFront}
 use Rattle.frame_engine.specs.Judged.{HasTheAnalysersFrames}
 use Rattle.std.specs.Io.KnownBytes.{Appends}
-use Rattle.capture_command.specs.Fault.{status_of}
+use Rattle.command_line.specs.declared.command.UsageFault.{UsageFault}
+use Rattle.capture_command.specs.Fault.{status_of, words_fault}
 use Rattle.capture_command.specs.Asked.{AskForSettings, AskToCompare, AskForHelp}
 
 -- 0 where the work was done
@@ -77,6 +79,20 @@ module _ {R W File : Type 0} (remaining : R → Option (List ℕ)) (contents : W
     helps : PrintsHelp words reader reader' writer writer' result → Obeys words reader reader' writer writer' result
     refuses : IsRefused reader reader' writer writer' result → Obeys words reader reader' writer writer' result
 
+  -- words were refused for themselves, or since an allocation failed; neither device was used
+  pub record RefusesWords (reader reader' : Device R) (writer writer' : Device W) (result : Result (Unit {0}) CaptureCommandFault) : Type 0 where
+    pub fault : UsageFault
+    pub is : result ≡ Err (words_fault fault)
+    pub unread : reader' ≡ reader
+    pub unwritten : writer' ≡ writer
+
+  -- **what comes of words is of what they ask for, or their own fault**: so a fault of another kind,
+  -- and a capture that was joined, is of words that ask to capture, or for help
+  abbrev pub DoesAsked : List (List ℕ) → Device R → Device R → Device W → Device W → Result (Unit {0}) CaptureCommandFault → Type 0
+  DoesAsked words reader reader' writer writer' result =
+      ((settings : CaptureSettings) × (compares : Bool) × AskForSettings words settings × AskToCompare words compares × Captures settings compares reader reader' writer writer' result)
+      ⊎ PrintsHelp words reader reader' writer writer' result ⊎ RefusesWords reader reader' writer writer' result
+
   -- so over fresh devices on these
   pub record ComesOf (words : List (List ℕ)) (reader : R) (writer : W) (result : Result (Unit {0}) CaptureCommandFault) : Type 0 where
     pub input : Device R
@@ -87,3 +103,22 @@ module _ {R W File : Type 0} (remaining : R → Option (List ℕ)) (contents : W
     pub writes : inner_of output ≡ writer
     pub fresh : IsFresh input × IsFresh output
     pub obeyed : Obeys words input input' output output' result
+    pub does : DoesAsked words input input' output output' result
+
+  module _ (after : R → List FlushedRead → R → Type 0) where
+    -- **The capture was joined with the map that a file holds, and at each read just the file of all
+    -- records that were read before stood flushed in the output**: by the relation that the reader
+    -- keeps.
+    pub record JoinsBehindFile (settings : CaptureSettings) (reader reader' : R) (writer : W) (start : R) : Type 0 where
+      pub capture_map : CaptureMap
+      pub map_is : IsMapOfFile bytes_of capture_map
+      pub shown : ReadsBehindText (IsFileSoFar settings capture_map) (contents writer) after (remaining reader) (remaining reader') start reader'
+
+    -- so with these settings, or nothing was read
+    abbrev pub ShowsJoined : CaptureSettings → R → R → W → Type 0
+    ShowsJoined settings reader reader' writer = (start : R) → after start [] reader → JoinsBehindFile settings reader reader' writer start ⊎ (reader' ≡ reader)
+
+    -- with those that the words ask for
+    abbrev pub ShowsCaptured : List (List ℕ) → R → R → W → Type 0
+    ShowsCaptured words reader reader' writer =
+        ((settings : CaptureSettings) × AskForSettings words settings × ShowsJoined settings reader reader' writer) ⊎ (reader' ≡ reader)

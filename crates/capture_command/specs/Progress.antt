@@ -14,6 +14,7 @@ use Rattle.capture_summary.specs.SummaryText.{summary_text}
 use Rattle.frame_engine.specs.declared.settings.CaptureSettings.{CaptureSettings}
 use Rattle.frame_engine.specs.Progress.{AreProgressOf}
 use Rattle.frame_engine.specs.declared.progress.CaptureProgress.{CaptureProgress}
+use Rattle.capture_command.specs.Asked.{AskForSettings, AskForProgress}
 use Rattle.capture_command.specs.declared.progress_lines.ProgressLines.{ProgressLines}
 
 -- a line of it
@@ -62,3 +63,9 @@ module _ {R W : Type 0} (remaining : R → Option (List ℕ)) (contents : W → 
     pub behind : List ℕ
     pub summary_is_behind : BeginsWithSummary behind
     pub said : has_failed writer' ≡ false → Appends (contents (inner_of writer)) (contents (inner_of writer')) (progress_lines told ++ behind)
+
+  -- **so as the words ask for it**, or nothing is said
+  abbrev pub SaysAsked : List (List ℕ) → Device R → Device R → Device W → Device W → Type 0
+  SaysAsked words reader reader' writer writer' =
+      ((settings : CaptureSettings) × (progress : Bool) × AskForSettings words settings × AskForProgress words progress × SaysProgress settings progress reader reader' writer writer')
+      ⊎ (writer' ≡ writer)

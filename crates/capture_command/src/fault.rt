@@ -1,6 +1,6 @@
 //! Why a capture isn't read to its end.
 ghost use Rattle.std.specs.Prelude.{◌≡◌};
-ghost use Rattle.capture_command.specs.Fault.{status_of, engine_fault, map_fault, setup_fault};
+ghost use Rattle.capture_command.specs.Fault.{status_of, engine_fault, words_fault, map_fault, setup_fault};
 
 use capture_map::MapFault;
 use command_line::UsageFault;
@@ -47,6 +47,8 @@ impl From<EngineFault> for CaptureCommandFault {
 }
 
 impl From<UsageFault> for CaptureCommandFault {
+    ghost from_gives = { λ fault reported. reported ≡ words_fault fault };
+
     fn from(fault: UsageFault) -> CaptureCommandFault {
         CaptureCommandFault::Engine(EngineFault::from(fault))
     }

@@ -10,4 +10,4 @@ mod whole_command;
 
 pub use asked::{CaptureAsked, CaptureWords, asks_to_capture, read_capture_words};
 pub use fault::CaptureCommandFault;
-pub use whole_command::capture_program;
+pub use whole_command::{capture_program, obey_words};

@@ -6,7 +6,7 @@ ghost use Rattle.engines.specs.Transfer.{AppendsFront};
 ghost use Rattle.engines.specs.Writing.{IsWritten};
 ghost use Rattle.text_lines.specs.Putting.{Puts};
 ghost use Rattle.capture_summary.specs.SummaryText.{summary_text};
-ghost use Rattle.capture_command.specs.Progress.{SaysSummary, SaysProgress};
+ghost use Rattle.capture_command.specs.Progress.{SaysSummary, SaysProgress, SaysAsked};
 ghost use Rattle.frame_engine.specs.Begun.{ComparesNothing};
 ghost use Rattle.frame_engine.specs.Judged.{EndsEqual};
 ghost use Rattle.engines.specs.declared.fault.EngineFault.TheVariants.{Write};
@@ -14,6 +14,7 @@ ghost use Rattle.capture_command.specs.declared.fault.CaptureCommandFault.TheVar
 ghost use Rattle.frame_comparison.specs.Seen.{have_none_alone};
 ghost use Rattle.capture_command.specs.declared.fault.CaptureCommandFault.{CaptureCommandFault};
 ghost use Rattle.capture_command.specs.Program.{Captures, Obeys, ComesOf, status_of_outcome};
+ghost use Rattle.capture_command.specs.Program.{DoesAsked, ShowsJoined, ShowsCaptured};
 
 use crate::asked::{AskedFiles, CaptureAsked, CaptureWords, read_capture_words};
 use crate::fault::CaptureCommandFault;
@@ -24,13 +25,13 @@ use capture_map::CaptureMap;
 use capture_picture::put_picture;
 use capture_summary::{CaptureSummary, put_report, put_summary};
 use comparison_report::put_comparison_report;
-use engines::{Device, EngineFault, TextWriter, WriteFault, held_room, write_text};
+use engines::{Device, EngineFault, ReadBehind, TextWriter, WriteFault, held_room, write_text};
 use flow_selection::Selection;
 use frame_comparison::{FrameComparison, put_comparison};
 use frame_engine::{CaptureTally, Comparing, FrameReading, join_capture};
 use std::alloc::{AllocError, Global};
 use std::convert::AsStr;
-use std::io::{Read, Write};
+use std::io::Write;
 use std::rt::{Clock, Files};
 use text_lines::{PutText, put_number, put_word};
 
@@ -47,7 +48,7 @@ enum Shown {
 fn put_whole_report<O: PutText>(out: &mut O, tally: &CaptureTally, comparing: &Comparing) {
     put_report(out, &tally.summary);
     if let Some(comparison) = comparing.comparison() {
-        put_comparison_report(out, comparison, comparing.strangers());
+        put_comparison_report(out, comparison, comparing.reasons(), comparing.strangers());
     }
 }
 
@@ -61,6 +62,7 @@ fn whole_json(
         alloc,
         &tally.summary,
         comparing.comparison(),
+        comparing.reasons(),
         comparing.strangers(),
     )
 }
@@ -137,7 +139,7 @@ fn put_compared<O: PutText>(
 )
     ensures { (text : List ℕ) × Puts O.after out.old text out.new }
 {
-    put_comparison(out, comparison, sfids);
+    put_comparison(out, comparison, comparing.reasons(), sfids);
     put_strangers(out, comparing.strangers());
 }
 
@@ -303,7 +305,7 @@ fn created_requests<F: Files>(
 
 /// Joins the capture that the reader gives, and writes what was counted, also where a fault ends
 /// it. How far it is goes to `err` on the way, where that is asked for.
-fn capture<F: Files + Clock, R: Read, W: Write, E: Write>(
+fn capture<F: Files + Clock, R: ReadBehind, W: Write, E: Write>(
     alloc: Global,
     rt: &F,
     asked: CaptureAsked,
@@ -317,6 +319,9 @@ fn capture<F: Files + Clock, R: Read, W: Write, E: Write>(
         asked.compares reader.old reader.new out.old out.new result }
     ensures says { SaysProgress R.remaining E.contents asked.settings asked.progress
         reader.old reader.new err.old err.new }
+    // At each read just the file of all records that were read before stood flushed in `out`.
+    ensures shown { ShowsJoined R.remaining W.contents F.File.remaining R.after asked.settings
+        (inner_of reader.old) (inner_of reader.new) (inner_of out.old) }
     // All that was said was written where all was done.
     ensures sound { OnOk result (has_failed err.new ≡ false) }
 {
@@ -368,8 +373,10 @@ fn print_help<W: Write>(out: &mut Device<W>, text: &str) -> Result<(), CaptureCo
     }
 }
 
-/// Does what the words ask for.
-fn obey<S: AsStr, F: Files + Clock, R: Read, W: Write, E: Write>(
+/// Does what the words ask for, the program's name first, between a reader and a writer that were
+/// not used yet. How far the reading is, where they ask for it, and the summary go to `err`, but not
+/// the line of a fault.
+pub fn obey_words<S: AsStr, F: Files + Clock, R: ReadBehind, W: Write, E: Write>(
     alloc: Global,
     rt: &F,
     words: &[S],
@@ -379,8 +386,16 @@ fn obey<S: AsStr, F: Files + Clock, R: Read, W: Write, E: Write>(
 ) -> Result<(), CaptureCommandFault>
     requires reader { IsFresh reader.old }
     requires out { IsFresh out.old }
-    ensures { Obeys R.remaining W.contents F.File.remaining (map S.text words.now)
+    ensures obeys { Obeys R.remaining W.contents F.File.remaining (map S.text words.now)
         reader.old reader.new out.old out.new result }
+    // At each read just the file of all records that were read before stood flushed in `out`.
+    ensures shown { ShowsCaptured R.remaining W.contents F.File.remaining R.after
+        (map S.text words.now) (inner_of reader.old) (inner_of reader.new) (inner_of out.old) }
+    ensures does { DoesAsked R.remaining W.contents F.File.remaining (map S.text words.now)
+        reader.old reader.new out.old out.new result }
+    // How far the reading was is said just if the words ask for it.
+    ensures says { SaysAsked R.remaining E.contents (map S.text words.now)
+        reader.old reader.new err.old err.new }
 {
     match read_capture_words(alloc, words)? {
         CaptureWords::Capture(asked) => capture(alloc, rt, asked, reader, out, err),
@@ -418,7 +433,7 @@ pub fn capture_program<S, F, R, O, E>(
 where
     S: AsStr,
     F: Files + Clock,
-    R: Read + Drop,
+    R: ReadBehind + Drop,
     O: Write + Drop,
     E: Write + Drop,
     ensures { (outcome : Result (Unit {0}) CaptureCommandFault)
@@ -429,7 +444,7 @@ where
     let mut reader = Device::new(reader);
     let mut out = Device::new(out);
     let mut err = Device::new(err);
-    let outcome = obey(alloc, rt, words, &mut reader, &mut out, &mut err);
+    let outcome = obey_words(alloc, rt, words, &mut reader, &mut out, &mut err);
     let status = report_outcome(&outcome, &mut err);
     reader.into_inner();
     out.into_inner();

@@ -5,6 +5,8 @@ use Rattle.hex.specs.Hex.{encode_lower}
 use Rattle.serde_json.specs.Data.{Data, object, array, number, string, boolean, null, unsigned, member, no_members}
 use Rattle.serde_json.specs.View.{items_of}
 use Rattle.capture_summary.specs.declared.flow_summary.FlowSummary.{FlowSummary}
+use Rattle.burst_fates.specs.declared.missing_reason.MissingReason.{MissingReason}
+use Rattle.burst_fates.specs.Words.{reason_word, burst_in}
 use Rattle.frame_comparison.specs.declared.counts.ComparedCounts.{ComparedCounts}
 use Rattle.frame_comparison.specs.Frames.{ShownFrame}
 use Rattle.frame_comparison.specs.Seen.{ComparisonSeen}
@@ -23,6 +25,15 @@ told_if one = if is_quiet one.1 then [] else one ∷ []
 abbrev pub compared_flows : List ComparedCounts → List (ℕ × ComparedCounts)
 compared_flows counts = flat_map told_if (enumerate_from 0 counts)
 
+-- the burst that a reason names, and why we haven't a frame, if that is known
+abbrev pub burst_data : Option ℕ → Data
+burst_data (Some id) = number (unsigned id)
+burst_data None = null
+
+abbrev pub reason_data : Option MissingReason → Data
+reason_data (Some reason) = object (member (codes "burst") (burst_data (burst_in reason)) (member (codes "reason") (string (reason_word reason)) no_members))
+reason_data None = null
+
 module _ (flows : List FlowSummary) where
   -- a flow, and what was counted of it
   abbrev pub compared_data : ℕ × ComparedCounts → Data
@@ -37,16 +48,23 @@ module _ (flows : List FlowSummary) where
       (numbers_then ((codes "flow", frame.flow) ∷ (codes "nanoseconds", frame.time % second) ∷ (codes "seconds", frame.time / second) ∷ [])
       (member (codes "sfid") (sfid_data (slice_get flows frame.flow)) no_members))))
 
+  -- one that only the analyser has, with the reason at its place
+  abbrev pub missing_data : List MissingReason → ℕ × ShownFrame → Data
+  missing_data reasons one = object (numbers_then ((codes "bytes", one.1.byte_count) ∷ [])
+      (member (codes "first") (string (encode_lower one.1.first))
+      (numbers_then ((codes "flow", one.1.flow) ∷ (codes "nanoseconds", one.1.time % second) ∷ (codes "seconds", one.1.time / second) ∷ [])
+      (member (codes "sfid") (sfid_data (slice_get flows one.1.flow)) (member (codes "why") (reason_data (slice_get reasons one.0)) no_members)))))
+
   -- **How frames compare**, and how many of the analyser's are of no flow
-  abbrev pub comparison_data : ℕ → ComparisonSeen → Data
-  comparison_data strangers seen = object
+  abbrev pub comparison_data : List MissingReason → ℕ → ComparisonSeen → Data
+  comparison_data reasons strangers seen = object
       (member (codes "flows") (array (items_of (map compared_data (compared_flows seen.counts))))
-      (member (codes "only_analyser") (array (items_of (map only_data seen.analyser.only)))
+      (member (codes "only_analyser") (array (items_of (map (missing_data reasons) (enumerate_from 0 seen.analyser.only))))
       (member (codes "only_here") (array (items_of (map only_data seen.here.only)))
       (numbers_then ((codes "strangers", strangers) ∷ [])
       (member (codes "whole") (boolean seen.is_whole) no_members)))))
 
   -- nothing where they aren't compared
-  abbrev pub compared_or_null : ℕ → Option ComparisonSeen → Data
-  compared_or_null strangers (Some seen) = comparison_data strangers seen
-  compared_or_null strangers None = null
+  abbrev pub compared_or_null : List MissingReason → ℕ → Option ComparisonSeen → Data
+  compared_or_null reasons strangers (Some seen) = comparison_data reasons strangers seen
+  compared_or_null reasons strangers None = null

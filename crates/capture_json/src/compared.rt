@@ -1,10 +1,12 @@
 //! How frames compare as JSON.
 ghost use Rattle.std.specs.Prelude.{◌≡◌, ◌++◌, IfOk, OnOk, map, option_map, slice_get};
+ghost use Rattle.std.specs.List.{enumerate_from};
 ghost use Rattle.serde_json.specs.View.{view};
-ghost use Rattle.capture_json.specs.Compared.{sfid_data, compared_data, told_if, only_data, compared_flows};
+ghost use Rattle.capture_json.specs.Compared.{sfid_data, compared_data, told_if, only_data, compared_flows, burst_data, reason_data, missing_data};
 ghost use Rattle.capture_json.specs.Compared.{comparison_data, compared_or_null};
 ghost use Rattle.frame_comparison.specs.ComparisonText.{is_quiet};
 
+use burst_fates::MissingReason;
 use capture_summary::{CaptureSummary, FlowSummary};
 use frame_comparison::{ComparedCounts, FrameComparison, LonelyFrame, Side};
 use serde_json::{Value, json};
@@ -90,6 +92,13 @@ fn all_compared(
     Ok(values)
 }
 
+/// The service flow identifier of a frame's flow, if there is such a flow.
+fn sfid_of(flows: &[FlowSummary], frame: &LonelyFrame) -> Value
+    ensures { view result ≡ sfid_data (slice_get flows.now frame.now.flow) }
+{
+    sfid_value(flow_at(flows, frame.flow))
+}
+
 /// A frame that only one side has.
 fn only_value(
     alloc: Global,
@@ -99,7 +108,7 @@ fn only_value(
     ensures { IfOk result (λ value. view value ≡ only_data flows.now frame.now) }
 {
     let first = hex::encode(alloc, frame.first.as_slice())?;
-    let sfid = sfid_value(flow_at(flows, frame.flow));
+    let sfid = sfid_of(flows, frame);
     json!(in alloc; {
         "bytes": frame.length,
         "first": first,
@@ -126,18 +135,92 @@ fn all_only(
     Ok(values)
 }
 
+/// The burst that a reason names, if it names one.
+fn burst_value(burst: Option<u64>) -> Value
+    ensures { view result ≡ burst_data burst }
+{
+    match burst {
+        Some(id) => Value::from(id),
+        None => Value::Null,
+    }
+}
+
+/// Why we haven't a frame, if that is known.
+fn reason_value(alloc: Global, reason: Option<MissingReason>) -> Result<Value, AllocError>
+    ensures { IfOk result (λ value. view value ≡ reason_data reason) }
+{
+    let Some(reason) = reason else {
+        return Ok(Value::Null);
+    };
+    let burst = burst_value(reason.burst());
+    json!(in alloc; {
+        "burst": burst,
+        "reason": reason.word()
+    })
+}
+
+/// The reason at a place, if there is one.
+fn reason_at(reasons: &[MissingReason], place: usize) -> Option<MissingReason>
+    ensures { result ≡ slice_get reasons.now place }
+{
+    reasons.get(place).copied()
+}
+
+/// A frame that only the analyser has, with the reason at its place.
+fn missing_value(
+    alloc: Global,
+    flows: &[FlowSummary],
+    reasons: &[MissingReason],
+    place: usize,
+    frame: &LonelyFrame,
+) -> Result<Value, AllocError>
+    ensures { IfOk result (λ value.
+        view value ≡ missing_data flows.now reasons.now (place, frame.now)) }
+{
+    let first = hex::encode(alloc, frame.first.as_slice())?;
+    let sfid = sfid_of(flows, frame);
+    let why = reason_value(alloc, reason_at(reasons, place))?;
+    json!(in alloc; {
+        "bytes": frame.length,
+        "first": first,
+        "flow": frame.flow,
+        "nanoseconds": frame.time % SECOND,
+        "seconds": frame.time / SECOND,
+        "sfid": sfid,
+        "why": why
+    })
+}
+
+/// The frames that only the analyser has.
+fn all_missing(
+    alloc: Global,
+    flows: &[FlowSummary],
+    reasons: &[MissingReason],
+    frames: &[LonelyFrame],
+) -> Result<Vec<Value>, AllocError>
+    ensures { IfOk result (λ values. map view values.items
+        ≡ map (missing_data flows.now reasons.now) (enumerate_from 0 frames.now)) }
+{
+    let mut values = Vec::with_capacity(alloc, frames.len())?;
+    for (place, frame) in frames.iter().enumerate() {
+        values.push(missing_value(alloc, flows, reasons, place, frame)?)?;
+    }
+    Ok(values)
+}
+
 /// How frames compare, and how many of the analyser's are of no flow.
 fn comparison_value(
     alloc: Global,
     flows: &[FlowSummary],
     comparison: &FrameComparison,
+    reasons: &[MissingReason],
     strangers: u64,
 ) -> Result<Value, AllocError>
     ensures { IfOk result (λ value.
-        view value ≡ comparison_data flows.now strangers comparison.now) }
+        view value ≡ comparison_data flows.now reasons.now strangers comparison.now) }
 {
     let compared = all_compared(alloc, flows, comparison.counts())?;
-    let analyser = all_only(alloc, flows, comparison.lonely(Side::Analyser))?;
+    let analyser = all_missing(alloc, flows, reasons, comparison.lonely(Side::Analyser))?;
     let here = all_only(alloc, flows, comparison.lonely(Side::Here))?;
     json!(in alloc; {
         "flows": compared,
@@ -153,14 +236,17 @@ pub(crate) fn compared_or_null(
     alloc: Global,
     summary: &CaptureSummary,
     comparison: Option<&FrameComparison>,
+    reasons: &[MissingReason],
     strangers: u64,
 ) -> Result<Value, AllocError>
     ensures { let seen = option_map (λ one. one.now) comparison.entry in
         let flows = summary.now.flows.items in
-        IfOk result (λ value. view value ≡ compared_or_null flows strangers seen) }
+        IfOk result (λ value. view value ≡ compared_or_null flows reasons.now strangers seen) }
 {
     match comparison {
-        Some(comparison) => { comparison_value(alloc, &summary.flows, comparison, strangers) }
+        Some(comparison) => {
+            comparison_value(alloc, &summary.flows, comparison, reasons, strangers)
+        }
         None => Ok(Value::Null),
     }
 }

@@ -18,6 +18,7 @@ ghost use Rattle.capture_json.specs.Compared.{compared_or_null};
 mod compared;
 
 use crate::compared::compared_or_null;
+use burst_fates::MissingReason;
 use capture_summary::{CaptureSummary, ChannelSummary, FlowSummary, PassedCounts, RefusalCounts};
 use frame_comparison::FrameComparison;
 use lane::Refusal;
@@ -185,20 +186,23 @@ fn line_of(alloc: Global, value: &Value) -> Result<Vec<u8>, AllocError>
 }
 
 /// The text of all that was counted, a line, with how frames compare, where they are compared. So
-/// many frames of the analyser's are then of no flow. Otherwise it reports that an allocation
+/// many frames of the analyser's are then of no flow, and `reasons` says of each that is listed, at
+/// its place, why we haven't it. Otherwise it reports that an allocation
 /// failed.
 pub fn summary_json(
     alloc: Global,
     summary: &CaptureSummary,
     comparison: Option<&FrameComparison>,
+    reasons: &[MissingReason],
     strangers: u64,
 ) -> Result<Vec<u8>, AllocError>
     ensures { let seen = option_map (λ one. one.now) comparison.entry in
-        let compared = compared_or_null summary.now.flows.items strangers seen in
+        let compared = compared_or_null summary.now.flows.items reasons.now strangers
+        seen in
         IfOk result (λ text. text.items
         ≡ compact_text (summary_data compared summary.now) ++ line_feed ∷ []) }
 {
-    let compared = compared_or_null(alloc, summary, comparison, strangers)?;
+    let compared = compared_or_null(alloc, summary, comparison, reasons, strangers)?;
     let value = summary_value(alloc, summary, compared)?;
     line_of(alloc, &value)
 }

@@ -9,13 +9,13 @@ use Rattle.bonded_flows.specs.declared.decision.FlowDecision.TheVariants.{SkipTo
 use Rattle.receiver.specs.declared.receiver.Receiver.{Receiver}
 use Rattle.receiver.specs.declared.reply.Reply.{Reply}
 use Rattle.receiver.specs.HandedIn.{HandedIn, decided, restarted}
-use Rattle.receiver.specs.Receiving.{StandsFor, TakesMore, Replies, Restarts}
+use Rattle.receiver.specs.Receiving.{StandsFor, TakesMore, Replies, Restarts, IsToldRightly}
 use Rattle.captured_flows.specs.declared.captured_burst.CapturedBurst.{CapturedBurst}
 use Rattle.captured_flows.specs.Acts.{Act, alone, with_burst, item_of, items_of}
 use Rattle.captured_flows.specs.Sound.{IsUnsound}
 use Rattle.captured_flows.specs.Flow.{Next, Expects, IsInput, grant_of, burst_of}
 use Rattle.captured_flows.specs.Captures.{refused_grant, refused_burst, IsRefused}
-use Rattle.captured_flows.specs.Steps.{CaptureStep, handed_in, gave, began_anew, given_in}
+use Rattle.captured_flows.specs.Steps.{CaptureStep, handed_in, gave, replied, began_anew, given_in}
 use Rattle.captured_flows.specs.AtHand.{IsAtHand}
 use Rattle.captured_flows.specs.Plays.{came_on, IsGivenFor, IsMove, skips_to, is_unsound, is_told, begins_again, Plays, nothing}
 use Rattle.captured_flows.specs.Taking.{IsExpected, TakesBy}
@@ -198,19 +198,21 @@ module _ {C O : Type 0} (accepts : C → List ℕ → Bool) (after : O → List 
     all = refl;
   }
 
-  -- A grant, by such an act, and its burst, one after the other, behind steps in which nothing is
+  -- A grant, by such an act, and its burst, one after the other, between steps in which nothing is
   -- given: what is seen of both is one move.
   takes-two : Begins after saw → Sees after saw → (act : HandedIn → Act) → ((item : HandedIn) → item_of (act item) ≡ item)
-      → (r r' r'' : Receiver C) (o' o'' o3 o4 : O) (channel : ℕ) (grant burst : Input) (granting answered : Reply) (heads : List CaptureStep)
-      → given_in heads ≡ [] → IsShown after saw o' heads o''
+      → (r r' r'' : Receiver C) (o' o'' o3 o4 o5 : O) (channel : ℕ) (grant burst : Input) (granting answered : Reply) (heads tails : List CaptureStep)
+      → given_in heads ≡ [] → given_in tails ≡ [] → IsShown after saw o' heads o'' → IsShown after saw o4 tails o5
       → (granted : Replies after accepts r o'' channel grant granting r' o3) → IsAtHand accepts r'
       → (comes : Replies after accepts r' o3 channel burst answered r'' o4) → IsAtHand accepts r''
       → ((check : List ℕ → Bool) (made : TableSetup) (handed : List Act) (given : List Given)
+      → IsToldRightly made (items_of (handed ++ act (came_on channel grant granted.answer) ∷ [])) channel comes.answer answered
       → IsGivenFor accepts check made (handed ++ act (came_on channel grant granted.answer) ∷ []) (given ++ granted.takes.given_more)
       → IsGivenFor accepts check made ((handed ++ act (came_on channel grant granted.answer) ∷ []) ++ alone (came_on channel burst comes.answer) ∷ []) ((given ++ granted.takes.given_more) ++ comes.takes.given_more)
-      → IsMove accepts check made handed given (act (came_on channel grant granted.answer) ∷ alone (came_on channel burst comes.answer) ∷ []) (heads ++ map gave (granted.takes.given_more ++ comes.takes.given_more)))
-      → TakesBy accepts saw (Then (IsInput act channel grant granting) (IsInput alone channel burst answered)) r o' r'' o4
-  takes-two begins sees act is r r' r'' o' o'' o3 o4 channel grant burst granting answered heads none told granted at_hand' comes at_hand'' moves =
+      → IsMove accepts check made handed given (act (came_on channel grant granted.answer) ∷ alone (came_on channel burst comes.answer) ∷ [])
+      (heads ++ (map gave (granted.takes.given_more ++ comes.takes.given_more) ++ tails)))
+      → TakesBy accepts saw (Then (IsInput act channel grant granting) (IsInput alone channel burst answered)) r o' r'' o5
+  takes-two begins sees act is r r' r'' o' o'' o3 o4 o5 channel grant burst granting answered heads tails none none' told told' granted at_hand' comes at_hand'' moves =
       let first = granted.takes.given_more in
       let later = comes.takes.given_more in
       let gives = first ++ later in
@@ -218,12 +220,14 @@ module _ {C O : Type 0} (accepts : C → List ℕ → Bool) (after : O → List 
       let burst_item = came_on channel burst comes.answer in
       let the_grant = act grant_item in
       let the_burst = alone burst_item in
-      let steps = heads ++ map gave gives in
-      let all : given_in steps ≡ gives = given-append heads (map gave gives) ∙ ap (λ (g : List Given). g ++ given_in (map gave gives)) none ∙ given-gave gives in
+      let behind = map gave gives ++ tails in
+      let steps = heads ++ behind in
+      let of_behind : given_in behind ≡ gives = given-append (map gave gives) tails ∙ ap (λ (g : List Given). given_in (map gave gives) ++ g) none' ∙ append-nil (given_in (map gave gives)) ∙ given-gave gives in
+      let all : given_in steps ≡ gives = given-append heads behind ∙ ap (λ (g : List Given). g ++ given_in behind) none ∙ of_behind in
       let both : IsGiven after saw o'' gives o4 = given-then after saw o'' o3 o4 first later granted.takes.was_given comes.takes.was_given in
       record {
         steps = steps;
-        was_seen = shown-then after saw o' o'' o4 heads (map gave gives) told (shown-gave after saw begins sees o'' o4 gives both);
+        was_seen = shown-then after saw o' o'' o5 heads behind told (shown-then after saw o'' o4 o5 (map gave gives) tails (shown-gave after saw begins sees o'' o4 gives both) told');
         stands = λ check made handed given stands.
             let stands' = stands-more r' check made handed (given ++ first) the_grant grant_item (is grant_item) (granted.takes.stands check made (items_of handed) given stands) in
             let stands'' = stands-more r'' check made (handed ++ the_grant ∷ []) ((given ++ first) ++ later) the_burst burst_item refl
@@ -240,21 +244,24 @@ module _ {C O : Type 0} (accepts : C → List ℕ → Bool) (after : O → List 
                   (subst (λ (m : List Given). StandsFor accepts r'' check made (items_of ((handed ++ the_grant ∷ []) ++ the_burst ∷ [])) (given ++ m)) (sym all)
                   (subst (λ (g : List Given). StandsFor accepts r'' check made (items_of ((handed ++ the_grant ∷ []) ++ the_burst ∷ [])) g) (append_assoc given first later) stands'')),
               plays-one accepts check made handed (the_grant ∷ the_burst ∷ []) given steps
-                  (moves check made handed given (given-for check made (handed ++ the_grant ∷ []) (given ++ first) r' stands' at_hand')
+                  (moves check made handed given (comes.told check made (items_of (handed ++ the_grant ∷ [])) (given ++ first) stands')
+                  (given-for check made (handed ++ the_grant ∷ []) (given ++ first) r' stands' at_hand')
                   (given-for check made ((handed ++ the_grant ∷ []) ++ the_burst ∷ []) ((given ++ first) ++ later) r'' stands'' at_hand'')),
             );
       }
 
-  -- a burst that is told, and then handed in
-  pub takes-told : Begins after saw → Sees after saw → (r r' r'' : Receiver C) (o o' o'' o3 : O) (flow : ℕ) (one : Next) (granting answered : Reply)
+  -- a burst that is told, and then handed in, and what was replied to it is told
+  pub takes-told : Begins after saw → Sees after saw → (r r' r'' : Receiver C) (o o' o'' o3 o4 : O) (flow : ℕ) (one : Next) (granting answered : Reply)
       → IsShown after saw o (handed_in flow one.arrival ∷ []) o'
       → Replies after accepts r o' one.arrival.channel (grant_of one) granting r' o'' → IsAtHand accepts r'
       → Replies after accepts r' o'' one.arrival.channel (burst_of one) answered r'' o3 → IsAtHand accepts r''
-      → TakesBy accepts saw (Then (IsInput (with_burst flow one.arrival) one.arrival.channel (grant_of one) granting) (IsInput alone one.arrival.channel (burst_of one) answered)) r o r'' o3
-  takes-told begins sees r r' r'' o o' o'' o3 flow one granting answered told granted at_hand' comes at_hand'' =
-      takes-two begins sees (with_burst flow one.arrival) (λ item. refl) r r' r'' o o' o'' o3 one.arrival.channel (grant_of one) (burst_of one) granting answered
-      (handed_in flow one.arrival ∷ []) refl told granted at_hand' comes at_hand''
-      (λ check made handed given before behind. is_told flow one granted.answer comes.answer granted.takes.given_more comes.takes.given_more before behind)
+      → IsShown after saw o3 (replied flow one.arrival.item.burst_id answered ∷ []) o4
+      → TakesBy accepts saw (Then (IsInput (with_burst flow one.arrival) one.arrival.channel (grant_of one) granting) (IsInput alone one.arrival.channel (burst_of one) answered)) r o r'' o4
+  takes-told begins sees r r' r'' o o' o'' o3 o4 flow one granting answered told granted at_hand' comes at_hand'' told' =
+      takes-two begins sees (with_burst flow one.arrival) (λ item. refl) r r' r'' o o' o'' o3 o4 one.arrival.channel (grant_of one) (burst_of one) granting answered
+      (handed_in flow one.arrival ∷ []) (replied flow one.arrival.item.burst_id answered ∷ []) refl refl told told' granted at_hand' comes at_hand''
+      (λ check made handed given rightly before behind.
+      is_told flow one granted.answer comes.answer answered granted.takes.given_more comes.takes.given_more comes.says rightly before behind)
 
   -- a burst that its lane won't admit
   pub takes-unsound : Begins after saw → Sees after saw → (r r' r'' : Receiver C) (o o' o'' : O) (channel : ℕ) (burst : CapturedBurst) (granting answered : Reply) → IsUnsound burst
@@ -263,9 +270,12 @@ module _ {C O : Type 0} (accepts : C → List ℕ → Bool) (after : O → List 
       → TakesBy accepts saw (IsRefused channel burst answered) r o r'' o''
   takes-unsound begins sees r r' r'' o o' o'' channel burst granting answered unsound granted at_hand' comes at_hand'' =
       takes-as _ _ r r'' o o''
-      (takes-two begins sees alone (λ item. refl) r r' r'' o o o' o'' channel (refused_grant burst) (refused_burst burst) granting answered [] refl (shown-none after saw o)
+      (takes-two begins sees alone (λ item. refl) r r' r'' o o o' o'' o'' channel (refused_grant burst) (refused_burst burst) granting answered [] [] refl refl (shown-none after saw o) (shown-none after saw o'')
       granted at_hand' comes at_hand''
-      (λ check made handed given before behind. is_unsound channel burst granted.answer comes.answer granted.takes.given_more comes.takes.given_more unsound before behind))
+      (λ check made handed given rightly before behind.
+      subst (λ (steps : List CaptureStep). IsMove accepts check made handed given (alone (came_on channel (refused_grant burst) granted.answer) ∷ alone (came_on channel (refused_burst burst) comes.answer) ∷ []) steps)
+      (sym (append-nil (map gave (granted.takes.given_more ++ comes.takes.given_more))))
+      (is_unsound channel burst granted.answer comes.answer granted.takes.given_more comes.takes.given_more unsound before behind)))
       (λ made handed more spelled. record {
         granting = granting;
         granted = spelled.0;

@@ -11,15 +11,16 @@ use Rattle.bonded_flows.specs.ByRule.{GaveByRule}
 use Rattle.bonded_flows.specs.Table.{TableSetup}
 use Rattle.bonded_flows.specs.declared.decision.FlowDecision.TheVariants.{SkipTo}
 use Rattle.receiver.specs.declared.receiver.Receiver.{Receiver}
+use Rattle.receiver.specs.declared.reply.Reply.{Reply}
 use Rattle.receiver.specs.HandedIn.{HandedIn, came, decided, restarted, flow_inputs, begun_with, came_since}
-use Rattle.receiver.specs.Receiving.{StandsFor, GaveSince}
+use Rattle.receiver.specs.Receiving.{StandsFor, GaveSince, Says, IsToldRightly}
 use Rattle.captured_flows.specs.declared.captured_burst.CapturedBurst.{CapturedBurst}
 use Rattle.captured_flows.specs.Acts.{Act, alone, with_burst, items_of}
 use Rattle.captured_flows.specs.Sound.{IsUnsound}
 use Rattle.captured_flows.specs.Flow.{Next, grant_of, burst_of}
 use Rattle.captured_flows.specs.Captures.{refused_grant, refused_burst}
 use Rattle.captured_flows.specs.AtHand.{IsAtHand}
-use Rattle.captured_flows.specs.Steps.{CaptureStep, handed_in, gave, began_anew, given_in}
+use Rattle.captured_flows.specs.Steps.{CaptureStep, handed_in, gave, replied, began_anew, given_in}
 
 -- an input came on a channel, and its lane answered this
 abbrev pub came_on : ℕ → Input → Answer → HandedIn
@@ -49,9 +50,9 @@ module _ {C : Type 0} (accepts : C → List ℕ → Bool) (check : List ℕ → 
 
   -- **One move**, after this was handed in and given: what is handed in, and what is seen. A flow
   -- skips, and what that gives is seen. The grant of a burst and the burst itself, which its lane
-  -- won't admit, are handed in, and no burst is told. A burst of a flow is told, and then its grant
-  -- and itself are handed in, and what each gives is seen. A flow is closed, what it then gives is
-  -- seen, and then that it begins anew, with its counts.
+  -- won't admit, are handed in, and no burst is told. A burst of a flow is told, then its grant and
+  -- itself are handed in, and what each gives is seen, and then what was replied to it. A flow is
+  -- closed, what it then gives is seen, and then that it begins anew, with its counts.
   pub data IsMove (handed : List Act) (given : List Given) : List Act → List CaptureStep → Type 0 where
     skips_to : (flow number : ℕ) (gives : List Given) → IsGivenFor (handed ++ alone (decided flow (SkipTo number)) ∷ []) (given ++ gives)
         → IsMove handed given (alone (decided flow (SkipTo number)) ∷ []) (map gave gives)
@@ -59,11 +60,12 @@ module _ {C : Type 0} (accepts : C → List ℕ → Bool) (check : List ℕ → 
         → IsGivenFor (handed ++ alone (came_on channel (refused_grant burst) granting) ∷ []) (given ++ of_grant)
         → IsGivenFor ((handed ++ alone (came_on channel (refused_grant burst) granting) ∷ []) ++ alone (came_on channel (refused_burst burst) coming) ∷ []) ((given ++ of_grant) ++ of_burst)
         → IsMove handed given (alone (came_on channel (refused_grant burst) granting) ∷ alone (came_on channel (refused_burst burst) coming) ∷ []) (map gave (of_grant ++ of_burst))
-    is_told : (flow : ℕ) (one : Next) (granting coming : Answer) (of_grant of_burst : List Given)
+    is_told : (flow : ℕ) (one : Next) (granting coming : Answer) (reply : Reply) (of_grant of_burst : List Given) → Says reply coming
+        → IsToldRightly made (items_of (handed ++ with_burst flow one.arrival (came_on one.arrival.channel (grant_of one) granting) ∷ [])) one.arrival.channel coming reply
         → IsGivenFor (handed ++ with_burst flow one.arrival (came_on one.arrival.channel (grant_of one) granting) ∷ []) (given ++ of_grant)
         → IsGivenFor ((handed ++ with_burst flow one.arrival (came_on one.arrival.channel (grant_of one) granting) ∷ []) ++ alone (came_on one.arrival.channel (burst_of one) coming) ∷ []) ((given ++ of_grant) ++ of_burst)
         → IsMove handed given (with_burst flow one.arrival (came_on one.arrival.channel (grant_of one) granting) ∷ alone (came_on one.arrival.channel (burst_of one) coming) ∷ [])
-        (handed_in flow one.arrival ∷ map gave (of_grant ++ of_burst))
+        (handed_in flow one.arrival ∷ (map gave (of_grant ++ of_burst) ++ replied flow one.arrival.item.burst_id reply ∷ []))
     begins_again : (flow first : ℕ) (frames : List (List ℕ)) (counts : FlowCounts) → ClosesFlow check made flow (items_of handed) given frames counts
         → IsGivenFor (handed ++ alone (restarted flow first) ∷ []) (given ++ map (Frame flow) frames)
         → IsMove handed given (alone (restarted flow first) ∷ []) (map gave (map (Frame flow) frames) ++ began_anew flow counts ∷ [])

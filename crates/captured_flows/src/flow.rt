@@ -126,9 +126,9 @@ fn hand_in<C: HeaderCheck + Drop, O: CaptureConsumer>(
     let channel = one.arrival.channel;
     let SoundBurst {
         sid,
+        burst_id,
         granted,
         bytes,
-        ..
     } = one.arrival.item;
     let grant = Input::Grant {
         number: 0,
@@ -142,6 +142,7 @@ fn hand_in<C: HeaderCheck + Drop, O: CaptureConsumer>(
         bytes,
     };
     let reply = take(alloc, receiver, channel, burst, out)?;
+    out.replied(flow, burst_id, reply);
     keep_if(held, says_kept(&reply), entry)?;
     let number = expected(receiver, flow)?;
     held.pass(number);

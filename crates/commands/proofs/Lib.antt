@@ -2,3 +2,4 @@ pub mod TraceFromSources
 pub mod ExitStatuses
 pub mod ObeyedWords
 pub mod TraceRead
+pub mod ShownWords

@@ -24,7 +24,8 @@ use Rattle.receiver.specs.declared.width.Width.{Width}
 use Rattle.text_lines.specs.declared.fault.TextFault.TheVariants as text_fault
 use Rattle.text_lines.specs.Format.{IsFirstFaultyLine}
 use Rattle.text_lines.specs.Lines.{lines_of}
-use Rattle.engines.specs.Following.{FollowsTrace}
+use Rattle.engines.specs.FlushedReads.{FlushedRead, ReadsBehindText}
+use Rattle.engines.specs.Following.{FollowsTrace, IsTextOfWhole}
 use Rattle.engines.specs.declared.fault.PlacedFault.{PlacedFault}
 use Rattle.capture_engines.specs.Mapping.{IsMapText, IsFaultyCapture, MapsCapture}
 use Rattle.texts.specs.declared.follow.settings.FollowSettings.{FollowSettings}
@@ -128,6 +129,25 @@ abbrev pub RunsFollow : {R W : Type 0} → LossRule → ℕ → List (List ℕ) 
 RunsFollow rule channels words remaining contents reader reader' writer writer' result =
     (settings : FollowSettings) × AskForEvents settings.events (options_in words) × AskForFlows last_followed settings.selected (options_in words)
     × RunsFollowBy rule channels settings remaining contents reader reader' writer writer' result
+
+module _ {R W : Type 0} (after : R → List FlushedRead → R → Type 0) (remaining : R → Option (List ℕ)) (contents : W → Option (List ℕ)) (words : List (List ℕ)) where
+  -- **A trace was followed as the words ask for it, and at each read just the text of all lines that
+  -- were read before stood flushed in the output**: by the relation that the reader keeps.
+  pub record FollowsBehindText (reader reader' : R) (writer : W) (start : R) : Type 0 where
+    pub rule : LossRule
+    pub channels : ℕ
+    pub width : Width
+    pub settings : FollowSettings
+    pub asked : AsksToFollow rule channels words
+    pub wide : IsWidthOf channels width
+    pub events : AskForEvents settings.events (options_in words)
+    pub flows : AskForFlows last_followed settings.selected (options_in words)
+    pub shown : ReadsBehindText (IsTextOfWhole rule width settings) (contents writer) after (remaining reader) (remaining reader') start reader'
+
+  -- so where the words ask to follow, or nothing was read
+  abbrev pub ShowsFollowed : R → R → W → Type 0
+  ShowsFollowed reader reader' writer =
+      IsCommand (codes "follow") words → (start : R) → after start [] reader → FollowsBehindText reader reader' writer start ⊎ (reader' ≡ reader)
 
 -- what comes of words, the program's name first, over a fresh reader and a fresh writer:
 -- `remaining` are the bytes that a reader is known to have left, `contents` those that a writer is

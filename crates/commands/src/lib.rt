@@ -1,5 +1,5 @@
-//! The command `run` between a reader and a writer, and the whole program over any reader and any
-//! two writers.
+//! The command `run` between a reader and a writer, and the whole program over any two writers and
+//! any reader that may be shown the output.
 //!
 //! [`run_text`] is the engine of `run`: it reads its input to the end, piece by piece, has the
 //! receiver take it on threads, and writes the report; [`run_text_by`] decides besides by a rule

@@ -1,8 +1,8 @@
-//! The whole program, over any reader and any two writers.
+//! The whole program, over any reader that may be shown the output, and any two writers.
 ghost use Rattle.std.specs.Prelude.{◌≡◌, ◌≢◌, ◌⊎◌, ℕ, Bool, map, Result, IfSome};
 ghost use Rattle.loss_rule.specs.declared.rule.LossRule.{LossRule};
 ghost use Rattle.engines.specs.declared.fault.EngineFault.{EngineFault};
-ghost use Rattle.engines.specs.Device.{IsFresh};
+ghost use Rattle.engines.specs.Device.{inner_of, IsFresh};
 ghost use Rattle.engines.specs.Fault.{exit_status_of};
 ghost use Rattle.command_line.specs.Command.{AsksToJoin, AsksToReplay, AsksToReplayBy, AsksToRunByAlone};
 ghost use Rattle.command_line.specs.Command.{AsksToFollowAlone, AsksToMap};
@@ -11,19 +11,20 @@ ghost use Rattle.texts.specs.Cut.{IsCutFault};
 ghost use Rattle.texts.specs.Replay.{IsReplayFault};
 ghost use Rattle.commands.specs.Program.{AsksToReplayOnly};
 ghost use Rattle.commands.specs.Program.{AsksToCutOnly, AsksToRunOnly, AsksToRunByOnly, AsksToFollowOnly, AsksForNothing, Obeys, IsReported, RunsWords, ComesOf};
-ghost use Rattle.commands.specs.Inside.Program.{Performs, IsInRange};
+ghost use Rattle.commands.specs.Program.{ShowsFollowed};
+ghost use Rattle.commands.specs.Inside.Program.{Performs, ShowsCommand, IsInRange};
 ghost use Rattle.commands.specs.Program.{IsStatus, HasJoinedText, HasCutText, HasReport, HasReportBy, HasRunReport, HasRunReportBy, HasRunFault, HasFollowed, HasFollowFault, SaysOf, SaysOfMap};
 
 use crate::run::run_text_by;
 use capture_engines::map_capture;
 use engines::{
-    Command, Device, EngineFault, cut_text, exit_status, follow_text, join_text, read_words,
-    replay_text_of, write_fault, write_text,
+    Command, Device, EngineFault, ReadBehind, cut_text, exit_status, follow_text, join_text,
+    read_words, replay_text_of, write_fault, write_text,
 };
 use receiver::{MOST_FLOWS, Width};
 use std::alloc::Global;
 use std::convert::AsStr;
-use std::io::{Read, Write};
+use std::io::Write;
 use std::sync::Wait;
 use std::thread::Threads;
 use texts::{FollowSettings, laws};
@@ -31,7 +32,7 @@ use uplink::{NoTap, Taps};
 
 /// Does what a command asks for: runs its engine between the reader and the writer, or writes the
 /// text of help.
-fn perform<T: Threads + Wait + Copy + Send + 'static, R: Read, W: Write>(
+fn perform<T: Threads + Wait + Copy + Send + 'static, R: ReadBehind, W: Write>(
     alloc: Global,
     rt: T,
     command: Command,
@@ -41,8 +42,10 @@ fn perform<T: Threads + Wait + Copy + Send + 'static, R: Read, W: Write>(
     requires first { IsInRange command }
     requires reader { IsFresh reader.old }
     requires out { IsFresh out.old }
-    ensures { Performs R.remaining W.contents command
+    ensures performs { Performs R.remaining W.contents command
         reader.old reader.new out.old out.new result }
+    ensures shown { ShowsCommand R.after R.remaining W.contents command
+        (inner_of reader.old) (inner_of reader.new) (inner_of out.old) }
 {
     match command {
         Command::Join => join_text(alloc, reader, out),
@@ -80,7 +83,7 @@ fn perform<T: Threads + Wait + Copy + Send + 'static, R: Read, W: Write>(
 }
 
 /// Does what the words ask for.
-fn obey<S: AsStr, T: Threads + Wait + Copy + Send + 'static, R: Read, W: Write>(
+fn obey<S: AsStr, T: Threads + Wait + Copy + Send + 'static, R: ReadBehind, W: Write>(
     alloc: Global,
     rt: T,
     words: &[S],
@@ -89,8 +92,10 @@ fn obey<S: AsStr, T: Threads + Wait + Copy + Send + 'static, R: Read, W: Write>(
 ) -> Result<(), EngineFault>
     requires reader { IsFresh reader.old }
     requires out { IsFresh out.old }
-    ensures { Obeys R.remaining W.contents (map S.text words.now)
+    ensures obeys { Obeys R.remaining W.contents (map S.text words.now)
         reader.old reader.new out.old out.new result }
+    ensures shown { ShowsFollowed R.after R.remaining W.contents (map S.text words.now)
+        (inner_of reader.old) (inner_of reader.new) (inner_of out.old) }
 {
     laws::replay_by_decisions_alone_is_a_replay();
     laws::run_by_decisions_alone_is_a_run();
@@ -124,13 +129,16 @@ pub fn run_words<S, T, R, O, E>(
 where
     S: AsStr,
     T: Threads + Wait + Copy + Send + 'static,
-    R: Read,
+    R: ReadBehind,
     O: Write,
     E: Write,
     requires reader { IsFresh reader.old }
     requires out { IsFresh out.old }
-    ensures { RunsWords R.remaining O.contents E.contents (map S.text words.now)
+    ensures runs { RunsWords R.remaining O.contents E.contents (map S.text words.now)
         reader.old reader.new out.old out.new err.old err.new result }
+    // At each read of a trace that is followed just the text of what was read before stood flushed.
+    ensures shown { ShowsFollowed R.after R.remaining O.contents (map S.text words.now)
+        (inner_of reader.old) (inner_of reader.new) (inner_of out.old) }
 {
     let outcome = obey(alloc, rt, words, reader, out);
     report_outcome(&outcome, err)
@@ -144,7 +152,7 @@ pub fn program<S, T, R, O, E>(alloc: Global, rt: T, words: &[S], reader: R, out:
 where
     S: AsStr,
     T: Threads + Wait + Copy + Send + 'static,
-    R: Read + Drop,
+    R: ReadBehind + Drop,
     O: Write + Drop,
     E: Write + Drop,
     // The status is that of what came of the words.

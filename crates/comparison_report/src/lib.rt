@@ -5,13 +5,14 @@
 //! What matters most: what is put is the text of the definition `report_text`.
 #![tactic(auto)]
 
-ghost use Rattle.std.specs.Prelude.{◌≡◌, flat_map};
+ghost use Rattle.std.specs.Prelude.{◌≡◌, flat_map, slice_get};
 ghost use Rattle.text_lines.specs.Putting.{Puts, numbered_texts};
 ghost use Rattle.frame_comparison.specs.ComparisonText.{is_quiet};
-ghost use Rattle.comparison_report.specs.ReportLines.{compared_line, hex_field, only_line, whole_word, comparison_line, report_text};
+ghost use Rattle.comparison_report.specs.ReportLines.{compared_line, hex_field, only_fields, here_line, burst_field, reason_fields, missing_line, whole_word, comparison_line, report_text};
 
+use burst_fates::MissingReason;
 use frame_comparison::{ComparedCounts, FrameComparison, LonelyFrame, Side};
-use text_lines::{PutText, put_hex, put_spaced, put_word};
+use text_lines::{PutText, put_hex, put_number, put_spaced, put_word};
 
 /// Whether nothing was counted of a flow.
 fn is_quiet(counts: &ComparedCounts) -> bool
@@ -57,9 +58,9 @@ fn put_hex_field<O: PutText>(out: &mut O, bytes: &[u8])
     put_hex(out, bytes);
 }
 
-/// Puts the line of a frame that only one side has, behind these words.
+/// Puts a frame that only one side has, behind these words.
 fn put_only<O: PutText>(out: &mut O, words: &str, frame: &LonelyFrame)
-    ensures { Puts O.after out.old (only_line words.now frame.now) out.new }
+    ensures { Puts O.after out.old (only_fields words.now frame.now) out.new }
 {
     put_word(out, words);
     put_spaced(out, frame.flow as u64);
@@ -67,15 +68,75 @@ fn put_only<O: PutText>(out: &mut O, words: &str, frame: &LonelyFrame)
     put_spaced(out, frame.length as u64);
     put_word(out, " ");
     put_hex_field(out, &frame.first);
+}
+
+/// Puts the line of a frame that only we have.
+fn put_here<O: PutText>(out: &mut O, frame: &LonelyFrame)
+    ensures { Puts O.after out.old (here_line frame.now) out.new }
+{
+    put_only(out, "only here", frame);
     put_word(out, "\n");
 }
 
-/// Puts the lines of frames that only one side has.
-fn put_all_only<O: PutText>(out: &mut O, words: &str, frames: &[LonelyFrame])
-    ensures { Puts O.after out.old (flat_map (only_line words.now) frames.now) out.new }
+/// Puts the lines of the frames that only we have.
+fn put_all_here<O: PutText>(out: &mut O, frames: &[LonelyFrame])
+    ensures { Puts O.after out.old (flat_map here_line frames.now) out.new }
 {
     for frame in frames {
-        put_only(out, words, frame);
+        put_here(out, frame);
+    }
+}
+
+/// Puts the number of a burst as a field, `-` for none.
+fn put_burst_field<O: PutText>(out: &mut O, burst: Option<u64>)
+    ensures { Puts O.after out.old (burst_field burst) out.new }
+{
+    match burst {
+        Some(id) => put_number(out, id),
+        None => put_word(out, "-"),
+    }
+}
+
+/// Puts why we haven't a frame, and the burst that it names; `-` for each where that isn't known.
+fn put_reason<O: PutText>(out: &mut O, reason: Option<MissingReason>)
+    ensures { Puts O.after out.old (reason_fields reason) out.new }
+{
+    let Some(reason) = reason else {
+        return put_word(out, " - -");
+    };
+    put_word(out, " ");
+    put_word(out, reason.word());
+    put_word(out, " ");
+    put_burst_field(out, reason.burst());
+}
+
+/// The reason at a place, if there is one.
+fn reason_at(reasons: &[MissingReason], place: usize) -> Option<MissingReason>
+    ensures { result ≡ slice_get reasons.now place }
+{
+    reasons.get(place).copied()
+}
+
+/// Puts the line of a frame that only the analyser has, with the reason at its place.
+fn put_missing<O: PutText>(
+    out: &mut O,
+    reasons: &[MissingReason],
+    place: usize,
+    frame: &LonelyFrame,
+)
+    ensures { Puts O.after out.old (missing_line reasons.now place frame.now) out.new }
+{
+    put_only(out, "only analyser", frame);
+    put_reason(out, reason_at(reasons, place));
+    put_word(out, "\n");
+}
+
+/// Puts the lines of the frames that only the analyser has.
+fn put_all_missing<O: PutText>(out: &mut O, reasons: &[MissingReason], frames: &[LonelyFrame])
+    ensures { Puts O.after out.old (numbered_texts (missing_line reasons.now) frames.now) out.new }
+{
+    for (place, frame) in frames.iter().enumerate() {
+        put_missing(out, reasons, place, frame);
     }
 }
 
@@ -98,14 +159,19 @@ fn put_last<O: PutText>(out: &mut O, is_whole: bool, strangers: u64)
 }
 
 /// Puts the lines of a comparison for programs: one for each flow of which something was counted,
-/// by its index, one for each frame that is listed, first the analyser's, and a last one. So many
-/// frames of the analyser's are of no flow, and were compared with none. The times are in
-/// nanoseconds since 1970.
-pub fn put_comparison_report<O: PutText>(out: &mut O, comparison: &FrameComparison, strangers: u64)
-    ensures { Puts O.after out.old (report_text comparison.now strangers) out.new }
+/// by its index, one for each frame that is listed, first the analyser's, each with why we haven't
+/// it where `reasons` has that at its place, and a last one. So many frames of the analyser's are of
+/// no flow, and were compared with none. The times are in nanoseconds since 1970.
+pub fn put_comparison_report<O: PutText>(
+    out: &mut O,
+    comparison: &FrameComparison,
+    reasons: &[MissingReason],
+    strangers: u64,
+)
+    ensures { Puts O.after out.old (report_text comparison.now reasons.now strangers) out.new }
 {
     put_all_compared(out, comparison.counts());
-    put_all_only(out, "only analyser", comparison.lonely(Side::Analyser));
-    put_all_only(out, "only here", comparison.lonely(Side::Here));
+    put_all_missing(out, reasons, comparison.lonely(Side::Analyser));
+    put_all_here(out, comparison.lonely(Side::Here));
     put_last(out, comparison.is_whole(), strangers);
 }

@@ -2,6 +2,7 @@ pub mod WrittenFront
 pub mod WeakerTexts
 pub mod WrittenText
 pub mod ReadLines
+pub mod ShownReads
 pub mod EngineRan
 pub mod JoinedText
 pub mod CutText
@@ -9,4 +10,5 @@ pub mod TraceText
 pub mod NumberedHappenings
 pub mod FollowedLines
 pub mod FollowedDevices
+pub mod FollowedReads
 pub mod FollowedEnd

@@ -1,5 +1,6 @@
 pub mod Limits
 pub mod Device
+pub mod FlushedReads
 pub mod Fault
 pub mod Transfer
 pub mod Engine

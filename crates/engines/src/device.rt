@@ -5,7 +5,10 @@ ghost use Rattle.std.specs.Io.KnownBytes.{Keeps, ReadConsumes, WriteAppends};
 ghost use Rattle.engines.specs.Device.{inner_of, has_failed, given_of, is_flushed};
 ghost use Rattle.engines.specs.Device.{is_read_behind_flushes, IsFresh};
 ghost use Rattle.engines.specs.Device.{RecordsRead, RecordsWrite, RecordsFlush};
+ghost use Rattle.engines.specs.Inside.Counting.{with_given};
+ghost use Rattle.engines.specs.FlushedReads.{MakesReads, bytes_given};
 
+use crate::flushed_reads::ReadBehind;
 use std::io;
 use std::io::{Error, ErrorKind, Read, Write};
 
@@ -68,6 +71,13 @@ impl<T> Device<T> {
         self.behind_flushes
     }
 
+    /// Counts the bytes that a read gave.
+    fn count_given(&mut self, count: usize)
+        ensures { self.new ≡ with_given self.old count }
+    {
+        self.given = self.given.saturating_add(count as u64);
+    }
+
     /// The reader or the writer itself.
     pub fn into_inner(self) -> T
         ensures { result ≡ inner_of self }
@@ -121,21 +131,27 @@ impl<R: Read> Device<R> {
         ensures behind { is_read_behind_flushes self.new ≡ is_read_behind_flushes self.old }
     {
         answer!(self, self.inner.read(buf), |count| {
-            self.given = self.given.saturating_add(count as u64);
+            self.count_given(count);
         })
     }
+}
 
-    /// Reads where all that was written to a writer is flushed. There is no other read that leaves
-    /// [`Device::behind_flushes`] true.
-    pub fn read_behind<W>(&mut self, _writer: &Device<W>, buf: &mut [u8]) -> io::Result<usize>
-        requires flushed { is_flushed _writer.now ≡ true }
+impl<R: ReadBehind> Device<R> {
+    /// Reads where all that was written to a writer is flushed, and shows the reader that writer.
+    /// There is no other read that leaves [`Device::behind_flushes`] true.
+    pub fn read_behind<W: Write>(&mut self, writer: &Device<W>, buf: &mut [u8]) -> io::Result<usize>
+        requires flushed { is_flushed writer.now ≡ true }
         ensures bound { ReadsAtMost result buf.new }
         ensures bytes { ReadConsumes (R.remaining (inner_of self.old))
             (R.remaining (inner_of self.new)) result buf.new }
         ensures record { RecordsRead self.old self.new result }
         ensures behind { is_read_behind_flushes self.new ≡ is_read_behind_flushes self.old }
+        ensures shown { MakesReads R.after (W.contents (inner_of writer.now))
+            (inner_of self.old) (inner_of self.new) (bytes_given result buf.new) }
     {
-        self.read_inner(buf)
+        answer!(self, self.inner.read_behind(writer, buf), |count| {
+            self.count_given(count);
+        })
     }
 }
 

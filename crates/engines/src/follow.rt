@@ -1,8 +1,9 @@
 //! The command `follow`: what happens at a receiver by the lines of a trace is written as they are
 //! read.
 ghost use Rattle.std.specs.Prelude.{◌≡◌, ◌≤◌, [], length, IfOk, IfErr};
-ghost use Rattle.engines.specs.Device.{IsFresh};
-ghost use Rattle.engines.specs.Following.{FollowsTrace};
+ghost use Rattle.engines.specs.Device.{inner_of, IsFresh};
+ghost use Rattle.engines.specs.Following.{FollowsTrace, IsTextOfWhole};
+ghost use Rattle.engines.specs.FlushedReads.{ReadsBehindText};
 ghost use Rattle.engines.specs.Inside.Following.{HasFollowedBytes, FollowsPiece, IsLastLine};
 ghost use Rattle.engines.specs.Inside.Following.{FollowsWritten, FollowsEnd};
 ghost use Rattle.engines.specs.Inside.Following.{WritesPiece, EndsLines, CannotEnd};
@@ -10,13 +11,14 @@ ghost use Rattle.text_lines.specs.Lines.{lines_of};
 
 use crate::device::Device;
 use crate::fault::{EngineFault, WriteFault};
+use crate::flushed_reads::ReadBehind;
 use crate::text_writer::{TextWriter, held_room};
 use crate::transfer::{read_behind, zeros};
 use ended::EndedTrace;
 use loss_rule::LossRule;
 use receiver::Width;
 use std::alloc::{AllocError, Global};
-use std::io::{Read, Write};
+use std::io::Write;
 use text_lines::{LineReader, PutText, split_behind_line};
 use texts::{FollowInput, FollowSettings};
 
@@ -178,7 +180,7 @@ impl Follower {
 /// and `PointerPast`. `OutOfMemory`: an allocation failed. Whichever comes, what happened by the
 /// lines before was written and flushed. `Write`: the writer failed, and a front of the text may
 /// have gone out.
-pub fn follow_text<R: Read, W: Write>(
+pub fn follow_text<R: ReadBehind, W: Write>(
     rule: LossRule,
     width: Width,
     settings: FollowSettings,
@@ -188,8 +190,13 @@ pub fn follow_text<R: Read, W: Write>(
 ) -> Result<(), EngineFault>
     requires reader { IsFresh reader.old }
     requires writer { IsFresh writer.old }
-    ensures { FollowsTrace rule width settings R.remaining W.contents
+    ensures follows { FollowsTrace rule width settings R.remaining W.contents
         reader.old reader.new writer.old writer.new result }
+    // At each read just the text of all lines that were read before stood flushed in the writer.
+    ensures shown { (start : R) → R.after start [] (inner_of reader.old)
+        → ReadsBehindText (IsTextOfWhole rule width settings) (W.contents (inner_of writer.old))
+        R.after (R.remaining (inner_of reader.old)) (R.remaining (inner_of reader.new))
+        start (inner_of reader.new) }
 {
     let mut piece = zeros(alloc, PIECE_BYTES)?;
     let mut room = held_room(alloc)?;

@@ -3,11 +3,13 @@ ghost use Rattle.std.specs.Prelude.{◌≡◌, ◌≢◌, ◌<◌, ◌≤◌, �
 ghost use Rattle.std.specs.Io.KnownBytes.{Appends, Consumes, Keeps, IsAtEnd};
 ghost use Rattle.engines.specs.Device.{inner_of, has_failed, given_of, is_flushed};
 ghost use Rattle.engines.specs.Device.{is_read_behind_flushes};
+ghost use Rattle.engines.specs.FlushedReads.{MakesReads, bytes_given};
 ghost use Rattle.engines.specs.Transfer.{AppendsFront, IsLeftFlushed, IsReadFault};
 ghost use Rattle.engines.specs.Inside.Transfer.{IsCounted};
 
 use crate::device::Device;
 use crate::fault::{EngineFault, WriteFault};
+use crate::flushed_reads::ReadBehind;
 use std::alloc::{AllocError, Global};
 use std::io::{Read, Write};
 
@@ -45,8 +47,9 @@ pub fn read_some<R: Read>(reader: &mut Device<R>, room: &mut [u8]) -> Result<usi
 }
 
 /// Makes one read of a reader, as [`read_some`] does, where all that was written to a writer is
-/// flushed: the read may take long, and what was written has to be seen before.
-pub fn read_behind<R: Read, W>(
+/// flushed, and shows the reader that writer: the read may take long, and what was written has to
+/// be seen before.
+pub fn read_behind<R: ReadBehind, W: Write>(
     reader: &mut Device<R>,
     writer: &Device<W>,
     room: &mut [u8],
@@ -65,6 +68,8 @@ pub fn read_behind<R: Read, W>(
         (R.remaining (inner_of reader.new))) }
     ensures only { IfErr result (λ fault. fault ≡ EngineFault.Read) }
     ensures behind { is_read_behind_flushes reader.new ≡ is_read_behind_flushes reader.old }
+    ensures shown { MakesReads R.after (W.contents (inner_of writer.now))
+        (inner_of reader.old) (inner_of reader.new) (bytes_given result room.new) }
 {
     let Ok(count) = reader.read_behind(writer, room) else {
         return Err(EngineFault::Read);

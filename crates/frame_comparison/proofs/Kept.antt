@@ -18,7 +18,7 @@ front-kept false bytes = take-take 16 16 bytes (omega arith)
 
 shown-kept : (flow : ℕ) (frame : CameFrame) → shown_of flow (kept frame) ≡ shown_of flow frame
 shown-kept flow frame =
-    ap (λ (first : List ℕ). let one : ShownFrame = record { flow = flow; time = frame.time; byte_count = frame.byte_count; first = first } in one)
+    ap (λ (first : List ℕ). let one : ShownFrame = record { flow = flow; time = frame.time; byte_count = frame.byte_count; first = first; bursts = frame.bursts } in one)
     (front-kept (is_short frame) frame.bytes)
 
 -- they equal the same

@@ -12,7 +12,7 @@ use Rattle.frame_comparison.proofs.Settled.{given_up-all, in_both-none, given_up
 use Rattle.frame_comparison.proofs.Kept.{same-counts}
 
 pub empty_frame : CameFrame
-empty_frame = record { time = 0; byte_count = 0; bytes = [] }
+empty_frame = record { time = 0; byte_count = 0; bytes = []; bursts = [] }
 
 -- the equal waits
 pub place-within : (frame : CameFrame) (waiting : List CameFrame) (place : ℕ) → place_of_equal frame waiting ≡ Some place → place < length waiting

@@ -9,8 +9,8 @@ use Rattle.frame_comparison.specs.Frames.{CameFrame, SideFrames, FlowFrames, Sho
 abbrev pub longest_wait : ℕ
 longest_wait = 1024
 
--- **Two frames are equal** if they have just the same bytes. One that is longer than a MAC frame can
--- be equals none: nobody sent it, and its bytes aren't kept
+-- **Two frames are equal** if they have just the same bytes. One that is longer than a MAC frame
+-- can be equals none: nobody sent it, and its bytes aren't kept
 abbrev pub are_equal : CameFrame → CameFrame → Bool
 are_equal one other = is_short one && is_short other && bytes_eq one.bytes other.bytes
 

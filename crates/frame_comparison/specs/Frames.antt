@@ -2,14 +2,15 @@
 use Rattle.std.specs.Prelude.{ℕ, Bool, true, false, not, nat_le, List, map, filter, length, take, if◌then◌else◌}
 use Rattle.frame_records.specs.Frames.{longest_frame}
 
--- a frame that came, and how many bytes it has
+-- a frame that came, how many bytes it has, and the numbers of the bursts that are named of it
 pub record CameFrame : Type 0 where
   pub time : ℕ
   pub byte_count : ℕ
   pub bytes : List ℕ
+  pub bursts : List ℕ
 
-abbrev pub came : ℕ → List ℕ → CameFrame
-came time bytes = record { time = time; byte_count = length bytes; bytes = bytes }
+abbrev pub came : ℕ → List ℕ → List ℕ → CameFrame
+came time bytes bursts = record { time = time; byte_count = length bytes; bytes = bytes; bursts = bursts }
 
 -- it is no longer than a MAC frame can be
 abbrev pub is_short : CameFrame → Bool
@@ -61,6 +62,7 @@ pub record ShownFrame : Type 0 where
   pub time : ℕ
   pub byte_count : ℕ
   pub first : List ℕ
+  pub bursts : List ℕ
 
 abbrev pub shown_of : ℕ → CameFrame → ShownFrame
-shown_of flow frame = record { flow = flow; time = frame.time; byte_count = frame.byte_count; first = shown_front frame.bytes }
+shown_of flow frame = record { flow = flow; time = frame.time; byte_count = frame.byte_count; first = shown_front frame.bytes; bursts = frame.bursts }

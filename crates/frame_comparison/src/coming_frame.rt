@@ -18,6 +18,8 @@ pub(crate) struct ComingFrame<'a> {
     pub(crate) length: usize,
     /// The bytes that are kept of it: its first 16 where it is longer than a MAC frame can be.
     pub(crate) bytes: &'a [u8],
+    /// The numbers of the bursts that are named of it.
+    pub(crate) bursts: &'a [u64],
     /// A hash of these bytes.
     pub(crate) fingerprint: u64,
 }
@@ -33,21 +35,24 @@ impl<'a> Model for ComingFrame<'a> {
       time = one.time;
       byte_count = one.length;
       bytes = one.bytes.now;
+      bursts = one.bursts.now;
     } };
 
     ghost invariant = { λ one. one.fingerprint ≡ fingerprint_of one.bytes.now };
 }
 
-impl ComingFrame<'_> {
-    /// What is to be kept of a frame that came at this time, in nanoseconds since 1970.
-    pub(crate) fn new(time: u64, frame: &[u8]) -> ComingFrame<'_>
-        ensures { result ≡ kept (came time frame.now) }
+impl<'a> ComingFrame<'a> {
+    /// What is to be kept of a frame that came at this time, in nanoseconds since 1970, and of
+    /// which these bursts are named.
+    pub(crate) fn new(time: u64, frame: &'a [u8], bursts: &'a [u64]) -> ComingFrame<'a>
+        ensures { result ≡ kept (came time frame.now bursts.now) }
     {
         let bytes = kept_bytes(frame);
         ComingFrame {
             time,
             length: frame.len(),
             bytes,
+            bursts,
             fingerprint: fingerprint(bytes),
         }
     }

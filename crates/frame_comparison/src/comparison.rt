@@ -55,13 +55,23 @@ impl FrameComparison {
     }
 
     /// Takes the next frame of a flow that one side has, which came at this time, in nanoseconds
-    /// since 1970. A flow that there isn't is passed over. If an allocation fails, or failed
+    /// since 1970, and of which these bursts are named by their numbers: they make no difference to
+    /// what it equals. A flow that there isn't is passed over. If an allocation fails, or failed
     /// before, the comparison is no longer whole and takes nothing more: what was counted and
     /// listed stays, and what waited is let go.
-    pub fn take(&mut self, alloc: Global, side: Side, flow: usize, time: u64, frame: &[u8])
+    pub fn take(
+        &mut self,
+        alloc: Global,
+        side: Side,
+        flow: usize,
+        time: u64,
+        frame: &[u8],
+        bursts: &[u64],
+    )
         ensures taken { (comparison : Comparison) → self.old ≡ seen_of comparison
             → IsTrue self.new.is_whole
-            → self.new ≡ seen_of (with_frame side flow (came time frame.now) comparison) }
+            → self.new ≡ seen_of (with_frame side flow (came time frame.now bursts.now)
+            comparison) }
         ensures failed { IsTrue self.old.is_whole → IsFalse self.new.is_whole
             → self.new ≡ failed self.old }
         ensures stays { IsFalse self.old.is_whole → self.new ≡ self.old }
@@ -69,7 +79,7 @@ impl FrameComparison {
         if !self.is_whole || flow >= self.counts.len() {
             return;
         }
-        let frame = ComingFrame::new(time, frame);
+        let frame = ComingFrame::new(time, frame, bursts);
         if self.settle(alloc, side, flow, &frame).is_err() {
             self.fail();
         }

@@ -1,12 +1,13 @@
 //! What people read of a comparison.
 ghost use Rattle.std.specs.Prelude.{◌≡◌, flat_map, slice_get};
 ghost use Rattle.text_lines.specs.Putting.{Puts, numbered_texts};
-ghost use Rattle.frame_comparison.specs.ComparisonText.{seconds_text, sfid_text, is_quiet, counts_text, flow_line, lonely_line, whole_line, comparison_text};
+ghost use Rattle.frame_comparison.specs.ComparisonText.{seconds_text, sfid_text, is_quiet, counts_text, flow_line, lonely_text, here_line, told_reason, missing_line, whole_line, comparison_text};
 
 use crate::comparison::FrameComparison;
 use crate::counts::ComparedCounts;
 use crate::lonely_frame::LonelyFrame;
 use crate::side::Side;
+use burst_fates::{MissingReason, put_reason};
 use itoa::Buffer;
 use text_lines::{PutText, put_hex, put_number, put_word};
 
@@ -87,9 +88,9 @@ fn put_flows<O: PutText>(out: &mut O, sfids: &[u32], counts: &[ComparedCounts])
     }
 }
 
-/// Puts the line of a frame that only one side has, behind these words.
+/// Puts a frame that only one side has, behind these words.
 fn put_lonely<O: PutText>(out: &mut O, words: &str, frame: &LonelyFrame)
-    ensures { Puts O.after out.old (lonely_line words.now frame.now) out.new }
+    ensures { Puts O.after out.old (lonely_text words.now frame.now) out.new }
 {
     put_word(out, words);
     put_number(out, frame.flow as u64);
@@ -99,15 +100,62 @@ fn put_lonely<O: PutText>(out: &mut O, words: &str, frame: &LonelyFrame)
     put_number(out, frame.length as u64);
     put_word(out, " bytes: ");
     put_hex(out, &frame.first);
+}
+
+/// Puts the line of a frame that only we have.
+fn put_here<O: PutText>(out: &mut O, frame: &LonelyFrame)
+    ensures { Puts O.after out.old (here_line frame.now) out.new }
+{
+    put_lonely(out, "  only here: flow ", frame);
     put_word(out, "\n");
 }
 
-/// Puts the lines of frames that only one side has.
-fn put_all_lonely<O: PutText>(out: &mut O, words: &str, frames: &[LonelyFrame])
-    ensures { Puts O.after out.old (flat_map (lonely_line words.now) frames.now) out.new }
+/// Puts the lines of the frames that only we have.
+fn put_all_here<O: PutText>(out: &mut O, frames: &[LonelyFrame])
+    ensures { Puts O.after out.old (flat_map here_line frames.now) out.new }
 {
     for frame in frames {
-        put_lonely(out, words, frame);
+        put_here(out, frame);
+    }
+}
+
+/// Puts why we haven't a frame, where that is known.
+fn put_told_reason<O: PutText>(out: &mut O, reason: Option<MissingReason>)
+    ensures { Puts O.after out.old (told_reason reason) out.new }
+{
+    if let Some(reason) = reason {
+        put_word(out, "; ");
+        put_reason(out, &reason);
+    }
+}
+
+/// The reason at a place, if there is one.
+fn reason_at(reasons: &[MissingReason], place: usize) -> Option<MissingReason>
+    ensures { result ≡ slice_get reasons.now place }
+{
+    reasons.get(place).copied()
+}
+
+/// Puts the line of a frame that only the analyser has, with the reason at its place.
+fn put_missing<O: PutText>(
+    out: &mut O,
+    reasons: &[MissingReason],
+    place: usize,
+    frame: &LonelyFrame,
+)
+    ensures { Puts O.after out.old (missing_line reasons.now place frame.now) out.new }
+{
+    put_lonely(out, "  only the analyser's: flow ", frame);
+    put_told_reason(out, reason_at(reasons, place));
+    put_word(out, "\n");
+}
+
+/// Puts the lines of the frames that only the analyser has.
+fn put_all_missing<O: PutText>(out: &mut O, reasons: &[MissingReason], frames: &[LonelyFrame])
+    ensures { Puts O.after out.old (numbered_texts (missing_line reasons.now) frames.now) out.new }
+{
+    for (place, frame) in frames.iter().enumerate() {
+        put_missing(out, reasons, place, frame);
     }
 }
 
@@ -122,17 +170,19 @@ fn put_whole<O: PutText>(out: &mut O, is_whole: bool)
 
 /// Puts what people read of a comparison: a line for each flow of which something was counted, by
 /// its index and its service flow identifier where `sfids` has one at that index, and then a line
-/// for each frame that is listed, first the analyser's. The times are in seconds since 1970.
-pub fn put_comparison<O: PutText>(out: &mut O, comparison: &FrameComparison, sfids: &[u32])
-    ensures { Puts O.after out.old (comparison_text sfids.now comparison.now) out.new }
+/// for each frame that is listed, first the analyser's, each with why we haven't it where `reasons`
+/// has that at its place. The times are in seconds since 1970.
+pub fn put_comparison<O: PutText>(
+    out: &mut O,
+    comparison: &FrameComparison,
+    reasons: &[MissingReason],
+    sfids: &[u32],
+)
+    ensures { Puts O.after out.old (comparison_text sfids.now reasons.now comparison.now) out.new }
 {
     put_word(out, "comparison with the analyser's frames\n");
     put_flows(out, sfids, comparison.counts());
-    put_all_lonely(
-        out,
-        "  only the analyser's: flow ",
-        comparison.lonely(Side::Analyser),
-    );
-    put_all_lonely(out, "  only here: flow ", comparison.lonely(Side::Here));
+    put_all_missing(out, reasons, comparison.lonely(Side::Analyser));
+    put_all_here(out, comparison.lonely(Side::Here));
     put_whole(out, comparison.is_whole());
 }

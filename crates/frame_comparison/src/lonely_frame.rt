@@ -23,6 +23,8 @@ pub struct LonelyFrame {
     pub length: usize,
     /// Its first 16 bytes, or all where it has fewer.
     pub first: Vec<u8>,
+    /// The numbers of the bursts that are named of it.
+    pub bursts: Vec<u64>,
 }
 
 impl Model for LonelyFrame {
@@ -35,6 +37,7 @@ impl Model for LonelyFrame {
       time = one.time;
       byte_count = one.length;
       first = one.first.items;
+      bursts = one.bursts.items;
     } };
 }
 

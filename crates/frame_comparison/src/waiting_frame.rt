@@ -16,6 +16,7 @@ pub(crate) struct WaitingFrame {
     time: u64,
     length: usize,
     bytes: Vec<u8>,
+    bursts: Vec<u64>,
     fingerprint: u64,
 }
 
@@ -30,6 +31,7 @@ impl Model for WaitingFrame {
       time = one.time;
       byte_count = one.length;
       bytes = one.bytes.items;
+      bursts = one.bursts.items;
     } };
 
     ghost invariant = { λ one. one.fingerprint ≡ fingerprint_of one.bytes.items };
@@ -41,17 +43,19 @@ impl WaitingFrame {
         ensures { IfOk result (λ one. one ≡ frame.now) }
     {
         let bytes = Vec::from_slice(alloc, frame.bytes)?;
+        let bursts = Vec::from_slice(alloc, frame.bursts)?;
         Ok(WaitingFrame {
             time: frame.time,
             length: frame.length,
             bytes,
+            bursts,
             fingerprint: frame.fingerprint,
         })
     }
 
-    /// Whether this frame equals it: both are as long as a MAC frame can be, and each byte is the
-    /// same. Their fingerprints are compared first, so that frames that differ late cost as little
-    /// as others.
+    /// Whether this frame equals it: neither is longer than a MAC frame can be, and all bytes are
+    /// the same. Their fingerprints are compared first, so that frames that differ late cost as
+    /// little as others.
     pub(crate) fn equals(&self, frame: &ComingFrame<'_>) -> bool
         ensures { result ≡ are_equal self.now frame.now }
     {
@@ -69,6 +73,7 @@ impl WaitingFrame {
             time,
             length,
             bytes,
+            bursts,
             fingerprint: _,
         } = self;
         let mut first = bytes;
@@ -78,6 +83,7 @@ impl WaitingFrame {
             time,
             length,
             first,
+            bursts,
         }
     }
 }

@@ -15,7 +15,7 @@ use Rattle.frame_comparison.specs.Aligned.{Arrival, is_of, given_of, bytes_of}
 use Rattle.frame_comparison.proofs.Arrivals.{given-append, given-one}
 use Rattle.frame_records.specs.Recorded.{FrameParts}
 use Rattle.timed_frames.specs.declared.timed_step.TimedStep.{TimedStep}
-use Rattle.timed_frames.specs.declared.timed_step.TimedStep.TheVariants.{HandedIn, Frame, Asked, Ended}
+use Rattle.timed_frames.specs.declared.timed_step.TimedStep.TheVariants.{HandedIn, Frame, Asked, Replied, Ended}
 use Rattle.frame_engine.specs.Compared.{arrivals_if, arrivals_of_step, arrivals_of_steps, flow_of_joined, arrivals_of_flow, Brings, a_frame, no_frame, AreArrivals, nothing_yet, one_record, more_steps, frames_in_step, frames_in, AreTheAnalysers, no_record, of_the_flow, of_another, of_none}
 
 -- the bytes of what a side gave, and of more
@@ -51,17 +51,19 @@ module _ (selected : Selection) (k : ℕ) (chosen : is_selected selected k ≡ t
   here-step : (step : TimedStep) → bytes_of (given_of Here k (arrivals_of_step selected step)) ≡ frames_in_step k step
   here-step (HandedIn flow burst) = refl
   here-step (Asked burst request) = refl
+  here-step (Replied flow burst_id reply) = refl
   here-step (Ended flow counts) = refl
   here-step (Frame flow burst frame) = by (eqb flow k) refl where
-    by : (is : Bool) → eqb flow k ≡ is → bytes_of (given_of Here k (arrivals_if selected Here flow (came burst.time frame))) ≡ cond is (frame ∷ []) []
-    by true is = given-if true true Here Here flow (came burst.time frame) (selected-as flow is) is
-    by false is = given-no Here Here flow (came burst.time frame) is
+    by : (is : Bool) → eqb flow k ≡ is → bytes_of (given_of Here k (arrivals_if selected Here flow (came burst.time frame []))) ≡ cond is (frame ∷ []) []
+    by true is = given-if true true Here Here flow (came burst.time frame []) (selected-as flow is) is
+    by false is = given-no Here Here flow (came burst.time frame []) is
 
   analyser-step : (step : TimedStep) → bytes_of (given_of Analyser k (arrivals_of_step selected step)) ≡ []
   analyser-step (HandedIn flow burst) = refl
   analyser-step (Asked burst request) = refl
+  analyser-step (Replied flow burst_id reply) = refl
   analyser-step (Ended flow counts) = refl
-  analyser-step (Frame flow burst frame) = given-no Analyser Here flow (came burst.time frame) refl
+  analyser-step (Frame flow burst frame) = given-no Analyser Here flow (came burst.time frame []) refl
 
   here-steps : (steps : List TimedStep) → bytes_of (given_of Here k (arrivals_of_steps selected steps)) ≡ frames_in k steps
   here-steps [] = refl
@@ -79,48 +81,48 @@ module _ (selected : Selection) (k : ℕ) (chosen : is_selected selected k ≡ t
 
   -- ---- records
 
-  here-flow : (found : Option ℕ) (frame : FrameParts) → bytes_of (given_of Here k (arrivals_of_flow found selected frame)) ≡ []
-  here-flow None frame = refl
-  here-flow (Some flow) frame = given-no Here Analyser flow (came frame.time frame.frame) refl
+  here-flow : (found : Option ℕ) (frame : FrameParts) (ids : List ℕ) → bytes_of (given_of Here k (arrivals_of_flow found selected frame ids)) ≡ []
+  here-flow None frame ids = refl
+  here-flow (Some flow) frame ids = given-no Here Analyser flow (came frame.time frame.frame ids) refl
 
-  own-flow : (found : Option ℕ) (frame : FrameParts) → found ≡ Some k → bytes_of (given_of Analyser k (arrivals_of_flow found selected frame)) ≡ frame.frame ∷ []
-  own-flow found frame is =
-      ap (λ (f : Option ℕ). bytes_of (given_of Analyser k (arrivals_of_flow f selected frame))) is
-      ∙ given-if true true Analyser Analyser k (came frame.time frame.frame) chosen (eq-eqb k k refl)
+  own-flow : (found : Option ℕ) (frame : FrameParts) (ids : List ℕ) → found ≡ Some k → bytes_of (given_of Analyser k (arrivals_of_flow found selected frame ids)) ≡ frame.frame ∷ []
+  own-flow found frame ids is =
+      ap (λ (f : Option ℕ). bytes_of (given_of Analyser k (arrivals_of_flow f selected frame ids))) is
+      ∙ given-if true true Analyser Analyser k (came frame.time frame.frame ids) chosen (eq-eqb k k refl)
 
-  other-flow : (found : Option ℕ) (frame : FrameParts) → found ≢ Some k → bytes_of (given_of Analyser k (arrivals_of_flow found selected frame)) ≡ []
-  other-flow None frame other = refl
-  other-flow (Some flow) frame other =
-      given-no Analyser Analyser flow (came frame.time frame.frame) (ne_eqb flow k (λ same. other (ap (λ (f : ℕ). Some f) same)))
+  other-flow : (found : Option ℕ) (frame : FrameParts) (ids : List ℕ) → found ≢ Some k → bytes_of (given_of Analyser k (arrivals_of_flow found selected frame ids)) ≡ []
+  other-flow None frame ids other = refl
+  other-flow (Some flow) frame ids other =
+      given-no Analyser Analyser flow (came frame.time frame.frame ids) (ne_eqb flow k (λ same. other (ap (λ (f : ℕ). Some f) same)))
 
   module _ (capture_map : CaptureMap) where
     here-brings : (one : CaptureParts) (more : List Arrival) → Brings selected capture_map one more → bytes_of (given_of Here k more) ≡ []
-    here-brings one _ (a_frame frame holds) = here-flow (flow_of_joined capture_map frame) frame
+    here-brings one _ (a_frame frame ids holds named) = here-flow (flow_of_joined capture_map frame) frame ids
     here-brings one _ (no_frame none) = refl
 
     analyser-brings : (records : List CaptureParts) (frames : List (List ℕ)) (one : CaptureParts) (more : List Arrival) → AreTheAnalysers capture_map k records frames → Brings selected capture_map one more
         → AreTheAnalysers capture_map k (records ++ one ∷ []) (frames ++ bytes_of (given_of Analyser k more))
     analyser-brings records frames one _ are (no_frame none) =
         subst (λ (all : List (List ℕ)). AreTheAnalysers capture_map k (records ++ one ∷ []) all) (sym (append-nil frames)) (of_none are one none)
-    analyser-brings records frames one _ are (a_frame frame holds) = by (flow_of_joined capture_map frame) refl where
+    analyser-brings records frames one _ are (a_frame frame ids holds named) = by (flow_of_joined capture_map frame) refl where
       own : (found : Option ℕ) → flow_of_joined capture_map frame ≡ found → found ≡ Some k
-          → AreTheAnalysers capture_map k (records ++ one ∷ []) (frames ++ bytes_of (given_of Analyser k (arrivals_of_flow found selected frame)))
+          → AreTheAnalysers capture_map k (records ++ one ∷ []) (frames ++ bytes_of (given_of Analyser k (arrivals_of_flow found selected frame ids)))
       own found is same =
-          subst (λ (all : List (List ℕ)). AreTheAnalysers capture_map k (records ++ one ∷ []) (frames ++ all)) (sym (own-flow found frame same)) (of_the_flow are one frame holds (is ∙ same))
+          subst (λ (all : List (List ℕ)). AreTheAnalysers capture_map k (records ++ one ∷ []) (frames ++ all)) (sym (own-flow found frame ids same)) (of_the_flow are one frame holds (is ∙ same))
 
       other : (found : Option ℕ) → flow_of_joined capture_map frame ≡ found → found ≢ Some k
-          → AreTheAnalysers capture_map k (records ++ one ∷ []) (frames ++ bytes_of (given_of Analyser k (arrivals_of_flow found selected frame)))
+          → AreTheAnalysers capture_map k (records ++ one ∷ []) (frames ++ bytes_of (given_of Analyser k (arrivals_of_flow found selected frame ids)))
       other found is differs =
           subst (λ (all : List (List ℕ)). AreTheAnalysers capture_map k (records ++ one ∷ []) all)
-          (sym (ap (λ (more : List (List ℕ)). frames ++ more) (other-flow found frame differs) ∙ append-nil frames))
+          (sym (ap (λ (more : List (List ℕ)). frames ++ more) (other-flow found frame ids differs) ∙ append-nil frames))
           (of_another are one frame holds (λ same. differs (sym is ∙ same)))
 
       by : (found : Option ℕ) → flow_of_joined capture_map frame ≡ found
-          → AreTheAnalysers capture_map k (records ++ one ∷ []) (frames ++ bytes_of (given_of Analyser k (arrivals_of_flow found selected frame)))
+          → AreTheAnalysers capture_map k (records ++ one ∷ []) (frames ++ bytes_of (given_of Analyser k (arrivals_of_flow found selected frame ids)))
       by None is = other None is (λ same. none-some k same)
       by (Some flow) is = by_number (eqb flow k) refl where
         by_number : (same : Bool) → eqb flow k ≡ same
-            → AreTheAnalysers capture_map k (records ++ one ∷ []) (frames ++ bytes_of (given_of Analyser k (arrivals_of_flow (Some flow) selected frame)))
+            → AreTheAnalysers capture_map k (records ++ one ∷ []) (frames ++ bytes_of (given_of Analyser k (arrivals_of_flow (Some flow) selected frame ids)))
         by_number true same = own (Some flow) is (ap (λ (f : ℕ). Some f) (eqb-true flow k same))
         by_number false same = other (Some flow) is (λ is_k. both_ways (eqb flow k) same (eq-eqb flow k (same_Some flow k is_k)))
 

@@ -13,7 +13,7 @@ use Rattle.frame_records.specs.Frames.{file_header}
 use Rattle.frame_records.specs.declared.link.FrameLink.{FrameLink}
 use Rattle.timed_frames.specs.declared.timed_step.LastBurst.{LastBurst}
 use Rattle.timed_frames.specs.declared.timed_step.TimedStep.{TimedStep}
-use Rattle.timed_frames.specs.declared.timed_step.TimedStep.TheVariants.{HandedIn, Frame, Asked, Ended}
+use Rattle.timed_frames.specs.declared.timed_step.TimedStep.TheVariants.{HandedIn, Frame, Asked, Replied, Ended}
 use Rattle.timed_frames.specs.declared.timed_frames.TimedFrames.{TimedFrames}
 use Rattle.timed_frames.specs.Timed.{Timed}
 use Rattle.timed_frames.specs.Seen.{HasSeen}
@@ -37,6 +37,7 @@ left-all [] = refl
 left-all (HandedIn flow burst ∷ timed) = ap (λ (rest : List TimedStep). HandedIn flow burst ∷ rest) (left-all timed)
 left-all (Frame flow burst frame ∷ timed) = ap (λ (rest : List TimedStep). Frame flow burst frame ∷ rest) (left-all timed)
 left-all (Asked burst request ∷ timed) = ap (λ (rest : List TimedStep). Asked burst request ∷ rest) (left-all timed)
+left-all (Replied flow burst_id reply ∷ timed) = ap (λ (rest : List TimedStep). Replied flow burst_id reply ∷ rest) (left-all timed)
 left-all (Ended flow counts ∷ timed) = ap (λ (rest : List TimedStep). Ended flow counts ∷ rest) (left-all timed)
 
 pub file-all : (settings : CaptureSettings) (capture_map : CaptureMap) (timed : List TimedStep)

@@ -5,8 +5,10 @@ pub mod Reading
 pub mod Ended
 pub mod Devices
 pub mod Arrivals
+pub mod Explained
 pub mod Beside
 pub mod EqualFrames
 pub mod EqualEnds
 pub mod Told
 pub mod Counted
+pub mod Shown

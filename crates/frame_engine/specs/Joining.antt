@@ -60,6 +60,13 @@ module _ (settings : CaptureSettings) (capture_map : CaptureMap) where
     to_end : (reader : CaptureReader) (records : List CaptureParts) → HasCaptured reader records bytes → IsWholeCapture reader
         → (fault ≡ OutOfMemory) ⊎ (fault ≡ Write) → IsJoinedAtEnd settings capture_map records text → IsJoinedTill bytes fault text
 
+  -- **This is the file of all records of some bytes** that are whole in them.
+  pub record IsFileSoFar (bytes text : List ℕ) : Type 0 where
+    pub reader : CaptureReader
+    pub records : List CaptureParts
+    pub captured : HasCaptured reader records bytes
+    pub joined : IsJoinedSoFar settings capture_map records text
+
   -- so of what a reader gave
   pub record IsJoinedOf (known left : Option (List ℕ)) (fault : EngineFault) (text : List ℕ) : Type 0 where
     pub bytes : List ℕ
@@ -84,7 +91,8 @@ module _ (settings : CaptureSettings) (capture_map : CaptureMap) where
     pub flushed : OnOk result (IsLeftFlushed writer writer')
     pub flushed_above : IfErr result (λ fault. fault ≢ Write → IsLeftFlushed writer writer')
     -- **each read was made behind a flush**, whatever the result: by no other call than
-    -- `read_behind`, which requires that all that was written to the writer that it names is flushed
+    -- `read_behind`, which requires that all that was written to the writer that it names is
+    -- flushed
     pub behind_flushes : is_read_behind_flushes reader' ≡ true
     -- each fault has its cause, and without a fault there is none
     pub cause : IfErr result (HasJoinCause (remaining (inner_of reader)) reader' writer')

@@ -2,6 +2,7 @@ pub mod Settings
 pub mod Records
 pub mod Written
 pub mod Compared
+pub mod Explaining
 pub mod Comparing
 pub mod Judged
 pub mod Joined

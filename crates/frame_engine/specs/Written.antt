@@ -10,7 +10,7 @@ use Rattle.frame_records.specs.declared.link.FrameLink.{FrameLink}
 use Rattle.frame_records.specs.declared.origin.FrameOrigin.{FrameOrigin}
 use Rattle.timed_frames.specs.declared.timed_step.LastBurst.{LastBurst}
 use Rattle.timed_frames.specs.declared.timed_step.TimedStep.{TimedStep}
-use Rattle.timed_frames.specs.declared.timed_step.TimedStep.TheVariants.{HandedIn, Frame, Asked, Ended}
+use Rattle.timed_frames.specs.declared.timed_step.TimedStep.TheVariants.{HandedIn, Frame, Asked, Replied, Ended}
 
 -- the upstream channel id of a channel of a map, 0 where the map has none
 abbrev pub id_of : List MapChannel → ℕ → ℕ
@@ -31,6 +31,7 @@ abbrev pub written_of : FrameLink → List MapChannel → TimedStep → List ℕ
 written_of link channels (HandedIn flow burst) = []
 written_of link channels (Frame flow burst frame) = frame_written link channels burst frame
 written_of link channels (Asked burst request) = []
+written_of link channels (Replied flow burst_id reply) = []
 written_of link channels (Ended flow counts) = []
 
 abbrev pub written_in : FrameLink → List MapChannel → List TimedStep → List ℕ
@@ -41,6 +42,7 @@ abbrev pub flow_of_frame : TimedStep → Option ℕ
 flow_of_frame (HandedIn flow burst) = None
 flow_of_frame (Frame flow burst frame) = Some flow
 flow_of_frame (Asked burst request) = None
+flow_of_frame (Replied flow burst_id reply) = None
 flow_of_frame (Ended flow counts) = None
 
 -- **what is left of what came where some flows are selected**, in its order: all but the frames of

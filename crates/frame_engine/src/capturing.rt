@@ -2,9 +2,10 @@
 ghost use Rattle.std.specs.Prelude.{◌≡◌, [], IfSome, OnOk};
 ghost use Rattle.engines.specs.Device.{inner_of, IsFresh};
 ghost use Rattle.engines.specs.Engine.{WritesText};
+ghost use Rattle.engines.specs.FlushedReads.{ReadsBehindText};
 ghost use Rattle.capture_map.specs.declared.map.CaptureMap.{CaptureMap};
 ghost use Rattle.frame_engine.specs.declared.settings.CaptureSettings.{CaptureSettings};
-ghost use Rattle.frame_engine.specs.Joining.{JoinsCapture};
+ghost use Rattle.frame_engine.specs.Joining.{JoinsCapture, IsFileSoFar};
 ghost use Rattle.frame_engine.specs.Begun.{IsBegun, IsBegunBeside, ComparesNothing, CanJoin};
 ghost use Rattle.frame_engine.specs.Comparing.{IsComparedFile};
 ghost use Rattle.frame_engine.specs.Progress.{HasToldProgress};
@@ -13,9 +14,9 @@ use crate::comparing::Comparing;
 use crate::frame_reading::FrameReading;
 use crate::progress::{TakeProgress, tell_progress};
 use crate::tally::CaptureTally;
-use engines::{Device, EngineFault, read_behind, zeros};
+use engines::{Device, EngineFault, ReadBehind, read_behind, zeros};
 use std::alloc::Global;
-use std::io::{Read, Write};
+use std::io::Write;
 
 /// How many bytes are asked of the reader at once.
 const PIECE_BYTES: usize = 262_144;
@@ -31,7 +32,7 @@ const PIECE_BYTES: usize = 262_144;
 /// records, or ends too early. `OutOfMemory`: an allocation failed. Whichever comes, the frames of
 /// the records before were written and flushed; what waited then isn't handed in. `Write`: the
 /// writer failed, and a front of the file may have gone out.
-pub fn join_capture<R: Read, W: Write, Q: Write, P: TakeProgress>(
+pub fn join_capture<R: ReadBehind, W: Write, Q: Write, P: TakeProgress>(
     alloc: Global,
     mut reading: FrameReading,
     tally: &mut CaptureTally,
@@ -60,6 +61,13 @@ pub fn join_capture<R: Read, W: Write, Q: Write, P: TakeProgress>(
         → IsBegun settings capture_map reading → (start : P) → P.after start [] told.old
         → HasToldProgress settings capture_map R.remaining P.after
         reader.old reader.new start told.new }
+    // At each read just the file of all records that were read before stood flushed in the writer.
+    ensures shown { (settings : CaptureSettings) (capture_map : CaptureMap)
+        → IsBegun settings capture_map reading → (start : R)
+        → R.after start [] (inner_of reader.old)
+        → ReadsBehindText (IsFileSoFar settings capture_map) (W.contents (inner_of writer.old))
+        R.after (R.remaining (inner_of reader.old)) (R.remaining (inner_of reader.new))
+        start (inner_of reader.new) }
 {
     let mut piece = zeros(alloc, PIECE_BYTES)?;
     reading.joining.file.write(writer)?;

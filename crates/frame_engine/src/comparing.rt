@@ -9,14 +9,18 @@ ghost use Rattle.frame_comparison.specs.Seen.{seen_of};
 ghost use Rattle.frame_engine.specs.Settings.{inner_accepts};
 ghost use Rattle.frame_engine.specs.Compared.{Brings, arrivals_if, arrivals_of_step, arrivals_of_steps};
 ghost use Rattle.frame_engine.specs.Comparing.{IsKeptOf, Takes, TakesBrought, Finishes};
+ghost use Rattle.frame_reasons.specs.Told.{fate_of_taken, told_if, told_in_steps};
+ghost use Rattle.frame_engine.specs.Explaining.{reasons_in, NothingTold, Tells, Explains, ExplainsAfter};
 
 use crate::inner_check::InnerCheck;
 use crate::record_burst::short_sid;
+use burst_fates::MissingReason;
 use capture::CaptureRecord;
-use captured_flows::CapturedFlows;
+use captured_flows::{BurstTaken, CapturedFlows};
 use flow_selection::Selection;
 use frame_comparison::{FrameComparison, Side};
-use frame_records::recorded_frame;
+use frame_reasons::Reasons;
+use frame_records::{first_burst_ids, recorded_frame};
 use std::alloc::{AllocError, Global};
 use timed_frames::TimedStep;
 
@@ -26,14 +30,17 @@ pub struct Comparing {
     pub(crate) comparison: Option<FrameComparison>,
     /// How many frames that the analyser joined are of no flow of the map.
     strangers: u64,
+    /// Why frames are missing that only the analyser has, where frames are compared.
+    reasons: Option<Reasons>,
 }
 
-/// A frame of a flow, and when it came.
+/// A frame of a flow, when it came, and the first of the bursts that are named of it.
 #[derive(Clone, Copy)]
 struct ComparedFrame<'a> {
     flow: usize,
     time: u64,
     frame: &'a [u8],
+    bursts: &'a [u64],
 }
 
 /// Takes the next frame of one side, if its flow is selected.
@@ -46,11 +53,12 @@ fn take_selected(
 )
     ensures { (before : Comparison) → IsKeptOf before comparison.old
         → IsKeptOf (with_all
-        (arrivals_if selected.now side one.now.flow (came one.now.time one.now.frame.now)) before)
+        (arrivals_if selected.now side one.now.flow
+        (came one.now.time one.now.frame.now one.now.bursts.now)) before)
         comparison.new }
 {
     if selected.has(one.flow) {
-        comparison.take(alloc, side, one.flow, one.time, one.frame);
+        comparison.take(alloc, side, one.flow, one.time, one.frame, one.bursts);
     }
 }
 
@@ -69,6 +77,7 @@ fn take_step(
             flow: *flow,
             time: burst.time,
             frame: frame.as_slice(),
+            bursts: &[],
         };
         take_selected(comparison, alloc, selected, Side::Here, &one);
     }
@@ -106,6 +115,7 @@ fn take_recorded(
     let Some(found) = recorded_frame(given) else {
         return false;
     };
+    let bursts = first_burst_ids(given);
     let Some(flow) = flows.flow_of(found.channel, short_sid(found.sid)) else {
         return true;
     };
@@ -113,6 +123,7 @@ fn take_recorded(
         flow,
         time: found.time,
         frame: found.frame,
+        bursts: bursts.as_slice(),
     };
     take_selected(comparison, alloc, selected, Side::Analyser, &one);
     false
@@ -121,22 +132,26 @@ fn take_recorded(
 impl Comparing {
     /// Nothing is compared.
     pub fn nothing() -> Comparing
-        ensures { result.comparison ≡ None }
+        ensures comparison { result.comparison ≡ None }
+        ensures reasons { result.reasons ≡ None }
     {
         Comparing {
             comparison: None,
             strangers: 0,
+            reasons: None,
         }
     }
 
     /// The frames of so many flows are compared, of which nothing came.
     pub fn new(alloc: Global, flows: usize) -> Result<Comparing, AllocError>
-        ensures { IfOk result (λ comparing. comparing.comparison
+        ensures comparison { IfOk result (λ comparing. comparing.comparison
             ≡ Some (seen_of (nothing_came flows))) }
+        ensures reasons { IfOk result (λ comparing. NothingTold comparing.reasons) }
     {
         Ok(Comparing {
             comparison: Some(FrameComparison::new(alloc, flows)?),
             strangers: 0,
+            reasons: Some(Reasons::new(alloc)?),
         })
     }
 
@@ -157,18 +172,88 @@ impl Comparing {
         self.strangers
     }
 
+    /// Why each frame is missing that is listed as only the analyser's, in the order of the list, by
+    /// what was known of its bursts when it was listed; none, if frames aren't compared.
+    pub fn reasons(&self) -> &[MissingReason]
+        ensures { result.now ≡ reasons_in self.now.reasons }
+    {
+        match &self.reasons {
+            Some(reasons) => reasons.listed(),
+            None => &[],
+        }
+    }
+
     /// Nothing more comes: what waits for its equal has none.
     pub fn finish(&mut self, alloc: Global)
-        ensures { Finishes self.old self.new }
+        ensures finishes { Finishes self.old self.new }
+        ensures explains { Explains self.new.comparison self.old.reasons self.new.reasons }
+    {
+        self.finish_comparison(alloc);
+        self.explain();
+    }
+
+    /// All frames that wait are given up.
+    fn finish_comparison(&mut self, alloc: Global)
+        ensures finishes { Finishes self.old self.new }
+        ensures reasons { self.new.reasons ≡ self.old.reasons }
     {
         if let Some(comparison) = &mut self.comparison {
             comparison.finish(alloc);
         }
     }
 
-    /// Takes the frames of ours among these steps whose flows are selected.
+    /// Those of the frames that are listed as only the analyser's that have no reason yet get
+    /// theirs.
+    fn explain(&mut self)
+        ensures comparison { self.new.comparison ≡ self.old.comparison }
+        ensures explains { Explains self.old.comparison self.old.reasons self.new.reasons }
+    {
+        let Some(comparison) = &self.comparison else {
+            return;
+        };
+        let Some(reasons) = &mut self.reasons else {
+            return;
+        };
+        reasons.explain(comparison.lonely(Side::Analyser));
+    }
+
+    /// It is told what became of a burst with this number, if it has one.
+    pub(crate) fn tell_taken(&mut self, burst_id: Option<u64>, told: BurstTaken)
+        ensures comparison { self.new.comparison ≡ self.old.comparison }
+        ensures tells { Tells (told_if burst_id (fate_of_taken told))
+            self.old.reasons self.new.reasons }
+    {
+        if let Some(reasons) = &mut self.reasons {
+            reasons.tell_taken(burst_id, told);
+        }
+    }
+
+    /// It is told what these steps say of bursts.
+    fn tell_steps(&mut self, steps: &[TimedStep])
+        ensures comparison { self.new.comparison ≡ self.old.comparison }
+        ensures tells { Tells (told_in_steps steps.now) self.old.reasons self.new.reasons }
+    {
+        if let Some(reasons) = &mut self.reasons {
+            reasons.tell_steps(steps);
+        }
+    }
+
+    /// Takes the frames of ours among these steps whose flows are selected, and is told what they
+    /// say of bursts before.
     pub(crate) fn take_steps(&mut self, alloc: Global, selected: &Selection, steps: &[TimedStep])
-        ensures { Takes (arrivals_of_steps selected.now steps.now) self.old self.new }
+        ensures takes { Takes (arrivals_of_steps selected.now steps.now) self.old self.new }
+        ensures explains { ExplainsAfter (told_in_steps steps.now) self.new.comparison
+            self.old.reasons self.new.reasons }
+    {
+        self.tell_steps(steps);
+        self.compare_steps(alloc, selected, steps);
+        self.explain();
+    }
+
+    /// Compares the frames of ours among these steps whose flows are selected.
+    fn compare_steps(&mut self, alloc: Global, selected: &Selection, steps: &[TimedStep])
+        ensures takes { Takes (arrivals_of_steps selected.now steps.now) self.old self.new }
+        ensures reasons { self.new.reasons ≡ self.old.reasons }
     {
         if let Some(comparison) = &mut self.comparison {
             take_all(comparison, alloc, selected, steps);
@@ -184,8 +269,26 @@ impl Comparing {
         given: &CaptureRecord,
     )
         requires capturing { IsCapturing inner_accepts flows.now }
-        ensures { TakesBrought selected.now flows.now.map (capture_parts given.now)
+        ensures takes { TakesBrought selected.now flows.now.map (capture_parts given.now)
             self.old self.new }
+        ensures explains { Explains self.new.comparison self.old.reasons self.new.reasons }
+    {
+        self.compare_record(alloc, flows, selected, given);
+        self.explain();
+    }
+
+    /// Compares the frame that a record holds, if the analyser joined it and its flow is selected.
+    fn compare_record(
+        &mut self,
+        alloc: Global,
+        flows: &CapturedFlows<InnerCheck>,
+        selected: &Selection,
+        given: &CaptureRecord,
+    )
+        requires capturing { IsCapturing inner_accepts flows.now }
+        ensures takes { TakesBrought selected.now flows.now.map (capture_parts given.now)
+            self.old self.new }
+        ensures reasons { self.new.reasons ≡ self.old.reasons }
     {
         let Some(comparison) = &mut self.comparison else {
             return;

@@ -120,9 +120,11 @@ impl Joining {
         ensures only { IfErr result (λ fault. fault ≡ OutOfMemory) }
     {
         let (id, sid, time) = (burst.channel, burst.sid, burst.time);
+        let burst_id = burst.burst_id;
         match self.flows.take(alloc, burst, &mut self.timed) {
             Ok(told) => {
                 tally.count_burst(id, is_above, told);
+                comparing.tell_taken(burst_id, told);
                 let put = put_came(alloc, &mut self.timed, &mut self.file, tally, comparing);
                 self.mark(id, sid, time, told, tally);
                 put

@@ -4,10 +4,13 @@
 //! 1. [`FrameReading::new`] sets a receiver up with a `capture_map::CaptureMap` and
 //!    [`CaptureSettings`].
 //! 2. [`join_capture`] reads a capture of any length to its end, piece by piece, and writes a pcap
-//!    file of the frames that its bursts hold. What a piece brings is written and flushed before the
-//!    next is read. Of the capture it holds a piece, one record or block, and what the receiver and
-//!    the bursts that wait take. How far it is [`TakeProgress`] takes behind each piece, if it
+//!    file of the frames that its bursts hold. What a piece brings is written and flushed before
+//!    the next is read. Of the capture it holds a piece, one record or block, and what the receiver
+//!    and the bursts that wait take. How far it is [`TakeProgress`] takes behind each piece, if it
 //!    wants to; [`NoProgress`] doesn't.
+//!
+//! Where frames are compared with those that the analyser joined itself, [`Comparing::reasons`] says
+//! why each frame is missing that is listed as only the analyser's.
 //!
 //! What matters most: the frames that are written are those which the receiver's definitions give
 //! for the bursts of the records, each with the time and the origin of the burst that completed it

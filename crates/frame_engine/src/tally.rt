@@ -223,6 +223,7 @@ impl CaptureTally {
             }
             TimedStep::Frame { flow, frame, .. } => self.count_frame(*flow, frame),
             TimedStep::Asked { burst, request } => self.count_request(alloc, *burst, request),
+            TimedStep::Replied { .. } => {}
             TimedStep::Ended { flow, counts } => self.count_ended(*flow, *counts),
         }
     }

@@ -1,8 +1,9 @@
 -- The first burst that some TLVs name, one TLV after another.
-use Rattle.std.proofs.Common.{◌≡◌, ℕ, ◌<◌, ◌^◌, List, [], ◌∷◌, ◌++◌, inl, inr, Option, Some, None, refl, sym, ap, subst, ◌∙◌}
+use Rattle.std.proofs.Common.{◌≡◌, ℕ, ◌<◌, ◌^◌, List, [], ◌∷◌, ◌++◌, inl, inr, Option, Some, None, refl, sym, ap, subst, ◌∙◌, ◌≤◌, length, take, append-nil, append_assoc}
 use Rattle.std.specs.Prelude.{IfSome}
 use Rattle.std.specs.Option.{option_to_list}
 use Rattle.std.specs.Int.{w64, to_be_bytes}
+use Rattle.std.proofs.lemmas.List.{take_all, take_at}
 use Rattle.byteorder.specs.Numbers.{big_number-reads_back}
 use Rattle.capture.specs.Fields.{Field, field_bytes, fields_bytes, last_value}
 use Rattle.capture.specs.Numbers.{number_in}
@@ -79,11 +80,63 @@ one_list (field ∷ fields) ids others (inl (id, later, names, is, are)) (inr (n
 one_list (field ∷ fields) ids others (inr (none, are)) (inl (other, last, also, is_other, are_others)) = absurd (none other also)
 one_list (field ∷ fields) ids others (inr (none, are)) (inr (also, are_others)) = one_list fields ids others are are_others
 
+-- of all that are named these were given, and the others are named by the TLVs that are left
+pub record AreGivenOf (all first tlvs : List ℕ) : Type 0 where
+  pub more : List Field
+  pub later : List ℕ
+  pub left : tlvs ≡ fields_bytes more
+  pub named : AreBurstIds more later
+  pub all_is : all ≡ first ++ later
+
+-- the first is the first of all
+first_given : (fields : List Field) (id : ℕ) (tlvs all : List ℕ) → IsFirstId fields (Some (id, tlvs)) → AreBurstIds fields all → AreGivenOf all (id ∷ []) tlvs
+first_given [] id tlvs all first are = absurd (cc)
+first_given (field ∷ fields) id tlvs all (inl (other, names, is)) (inl (named, later, also, all_is, are)) =
+    let given : ℕ × List ℕ = (id, tlvs) in
+    let here : ℕ × List ℕ = (other, fields_bytes fields) in
+    let found : given ≡ here = cc in
+    let same : named ≡ id = one_burst field named other also names ∙ sym (ap (λ pair. pair.0) found) in
+    record {
+      more = fields;
+      later = later;
+      left = ap (λ pair. pair.1) found;
+      named = are;
+      all_is = all_is ∙ ap (λ front. front ∷ later) same;
+    }
+first_given (field ∷ fields) id tlvs all (inl (other, names, is)) (inr (none, are)) = absurd (none other names)
+first_given (field ∷ fields) id tlvs all (inr (none, first)) (inl (named, later, also, all_is, are)) = absurd (none named also)
+first_given (field ∷ fields) id tlvs all (inr (none, first)) (inr (also, are)) = first_given fields id tlvs all first are
+
+-- one more was given
+pub more_given : (all first old tlvs : List ℕ) (id : ℕ) → AreGivenOf all first old → ((fields : List Field) → old ≡ fields_bytes fields → IsFirstId fields (Some (id, tlvs)))
+    → AreGivenOf all (first ++ id ∷ []) tlvs
+more_given all first old tlvs id given next =
+    let one = first_given given.more id tlvs given.later (next given.more given.left) given.named in
+    record {
+      more = one.more;
+      later = one.later;
+      left = one.left;
+      named = one.named;
+      all_is = given.all_is ∙ ap (λ behind. first ++ behind) one.all_is ∙ sym (append_assoc first (id ∷ []) one.later);
+    }
+
 -- where there is no first one, none is named
 pub none_named : (fields : List Field) → IsFirstId fields None → AreBurstIds fields []
 none_named [] first = refl
 none_named (field ∷ fields) (inl (id, names, is)) = absurd (cc)
 none_named (field ∷ fields) (inr (none, first)) = inr (none, none_named fields first)
+
+-- all were given
+pub all_given : (all first old : List ℕ) → AreGivenOf all first old → length first ≤ 16 → ((fields : List Field) → old ≡ fields_bytes fields → IsFirstId fields None)
+    → first ≡ take 16 all
+all_given all first old given few next =
+    let none : given.later ≡ [] = one_list given.more given.later [] given.named (none_named given.more (next given.more given.left)) in
+    let is : all ≡ first = given.all_is ∙ ap (λ behind. first ++ behind) none ∙ append-nil first in
+    sym (ap (take 16) is ∙ take_all 16 first few)
+
+-- or as many as are looked at
+pub enough_given : (all first old : List ℕ) → AreGivenOf all first old → length first ≡ 16 → first ≡ take 16 all
+enough_given all first old given many = sym (ap (take 16) given.all_is ∙ take_at first given.later 16 many)
 
 -- the first one is followed by those that the TLVs behind it name
 pub named_in_turn : (fields : List Field) (id : ℕ) (rest : List ℕ) → IsFirstId fields (Some (id, rest))

@@ -1,8 +1,10 @@
 -- The bursts that a frame came from.
-use Rattle.std.specs.Prelude.{◌≡◌, ℕ, ◌⊎◌, List, [], ◌∷◌, Option, Some, None, option_map}
+use Rattle.std.specs.Prelude.{◌≡◌, ℕ, ◌⊎◌, List, [], ◌∷◌, take, Option, Some, None, option_map}
 use Rattle.capture.specs.Fields.{Field, fields_bytes, last_value}
 use Rattle.capture.specs.Numbers.{number_in}
-use Rattle.frame_records.specs.Recorded.{◌>>=◌}
+use Rattle.capture.specs.Packet.{Parts}
+use Rattle.capture.specs.PcapngBlocks.{CaptureParts}
+use Rattle.frame_records.specs.Recorded.{◌>>=◌, HoldsPacket}
 use Rattle.frame_records.specs.declared.named_bursts.BurstIds.{BurstIds}
 
 -- **A TLV names a burst**: it is TLV 14, and its value is TLVs, the last one of type 1 of which is
@@ -21,6 +23,14 @@ abbrev pub AreBurstIds : List Field → List ℕ → Type 0
 AreBurstIds [] ids = ids ≡ []
 AreBurstIds (field ∷ fields) ids =
     ((id : ℕ) × (later : List ℕ) × NamesBurst field id × (ids ≡ id ∷ later) × AreBurstIds fields later) ⊎ (NamesNone field × AreBurstIds fields ids)
+
+-- so many of them are looked at
+abbrev pub most_bursts : ℕ
+most_bursts = 16
+
+-- these are the first of the bursts that the packet in a record names
+abbrev pub AreFirstBursts : CaptureParts → List ℕ → Type 0
+AreFirstBursts one ids = (parts : Parts) (all : List ℕ) → HoldsPacket one parts → AreBurstIds parts.fields all → ids ≡ take most_bursts all
 
 -- the first of them, with the bytes of the TLVs behind the one that names it
 abbrev pub IsFirstId : List Field → Option (ℕ × List ℕ) → Type 0

@@ -13,7 +13,8 @@
 //!
 //! 1. [`put_file_header`] once, and [`put_frame`] for each frame.
 //! 2. [`recorded_frame`] gives the frame in a record of a capture, with its channel and its SID.
-//!    [`burst_ids`] gives the numbers of the bursts that it came from, one after another.
+//!    [`burst_ids`] gives the numbers of the bursts that it came from, one after another, and
+//!    [`first_burst_ids`] the first 16 of them.
 //!
 //! What matters most: the bytes that are put are those of the definitions `file_header` and
 //! `frame_record`; a reader of pcap files gives such records back, and channel and SID stand in
@@ -34,6 +35,6 @@ mod recorded;
 
 pub use file::{LONGEST_FRAME, put_file_header, put_frame};
 pub use link::FrameLink;
-pub use named_bursts::{BurstIds, burst_ids};
+pub use named_bursts::{BurstIds, MOST_BURSTS, burst_ids, first_burst_ids};
 pub use origin::FrameOrigin;
 pub use recorded::{RecordedFrame, recorded_frame};

@@ -1,5 +1,5 @@
 //! The bursts that a frame came from, by the numbers that an analyser gave them.
-ghost use Rattle.std.specs.Prelude.{◌≡◌, ◌<◌, ℕ, List, [], Some, IfSome, length, option_map};
+ghost use Rattle.std.specs.Prelude.{◌≡◌, ◌<◌, ℕ, List, [], Some, IfSome, length, take, option_map};
 ghost use Rattle.std.specs.Iterator.{at_most};
 ghost use Rattle.capture.specs.Fields.{Field, fields_bytes};
 ghost use Rattle.capture.specs.Packet.{Parts};
@@ -9,7 +9,11 @@ ghost use Rattle.capture.specs.SeenCapture.{capture_parts};
 use crate::numbers::number;
 use crate::origin::{BURST, BURST_ID};
 use crate::record_packet::packet_in;
+use arrayvec::ArrayVec;
 use capture::{CaptureRecord, Tlv, are_tlvs, last_value, split_tlv};
+
+/// So many bursts of a frame are looked at.
+pub const MOST_BURSTS: usize = 16;
 
 /// The numbers of the bursts that a frame came from, in order.
 #[derive(Debug, Drop)]
@@ -19,7 +23,7 @@ pub struct BurstIds<'a> {
 }
 
 ghost use Rattle.frame_records.specs.Recorded.{HoldsPacket};
-ghost use Rattle.frame_records.specs.BurstIds.{NamesBurst, IsFirstId, GivesId};
+ghost use Rattle.frame_records.specs.BurstIds.{NamesBurst, IsFirstId, GivesId, AreBurstIds, AreFirstBursts, most_bursts};
 
 /// The bursts that the packet in a record names. It names none where the record doesn't hold the
 /// whole of a packet of link type 273.
@@ -49,6 +53,32 @@ impl Iterator for BurstIds<'_> {
         self.tlvs = after;
         Some(id)
     }
+}
+
+/// The numbers of the first bursts that some TLVs name, 16 at most.
+fn first_named(tlvs: &[u8]) -> ArrayVec<u64, MOST_BURSTS>
+    ensures { (fields : List Field) (all : List ℕ) → tlvs.now ≡ fields_bytes fields
+        → AreBurstIds fields all → result.items ≡ take most_bursts all }
+{
+    let mut ids = BurstIds { tlvs };
+    let mut first = ArrayVec::new();
+    while first.len() < MOST_BURSTS {
+        match ids.next() {
+            Some(id) => first.push(id),
+            None => return first,
+        }
+    }
+    first
+}
+
+/// The numbers of the first bursts that the packet in a record names, 16 at most. There are none
+/// where the record doesn't hold the whole of a packet of link type 273.
+pub fn first_burst_ids(given: &CaptureRecord) -> ArrayVec<u64, MOST_BURSTS>
+    ensures named { AreFirstBursts (capture_parts given.now) result.items }
+    ensures none { ((parts : Parts) → HoldsPacket (capture_parts given.now) parts → ⊥)
+        → result.items ≡ [] }
+{
+    first_named(burst_ids(given).tlvs)
 }
 
 /// The number of the first burst that some TLVs name, and the TLVs behind the one that does.

@@ -14,8 +14,8 @@ module _ {M : Type 1} {𝓤 : Ura M} (𝓛 : Logic 𝓤) (lifetime b o : ℕ) (h
       qed 𝓛 (‵ (flft (lifetime ∷ []) full_share) ∷ ‵ (read_at lifetime to from held) ∷ ‵ (back_at lifetime (block_ptr b o) held) ∷ []) ∵
       move ! (1 ∷ 2 ∷ []) $ fjoin ! $ move ! (1 ∷ 0 ∷ []) $ fjoin ! $ done !
 
-  -- **Who ends a loan has the receiver again**, as the next call asks, just as it was left; and what
-  -- was lent can't be read any more, since its lifetime is over
+  -- **Who ends a loan has the receiver again**, as the next call asks, just as it was left; and
+  -- what was lent can't be read any more, since its lifetime is over
   pub loan_ends : (bytes : Ptr) → ent 𝓤 (sem 𝓛 (lent_at lifetime (block_ptr b o) bytes held)) (H.⇛ (sem 𝓛 (handle_at (block_ptr b o) held)))
   loan_ends null_ptr = never_e 𝓤 _
   loan_ends (block_ptr to from) =

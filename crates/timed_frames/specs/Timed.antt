@@ -2,10 +2,11 @@
 use Rattle.std.specs.Prelude.{◌≡◌, ◌<◌, ℕ, Option, Some, List, [], ◌∷◌, ◌++◌, length, slice_get, slice_set}
 use Rattle.flow_core.specs.declared.counts.FlowCounts.{FlowCounts}
 use Rattle.lane.specs.declared.admitted.Request.{Request}
+use Rattle.receiver.specs.declared.reply.Reply.{Reply}
 use Rattle.consumer.specs.declared.given.Given.TheVariants as given
 use Rattle.capture_rules.specs.declared.arrival.Arrival.{Arrival}
 use Rattle.captured_flows.specs.declared.sound_burst.SoundBurst.{SoundBurst}
-use Rattle.captured_flows.specs.Steps.{CaptureStep, handed_in, gave, began_anew}
+use Rattle.captured_flows.specs.Steps.{CaptureStep, handed_in, gave, replied, began_anew}
 use Rattle.timed_frames.specs.declared.timed_step.LastBurst.{LastBurst}
 use Rattle.timed_frames.specs.declared.timed_step.TimedStep.{TimedStep}
 use Rattle.timed_frames.specs.declared.timed_step.TimedStep.TheVariants as timed_step
@@ -27,6 +28,9 @@ pub data Timed (lasts : List (Option LastBurst)) : List CaptureStep → List Tim
   request_came : {steps : List CaptureStep} {timed : List TimedStep} {now : List (Option LastBurst)} (burst : LastBurst) (request : Request)
       → Timed lasts steps timed now → slice_get now request.flow ≡ Some (Some burst)
       → Timed lasts (steps ++ gave (given.Asked request) ∷ []) (timed ++ timed_step.Asked burst request ∷ []) now
+  reply_came : {steps : List CaptureStep} {timed : List TimedStep} {now : List (Option LastBurst)} (flow : ℕ) (burst_id : Option ℕ) (reply : Reply)
+      → Timed lasts steps timed now
+      → Timed lasts (steps ++ replied flow burst_id reply ∷ []) (timed ++ timed_step.Replied flow burst_id reply ∷ []) now
   flow_ended : {steps : List CaptureStep} {timed : List TimedStep} {now : List (Option LastBurst)} (flow : ℕ) (counts : FlowCounts)
       → Timed lasts steps timed now
       → Timed lasts (steps ++ began_anew flow counts ∷ []) (timed ++ timed_step.Ended flow counts ∷ []) now

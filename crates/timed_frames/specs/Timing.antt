@@ -5,7 +5,7 @@ use Rattle.captured_flows.specs.Steps.{CaptureStep, gave}
 use Rattle.timed_frames.specs.declared.timed_step.LastBurst.{LastBurst}
 use Rattle.timed_frames.specs.declared.timed_step.TimedStep.{TimedStep}
 use Rattle.timed_frames.specs.declared.timed_frames.TimedFrames.{TimedFrames}
-use Rattle.timed_frames.specs.Timed.{Timed, nothing_came, burst_came, frame_came, request_came, flow_ended}
+use Rattle.timed_frames.specs.Timed.{Timed, nothing_came, burst_came, frame_came, request_came, reply_came, flow_ended}
 use Rattle.timed_frames.specs.Seen.{HasSeen, Keeps}
 
 -- the same behind others
@@ -26,6 +26,8 @@ timed_then lasts mid first came before (frame_came {steps = steps} {timed = time
     behind lasts _ first steps _ came timed _ (frame_came flow burst frame (timed_then lasts mid first came before others) last)
 timed_then lasts mid first came before (request_came {steps = steps} {timed = timed} burst request others last) =
     behind lasts _ first steps _ came timed _ (request_came burst request (timed_then lasts mid first came before others) last)
+timed_then lasts mid first came before (reply_came {steps = steps} {timed = timed} flow burst_id reply others) =
+    behind lasts _ first steps _ came timed _ (reply_came flow burst_id reply (timed_then lasts mid first came before others))
 timed_then lasts mid first came before (flow_ended {steps = steps} {timed = timed} flow counts others) =
     behind lasts _ first steps _ came timed _ (flow_ended flow counts (timed_then lasts mid first came before others))
 

@@ -11,6 +11,7 @@ use consumer::Consumer;
 use docsis_wire::Bytes;
 use flow_core::FlowCounts;
 use lane::Request;
+use receiver::Reply;
 use std::alloc::{AllocError, Global};
 
 /// For so many steps at most room is kept once they are let go.
@@ -126,6 +127,14 @@ impl CaptureConsumer for TimedFrames {
         }
         self.lasts[flow] = Some(burst);
         self.keep(TimedStep::HandedIn { flow, burst });
+    }
+
+    fn replied(&mut self, flow: usize, burst_id: Option<u64>, reply: Reply) {
+        self.keep(TimedStep::Replied {
+            flow,
+            burst_id,
+            reply,
+        });
     }
 
     fn begin_anew(&mut self, flow: usize, counts: FlowCounts) {

@@ -2,6 +2,7 @@
 use docsis_wire::Bytes;
 use flow_core::FlowCounts;
 use lane::Request;
+use receiver::Reply;
 
 /// The burst of a flow that was handed in last.
 #[derive(Clone, Copy, Debug, PartialEq, Eq)]
@@ -36,6 +37,13 @@ pub enum TimedStep {
     Asked {
         burst: LastBurst,
         request: Request,
+    },
+    /// This was replied to the burst of the flow with this index that was handed in last, with this
+    /// number if it has one. What it completed stands before.
+    Replied {
+        flow: usize,
+        burst_id: Option<u64>,
+        reply: Reply,
     },
     /// The flow with this index was closed and began anew. This was counted of it until then.
     Ended {

@@ -158,3 +158,8 @@ module _ {F Q : Type 0} (takes : F → List Given → F → Type 0) (asks : Q �
     pub were_given : WereGiven consumer scheduler frames requests error.consumer error.scheduler
     pub first : IsTrue error.began → (sources : List (List ChannelInput)) × (incoming : Incoming) × came_first sources incoming × GivesTheFirst channels rule check setup incoming frames requests
     pub untouched : ¬ (error.fault ≡ OutOfMemory) → (error.began ≡ false) × (error.consumer ≡ consumer) × (error.scheduler ≡ scheduler)
+
+-- Where the threads did not begin, since the setup can't be run or not all of them could be started,
+-- both are as they were handed in: nothing was given to them.
+abbrev pub AreUntouched : {F Q : Type 0} → F → Q → ReceiveError F Q → Type 0
+AreUntouched consumer scheduler error = error.began ≡ false → (error.consumer ≡ consumer) × (error.scheduler ≡ scheduler)

@@ -10,7 +10,7 @@ ghost use Rattle.uplink.specs.declared.finish.Concluded.{Concluded};
 ghost use Rattle.receiver.specs.declared.tally.LaneTally.{LaneTally};
 ghost use Rattle.uplink.specs.Faults.{CanRun, IsRunFault, CanRunWithin, IsRunFaultWithin};
 ghost use Rattle.workers.specs.Given.{Yields, HasGivenFirst};
-ghost use Rattle.uplink.specs.Received.{CameFrom, HasReceived, GivesBack};
+ghost use Rattle.uplink.specs.Received.{CameFrom, HasReceived, GivesBack, AreUntouched};
 ghost use Rattle.lane.specs.Limits.{channel_limit};
 ghost use Rattle.uplink.specs.Inside.Running.{HaveNotes, notes_on, AreCountedOf, IsReceivedFrom};
 ghost use Rattle.uplink.specs.Inside.Running.{CanStart, RanOpened, HasRun, IsOpened};
@@ -55,7 +55,8 @@ pub struct Received<F, Q> {
 pub struct ReceiveError<F, Q> {
     /// The fault, the first that there is.
     pub fault: RunFault,
-    /// Whether the threads began. Otherwise no source was asked for anything.
+    /// Whether the threads began. Otherwise no source was asked for anything, and the two are as
+    /// they were handed in.
     pub began: bool,
     /// Who was to take the frames.
     pub consumer: F,
@@ -85,12 +86,12 @@ pub struct ReceiveError<F, Q> {
 /// nothing was given.
 /// `OutOfMemory`: an allocation failed, in whichever thread, also while it was looked whether an
 /// identifier is given twice, or a thread could not be started. Before all threads are started no
-/// source is asked. Later the worker whose allocation failed asks its source for nothing more, all
-/// others go on to their end, and no frame is made of what is taken then: so what the two were
-/// given is what comes first of what they would have been given (`given_back`, which allows for a
-/// flow that is being closed when an allocation fails). The two come back on every answer. The
-/// check is used by the caller's thread alone. The call waits for its threads, and they for the
-/// sources: it returns only if these end.
+/// source is asked, and the two are given nothing (`not_begun`). Later the worker whose allocation
+/// failed asks its source for nothing more, all others go on to their end, and no frame is made of
+/// what is taken then: so what the two were given is what comes first of what they would have been
+/// given (`given_back`, which allows for a flow that is being closed when an allocation fails). The
+/// two come back on every answer. The check is used by the caller's thread alone. The call waits for
+/// its threads, and they for the sources: it returns only if these end.
 ///
 /// **A slow consumer is waited for.** While a frame finds no room in its flow's ring, no item is
 /// taken, so the mailboxes fill, and sources are asked for nothing more. What waits is bounded by
@@ -132,6 +133,7 @@ where
         (CameFrom (HasGivenFirst S0.gave sources.s0) (HasGivenFirst S1.gave sources.s1)
         (HasGivenFirst S2.gave sources.s2) (HasGivenFirst S3.gave sources.s3)
         (HasGivenFirst D.gave decisions)) consumer scheduler) }
+    ensures not_begun { IfErr result (AreUntouched consumer scheduler) }
 {
     crate::laws::consumers_take_the_delivery_sequence();
     let opened = match prepare_within(alloc, width, rule, &setup, check) {
@@ -337,8 +339,8 @@ where
     }
 }
 
-/// Runs what was opened until all threads have returned. It hands back the consumers, and, unless a
-/// thread could not be started, what the threads handed on.
+/// Runs what was opened until all threads have returned. It hands back the consumers, and what the
+/// threads handed on; where one could not be started, the consumers as they were.
 fn run_opened<S0, S1, S2, S3, D, F, Q, N, C, R>(
     alloc: Global,
     rt: &R,
@@ -391,7 +393,15 @@ where
     );
     let team = match start_team(alloc, rt, work) {
         Ok(team) => team,
-        Err(consumers) => return (consumers, None),
+        Err(back) => {
+            let frames = back.frames;
+            let requests = back.requests;
+            let consumers = Consumers {
+                consumer: frames.consumer,
+                scheduler: requests.scheduler,
+            };
+            return (consumers, None);
+        }
     };
     let AssembledAll {
         mouth,
@@ -407,15 +417,12 @@ where
         closed,
     );
     let Joined { consumers, done } = team.join(rt);
-    let ended = match done {
-        Some(done) => Some(Ended {
-            done,
-            unused_port,
-            mouth,
-            feeders,
-            assembled,
-        }),
-        None => None,
+    let ended = Ended {
+        done,
+        unused_port,
+        mouth,
+        feeders,
+        assembled,
     };
-    (consumers, ended)
+    (consumers, Some(ended))
 }

@@ -24,27 +24,3 @@ pub fn feed_burst<C: HeaderCheck>(
         Err(SegmentFault::OutOfMemory) => Err(AllocError),
     }
 }
-
-#[cfg(test)]
-mod tests {
-    use super::*;
-    use docsis_wire::NoCheck;
-    use std::test::Fail;
-
-    #[test]
-    fn feeds_bursts(rt: HostRuntime) -> Result<(), Fail> {
-        let alloc = rt.alloc();
-        let mut joiner = Joiner::new(alloc);
-        let bursts: [(&[u8], Option<usize>); 4] = [
-            (&[0x80, 0, 0, 0, 0, 0, 0, 0, 0, 0, 0, 2, 0x11], Some(0)),
-            (&[0x80, 0, 0, 0, 0, 0, 0], None),
-            (&[0x80, 9, 0, 8, 0, 0, 0, 0, 0x11, 0xaa, 0xbb], None),
-            (&[0, 0, 0, 8, 0, 0, 0, 0, 0x11, 0xaa, 0xbb], Some(1)),
-        ];
-        for (bytes, frames) in bursts {
-            let fed = feed_burst(&mut joiner, alloc, bytes, &NoCheck)?;
-            assert_eq!(rt; fed.map(|fed| fed.frames.len()), frames, "{bytes:?}");
-        }
-        Ok(())
-    }
-}

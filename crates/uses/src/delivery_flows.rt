@@ -8,6 +8,3 @@ mod settling;
 pub use consumed::{Consumed, Look};
 pub use consuming::{begin, take_all};
 pub use settling::settle_all;
-
-#[cfg(test)]
-mod tests;

@@ -54,6 +54,3 @@ where
     };
     Ok(gathered)
 }
-
-#[cfg(test)]
-mod tests;

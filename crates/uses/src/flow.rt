@@ -49,28 +49,3 @@ pub fn frames_in_order<C: HeaderCheck>(
     let segments = in_order(alloc, first, width, offers)?;
     join_ready(alloc, &segments, check)
 }
-
-#[cfg(test)]
-mod tests {
-    use super::*;
-    use docsis_wire::{NoCheck, Segment};
-    use std::test::Fail;
-
-    fn ready(alloc: Global, bytes: &[u8]) -> Result<ReadySegment, Fail> {
-        let segment = Segment::read(alloc, bytes)?;
-        Ok(ReadySegment { segment })
-    }
-
-    #[test]
-    fn joins_segments_that_come_backwards(rt: HostRuntime) -> Result<(), Fail> {
-        let alloc = rt.alloc();
-        let last = ready(alloc, &[0, 0, 0, 8, 0, 0, 0, 0, 0x11, 0xaa, 0xbb])?;
-        let front = ready(alloc, &[0x80, 0, 0, 0, 0, 0, 0, 0, 0, 0, 0, 2, 0x11])?;
-        let offers = vec![in alloc; (1, last), (0, front)]?;
-        let frames = frames_in_order(alloc, 0, 16, offers, &NoCheck)?;
-        assert_eq!(rt; frames.len(), 1);
-        let frame: &[u8] = &[0, 0, 0, 2, 0x11, 0x11, 0xaa, 0xbb];
-        assert!(rt; frames.iter().all(|one| one.as_slice() == frame));
-        Ok(())
-    }
-}

@@ -73,8 +73,8 @@ fn expect_request(rt: &impl Abort, held: &mut HeldReceiver)
         units: 9,
         ..REQUEST
     };
-    assert_eq!(rt; held.next_request(&mut request), Status::Done);
-    assert_eq!(rt; request, REQUEST);
+    assert!(rt; held.next_request(&mut request) == Status::Done);
+    assert!(rt; request == REQUEST);
 }
 
 /// Takes the first frame that waits, and compares it with this one.
@@ -83,9 +83,9 @@ fn expect_frame(rt: &impl Abort, held: &mut HeldReceiver, wanted: &[u8])
     ensures { IsInUse held.new }
 {
     let (mut room, mut frame) = ([0_u8; 9], PlainFrame { flow: 7, length: 0 });
-    assert_eq!(rt; held.next_frame(&mut room, &mut frame), Status::Done);
-    assert_eq!(rt; frame.flow, 0);
-    assert_eq!(rt; room.get(..frame.length), Some(wanted));
+    assert!(rt; held.next_frame(&mut room, &mut frame) == Status::Done);
+    assert!(rt; frame.flow == 0);
+    assert!(rt; room.get(..frame.length) == Some(wanted));
 }
 
 /// Lends the first frame that waits, and compares it with this one.
@@ -94,7 +94,8 @@ fn expect_lent(rt: &impl Abort, held: &mut HeldReceiver, wanted: &[u8])
     ensures { IsInUse held.new }
 {
     let mut frame = PlainFrame { flow: 7, length: 0 };
-    assert_eq!(rt; held.lend_frame(&mut frame), Status::Done);
-    assert_eq!(rt; (frame.flow, frame.length), (0, wanted.len()));
-    assert_eq!(rt; held.lent_bytes(), wanted);
+    assert!(rt; held.lend_frame(&mut frame) == Status::Done);
+    assert!(rt; frame.flow == 0);
+    assert!(rt; frame.length == wanted.len());
+    assert!(rt; held.lent_bytes() == wanted);
 }

@@ -62,7 +62,7 @@ fn a_full_picture_is_at_most_a_million_bytes_long(rt: HostRuntime) -> Result<(),
     let picture = full_picture(rt.alloc())?;
     let text = text_of(rt.alloc(), &picture)?;
     let strokes = text.iter().filter(|byte| **byte == b'M').count();
-    assert_eq!(rt; strokes, 8 * 256 * (2 * 16 + 4));
+    assert!(rt; strokes == 8 * 256 * (2 * 16 + 4));
     assert!(rt; text.len() > 700_000);
     assert!(rt; text.len() <= 1_000_000);
     Ok(())

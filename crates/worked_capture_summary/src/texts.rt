@@ -1,6 +1,7 @@
 //! The texts of a capture, as a plain reading in another language has its report and its requests.
 mod failed_allocations;
 
+use burst_fates::{BurstFate, MissingReason};
 use capture_json::summary_json;
 use capture_summary::{
     CaptureSummary, ChannelSummary, FlowSummary, PassedCounts, RefusalCounts, RequestLines,
@@ -267,8 +268,8 @@ fn flows_that_are_not_selected_are_not_told(rt: HostRuntime) -> Result<(), Fail>
     put_summary(&mut text, &summary);
     put_summary(&mut wanted, &others);
     assert!(rt; text.finish()? == wanted.finish()?);
-    let text = summary_json(alloc, &summary, None, 0)?;
-    assert!(rt; text == summary_json(alloc, &others, None, 0)?);
+    let text = summary_json(alloc, &summary, None, &[], 0)?;
+    assert!(rt; text == summary_json(alloc, &others, None, &[], 0)?);
     Ok(())
 }
 
@@ -398,17 +399,17 @@ const COMPARISON: &str = "\
 \"flows\":[{\"both\":1,\"flow\":0,\"only_analyser\":0,\"only_here\":1,\"sfid\":100},\
 {\"both\":0,\"flow\":2,\"only_analyser\":1,\"only_here\":0,\"sfid\":null}],\
 \"only_analyser\":[{\"bytes\":2,\"first\":\"0aff\",\"flow\":2,\"nanoseconds\":7,\
-\"seconds\":2,\"sfid\":null}],\"only_here\":[{\"bytes\":0,\"first\":\"\",\"flow\":0,\
+\"seconds\":2,\"sfid\":null,\"why\":{\"burst\":5,\"reason\":\"beyond\"}}],\"only_here\":[{\"bytes\":0,\"first\":\"\",\"flow\":0,\
 \"nanoseconds\":1,\"seconds\":0,\"sfid\":100}],\"strangers\":4,\"whole\":true},\
 \"earlier\":3,";
 
 /// How frames of three flows compare, of which the map has two.
 fn some_compared(alloc: Global) -> Result<FrameComparison, AllocError> {
     let mut comparison = FrameComparison::new(alloc, 3)?;
-    comparison.take(alloc, Side::Here, 0, 1, b"\x01");
-    comparison.take(alloc, Side::Analyser, 0, 1, b"\x01");
-    comparison.take(alloc, Side::Analyser, 2, 2_000_000_007, b"\x0a\xff");
-    comparison.take(alloc, Side::Here, 0, 1, b"");
+    comparison.take(alloc, Side::Here, 0, 1, b"\x01", &[]);
+    comparison.take(alloc, Side::Analyser, 0, 1, b"\x01", &[]);
+    comparison.take(alloc, Side::Analyser, 2, 2_000_000_007, b"\x0a\xff", &[5]);
+    comparison.take(alloc, Side::Here, 0, 1, b"", &[]);
     comparison.finish(alloc);
     Ok(comparison)
 }
@@ -417,7 +418,7 @@ fn some_compared(alloc: Global) -> Result<FrameComparison, AllocError> {
 const COMPARISON_REPORT: &str = "\
 compared 0 both 1 analyser 0 here 1
 compared 2 both 0 analyser 1 here 0
-only analyser 2 2000000007 2 0aff
+only analyser 2 2000000007 2 0aff beyond 5
 only here 0 1 0 -
 comparison whole strangers 4
 ";
@@ -426,7 +427,8 @@ comparison whole strangers 4
 fn report_tells_how_frames_compare(rt: HostRuntime) -> Result<(), Fail> {
     let comparison = some_compared(rt.alloc())?;
     let mut text = TextBuffer::new(rt.alloc());
-    put_comparison_report(&mut text, &comparison, 4);
+    let reasons = [MissingReason::Burst(5, BurstFate::Beyond)];
+    put_comparison_report(&mut text, &comparison, &reasons, 4);
     assert!(rt; text.finish()?.as_slice() == COMPARISON_REPORT.as_bytes());
     Ok(())
 }
@@ -436,14 +438,15 @@ fn json_tells_how_frames_compare(rt: HostRuntime) -> Result<(), Fail> {
     let flows = [BUSY_FLOW, FlowSummary::new(6)];
     let summary = summary_of(rt.alloc(), &flows, &[], PassedCounts::none())?;
     let comparison = some_compared(rt.alloc())?;
-    let text = summary_json(rt.alloc(), &summary, Some(&comparison), 4)?;
+    let reasons = [MissingReason::Burst(5, BurstFate::Beyond)];
+    let text = summary_json(rt.alloc(), &summary, Some(&comparison), &reasons, 4)?;
     assert!(rt; text.as_slice().starts_with(COMPARISON.as_bytes()));
     Ok(())
 }
 
 #[test]
 fn json_tells_all_that_was_counted(rt: HostRuntime) -> Result<(), Fail> {
-    let text = summary_json(rt.alloc(), &much(rt.alloc())?, None, 0)?;
+    let text = summary_json(rt.alloc(), &much(rt.alloc())?, None, &[], 0)?;
     assert!(rt; text.as_slice() == JSON.as_bytes());
     Ok(())
 }

@@ -1,6 +1,6 @@
 //! Each allocation is refused once: what was handed in and given until then is a front of what is
 //! handed in and given in the end, and flows that are made anew give all of it.
-use crate::flows_of_captures::{Seen, bursts_of_each_kind, given_of_each_kind, map_of};
+use crate::flows_of_captures::{Seen, bursts_of_each_kind, given_of_each_kind, map_of, verdict_of};
 use capture_rules::Arrival;
 use captured_flows::{CaptureConsumer, CapturedFlows, FlowFault, SoundBurst, Waits};
 use consumer::Consumer;
@@ -8,7 +8,7 @@ use docsis_wire::{Bytes, NoCheck};
 use flow_core::FlowCounts;
 use lane::Request;
 use loss_rule::LossRule;
-use receiver::SetupError;
+use receiver::{Reply, SetupError};
 use std::alloc::Global;
 use std::test::Fail;
 
@@ -70,6 +70,10 @@ impl CaptureConsumer for Log {
 
     fn hand_in(&mut self, flow: usize, burst: &Arrival<SoundBurst>) {
         self.note(Seen::HandedIn(flow, burst.time, burst.item.burst_id));
+    }
+
+    fn replied(&mut self, flow: usize, burst_id: Option<u64>, reply: Reply) {
+        self.note(Seen::Replied(flow, burst_id, verdict_of(reply)));
     }
 
     fn begin_anew(&mut self, flow: usize, counts: FlowCounts) {

@@ -11,7 +11,7 @@ use docsis_wire::{Bytes, NoCheck};
 use flow_core::FlowCounts;
 use lane::Request;
 use loss_rule::LossRule;
-use receiver::{Closed, Reply};
+use receiver::{Closed, Reply, SegmentVerdict};
 use std::alloc::{AllocError, Global};
 use std::test::Fail;
 
@@ -24,6 +24,8 @@ pub(crate) enum Seen {
     Frame(usize, u8),
     /// A request came on this channel.
     Request(u8),
+    /// This was replied to a burst of this flow, with this number of the analyser's.
+    Replied(usize, Option<u64>, Option<SegmentVerdict>),
     /// This flow began anew, after it had kept and lost so many segments.
     BeganAnew(usize, u64, u64),
 }
@@ -63,8 +65,20 @@ impl CaptureConsumer for Noted {
         }
     }
 
+    fn replied(&mut self, flow: usize, burst_id: Option<u64>, reply: Reply) {
+        self.note(Seen::Replied(flow, burst_id, verdict_of(reply)));
+    }
+
     fn begin_anew(&mut self, flow: usize, counts: FlowCounts) {
         self.note(Seen::BeganAnew(flow, counts.kept, counts.lost));
+    }
+}
+
+/// What became of a segment, by what was replied to its burst.
+pub(crate) fn verdict_of(reply: Reply) -> Option<SegmentVerdict> {
+    match reply {
+        Reply::Admitted { told, .. } => Some(told.verdict),
+        _ => None,
     }
 }
 
@@ -247,18 +261,23 @@ pub(crate) fn bursts_of_each_kind(alloc: Global) -> Result<Vec<CapturedBurst>, A
 }
 
 /// What is handed in and given of these, where none waits for its neighbours.
-pub(crate) fn given_of_each_kind() -> [Seen; 10] {
+pub(crate) fn given_of_each_kind() -> [Seen; 14] {
+    let kept = Some(SegmentVerdict::Kept);
     [
         Seen::HandedIn(0, 1, Some(1)),
         Seen::Request(0),
         Seen::Frame(0, 51),
+        Seen::Replied(0, Some(1), kept),
         Seen::HandedIn(0, 5, Some(5)),
+        Seen::Replied(0, Some(5), kept),
         Seen::Frame(0, 71),
         Seen::HandedIn(0, 30, Some(30)),
         Seen::Frame(0, 81),
+        Seen::Replied(0, Some(30), kept),
         Seen::BeganAnew(0, 3, 1),
         Seen::HandedIn(0, 90, Some(90)),
         Seen::Frame(0, 50),
+        Seen::Replied(0, Some(90), kept),
     ]
 }
 
@@ -278,5 +297,42 @@ fn what_is_given_stands_behind_its_burst(rt: HostRuntime) -> Result<(), Fail> {
     assert!(rt; noted.seen.as_slice() == given_of_each_kind().as_slice());
     let closed = captured.into_receiver().close(alloc, &mut noted).ok();
     assert!(rt; closed.is_some_and(|closed| closed.flows.len() == 1 && closed.flows[0].kept == 1));
+    Ok(())
+}
+
+#[test]
+fn what_became_of_a_burst_is_replied(rt: HostRuntime) -> Result<(), Fail> {
+    let alloc = rt.alloc();
+    let waits = Waits {
+        reorder: 0,
+        wait: 20,
+    };
+    let map = map_of(alloc, Some(5), 16, 1)?;
+    let mut captured = CapturedFlows::new(alloc, map, LossRule::Decided, waits, NoCheck)?;
+    let mut noted = Noted::new(alloc);
+    let bursts = vec![in alloc;
+        burst_with(alloc, 1, 5, 0, &frame_of(1))?,
+        burst_with(alloc, 2, 5, 0, &frame_of(2))?,
+        burst_with(alloc, 3, 7, 0, &frame_of(3))?,
+        burst_with(alloc, 4, 7, 0, &frame_of(4))?,
+        burst_with(alloc, 5, 30, 0, &frame_of(5))?,
+    ]?;
+    captured.take_all(alloc, bursts, &mut noted)?;
+    captured.end_waiting(alloc, &mut noted)?;
+    let wanted = [
+        Seen::Replied(0, Some(1), Some(SegmentVerdict::Kept)),
+        Seen::Replied(0, Some(2), Some(SegmentVerdict::Late)),
+        Seen::Replied(0, Some(3), Some(SegmentVerdict::Kept)),
+        Seen::Replied(0, Some(4), Some(SegmentVerdict::Repeat)),
+        Seen::Replied(0, Some(5), Some(SegmentVerdict::Beyond)),
+    ];
+    let mut replies = Vec::new(alloc);
+    for one in &noted.seen {
+        if matches!(one, Seen::Replied(..)) {
+            replies.push(*one)?;
+        }
+    }
+    assert!(rt; noted.is_whole);
+    assert!(rt; replies.as_slice() == wanted.as_slice());
     Ok(())
 }

@@ -41,20 +41,20 @@ fn give_some<O: Consumer>(alloc: Global, out: &mut O) -> Result<(), AllocError> 
 /// Compares the frames of a flow.
 fn expect_frames(rt: &impl Abort, collected: &Collected, flow: usize, expected: &[&[u8]]) {
     let Some(frames) = collected.frames.get(flow) else {
-        assert_eq!(rt; expected.len(), 0);
+        assert!(rt; expected.len() == 0);
         return;
     };
-    assert_eq!(rt; frames.len(), expected.len());
+    assert!(rt; frames.len() == expected.len());
     for (frame, bytes) in frames.iter().zip(expected) {
-        assert_eq!(rt; frame.as_slice(), *bytes);
+        assert!(rt; frame.as_slice() == *bytes);
     }
 }
 
 /// Compares the requests of a channel.
 fn expect_requests(rt: &impl Abort, collected: &Collected, channel: usize, expected: &[Request]) {
     match collected.requests.get(channel) {
-        Some(requests) => assert_eq!(rt; requests.as_slice(), expected),
-        None => assert_eq!(rt; expected.len(), 0),
+        Some(requests) => assert!(rt; requests.as_slice() == expected),
+        None => assert!(rt; expected.len() == 0),
     }
 }
 
@@ -62,7 +62,7 @@ fn expect_requests(rt: &impl Abort, collected: &Collected, channel: usize, expec
 fn collects_by_flow_and_channel(rt: HostRuntime) -> Result<(), Fail> {
     let mut collected = Collected::new(rt.alloc(), 2, 3)?;
     give_some(rt.alloc(), &mut collected)?;
-    assert_eq!(rt; collected.whole, true);
+    assert!(rt; collected.whole);
     expect_frames(&rt, &collected, 0, &[&[5, 6]]);
     expect_frames(&rt, &collected, 1, &[&[1, 2, 3], &[4], &[]]);
     expect_requests(&rt, &collected, 0, &[request(0, 9)]);
@@ -75,7 +75,7 @@ fn collects_by_flow_and_channel(rt: HostRuntime) -> Result<(), Fail> {
 fn says_that_a_frame_was_left_out(rt: HostRuntime) -> Result<(), Fail> {
     let mut collected = Collected::new(rt.alloc(), 1, 3)?;
     give_some(rt.alloc(), &mut collected)?;
-    assert_eq!(rt; collected.whole, false);
+    assert!(rt; !collected.whole);
     expect_frames(&rt, &collected, 0, &[&[5, 6]]);
     expect_requests(&rt, &collected, 2, &[request(2, 7)]);
     Ok(())
@@ -85,7 +85,7 @@ fn says_that_a_frame_was_left_out(rt: HostRuntime) -> Result<(), Fail> {
 fn says_that_a_request_was_left_out(rt: HostRuntime) -> Result<(), Fail> {
     let mut collected = Collected::new(rt.alloc(), 2, 2)?;
     give_some(rt.alloc(), &mut collected)?;
-    assert_eq!(rt; collected.whole, false);
+    assert!(rt; !collected.whole);
     expect_requests(&rt, &collected, 0, &[request(0, 9)]);
     expect_frames(&rt, &collected, 1, &[&[1, 2, 3], &[4], &[]]);
     Ok(())
@@ -100,7 +100,7 @@ fn counts_frames_bytes_and_requests(rt: HostRuntime) -> Result<(), Fail> {
         bytes: 6,
         requests: 2,
     };
-    assert_eq!(rt; counts, expected);
+    assert!(rt; counts == expected);
     Ok(())
 }
 
@@ -117,7 +117,7 @@ fn counts_stay_at_their_greatest_value(rt: HostRuntime) -> Result<(), Fail> {
         bytes: u64::MAX,
         requests: u64::MAX,
     };
-    assert_eq!(rt; counts, expected);
+    assert!(rt; counts == expected);
     Ok(())
 }
 
@@ -125,6 +125,6 @@ fn counts_stay_at_their_greatest_value(rt: HostRuntime) -> Result<(), Fail> {
 fn forgets(rt: HostRuntime) -> Result<(), Fail> {
     let mut nothing = Forgets;
     give_some(rt.alloc(), &mut nothing)?;
-    assert_eq!(rt; nothing, Forgets);
+    assert!(rt; nothing == Forgets);
     Ok(())
 }

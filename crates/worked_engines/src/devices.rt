@@ -5,7 +5,6 @@ use docsis_wire::FillByte;
 use engines::{Device, EngineFault, cut_text, join_text, replay_text, replay_text_by};
 use loss_rule::LossRule;
 use std::alloc::Global;
-use std::io;
 use std::io::{ErrorKind, Read, Write};
 use std::sync::Wait;
 use std::test::Fail;
@@ -283,5 +282,5 @@ fn exits_with_4_on_failing_devices(rt: HostRuntime) {
     let closed = FitfulWriter::new(&mut out, 0, Full::Fails(ErrorKind::BrokenPipe));
     let mut nothing = Vec::new(rt.alloc());
     let mute = FitfulWriter::new(&mut nothing, 0, Full::Fails(ErrorKind::BrokenPipe));
-    assert!(rt; program(rt.alloc(), rt, &help, io::empty(), closed, mute) == 4);
+    assert!(rt; program(rt.alloc(), rt, &help, b"".as_slice(), closed, mute) == 4);
 }

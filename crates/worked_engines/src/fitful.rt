@@ -1,4 +1,5 @@
 //! A reader and a writer of one byte a call, interrupted before each call, that can fail.
+use engines::{Device, ReadBehind};
 use std::io;
 use std::io::{Error, ErrorKind, Read, Write};
 
@@ -82,6 +83,12 @@ impl Read for FitfulReader<'_> {
                 None => Ok(0),
             },
         }
+    }
+}
+
+impl ReadBehind for FitfulReader<'_> {
+    fn read_behind<W: Write>(&mut self, _writer: &Device<W>, buf: &mut [u8]) -> io::Result<usize> {
+        self.read(buf)
     }
 }
 

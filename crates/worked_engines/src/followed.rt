@@ -1,12 +1,15 @@
 //! Traces that are followed: in pieces of any size, with faults, and up to a failure of the reader.
+ghost use Rattle.std.specs.Prelude.{◌≤◌, length};
+
 use crate::fitful::{FitfulReader, FitfulWriter, Full};
 use crate::pieces::InPieces;
-use engines::{Device, EngineFault, follow_text};
+use engines::{Device, EngineFault, ReadBehind, follow_text};
 use flow_selection::{FlowList, FlowRange, Selection, Shard};
 use loss_rule::LossRule;
 use receiver::Width;
 use std::alloc::Global;
-use std::io::{ErrorKind, Read};
+use std::io;
+use std::io::{ErrorKind, Read, Write};
 use std::test::Fail;
 use texts::{FollowSettings, TraceFault, TraceKind};
 use worked_texts::samples::TRACE;
@@ -34,7 +37,7 @@ struct Followed {
 }
 
 /// Follows what a reader gives, of so many channels and two flows, by decisions alone.
-fn follow<R: Read + Drop>(alloc: Global, channels: u8, reader: R) -> Result<Followed, Fail> {
+fn follow<R: ReadBehind + Drop>(alloc: Global, channels: u8, reader: R) -> Result<Followed, Fail> {
     follow_by(alloc, channels, LossRule::Decided, all_flows(false), reader)
 }
 
@@ -47,7 +50,7 @@ pub(crate) fn all_flows(events: bool) -> FollowSettings {
 }
 
 /// Follows what a reader gives by this rule and these settings.
-fn follow_by<R: Read + Drop>(
+fn follow_by<R: ReadBehind + Drop>(
     alloc: Global,
     channels: u8,
     rule: LossRule,
@@ -214,6 +217,70 @@ fn trace_is_read_behind_flushes_alone(rt: HostRuntime) {
     assert!(rt; done == Ok(()));
     assert!(rt; read_more == Some(0));
     assert!(rt; behind_flushes && !behind_flushes_still);
+}
+
+/// Gives a trace line by line, and notes of each read whether all that was written was flushed.
+#[derive(Drop)]
+struct LinesBehind<'a> {
+    rest: &'a [u8],
+    reads: u64,
+    all_flushed: bool,
+}
+
+impl LinesBehind<'_> {
+    /// Gives a line, or as much of it as there is room for.
+    fn give(&mut self, buf: &mut [u8]) -> usize
+        ensures { result ≤ length buf.new }
+    {
+        let line = match self.rest.iter().position(|byte| *byte == b'\n') {
+            Some(end) => end + 1,
+            None => self.rest.len(),
+        };
+        let count = line.min(buf.len());
+        let (front, rest) = self.rest.split_at(count);
+        buf[..count].copy_from_slice(front);
+        self.rest = rest;
+        count
+    }
+}
+
+impl Read for LinesBehind<'_> {
+    fn read(&mut self, buf: &mut [u8]) -> io::Result<usize> {
+        Ok(self.give(buf))
+    }
+}
+
+impl ReadBehind for LinesBehind<'_> {
+    fn read_behind<W: Write>(&mut self, writer: &Device<W>, buf: &mut [u8]) -> io::Result<usize> {
+        self.reads = self.reads.saturating_add(1);
+        self.all_flushed = self.all_flushed && writer.flushed();
+        Ok(self.give(buf))
+    }
+}
+
+#[test]
+fn each_line_is_read_where_all_is_flushed(rt: HostRuntime) {
+    let mut reader = Device::new(LinesBehind {
+        rest: TRACE.as_bytes(),
+        reads: 0,
+        all_flushed: true,
+    });
+    let mut writer = Device::new(Vec::<u8>::new(rt.alloc()));
+    let done = follow_text(
+        LossRule::Decided,
+        Width::PROFILE,
+        all_flows(false),
+        rt.alloc(),
+        &mut reader,
+        &mut writer,
+    );
+    let read = reader.into_inner();
+    writer.into_inner();
+    let lines = TRACE.bytes().filter(|byte| *byte == b'\n').count();
+    assert!(rt; done == Ok(()));
+    // The last read finds the end.
+    assert!(rt; read.reads == lines as u64 + 1);
+    assert!(rt; read.all_flushed);
 }
 
 /// The first of three segments is lost, which channel 1 passes and then channel 0; a line that is

@@ -1,9 +1,9 @@
 //! Inputs that a reader gives in pieces of any size: what comes of them doesn't depend on where the
 //! pieces end.
-use engines::{Device, EngineFault, join_text};
+use engines::{Device, EngineFault, ReadBehind, join_text};
 use std::alloc::{AllocError, Global};
 use std::io;
-use std::io::Read;
+use std::io::{Read, Write};
 use std::process::Abort;
 use std::test::Fail;
 use texts::{TraceFault, TraceKind};
@@ -22,6 +22,12 @@ impl Read for InPieces<'_> {
         buf[..count].copy_from_slice(piece);
         self.rest = rest;
         Ok(count)
+    }
+}
+
+impl ReadBehind for InPieces<'_> {
+    fn read_behind<W: Write>(&mut self, _writer: &Device<W>, buf: &mut [u8]) -> io::Result<usize> {
+        self.read(buf)
     }
 }
 

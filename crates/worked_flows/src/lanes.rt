@@ -62,7 +62,7 @@ fn expect_answers(
     cases: &[(&str, Input, Answer)],
 ) {
     for (name, input, expected) in cases {
-        assert_eq!(rt; answer_of(lane.take(alloc, input)), *expected, "{name}");
+        assert!(rt; answer_of(lane.take(alloc, input)) == *expected, "{name}");
     }
 }
 
@@ -164,27 +164,21 @@ const BURSTS: [BurstCase; 8] = [
 fn answers_bursts(rt: HostRuntime) -> Result<(), Fail> {
     let mut lane = Lane::new(rt.alloc(), 0, &[ROW], &[RECORD])?;
     let early = burst(rt.alloc(), 9, true, &[0; 8])?;
-    assert_eq!(rt;
-        answer_of(lane.take(rt.alloc(), &early)),
-        Answer::Refused(6)
-    );
+    assert!(rt; answer_of(lane.take(rt.alloc(), &early)) == Answer::Refused(6));
     for case in &BURSTS {
         let name = case.name;
         let granted = grant(9, 1, case.granted);
         let received = burst(rt.alloc(), 9, case.hcs_ok, case.bytes)?;
-        assert_eq!(rt;
-            answer_of(lane.take(rt.alloc(), &granted)),
-            Answer::Accepted,
+        assert!(rt;
+            answer_of(lane.take(rt.alloc(), &granted)) == Answer::Accepted,
             "{name}"
         );
-        assert_eq!(rt;
-            answer_of(lane.take(rt.alloc(), &received)),
-            case.answer,
+        assert!(rt;
+            answer_of(lane.take(rt.alloc(), &received)) == case.answer,
             "{name}"
         );
-        assert_eq!(rt;
-            answer_of(lane.take(rt.alloc(), &received)),
-            Answer::Refused(6),
+        assert!(rt;
+            answer_of(lane.take(rt.alloc(), &received)) == Answer::Refused(6),
             "{name}"
         );
     }
@@ -199,12 +193,9 @@ fn admits_the_segment(rt: HostRuntime) -> Result<(), Fail> {
     let received = burst(rt.alloc(), 1, true, &bytes)?;
     let admitted = lane.take(rt.alloc(), &received)?.ok_or("nothing admitted")?;
     let segment = Segment::read(rt.alloc(), &bytes)?;
-    assert_eq!(rt; admitted.flow, 0);
-    assert_eq!(rt; admitted.segment.head, segment.head);
-    assert_eq!(rt;
-        admitted.segment.payload.as_slice(),
-        segment.payload.as_slice()
-    );
+    assert!(rt; admitted.flow == 0);
+    assert!(rt; admitted.segment.head == segment.head);
+    assert!(rt; admitted.segment.payload.as_slice() == segment.payload.as_slice());
     Ok(())
 }
 
@@ -215,7 +206,7 @@ fn refuses_a_grant_too_many(rt: HostRuntime) -> Result<(), Fail> {
         lane.take(rt.alloc(), &grant(number, 1, 8))?;
     }
     let many = lane.take(rt.alloc(), &grant(65_536, 1, 8));
-    assert_eq!(rt; answer_of(many), Answer::Refused(4));
+    assert!(rt; answer_of(many) == Answer::Refused(4));
     Ok(())
 }
 
@@ -257,7 +248,7 @@ fn reports_faults_of_rows(rt: HostRuntime) -> Result<(), Fail> {
     ];
     for (name, rows, fault) in cases {
         let answer = Lane::new(rt.alloc(), 0, rows, &[RECORD]);
-        assert_eq!(rt; answer.err(), fault, "{name}");
+        assert!(rt; answer.err() == fault, "{name}");
     }
     Ok(())
 }

@@ -39,7 +39,7 @@ fn play(
                 assert!(rt; number < 8192);
                 lasts.come_to(number);
             }
-            Passed(answer) => assert_eq!(rt; lasts.passed_by_all(), answer, "{name}"),
+            Passed(answer) => assert!(rt; lasts.passed_by_all() == answer, "{name}"),
         }
     }
     Ok(())
@@ -158,7 +158,7 @@ fn slides(rt: HostRuntime) -> Result<(), Fail> {
     ];
     for (name, expected, width, number, answer) in rows {
         assert!(&rt; expected < 8192 && number < 8192 && width >= 1 && width <= 4096);
-        assert_eq!(&rt; slid_to(expected, width, number), answer, "{name}");
+        assert!(&rt; slid_to(expected, width, number) == answer, "{name}");
     }
     Ok(())
 }

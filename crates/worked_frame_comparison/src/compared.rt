@@ -18,7 +18,7 @@ pub(crate) fn compared(
     let mut comparison = FrameComparison::new(alloc, flows)?;
     let mut time = 0u64;
     for came in frames {
-        comparison.take(alloc, came.0, came.1, time, came.2);
+        comparison.take(alloc, came.0, came.1, time, came.2, &[]);
         time = time.saturating_add(1_000_000_000);
     }
     comparison.finish(alloc);
@@ -83,7 +83,7 @@ fn equal_frames_are_equal_in_any_order_of_arrival(rt: HostRuntime) -> Result<(),
                 Analyser => of_analyser.next(),
                 Here => of_here.next(),
             };
-            comparison.take(rt.alloc(), side, 0, 5, next.unwrap_or(&frames[0]));
+            comparison.take(rt.alloc(), side, 0, 5, next.unwrap_or(&frames[0]), &[]);
         }
         comparison.finish(rt.alloc());
         expect_counts(&rt, &comparison, &[counts(3, 0, 0)]);
@@ -251,17 +251,27 @@ fn first_of_1025_that_wait_is_given_up(rt: HostRuntime) -> Result<(), Fail> {
             0,
             u64::from(number),
             &number.to_be_bytes(),
+            &[],
         );
     }
     expect_counts(&rt, &comparison, &[counts(0, 0, 0)]);
-    comparison.take(rt.alloc(), Here, 0, 1024, &1024u16.to_be_bytes());
+    comparison.take(rt.alloc(), Here, 0, 1024, &1024u16.to_be_bytes(), &[]);
     expect_counts(&rt, &comparison, &[counts(0, 0, 1)]);
     expect_firsts(&rt, comparison.lonely(Here), &[&[0, 0]]);
     for number in 0..1025u16 {
-        comparison.take(rt.alloc(), Analyser, 0, 2000, &number.to_be_bytes());
+        comparison.take(
+            rt.alloc(),
+            Analyser,
+            0,
+            2000,
+            &number.to_be_bytes(),
+            &[u64::from(number), 7],
+        );
     }
     comparison.finish(rt.alloc());
     expect_counts(&rt, &comparison, &[counts(1024, 1, 1)]);
+    let named = comparison.lonely(Analyser).first();
+    assert!(rt; named.is_some_and(|frame| frame.bursts.as_slice() == [0, 7].as_slice()));
     Ok(())
 }
 
@@ -277,6 +287,7 @@ fn first_hundred_are_listed(rt: HostRuntime) -> Result<(), Fail> {
                 flow,
                 u64::from(number),
                 &number.to_be_bytes(),
+                &[],
             );
             comparison.take(
                 rt.alloc(),
@@ -284,6 +295,7 @@ fn first_hundred_are_listed(rt: HostRuntime) -> Result<(), Fail> {
                 1 - flow,
                 u64::from(number),
                 &number.to_be_bytes(),
+                &[],
             );
         }
         comparison.finish(rt.alloc());

@@ -23,11 +23,11 @@ const COUNTS: [ComparedCounts; 2] = [
 fn take_all(alloc: Global, comparison: &mut FrameComparison) {
     for number in 0..6u16 {
         let frame = number.to_be_bytes();
-        comparison.take(alloc, Analyser, 0, 1, &frame);
+        comparison.take(alloc, Analyser, 0, 1, &frame, &[1, 2]);
         if number % 3 != 1 {
-            comparison.take(alloc, Here, 0, 2, &frame);
+            comparison.take(alloc, Here, 0, 2, &frame, &[]);
         }
-        comparison.take(alloc, Here, 1, 3, &frame);
+        comparison.take(alloc, Here, 1, 3, &frame, &[]);
     }
 }
 

@@ -1,6 +1,7 @@
-//! Comparisons of frames, worked out by hand: the tests of `frame_comparison`.
+//! Comparisons of frames, worked out by hand: the tests of `frame_comparison` and
+//! `burst_fates`.
 //!
-//! They stand apart from that crate, so that it is proved once and not a second time with them.
+//! They stand apart from those crates, so that these are proved once and not a second time with them.
 //! There is nothing here for a caller.
 #![tactic(auto)]
 
@@ -8,5 +9,7 @@
 mod compared;
 #[cfg(test)]
 mod failed_allocations;
+#[cfg(test)]
+mod fates;
 #[cfg(test)]
 mod texts;

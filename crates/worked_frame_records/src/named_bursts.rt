@@ -2,7 +2,9 @@
 use crate::files::{FRAME, ORIGIN, TIME};
 use crate::recorded::{first_record, record};
 use capture::CaptureRecord;
-use frame_records::{FrameLink, FrameOrigin, burst_ids, put_file_header, put_frame};
+use frame_records::{
+    FrameLink, FrameOrigin, MOST_BURSTS, burst_ids, first_burst_ids, put_file_header, put_frame,
+};
 use std::alloc::{AllocError, Global};
 use std::test::Fail;
 
@@ -123,5 +125,33 @@ fn records_without_a_whole_packet(rt: HostRuntime) -> Result<(), Fail> {
         ..record(rt.alloc(), &PACKET)?
     };
     assert!(rt; names(&cut, &[]));
+    Ok(())
+}
+
+/// A packet that names so many bursts, at most 50, from 1 on.
+fn packet_of(alloc: Global, count: u8) -> Result<Vec<u8>, AllocError> {
+    let mut packet = vec![in alloc; 1, 80, 0, 5 * count.min(50)]?;
+    for id in 1..=count.min(50) {
+        packet.extend_from_slice(&[14, 3, 1, 1, id])?;
+    }
+    Ok(packet)
+}
+
+#[test]
+fn first_sixteen_bursts_are_given(rt: HostRuntime) -> Result<(), Fail> {
+    for count in [0, 1, 15, 16, 17, 50] {
+        let packet = packet_of(rt.alloc(), count)?;
+        let given = record(rt.alloc(), &packet)?;
+        let first = first_burst_ids(&given);
+        assert!(rt; first.len() == usize::from(count).min(MOST_BURSTS));
+        for (place, id) in first.iter().enumerate() {
+            assert!(rt; *id == 1 + place as u64);
+        }
+    }
+    let cut = CaptureRecord {
+        original: 16,
+        ..record(rt.alloc(), &PACKET)?
+    };
+    assert!(rt; first_burst_ids(&cut).is_empty());
     Ok(())
 }

@@ -1,13 +1,16 @@
 //! Frames beside those that the analyser joined itself.
 use crate::joined::InPieces;
 use crate::one_map::{MAP_PATH, ONE_MAP};
-use crate::samples::{are_frames_apart, frame, frames_joined_twice, put_joined};
+use crate::samples::{
+    are_frames_apart, frame, frame_with, frames_joined_twice, header, put_file, put_joined,
+    put_named, put_numbered,
+};
 use capture_command::capture_program;
-use std::alloc::Global;
+use std::alloc::{AllocError, Global};
 use std::test::Fail;
 
 /// How much of standard error is kept.
-const ERROR_ROOM: usize = 1024;
+const ERROR_ROOM: usize = 2048;
 
 /// Where all frames are in both.
 pub(crate) const EQUAL: &str = "\
@@ -18,7 +21,7 @@ comparison with the analyser's frames
 const OTHER_END: &str = "\
 comparison with the analyser's frames
   flow 0 (SFID 1): 2 in both, 1 only the analyser's, 1 only here
-  only the analyser's: flow 0, at 2.000000001, 8 bytes: 00000002ccdfaabc
+  only the analyser's: flow 0, at 2.000000001, 8 bytes: 00000002ccdfaabc; its bursts aren't named
   only here: flow 0, at 3.000000001, 8 bytes: 00000002ccdfaabb
 segrx: the frames differ from the analyser's
 ";
@@ -44,6 +47,26 @@ comparison with the analyser's frames
 const NONE_COMPARED: &str = "\
 comparison with the analyser's frames
 segrx: no frame was compared
+";
+
+/// Where all frames are only the analyser's, each for another reason.
+const REASONS: &str = "\
+comparison with the analyser's frames
+  flow 0 (SFID 1): 0 in both, 6 only the analyser's, 1 only here
+  only the analyser's: flow 0, at 1.000000001, 8 bytes: 00000002ccdfc000; \
+burst 58 is of no channel of the map
+  only the analyser's: flow 0, at 1.000000001, 8 bytes: 00000002ccdfc001; \
+burst 59 was refused: bad_check
+  only the analyser's: flow 0, at 1.000000001, 8 bytes: 00000002ccdfc002; \
+burst 60 came late
+  only the analyser's: flow 0, at 1.000000001, 8 bytes: 00000002ccdfc003; \
+burst 61 never came
+  only the analyser's: flow 0, at 1.000000001, 8 bytes: 00000002ccdfc004; \
+its bursts were kept
+  only the analyser's: flow 0, at 1.000000001, 8 bytes: 00000002ccdfc005; \
+its bursts aren't named
+  only here: flow 0, at 1.000000001, 8 bytes: 00000002ccdfaabb
+segrx: the frames differ from the analyser's
 ";
 
 /// What the command wrote, and its exit status.
@@ -151,5 +174,34 @@ fn frames_of_no_flow_of_the_map(rt: HostRuntime) -> Result<(), Fail> {
     assert!(rt; compared.status == 0);
     assert!(rt; compared.has_all_frames());
     assert!(rt; compared.text().ends_with(STRANGERS.as_bytes()));
+    Ok(())
+}
+
+/// A capture of a burst that is kept, one of no channel of the map, one whose header is spoiled, and
+/// one that comes again, and of frames that the analyser joined of such.
+fn frames_of_bursts(alloc: Global) -> Result<Vec<u8>, AllocError> {
+    let mut file = Vec::new(alloc);
+    put_file(&mut file)?;
+    let mut spoiled = header(1, true, 0);
+    spoiled[7] ^= 1;
+    put_numbered(&mut file, 100, 57, header(0, true, 0), &frame())?;
+    put_numbered(&mut file, 102, 58, header(1, true, 0), &frame())?;
+    put_numbered(&mut file, 100, 59, spoiled, &frame())?;
+    put_numbered(&mut file, 100, 60, header(0, true, 0), &frame())?;
+    put_named(&mut file, &[57, 58, 59], &frame_with(0xc0, 0))?;
+    put_named(&mut file, &[59, 60], &frame_with(0xc0, 1))?;
+    put_named(&mut file, &[57, 60], &frame_with(0xc0, 2))?;
+    put_named(&mut file, &[57, 61], &frame_with(0xc0, 3))?;
+    put_named(&mut file, &[57], &frame_with(0xc0, 4))?;
+    put_named(&mut file, &[], &frame_with(0xc0, 5))?;
+    Ok(file)
+}
+
+#[test]
+fn frames_are_missing_for_reasons(rt: HostRuntime) -> Result<(), Fail> {
+    let bytes = frames_of_bursts(rt.alloc())?;
+    let compared = compare(rt.alloc(), &bytes, COMPARES);
+    assert!(rt; compared.status == 5);
+    assert!(rt; compared.text().ends_with(REASONS.as_bytes()));
     Ok(())
 }

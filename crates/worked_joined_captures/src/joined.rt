@@ -4,7 +4,7 @@ use crate::samples::{
 };
 use capture_map::CaptureMap;
 use captured_flows::Waits;
-use engines::{Device, EngineFault};
+use engines::{Device, EngineFault, ReadBehind};
 use flow_selection::Selection;
 use frame_engine::{
     CaptureSettings, CaptureTally, Comparing, FrameReading, InnerCheck, NoProgress, join_capture,
@@ -30,6 +30,12 @@ impl Read for InPieces<'_> {
         buf[..count].copy_from_slice(front);
         self.rest = rest;
         Ok(count)
+    }
+}
+
+impl ReadBehind for InPieces<'_> {
+    fn read_behind<W: Write>(&mut self, _writer: &Device<W>, buf: &mut [u8]) -> io::Result<usize> {
+        self.read(buf)
     }
 }
 
@@ -211,6 +217,12 @@ impl Read for Breaking<'_> {
             Ok(0) => Err(Error::new(ErrorKind::ConnectionReset, "broken")),
             given => given,
         }
+    }
+}
+
+impl ReadBehind for Breaking<'_> {
+    fn read_behind<W: Write>(&mut self, _writer: &Device<W>, buf: &mut [u8]) -> io::Result<usize> {
+        self.read(buf)
     }
 }
 

@@ -188,6 +188,37 @@ pub(crate) fn put_joined(
     out.extend_from_slice(frame)
 }
 
+/// Appends a record of a burst on an upstream channel, with this number of the analyser's.
+pub(crate) fn put_numbered(
+    out: &mut Vec<u8>,
+    channel: u8,
+    burst: u8,
+    header: [u8; 8],
+    payload: &[u8; 8],
+) -> Result<(), AllocError> {
+    out.extend_from_slice(&[0, 0, 0, 1, 0, 0, 0, 1, 0, 0, 0, 33, 0, 0, 0, 33])?;
+    out.extend_from_slice(&[1, 0x41, 0, 13, 10, 1, channel, 11, 2, 0, 7, 13, 1, burst])?;
+    out.extend_from_slice(&[18, 1, 1])?;
+    out.extend_from_slice(&header)?;
+    out.extend_from_slice(payload)
+}
+
+/// Appends a record of a packet with a frame that the analyser joined of these bursts, at most ten.
+pub(crate) fn put_named(
+    out: &mut Vec<u8>,
+    bursts: &[u8],
+    frame: &[u8; 8],
+) -> Result<(), AllocError> {
+    let tlvs = 7 + 5 * bursts.len().min(10) as u8;
+    let length = 12 + tlvs;
+    out.extend_from_slice(&[0, 0, 0, 1, 0, 0, 0, 1, 0, 0, 0, length, 0, 0, 0, length])?;
+    out.extend_from_slice(&[1, 0x50, 0, tlvs, 10, 1, 100, 11, 2, 0, 7])?;
+    for burst in bursts.iter().take(10) {
+        out.extend_from_slice(&[14, 3, 1, 1, *burst])?;
+    }
+    out.extend_from_slice(frame)
+}
+
 /// The file of these frames: its header, and three records with a header of 16 bytes.
 pub(crate) const FRAMES_APART: [u8; 96] = [
     0x4d, 0x3c, 0xb2, 0xa1, 2, 0, 4, 0, 0, 0, 0, 0, 0, 0, 0, 0, 0, 0, 4, 0, 143, 0, 0, 0, 1, 0, 0,

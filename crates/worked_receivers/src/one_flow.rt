@@ -62,9 +62,9 @@ fn expect_given(rt: &impl Abort, out: &Collected, expected: &[u8]) {
         assert!(rt; expected.is_empty());
         return;
     };
-    assert_eq!(rt; frames.len(), expected.len());
+    assert!(rt; frames.len() == expected.len());
     for (frame, byte) in frames.iter().zip(expected) {
-        assert_eq!(rt; frame.as_slice().get(6), Some(byte));
+        assert!(rt; frame.as_slice().get(6) == Some(byte));
     }
 }
 
@@ -73,24 +73,25 @@ fn skips_what_both_channels_have_passed(rt: HostRuntime) -> Result<(), Fail> {
     let alloc = rt.alloc();
     let mut out = Collected::new(alloc, 1, 0)?;
     let mut flow = new_flow(alloc, LossRule::Passed)?;
-    assert_eq!(rt; take(alloc, &mut flow, 0, 8190, &mut out)?, KEPT);
-    assert_eq!(rt; take(alloc, &mut flow, 1, 0, &mut out)?, KEPT);
-    assert_eq!(rt; (flow.expected(), flow.held()), (8191, 1));
+    assert!(rt; take(alloc, &mut flow, 0, 8190, &mut out)? == KEPT);
+    assert!(rt; take(alloc, &mut flow, 1, 0, &mut out)? == KEPT);
+    assert!(rt; flow.expected() == 8191);
+    assert!(rt; flow.held() == 1);
     let told = take(alloc, &mut flow, 0, 1, &mut out)?;
-    assert_eq!(rt;
-        told,
-        Told {
+    assert!(rt;
+        told == Told {
             skipped_to: Some(0),
             verdict: SegmentVerdict::Kept
         }
     );
-    assert_eq!(rt; (flow.expected(), flow.held()), (2, 0));
-    assert_eq!(rt; (flow.counts().kept, flow.counts().lost), (3, 1));
+    assert!(rt; flow.expected() == 2);
+    assert!(rt; flow.held() == 0);
+    assert!(rt; flow.counts().kept == 3);
+    assert!(rt; flow.counts().lost == 1);
     expect_given(&rt, &out, &[254, 0, 1]);
     let late = take(alloc, &mut flow, 1, 8191, &mut out)?;
-    assert_eq!(rt;
-        late,
-        Told {
+    assert!(rt;
+        late == Told {
             skipped_to: None,
             verdict: SegmentVerdict::Late
         }
@@ -103,40 +104,39 @@ fn slides_its_window_to_a_segment(rt: HostRuntime) -> Result<(), Fail> {
     let alloc = rt.alloc();
     let mut out = Collected::new(alloc, 1, 0)?;
     let mut flow = new_flow(alloc, LossRule::PassedOrSlid)?;
-    assert_eq!(rt; take(alloc, &mut flow, 0, 8191, &mut out)?, KEPT);
+    assert!(rt; take(alloc, &mut flow, 0, 8191, &mut out)? == KEPT);
     let told = take(alloc, &mut flow, 0, 5, &mut out)?;
-    assert_eq!(rt;
-        told,
-        Told {
+    assert!(rt;
+        told == Told {
             skipped_to: Some(2),
             verdict: SegmentVerdict::Kept
         }
     );
-    assert_eq!(rt; (flow.expected(), flow.held()), (2, 1));
+    assert!(rt; flow.expected() == 2);
+    assert!(rt; flow.held() == 1);
     let told = take(alloc, &mut flow, 1, 10, &mut out)?;
-    assert_eq!(rt;
-        told,
-        Told {
+    assert!(rt;
+        told == Told {
             skipped_to: Some(7),
             verdict: SegmentVerdict::Kept
         }
     );
     let repeat = take(alloc, &mut flow, 1, 10, &mut out)?;
-    assert_eq!(rt;
-        repeat,
-        Told {
-            skipped_to: None,
-            verdict: SegmentVerdict::Repeat
-        }
+    assert!(rt;
+        repeat
+            == Told {
+                skipped_to: None,
+                verdict: SegmentVerdict::Repeat
+            }
     );
     expect_given(&rt, &out, &[255, 5]);
     flow.begin_close();
     let counts = flow.close(alloc, &NoCheck, &mut out)?;
     expect_given(&rt, &out, &[255, 5, 10]);
-    assert_eq!(rt;
-        (counts.kept, counts.lost, counts.repeat, counts.frames),
-        (3, 10, 1, 3)
-    );
+    assert!(rt; counts.kept == 3);
+    assert!(rt; counts.lost == 10);
+    assert!(rt; counts.repeat == 1);
+    assert!(rt; counts.frames == 3);
     Ok(())
 }
 
@@ -145,22 +145,24 @@ fn loses_what_is_decided(rt: HostRuntime) -> Result<(), Fail> {
     let alloc = rt.alloc();
     let mut out = Collected::new(alloc, 1, 0)?;
     let mut flow = new_flow(alloc, LossRule::Decided)?;
-    assert_eq!(rt; take(alloc, &mut flow, 0, 0, &mut out)?, KEPT);
-    assert_eq!(rt; take(alloc, &mut flow, 1, 1, &mut out)?, KEPT);
+    assert!(rt; take(alloc, &mut flow, 0, 0, &mut out)? == KEPT);
+    assert!(rt; take(alloc, &mut flow, 1, 1, &mut out)? == KEPT);
     let beyond = take(alloc, &mut flow, 1, 2, &mut out)?;
-    assert_eq!(rt;
-        beyond,
-        Told {
-            skipped_to: None,
-            verdict: SegmentVerdict::Beyond
-        }
+    assert!(rt;
+        beyond
+            == Told {
+                skipped_to: None,
+                verdict: SegmentVerdict::Beyond
+            }
     );
     assert!(rt; flow.decide(alloc, &NoCheck, FlowDecision::Gap, &mut out)?);
-    assert_eq!(rt; (flow.expected(), flow.held()), (8191, 2));
+    assert!(rt; flow.expected() == 8191);
+    assert!(rt; flow.held() == 2);
     assert!(rt; flow.decide(alloc, &NoCheck, FlowDecision::GapTo(0), &mut out)?);
     expect_given(&rt, &out, &[0, 1]);
     assert!(rt; !flow.decide(alloc, &NoCheck, FlowDecision::GapTo(5), &mut out)?);
     assert!(rt; flow.decide(alloc, &NoCheck, FlowDecision::SkipTo(5), &mut out)?);
-    assert_eq!(rt; (flow.expected(), flow.counts().lost), (5, 5));
+    assert!(rt; flow.expected() == 5);
+    assert!(rt; flow.counts().lost == 5);
     Ok(())
 }

@@ -84,15 +84,21 @@ fn expect_last_channel(rt: &impl Abort, alloc: Global, channels: u8) -> Result<(
     let mut out = Counts::default();
     let last = usize::from(channels) - 1;
     let flow = send(alloc, &mut receiver, last, 7, &mut out)?;
-    assert_eq!(rt; flow, Some(0), "{channels} channels");
+    assert!(rt; flow == Some(0), "{channels} channels");
     let beyond = receiver.take(alloc, last + 1, grant(7), &mut out);
     let no_channel = matches!(beyond, Err(TakeError::NoChannel(_)));
     assert!(rt; no_channel, "{channels} channels");
     let inputs = receiver.tally(last).map(|tally| tally.admitted);
-    assert_eq!(rt; inputs, Some(1), "{channels} channels");
-    assert_eq!(rt; receiver.outstanding(last), Some(0), "{channels} channels");
-    assert_eq!(rt; receiver.outstanding(last + 1), None, "{channels} channels");
-    assert_eq!(rt; out.frames, 1, "{channels} channels");
+    assert!(rt; inputs == Some(1), "{channels} channels");
+    assert!(rt;
+        receiver.outstanding(last) == Some(0),
+        "{channels} channels"
+    );
+    assert!(rt;
+        receiver.outstanding(last + 1) == None,
+        "{channels} channels"
+    );
+    assert!(rt; out.frames == 1, "{channels} channels");
     Ok(())
 }
 
@@ -111,16 +117,21 @@ fn expect_last_flow(rt: &impl Abort, alloc: Global, flows: u16) -> Result<(), Fa
     let mut receiver = receiver(alloc, width, u32::from(flows), &[row(15, 7, last)])?;
     let mut out = Counts::default();
     let flow = send(alloc, &mut receiver, 15, 7, &mut out)?;
-    assert_eq!(rt; flow, Some(last), "{flows} flows");
-    assert_eq!(rt;
-        kept_and_given(&receiver, last),
-        Some((1, 1)),
+    assert!(rt; flow == Some(last), "{flows} flows");
+    assert!(rt;
+        kept_and_given(&receiver, last) == Some((1, 1)),
         "{flows} flows"
     );
-    assert_eq!(rt; kept_and_given(&receiver, 0), Some((0, 0)), "{flows} flows");
-    assert_eq!(rt; kept_and_given(&receiver, last + 1), None, "{flows} flows");
-    assert_eq!(rt; receiver.expected(last), Some(1), "{flows} flows");
-    assert_eq!(rt; out.frames, 1, "{flows} flows");
+    assert!(rt;
+        kept_and_given(&receiver, 0) == Some((0, 0)),
+        "{flows} flows"
+    );
+    assert!(rt;
+        kept_and_given(&receiver, last + 1) == None,
+        "{flows} flows"
+    );
+    assert!(rt; receiver.expected(last) == Some(1), "{flows} flows");
+    assert!(rt; out.frames == 1, "{flows} flows");
     Ok(())
 }
 
@@ -138,7 +149,7 @@ fn one_flow_more_is_refused(rt: HostRuntime) -> Result<(), Fail> {
         let width = Width::new(16, flows)?;
         let refused = receiver(rt.alloc(), width, u32::from(flows) + 1, &[]).err();
         let fault = SetupError::Flows(SetupFault::TooManyFlows);
-        assert_eq!(rt; refused, Some(fault), "{flows} flows");
+        assert!(rt; refused == Some(fault), "{flows} flows");
     }
     Ok(())
 }
@@ -184,16 +195,16 @@ fn few_of_the_most_flows_send(rt: HostRuntime) -> Result<(), Fail> {
     let mut receiver = receiver(rt.alloc(), width, 16384, &rows)?;
     let mut out = Counts::default();
     let came = send_some(rt.alloc(), &mut receiver, &mut out)?;
-    assert_eq!(rt; came, SENDING);
-    assert_eq!(rt; out.frames, 100);
-    assert_eq!(rt; kept_and_given(&receiver, 163), Some((1, 1)));
-    assert_eq!(rt; kept_and_given(&receiver, 164), Some((0, 0)));
+    assert!(rt; came == SENDING);
+    assert!(rt; out.frames == 100);
+    assert!(rt; kept_and_given(&receiver, 163) == Some((1, 1)));
+    assert!(rt; kept_and_given(&receiver, 164) == Some((0, 0)));
     let Ok(closed) = receiver.close(rt.alloc(), &mut out) else {
         return Err(Fail::new(format_args!("the close was refused memory")));
     };
     let gave_one = closed.flows.iter().filter(|counts| counts.frames == 1);
-    assert_eq!(rt; gave_one.count(), 100);
-    assert_eq!(rt; closed.flows.len(), 16384);
-    assert_eq!(rt; out.frames, 100);
+    assert!(rt; gave_one.count() == 100);
+    assert!(rt; closed.flows.len() == 16384);
+    assert!(rt; out.frames == 100);
     Ok(())
 }

@@ -37,7 +37,7 @@ fn expect_three_grants(rt: &impl Abort, mut source: ListSource) {
         next_number(&mut source),
         next_number(&mut source),
     ];
-    assert_eq!(rt; numbers, [Some(0), Some(1), Some(2), None, None]);
+    assert!(rt; numbers == [Some(0), Some(1), Some(2), None, None]);
 }
 
 #[test]
@@ -65,7 +65,7 @@ fn expect_both_decisions(rt: &impl Abort, mut decisions: ListDecisions) {
         next_decision(&mut decisions),
         next_decision(&mut decisions),
     ];
-    assert_eq!(rt; given, [Some(FIRST), Some(SECOND), None, None]);
+    assert!(rt; given == [Some(FIRST), Some(SECOND), None, None]);
 }
 
 #[test]
@@ -96,6 +96,6 @@ fn four_sources_are_told_apart(rt: HostRuntime) -> Result<(), Fail> {
         next_number(&mut sources.s2),
         next_number(&mut sources.s3),
     ];
-    assert_eq!(rt; numbers, [None, None, Some(7), None]);
+    assert!(rt; numbers == [None, None, Some(7), None]);
     Ok(())
 }

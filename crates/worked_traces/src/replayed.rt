@@ -54,7 +54,7 @@ const BAD_TAGS: [(&[u8], usize); 5] = [
 
 /// Ends the test if an order or tags have another fault than this first bad place.
 fn expect_bad_place(rt: &impl Abort, senders: &[u8], fault: Option<ReplayFault>, place: usize) {
-    assert_eq!(rt; fault, Some(ReplayFault::BadOrder(place)), "{senders:?}");
+    assert!(rt; fault == Some(ReplayFault::BadOrder(place)), "{senders:?}");
 }
 
 fn expect_bad_orders(rt: &impl Abort, alloc: Global, trace: &Trace) {
@@ -112,7 +112,7 @@ fn expect_fault(
 ) {
     let replayed = replay(alloc, setup, lists, senders, NoCheck).err();
     let admitted = admitted_order(alloc, setup, lists, senders).err();
-    assert_eq!(rt; [replayed, admitted], [Some(fault), Some(fault)]);
+    assert!(rt; [replayed, admitted] == [Some(fault), Some(fault)]);
 }
 
 /// Faults of the flows come before those of the lanes, and these before those of an order.
@@ -179,7 +179,7 @@ fn replays_long_lists(rt: HostRuntime) -> Result<(), Fail> {
     let lists = long_lists(rt.alloc())?;
     let tags = long_tags(rt.alloc())?;
     let order = admitted_order(rt.alloc(), &setup, &lists, &tags)?;
-    assert_eq!(rt; order.len(), 140_000);
+    assert!(rt; order.len() == 140_000);
     let outcome = replay(rt.alloc(), &setup, &lists, &order, NoCheck)?;
     assert!(rt; all_gave(&outcome.flows, &[MANY_KEPT]));
     Ok(())

@@ -113,7 +113,7 @@ fn replayed(
 }
 
 fn tally_of(rt: &impl Abort, outcome: &Outcome) -> Tally {
-    assert_eq!(rt; outcome.flows.len(), 1);
+    assert!(rt; outcome.flows.len() == 1);
     let flow = &outcome.flows[0];
     Tally {
         kept: flow.counts.kept,
@@ -142,7 +142,7 @@ fn expect_tallies(
             lost,
             frames: frames as usize,
         };
-        assert_eq!(rt; tally_of(rt, &outcome), wanted, "{rule:?}");
+        assert!(rt; tally_of(rt, &outcome) == wanted, "{rule:?}");
     }
     Ok(())
 }

@@ -1,5 +1,6 @@
 pub mod Takable
 pub mod Carried
+pub mod Handover
 pub mod Working
 pub mod Consuming
 pub mod Scheduling

@@ -1,17 +1,15 @@
 //! The worker of the decisions.
-ghost use Rattle.std.specs.Prelude.{◌≡◌, IfOk, IfSome};
+ghost use Rattle.std.specs.Prelude.{◌≡◌};
 ghost use Rattle.workers.specs.Inside.Working.{DidDecideAll, HasPassedOn};
 
 use crate::item::Item;
 use crate::live_source::LiveDecisions;
 use crate::retry::{close_port, post_item};
 use crate::signals::Signals;
+use crate::worker::{BusyWorker, Job};
 use mailbox::{ClosedPort, Port};
-use std::alloc::AllocError;
-use std::snapshot::Snapshot;
+use std::alloc::Global;
 use std::sync::Wait;
-use std::thread;
-use std::thread::{Promise, PromisedHandle, Threads};
 
 /// What the decisions' worker works with.
 #[derive(Drop)]
@@ -23,48 +21,24 @@ pub struct DecidingWork<D> {
     pub decisions: D,
 }
 
-/// The work that the decisions' worker was started with.
-#[derive(Drop)]
-pub struct DecidingPromise<D>(pub Snapshot<DecidingWork<D>>);
+impl<D: LiveDecisions + Drop> Job<ClosedPort<Item>> for DecidingWork<D> {
+    ghost did = { λ work closed. DidDecideAll D.gave D.is_over work closed };
 
-impl<D: LiveDecisions> Promise<Option<ClosedPort<Item>>> for DecidingPromise<D> {
-    ghost kept_by = { λ promise result. IfSome result
-        (DidDecideAll D.gave D.is_over promise.0.value) };
+    fn serve<R: Wait>(self, _: Global, rt: &R, signals: &Signals) -> ClosedPort<Item> {
+        serve_decisions(rt, signals, self)
+    }
 }
 
-pub type DecisionWorker<D> = PromisedHandle<Option<ClosedPort<Item>>, DecidingPromise<D>>;
+pub type DecisionWorker<D> = BusyWorker<DecidingWork<D>, ClosedPort<Item>>;
 
-/// Starts the worker of the decisions.
-pub fn start<D, R>(
-    rt: &R,
-    signals: &Signals,
-    work: DecidingWork<D>,
-) -> Result<DecisionWorker<D>, AllocError>
-where
-    D: LiveDecisions + Drop + Send + 'static,
-    R: Threads + Wait + Copy + Send + 'static,
-    ensures { IfOk result (λ worker. worker.promise.0.value ≡ work) }
-{
-    let signals = signals.share()?;
-    let promise = DecidingPromise(Snapshot::of(&work));
-    let theirs = *rt;
-    Ok(thread::spawn_with(rt, promise, move || {
-        serve_decisions(&theirs, &signals, work)
-    })?)
-}
-
-/// Posts all decisions that name a flow once it is told to go, and then closes its port. It answers
-/// nothing if it is told to stop.
+/// Posts all decisions that name a flow, and then closes its port.
 fn serve_decisions<D: LiveDecisions + Drop, R: Wait>(
     rt: &R,
     signals: &Signals,
     work: DecidingWork<D>,
-) -> Option<ClosedPort<Item>>
-    ensures { IfSome result (DidDecideAll D.gave D.is_over work) }
+) -> ClosedPort<Item>
+    ensures { DidDecideAll D.gave D.is_over work result }
 {
-    if !signals.start().is_go(rt) {
-        return None;
-    }
     let mut work = work;
     pass_on(rt, signals, &mut work);
     let DecidingWork {
@@ -73,7 +47,7 @@ fn serve_decisions<D: LiveDecisions + Drop, R: Wait>(
         arrivals,
         decisions: _,
     } = work;
-    Some(close_port(rt, signals.arrivals(), arrivals))
+    close_port(rt, signals.arrivals(), arrivals)
 }
 
 /// Posts all decisions that name a flow.

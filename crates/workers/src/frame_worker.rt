@@ -1,32 +1,24 @@
 //! The worker that takes frames for the consumer.
-ghost use Rattle.std.specs.Prelude.{◌≡◌, true, All, IfOk, IfErr};
+ghost use Rattle.std.specs.Prelude.{◌≡◌, true, All};
 ghost use Rattle.delivery.specs.Takers.{is_closed};
-ghost use Rattle.workers.specs.Given.{CameBack};
 ghost use Rattle.workers.specs.Inside.Consuming.{FeedsOne, HasFed, DidConsume};
 
 use crate::signals::Signals;
 use crate::waiting::Waiting;
+use crate::worker::{BusyWorker, Job};
 use consumer::Consumer;
 use delivery::{Taker, Took};
 use docsis_wire::Bytes;
-use std::snapshot::Snapshot;
+use std::alloc::Global;
 use std::sync::Wait;
 use std::thread;
-use std::thread::{Promise, PromisedHandle, SpawnError, Threads};
 
-/// What the worker of frames works with: a taker of each flow, and who takes the frames.
+/// What the worker of frames works with, and hands back: a taker of each flow, and who takes the
+/// frames.
 #[derive(Drop)]
 pub struct FrameWork<F> {
     pub takers: Vec<Taker>,
     pub consumer: F,
-}
-
-/// What the worker of frames hands back: the consumer, and, unless it was told to stop, the takers,
-/// all of which have answered `Closed`.
-#[derive(Drop)]
-pub struct Consumed<F> {
-    pub consumer: F,
-    pub takers: Option<Vec<Taker>>,
 }
 
 /// What one look at a taker found.
@@ -56,66 +48,15 @@ impl Look {
     }
 }
 
-/// The work that the worker of frames was started with.
-#[derive(Drop)]
-pub struct ConsumingPromise<F>(pub Snapshot<FrameWork<F>>);
+impl<F: Consumer + Drop> Job<FrameWork<F>> for FrameWork<F> {
+    ghost did = { λ work done. DidConsume F.after work done };
 
-impl<F: Consumer> Promise<Consumed<F>> for ConsumingPromise<F> {
-    ghost kept_by = { λ promise result. DidConsume F.after promise.0.value.takers.items
-        promise.0.value.consumer result };
-}
-
-pub type FrameWorker<F> = PromisedHandle<Consumed<F>, ConsumingPromise<F>>;
-
-/// Starts the worker of frames. Where it can't be started, workers are told to stop, and the
-/// consumer comes back.
-pub fn start<F, R>(rt: &R, signals: &Signals, work: FrameWork<F>) -> Result<FrameWorker<F>, F>
-where
-    F: Consumer + Drop + Send + 'static,
-    R: Threads + Wait + Copy + Send + 'static,
-    ensures started { IfOk result (λ worker. worker.promise.0.value ≡ work) }
-    ensures given_back { IfErr result (CameBack F.after work.consumer) }
-{
-    let Ok(shared) = signals.share() else {
-        signals.start().stop();
-        return Err(work.consumer);
-    };
-    let promise = ConsumingPromise(Snapshot::of(&work));
-    let theirs = *rt;
-    let started = thread::spawn_with(rt, promise, move || {
-        let work = work;
-        serve_frames(&theirs, &shared, work)
-    });
-    match started {
-        Ok(worker) => Ok(worker),
-        Err(SpawnError { value: serve }) => {
-            signals.start().stop();
-            Err(serve().consumer)
-        }
+    fn serve<R: Wait>(self, _: Global, rt: &R, signals: &Signals) -> FrameWork<F> {
+        take_frames(rt, signals, self)
     }
 }
 
-/// Takes until each taker has answered `Closed`, once it is told to go, and gives each frame to the
-/// consumer. If it is told to stop, it takes nothing.
-fn serve_frames<F: Consumer + Drop, R: Wait>(
-    rt: &R,
-    signals: &Signals,
-    work: FrameWork<F>,
-) -> Consumed<F>
-    ensures { DidConsume F.after work.takers.items work.consumer result }
-{
-    if !signals.start().is_go(rt) {
-        return Consumed {
-            consumer: work.consumer,
-            takers: None,
-        };
-    }
-    let FrameWork { takers, consumer } = take_frames(rt, signals, work);
-    Consumed {
-        consumer,
-        takers: Some(takers),
-    }
-}
+pub type FrameWorker<F> = BusyWorker<FrameWork<F>, FrameWork<F>>;
 
 /// Takes until each taker has answered `Closed`.
 fn take_frames<F: Consumer + Drop, R: Wait>(

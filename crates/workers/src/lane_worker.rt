@@ -12,14 +12,12 @@ use crate::lane_notes::{LaneNotes, SourceNotes, blank_notes};
 use crate::live_source::LiveSource;
 use crate::retry::{close_port, post_item};
 use crate::signals::Signals;
+use crate::worker::{BusyWorker, Job};
 use flow_records::Event;
 use lane::{Admitted, Answer, Input, Lane, Request, admitted_segment};
 use mailbox::{ClosedPort, Port};
 use std::alloc::{AllocError, Global};
-use std::snapshot::Snapshot;
 use std::sync::Wait;
-use std::thread;
-use std::thread::{Promise, PromisedHandle, Threads};
 
 /// What a source's worker works with.
 #[derive(Drop)]
@@ -59,51 +57,26 @@ pub struct LaneDone<N> {
     pub notes: Option<SourceNotes<N>>,
 }
 
-/// The work that a source's worker was started with.
-#[derive(Drop)]
-pub struct LanePromise<S>(pub Snapshot<LaneWork<S>>);
+impl<S: LiveSource + Drop, N: LaneNotes + Drop> Job<LaneDone<N>> for LaneWork<S> {
+    ghost did = { λ work done. DidServe N.are_of S.gave S.is_over work done };
 
-impl<S: LiveSource, N: LaneNotes> Promise<Option<LaneDone<N>>> for LanePromise<S> {
-    ghost kept_by = { λ promise result. IfSome result
-        (DidServe N.are_of S.gave S.is_over promise.0.value) };
+    fn serve<R: Wait>(self, alloc: Global, rt: &R, signals: &Signals) -> LaneDone<N> {
+        serve_source(alloc, rt, signals, self)
+    }
 }
 
-pub type LaneWorker<S, N> = PromisedHandle<Option<LaneDone<N>>, LanePromise<S>>;
+pub type LaneWorker<S, N> = BusyWorker<LaneWork<S>, LaneDone<N>>;
 
-/// Starts the worker of a source.
-pub fn start<S, N, R>(
-    alloc: Global,
-    rt: &R,
-    signals: &Signals,
-    work: LaneWork<S>,
-) -> Result<LaneWorker<S, N>, AllocError>
-where
-    S: LiveSource + Drop + Send + 'static,
-    N: LaneNotes + Drop + Send + 'static,
-    R: Threads + Wait + Copy + Send + 'static,
-    ensures { IfOk result (λ worker. worker.promise.0.value ≡ work) }
-{
-    let signals = signals.share()?;
-    let promise = LanePromise(Snapshot::of(&work));
-    let theirs = *rt;
-    Ok(thread::spawn_with(rt, promise, move || {
-        serve_source(alloc, &theirs, &signals, work)
-    })?)
-}
-
-/// Takes all inputs of the source once it is told to go, and then closes both ports. If an
-/// allocation failed it takes no more inputs. It answers nothing if it is told to stop.
+/// Takes all inputs of the source, and then closes both ports. If an allocation failed it takes no
+/// more inputs.
 fn serve_source<S: LiveSource + Drop, N: LaneNotes + Drop, R: Wait>(
     alloc: Global,
     rt: &R,
     signals: &Signals,
     work: LaneWork<S>,
-) -> Option<LaneDone<N>>
-    ensures { IfSome result (DidServe N.are_of S.gave S.is_over work) }
+) -> LaneDone<N>
+    ensures { DidServe N.are_of S.gave S.is_over work result }
 {
-    if !signals.start().is_go(rt) {
-        return None;
-    }
     let mut work = work;
     let notes = take_inputs(alloc, rt, signals, &mut work);
     if notes.is_none() {
@@ -117,11 +90,11 @@ fn serve_source<S: LiveSource + Drop, N: LaneNotes + Drop, R: Wait>(
     } = work;
     let arrivals = close_port(rt, signals.arrivals(), arrivals);
     let requests = close_port(rt, signals.requests(), requests);
-    Some(LaneDone {
+    LaneDone {
         arrivals,
         requests,
         notes,
-    })
+    }
 }
 
 /// Takes all inputs of the source, and posts what each admits before it takes the next. If an

@@ -11,8 +11,9 @@
 //!    makes what threads tell each other by: when to begin, and when to wake.
 //! 2. [`Work::new`] gives each worker its part of what was opened. [`Sources`], [`LiveDecisions`]
 //!    and [`Consumers`] are what the caller brings.
-//! 3. [`start_team`] starts all workers, and [`Team::join`] waits for them and hands on what they
-//!    have [`Done`]. The consumers come back from both, whatever failed.
+//! 3. [`start_team`] starts all workers, and hands each its part once all are there; where one can't
+//!    be started, everything comes back as it was. [`Team::join`] waits for them and hands on what
+//!    they have [`Done`]. The consumers come back from both, whatever failed.
 //! 4. Meanwhile the caller takes [`Item`]s and drives the feeders: [`flush_all`] and
 //!    [`close_feeders`]. It waits by [`MouthWait`].
 //! 5. [`settle_rings`] settles the rings.
@@ -35,12 +36,12 @@ mod retry;
 mod rings;
 mod signals;
 mod source;
-mod start_word;
 mod stopping;
 mod strays;
 mod team;
 mod waiting;
 mod work;
+mod worker;
 
 pub use both::{both_done, both_made};
 pub use channel_input::ChannelInput;

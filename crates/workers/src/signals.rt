@@ -1,6 +1,5 @@
-//! What threads tell each other beside what they hand on: when to begin, and that something was put
-//! or taken for which another may wait.
-use crate::start_word::StartWord;
+//! What threads tell each other beside what they hand on: that something was put or taken for which
+//! another may wait.
 use crossbeam_utils::atomic::AtomicCell;
 use crossbeam_utils::sync::EventCount;
 use std::alloc::{AllocError, Global};
@@ -32,7 +31,7 @@ pub struct Signals {
 
 #[derive(Drop)]
 struct Shared {
-    start: StartWord,
+    told: EventCount,
     arrivals: MailboxSignals,
     requests: MailboxSignals,
     offered: EventCount,
@@ -41,10 +40,10 @@ struct Shared {
 }
 
 impl Signals {
-    /// Of a receiver whose workers wait for the start.
+    /// Of a receiver whose workers are not started yet.
     pub fn new(alloc: Global) -> Result<Signals, AllocError> {
         let shared = Shared {
-            start: StartWord::new(),
+            told: EventCount::new(),
             arrivals: MailboxSignals::new(),
             requests: MailboxSignals::new(),
             offered: EventCount::new(),
@@ -63,9 +62,9 @@ impl Signals {
         Ok(Signals { shared })
     }
 
-    /// The word by which workers are told to begin.
-    pub fn start(&self) -> &StartWord {
-        &self.shared.start
+    /// A worker was told to begin, or to return. Workers wait for it.
+    pub fn told(&self) -> &EventCount {
+        &self.shared.told
     }
 
     /// Of the mailbox from which the assembler takes.

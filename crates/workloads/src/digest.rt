@@ -165,9 +165,8 @@ mod tests {
             *place = byte;
         }
         for size in 1..bytes.len() {
-            assert_eq!(rt;
-                of_pieces(&bytes, size),
-                of_pieces(&bytes, bytes.len()),
+            assert!(rt;
+                of_pieces(&bytes, size) == of_pieces(&bytes, bytes.len()),
                 "{size}"
             );
         }

@@ -1,8 +1,9 @@
 //! A reader of what is made as it is read.
 ghost use Rattle.std.specs.Prelude.{◌≤◌, length};
 
+use engines::{Device, ReadBehind};
 use std::io;
-use std::io::Read;
+use std::io::{Read, Write};
 
 /// Makes an input, a part at a time.
 pub trait Make {
@@ -70,5 +71,11 @@ impl<M: Make> Read for Feed<M> {
         let count = self.give(buf);
         self.given = self.given.saturating_add(count);
         Ok(count)
+    }
+}
+
+impl<M: Make> ReadBehind for Feed<M> {
+    fn read_behind<W: Write>(&mut self, _writer: &Device<W>, buf: &mut [u8]) -> io::Result<usize> {
+        self.read(buf)
     }
 }

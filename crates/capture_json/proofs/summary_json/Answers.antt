@@ -12,17 +12,17 @@ pub line_of-requires-whole : goal.line_of-requires-whole
 line_of-requires-whole c = λ _.
     let summary = c.args.summary.now in
     let seen = option_map (λ one. one.now) c.args.comparison in
-    let compared : Data = compared_or_null summary.flows.items c.args.strangers seen in
+    let compared : Data = compared_or_null summary.flows.items c.args.reasons.now c.args.strangers seen in
     let told : view c.in_ok-value.value ≡ summary_data compared summary =
     c.in_ok-value.ensures ∙ ap (λ (d : Data). summary_data d summary) c.in_ok-compared.ensures
     in
-    subst (λ (d : Data). has_float d ≡ false) (sym told) (no_float compared summary (no_float-comparison summary.flows.items c.args.strangers seen))
+    subst (λ (d : Data). has_float d ≡ false) (sym told) (no_float compared summary (no_float-comparison summary.flows.items c.args.reasons.now c.args.strangers seen))
 
 pub returns : goal.returns
 returns c =
     let summary = c.args.summary.now in
     let seen = option_map (λ one. one.now) c.args.comparison in
-    let compared : Data = compared_or_null summary.flows.items c.args.strangers seen in
+    let compared : Data = compared_or_null summary.flows.items c.args.reasons.now c.args.strangers seen in
     let told : view c.in_ok-value.value ≡ summary_data compared summary =
     c.in_ok-value.ensures ∙ ap (λ (d : Data). summary_data d summary) c.in_ok-compared.ensures
     in

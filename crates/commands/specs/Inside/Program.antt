@@ -1,5 +1,5 @@
 -- What a command does.
-use Rattle.std.specs.Prelude.{◌<◌, ◌≤◌, ℕ, List, Option, Result, string_bytes}
+use Rattle.std.specs.Prelude.{◌≡◌, ◌<◌, ◌≤◌, ℕ, List, [], Option, Result, string_bytes}
 use Rattle.docsis_wire.specs.Limits.{sequence_modulus}
 use Rattle.command_line.specs.Channels.{channels_max}
 use Rattle.command_line.specs.declared.command.Command.{Command}
@@ -7,8 +7,11 @@ use Rattle.command_line.specs.declared.command.Command.TheVariants.{Join, Cut, R
 use Rattle.engines.specs.declared.device.Device.{Device}
 use Rattle.engines.specs.declared.fault.EngineFault.{EngineFault}
 use Rattle.engines.specs.Engine.{RunsEngine}
+use Rattle.engines.specs.FlushedReads.{FlushedRead, ReadsBehindText}
+use Rattle.engines.specs.Following.{IsTextOfWhole}
 use Rattle.capture_engines.specs.Mapping.{MapsCapture}
-use Rattle.commands.specs.Program.{WritesHelp, RunsFollowBy}
+use Rattle.commands.specs.Program.{WritesHelp, IsWidthOf, RunsFollowBy}
+use Rattle.receiver.specs.declared.width.Width.{Width}
 use Rattle.texts.specs.Join.{IsJoined, IsJoinFault}
 use Rattle.texts.specs.Cut.{IsCutText, IsCutFault}
 use Rattle.texts.specs.Replay.{IsReplayFault, IsReportFault}
@@ -27,6 +30,15 @@ Performs remaining contents (Follow rule channels events selected) reader reader
     RunsFollowBy rule channels (record { events = events; selected = selected }) remaining contents reader reader' writer writer' result
 Performs remaining contents Map reader reader' writer writer' result = MapsCapture remaining contents reader reader' writer writer' result
 Performs remaining contents (Help text) reader reader' writer writer' result = WritesHelp contents (string_bytes text) reader reader' writer writer' result
+
+-- what stood flushed at each read of a command that follows; help reads nothing
+abbrev pub ShowsCommand : {R W : Type 0} → (R → List FlushedRead → R → Type 0) → (R → Option (List ℕ)) → (W → Option (List ℕ)) → Command → R → R → W → Type 0
+ShowsCommand {R = R} after remaining contents (Follow rule channels events selected) reader reader' writer =
+    (start : R) → after start [] reader
+    → (width : Width) × IsWidthOf channels width
+    × ReadsBehindText (IsTextOfWhole rule width (record { events = events; selected = selected })) (contents writer) after (remaining reader) (remaining reader') start reader'
+ShowsCommand after remaining contents (Help text) reader reader' writer = reader' ≡ reader
+ShowsCommand after remaining contents command reader reader' writer = Unit {0}
 
 -- a cut begins with the number of a segment, a run has room in its mailboxes and rings, and a trace
 -- that is followed has a channel, and not too many

@@ -1,5 +1,5 @@
--- A burst goes to the receiver behind the handle, its bytes lent for the call, and how much waits then
--- is told.
+-- A burst goes to the receiver behind the handle, its bytes lent for the call, and how much waits
+-- then is told.
 use Rattle.segrx_c.proofs.Steps.{◌≡◌, ℕ, ◌^◌, ◌<◌, ◌*◌, ◌≤◌, List, [], ◌∷◌, ◌++◌, length, Bool, true, false, refl, lit<, arith, w8, w32, w64, MutBor, Bor, Ura, full_share, named, Val, vint, vbool, vptr, vnull, SProp, ent, sep, ex, id⊢, via, fst∗, Lft, Fml, ftrue, fsep, flft, flent, Memory, Routine, Calls, Loops, WpFn, Logic, sem, Fun, fact, fact_i, fact_use, emp, tables, framed, ‵, raw, ◌⊛◌, some, later, at_ret, ◌$◌, ◌∵◌, !, qed, by, move, keep, drop, use0, use1, use2, use3, split, split3, join, pick, fsplit, fjoin, await, lft_new, lft_end, Body, of_opd, bin, lit, addr, stop, and_then, no_more, first, branches, skips, exec, returns, returns_within, enter, agg, alloc_all, pass_all, free_all, look_at, get, through, sets, lands_as, env, FmC, yes, Is, shows, mem, uint_vals, uint_Tells, uint_Makes, uint_Lawful, bool_vals, bool_Tells, bool_Makes, u8, u32, usize, bool, MutRef, mut_vals, lends_ref, ref_back, Ptr, block_ptr, null_ptr, ptr_val, RawPtr, rawptr_vals, rawptr_Tells, Testable, tests_null, plain, owned, peeks, heard, nothing, Contract, Triple, calls_at, Clauses, lasts, on_entry, triple_of, Stays, stay_dropped, walk_of, Goes-dropped, proved, leaves, typed, boxed-Testable, ended-3, apart, counted, row_in, row_out, within, beyond, nat_lt, not, T, subst, sym, nltb→le, feq, feq_i, feq_l, Array, Array-apart, Array-whole, lends_shr_slice, lent_back, Incl-refl, ShrSlice, slice_val, big_lit, points_to, uint_Copied}
 use Rattle.segrx_c.specs.Handle.{boxed_at, handle_at, value_at, row_at}
 use Rattle.segrx_c.specs.Answers.{Numbered, Unless, refused}

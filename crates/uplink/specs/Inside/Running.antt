@@ -1,6 +1,6 @@
 -- What a running receiver opens, what its threads have done once they have returned, and what is
 -- concluded from it.
-use Rattle.std.specs.Prelude.{◌≡◌, ℕ, ◌<◌, ◌≤◌, ◌%◌, Bool, true, IsTrue, Option, Some, is_some, List, [], ◌∷◌, All, IfSome, map, length, slice_get, slice_index_or, Vec}
+use Rattle.std.specs.Prelude.{◌≡◌, ℕ, ◌<◌, ◌≤◌, ◌%◌, Bool, true, false, IsTrue, Option, Some, None, is_some, List, [], ◌∷◌, All, IfSome, map, length, slice_get, slice_index_or, Vec}
 use Rattle.std.specs.declared.alloc.Global.{Global}
 use Rattle.mailbox.specs.Ports.{closed_posted}
 use Rattle.mailbox.specs.Mouths.{places, taken, ended}
@@ -163,23 +163,26 @@ pub record IsReceivedFrom {F Q : Type 0} (channels : ℕ) (consumers : Consumers
   pub strays_are : received.strays ≡ strays_of concluded.lanes
 
 module _ {F Q N : Type 0} (takes : F → List Given → F → Type 0) (asks : Q → List Given → Q → Type 0) (are_of : List AnsweredInput → N → Type 0) where
-  -- What was opened ran: the consumers were given some frames and requests, and if all threads have
-  -- done their part, these are all.
+  -- What was opened ran: the consumers were given some frames and requests, which are all if the
+  -- threads were started. Otherwise both are as they were.
   pub record RanOpened {C : Type 0} (accepts : C → List ℕ → Bool) (channels flow_count : ℕ) (came_in came_first : List (List ChannelInput) → Incoming → Type 0) (opened : Opened C) (kept : Option (Vec ℕ Global)) (consumers : Consumers F Q) (ran : Consumers F Q × Option (Ended N)) : Type 0 where
     pub frames : List Given
     pub requests : List Given
     pub were_given : WereGiven takes asks consumers.consumer consumers.scheduler frames requests ran.0.consumer ran.0.scheduler
     pub has_ended : IfSome ran.1 (HasEndedOn are_of accepts channels flow_count came_in came_first opened kept frames requests)
+    pub not_begun : ran.1 ≡ None → (ran.0.consumer ≡ consumers.consumer) × (ran.0.scheduler ≡ consumers.scheduler)
 
   -- The consumers were given some frames and requests. If all threads began these come first of
-  -- what there was to give, and if no allocation failed they are with what was counted the
-  -- one-thread answer for some order, which was kept if one was to be kept.
+  -- what there was to give, and otherwise both are as they were. If no allocation failed they are
+  -- with what was counted the one-thread answer for some order, which was kept if one was to be
+  -- kept.
   pub record HasRun (channels : ℕ) (rule : LossRule) (check : List ℕ → Bool) (setup : Setup) (came_in came_first : List (List ChannelInput) → Incoming → Type 0) (kept : Option (Vec ℕ Global)) (consumers : Consumers F Q) (ran : Ran F Q N) : Type 0 where
     pub frames : List Given
     pub requests : List Given
     pub were_given : WereGiven takes asks consumers.consumer consumers.scheduler frames requests ran.consumers.consumer ran.consumers.scheduler
     pub first : IsTrue ran.began → (sources : List (List ChannelInput)) × (incoming : Incoming) × came_first sources incoming × GivesTheFirst channels rule check setup incoming frames requests
     pub answers : IfSome ran.concluded (ConcludesAnswer are_of channels rule check setup came_in kept frames requests)
+    pub not_begun : ran.began ≡ false → (ran.consumers.consumer ≡ consumers.consumer) × (ran.consumers.scheduler ≡ consumers.scheduler)
 
 -- the closed ports of the two mailboxes
 abbrev pub closed_arrivals : {N : Type 0} → Ended N → ClosedPorts Item

@@ -96,7 +96,8 @@ fn restart_again(rt: &(impl Print + Abort), held: &mut HeldReceiver) -> Result<(
     if !is_done(rt, held.restart(0, 5, &mut counts))? {
         expect_done(rt, held.restart(0, 5, &mut counts))?;
     }
-    assert_eq!(rt; (counts.kept, counts.frames), (3, 2));
+    assert!(rt; counts.kept == 3);
+    assert!(rt; counts.frames == 2);
     Ok(())
 }
 
@@ -127,13 +128,14 @@ fn refused_calls_are_made_again(rt: HostRuntime) -> Result<(), Fail> {
         expect_lent(&rt, &mut held, &FIRST_FRAME);
         expect_frame(&rt, &mut held, &SECOND_FRAME);
         // It is kept until the next burst or frame.
-        assert_eq!(rt; held.lent_bytes(), SECOND_FRAME.as_slice());
+        assert!(rt; held.lent_bytes() == SECOND_FRAME.as_slice());
         let waiting = held.waiting();
-        assert_eq!(rt; (waiting.frames, waiting.requests), (0, 0));
+        assert!(rt; waiting.frames == 0);
+        assert!(rt; waiting.requests == 0);
     } else {
         // Of two frames and a request one is missing, and that is told again.
-        assert_eq!(rt; held.queue.frames.len() + held.queue.requests.len(), 2);
-        assert_eq!(rt; held.go_on(0), Status::NotKept);
+        assert!(rt; held.queue.frames.len() + held.queue.requests.len() == 2);
+        assert!(rt; held.go_on(0) == Status::NotKept);
     }
     close_again(&rt, &mut held)?;
     say_whether_refused(&rt, alloc)

@@ -41,9 +41,9 @@ fn json_is_made(rt: HostRuntime) -> Result<(), Fail> {
         Ok(summary) => summary,
         Err(AllocError) => much(rt.alloc())?,
     };
-    let text = match summary_json(rt.alloc(), &summary, None, 0) {
+    let text = match summary_json(rt.alloc(), &summary, None, &[], 0) {
         Ok(text) => text,
-        Err(AllocError) => summary_json(rt.alloc(), &summary, None, 0)?,
+        Err(AllocError) => summary_json(rt.alloc(), &summary, None, &[], 0)?,
     };
     assert!(rt; text.as_slice() == JSON.as_bytes());
     Ok(())

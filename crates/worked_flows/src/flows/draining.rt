@@ -106,8 +106,8 @@ fn close_behind_losses(rt: HostRuntime) -> Result<(), Fail> {
     let all = &[PLAIN, FRAME_0, FRAME_2, FRAME_3, FRAME_4];
     let core = appends(&rt, rt.alloc(), NoCheck, arriving, all)?;
     assert!(rt; core.flow_count() == 2);
-    assert_eq!(rt; core.counts(1), counts([4, 0, 0, 0, 3, 4, 0]));
-    assert_eq!(rt; core.counts(0), counts([0; 7]));
+    assert!(rt; core.counts(1) == counts([4, 0, 0, 0, 3, 4, 0]));
+    assert!(rt; core.counts(0) == counts([0; 7]));
     Ok(())
 }
 
@@ -130,7 +130,7 @@ fn fills_and_closes<C: HeaderCheck + Drop>(
         }
     }
     core.close(alloc, 1, &mut frames)?;
-    assert_eq!(rt; frames.len(), usize::from(4096 / step));
+    assert!(rt; frames.len() == usize::from(4096 / step));
     Ok(())
 }
 

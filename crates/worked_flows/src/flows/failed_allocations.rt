@@ -69,10 +69,10 @@ fn core_again(
 fn new_refused(rt: HostRuntime) -> Result<(), Fail> {
     let records = [record(0, 16), record(1, 1), record(2, 4096), record(3, 2)];
     let core = core_again(&rt, rt.alloc(), &records)?;
-    assert_eq!(rt; core.flow_count(), 4);
+    assert!(rt; core.flow_count() == 4);
     for flow in 0..core.flow_count() {
         assert!(rt; core.is_drained(flow));
-        assert_eq!(rt; core.counts(flow), NO_COUNTS);
+        assert!(rt; core.counts(flow) == NO_COUNTS);
     }
     Ok(())
 }
@@ -110,7 +110,7 @@ fn advance_again(
     }
     say_refused(rt)?;
     assert!(rt; core.flow_count() == 2);
-    assert_eq!(rt; core.counts(1), before);
+    assert!(rt; core.counts(1) == before);
     assert!(rt; !core.is_drained(1));
     Ok(core.advance(alloc, 1)?)
 }
@@ -125,9 +125,9 @@ fn gives(
     let Step::Frames(frames) = advance_again(rt, alloc, core)? else {
         return Err("a segment is next".into());
     };
-    assert_eq!(rt; frames.len(), wanted.len());
+    assert!(rt; frames.len() == wanted.len());
     for (frame, want) in frames.iter().zip(wanted) {
-        assert_eq!(rt; frame.as_slice(), *want);
+        assert!(rt; frame.as_slice() == *want);
     }
     Ok(())
 }
@@ -149,8 +149,8 @@ fn advance_refused(rt: HostRuntime) -> Result<(), Fail> {
         frames: 2,
         ..NO_COUNTS
     };
-    assert_eq!(rt; core.counts(1), counts);
-    assert_eq!(rt; core.counts(0), NO_COUNTS);
+    assert!(rt; core.counts(1) == counts);
+    assert!(rt; core.counts(0) == NO_COUNTS);
     Ok(())
 }
 
@@ -171,7 +171,7 @@ fn advance_before_losses_refused(rt: HostRuntime) -> Result<(), Fail> {
         skipped: 5,
         ..NO_COUNTS
     };
-    assert_eq!(rt; core.counts(1), counts);
+    assert!(rt; core.counts(1) == counts);
     Ok(())
 }
 
@@ -205,14 +205,14 @@ fn verdict(
 /// other call that takes no memory.
 fn fill_and_lose(rt: &impl Abort, alloc: Global, core: &mut Core<NoCheck>) -> Result<(), Fail> {
     for number in (2_u16..4096).rev() {
-        assert_eq!(rt; verdict(rt, alloc, core, number)?, "kept", "{number}");
+        assert!(rt; verdict(rt, alloc, core, number)? == "kept", "{number}");
     }
-    assert_eq!(rt; verdict(rt, alloc, core, 2)?, "repeat");
-    assert_eq!(rt; verdict(rt, alloc, core, 4096)?, "late");
+    assert!(rt; verdict(rt, alloc, core, 2)? == "repeat");
+    assert!(rt; verdict(rt, alloc, core, 4096)? == "late");
     expect_drained(rt, core, 0);
     let gap = core.apply(Event::Gap { flow: 0 });
     assert!(rt; matches!(gap, Applied::Decision(Declared::Lost(0))));
-    assert_eq!(rt; verdict(rt, alloc, core, 0)?, "late");
+    assert!(rt; verdict(rt, alloc, core, 0)? == "late");
     expect_drained(rt, core, 0);
     assert!(rt; core.close_gap(0));
     assert!(rt; core.flow_count() == 1);
@@ -224,14 +224,14 @@ fn fill_and_lose(rt: &impl Abort, alloc: Global, core: &mut Core<NoCheck>) -> Re
         lost: 2,
         ..NO_COUNTS
     };
-    assert_eq!(rt; core.counts(0), counts);
+    assert!(rt; core.counts(0) == counts);
     Ok(())
 }
 
 /// The verdict on a number beyond the window, and losses up to a number.
 fn lose_up_to(rt: &impl Abort, alloc: Global, core: &mut Core<NoCheck>) -> Result<(), Fail> {
-    assert_eq!(rt; verdict(rt, alloc, core, 4)?, "beyond");
-    assert_eq!(rt; verdict(rt, alloc, core, 3)?, "kept");
+    assert!(rt; verdict(rt, alloc, core, 4)? == "beyond");
+    assert!(rt; verdict(rt, alloc, core, 3)? == "kept");
     expect_drained(rt, core, 0);
     let gap = core.apply(Event::GapTo { flow: 0, number: 3 });
     assert!(rt; matches!(gap, Applied::DecisionTo(true)));
@@ -267,13 +267,10 @@ fn faults_without_memory(rt: HostRuntime) -> Result<(), Fail> {
         ([good, record(1, 0)], SetupFault::BadFlow(1)),
         ([good, good], SetupFault::SameSfid(1)),
     ] {
-        assert_eq!(rt; check_records(&records).err(), Some(wanted));
-        assert_eq!(rt;
-            Core::new(rt.alloc(), &records, NoCheck).err(),
-            Some(wanted)
-        );
+        assert!(rt; check_records(&records).err() == Some(wanted));
+        assert!(rt; Core::new(rt.alloc(), &records, NoCheck).err() == Some(wanted));
     }
     let many = Core::new(rt.alloc(), &[good; 65], NoCheck);
-    assert_eq!(rt; many.err(), Some(SetupFault::TooManyFlows));
+    assert!(rt; many.err() == Some(SetupFault::TooManyFlows));
     say_whether_refused(&rt, rt.alloc())
 }

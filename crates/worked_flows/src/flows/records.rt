@@ -10,12 +10,12 @@ fn fault_is(
     records: &[FlowRecord],
     wanted: Option<SetupFault>,
 ) {
-    assert_eq!(rt; check_records(records).err(), wanted, "{name}");
+    assert!(rt; check_records(records).err() == wanted, "{name}");
     match Core::new(alloc, records, NoCheck) {
-        Err(fault) => assert_eq!(rt; Some(fault), wanted, "{name}"),
+        Err(fault) => assert!(rt; Some(fault) == wanted, "{name}"),
         Ok(core) => {
-            assert_eq!(rt; None, wanted, "{name}");
-            assert_eq!(rt; core.flow_count(), records.len(), "{name}");
+            assert!(rt; None == wanted, "{name}");
+            assert!(rt; core.flow_count() == records.len(), "{name}");
         }
     }
 }

@@ -49,8 +49,8 @@ fn accepts(
             hcs_ok: false,
             bytes: Bytes::from(Vec::new(alloc)),
         };
-        assert_eq!(rt; answer_of(lane.take(alloc, &nothing)), Answer::Refused(6));
-        assert_eq!(rt; answer_of(lane.take(alloc, &granted)), Answer::Accepted);
+        assert!(rt; answer_of(lane.take(alloc, &nothing)) == Answer::Refused(6));
+        assert!(rt; answer_of(lane.take(alloc, &granted)) == Answer::Accepted);
     }
     Ok(())
 }
@@ -67,16 +67,10 @@ fn admits(
     let first = answer_of(lane.take(alloc, &received));
     if first != Answer::Admitted(None) {
         expect_refused(rt, first, Answer::Refused(11))?;
-        assert_eq!(rt;
-            answer_of(lane.take(alloc, &grant(number, ROW.sid, 9))),
-            Answer::Refused(2)
-        );
-        assert_eq!(rt;
-            answer_of(lane.take(alloc, &received)),
-            Answer::Admitted(None)
-        );
+        assert!(rt; answer_of(lane.take(alloc, &grant(number, ROW.sid, 9))) == Answer::Refused(2));
+        assert!(rt; answer_of(lane.take(alloc, &received)) == Answer::Admitted(None));
     }
-    assert_eq!(rt; answer_of(lane.take(alloc, &received)), Answer::Refused(6));
+    assert!(rt; answer_of(lane.take(alloc, &received)) == Answer::Refused(6));
     Ok(())
 }
 
@@ -96,7 +90,7 @@ fn new_refused(rt: HostRuntime) -> Result<(), Fail> {
         accepts(&rt, rt.alloc(), &mut lane, u32::from(sid), sid)?;
     }
     let unknown = answer_of(lane.take(rt.alloc(), &grant(1000, MANY, 8)));
-    assert_eq!(rt; unknown, Answer::Refused(3));
+    assert!(rt; unknown == Answer::Refused(3));
     Ok(())
 }
 
@@ -123,12 +117,12 @@ fn take_owned_refused(rt: HostRuntime) -> Result<(), Fail> {
             Ok(answer) => answer,
             Err(input) => {
                 say_refused(&rt)?;
-                assert_eq!(rt; lane.outstanding(), outstanding);
+                assert!(rt; lane.outstanding() == outstanding);
                 lane.take_owned(input)?
             }
         };
-        assert_eq!(rt; answer_of(answer), Answer::Accepted);
-        assert_eq!(rt; lane.outstanding(), outstanding.saturating_add(1));
+        assert!(rt; answer_of(answer) == Answer::Accepted);
+        assert!(rt; lane.outstanding() == outstanding.saturating_add(1));
     }
     Ok(())
 }
@@ -145,15 +139,15 @@ fn owned_bursts_without_memory(rt: HostRuntime) -> Result<(), Fail> {
     if lane.take(rt.alloc(), &grant(4, ROW.sid, 13)).is_err() {
         return say_refused(&rt);
     }
-    assert_eq!(rt; lane.look(&fitting), Some(0));
+    assert!(rt; lane.look(&fitting) == Some(0));
     let admitted = answer_of(lane.take_owned(fitting)?);
-    assert_eq!(rt; admitted, Answer::Admitted(None));
+    assert!(rt; admitted == Answer::Admitted(None));
     for (received, number) in bursts.into_iter().zip(7..) {
-        assert_eq!(rt; lane.look(&received), None);
+        assert!(rt; lane.look(&received) == None);
         let answer = answer_of(lane.take_owned(received)?);
-        assert_eq!(rt; answer, Answer::Refused(number));
+        assert!(rt; answer == Answer::Refused(number));
     }
-    assert_eq!(rt; lane.outstanding(), 0);
+    assert!(rt; lane.outstanding() == 0);
     say_whether_refused(&rt, rt.alloc())
 }
 
@@ -163,11 +157,11 @@ fn check_rows_within_refused(rt: HostRuntime) -> Result<(), Fail> {
     let rows = [SidRow { channel: 15, ..ROW }, ROW];
     let far = [SidRow { channel: 16, ..ROW }];
     let refused = check_rows_within(rt.alloc(), 16, &far, 1);
-    assert_eq!(rt; refused, Err(LaneFault::SidRange(0)));
+    assert!(rt; refused == Err(LaneFault::SidRange(0)));
     if let Err(fault) = check_rows_within(rt.alloc(), 16, &rows, 1) {
         expect_refused(&rt, fault, LaneFault::OutOfMemory)?;
         let again = check_rows_within(rt.alloc(), 16, &rows, 1);
-        assert_eq!(rt; again, Ok(()));
+        assert!(rt; again == Ok(()));
     }
     Ok(())
 }
@@ -185,10 +179,7 @@ fn faults_without_memory(rt: HostRuntime) -> Result<(), Fail> {
             LaneFault::UnknownFlow(0),
         ),
     ] {
-        assert_eq!(rt;
-            Lane::new(rt.alloc(), 0, &rows, &[RECORD]).err(),
-            Some(wanted)
-        );
+        assert!(rt; Lane::new(rt.alloc(), 0, &rows, &[RECORD]).err() == Some(wanted));
     }
     say_whether_refused(&rt, rt.alloc())
 }
@@ -221,13 +212,13 @@ fn refuses_without_memory(rt: HostRuntime) -> Result<(), Fail> {
         (grant(9, 2, 8), 3),
     ] {
         let answer = answer_of(lane.take(rt.alloc(), &granted));
-        assert_eq!(rt; answer, Answer::Refused(number));
+        assert!(rt; answer == Answer::Refused(number));
     }
     for (received, number) in bursts.iter().zip(7..) {
         let answer = answer_of(lane.take(rt.alloc(), received));
-        assert_eq!(rt; answer, Answer::Refused(number));
+        assert!(rt; answer == Answer::Refused(number));
         let again = answer_of(lane.take(rt.alloc(), received));
-        assert_eq!(rt; again, Answer::Refused(6));
+        assert!(rt; again == Answer::Refused(6));
     }
     say_whether_refused(&rt, rt.alloc())
 }

@@ -31,18 +31,17 @@ fn answers_owned_bursts_alike(rt: HostRuntime) -> Result<(), Fail> {
     for case in &BURSTS {
         let name = case.name;
         let mut lane = lane_with_grant(rt.alloc(), case.granted)?;
-        assert_eq!(rt; lane.outstanding(), 1, "{name}");
+        assert!(rt; lane.outstanding() == 1, "{name}");
         let received = burst(rt.alloc(), 9, case.hcs_ok, case.bytes)?;
         let seen = lane.look(&received);
         let answer = lane.take_owned(received)?;
-        assert_eq!(rt; seen, flow_of(&answer), "{name}");
-        assert_eq!(rt; answer_of(answer), case.answer, "{name}");
-        assert_eq!(rt; lane.outstanding(), 0, "{name}");
+        assert!(rt; seen == flow_of(&answer), "{name}");
+        assert!(rt; answer_of(answer) == case.answer, "{name}");
+        assert!(rt; lane.outstanding() == 0, "{name}");
         let again = burst(rt.alloc(), 9, case.hcs_ok, case.bytes)?;
-        assert_eq!(rt; lane.look(&again), None, "{name}");
-        assert_eq!(rt;
-            answer_of(lane.take_owned(again)?),
-            Answer::Refused(6),
+        assert!(rt; lane.look(&again) == None, "{name}");
+        assert!(rt;
+            answer_of(lane.take_owned(again)?) == Answer::Refused(6),
             "{name}"
         );
     }
@@ -65,9 +64,9 @@ fn answers_owned_grants_alike(rt: HostRuntime) -> Result<(), Fail> {
         ("a third number", grant(6, 1, 8), Answer::Accepted, 3),
     ];
     for (name, input, answer, outstanding) in cases {
-        assert_eq!(rt; lane.look(&input), None, "{name}");
-        assert_eq!(rt; answer_of(lane.take_owned(input)?), answer, "{name}");
-        assert_eq!(rt; lane.outstanding(), outstanding, "{name}");
+        assert!(rt; lane.look(&input) == None, "{name}");
+        assert!(rt; answer_of(lane.take_owned(input)?) == answer, "{name}");
+        assert!(rt; lane.outstanding() == outstanding, "{name}");
     }
     Ok(())
 }
@@ -90,14 +89,11 @@ fn admits_the_bursts_own_bytes(rt: HostRuntime) -> Result<(), Fail> {
     let bytes = [0x80, 2, 0, 8, 0, 0, 0, 0, 0x11, 0x22, 0x33];
     for (number, flow) in [(2, 1), (1, 0)] {
         let received = burst(rt.alloc(), number, true, &bytes)?;
-        assert_eq!(rt; lane.look(&received), Some(flow));
+        assert!(rt; lane.look(&received) == Some(flow));
         let admitted = lane.take_owned(received)??.ok_or("nothing admitted")?;
-        assert_eq!(rt; admitted.flow, flow);
-        assert_eq!(rt; admitted.segment.head.sequence, 1);
-        assert_eq!(rt;
-            admitted.segment.payload.as_slice(),
-            [0x11, 0x22, 0x33].as_slice()
-        );
+        assert!(rt; admitted.flow == flow);
+        assert!(rt; admitted.segment.head.sequence == 1);
+        assert!(rt; admitted.segment.payload.as_slice() == [0x11, 0x22, 0x33].as_slice());
     }
     Ok(())
 }

@@ -21,8 +21,11 @@ fn one_channel_more_is_refused(rt: HostRuntime) -> Result<(), Fail> {
         let past = [last_row(channels)];
         let within = check_rows_within(rt.alloc(), channels, one, 1);
         let beyond = check_rows_within(rt.alloc(), channels, &past, 1);
-        assert_eq!(rt; within, Ok(()), "{channels} channels");
-        assert_eq!(rt; beyond, Err(LaneFault::SidRange(0)), "{channels} channels");
+        assert!(rt; within == Ok(()), "{channels} channels");
+        assert!(rt;
+            beyond == Err(LaneFault::SidRange(0)),
+            "{channels} channels"
+        );
     }
     Ok(())
 }
@@ -67,7 +70,7 @@ fn reports_faults_of_wide_rows(rt: HostRuntime) -> Result<(), Fail> {
     ];
     for (name, rows, wanted) in cases {
         let answer = check_rows_within(rt.alloc(), 16, rows, 1);
-        assert_eq!(rt; answer, wanted, "{name}");
+        assert!(rt; answer == wanted, "{name}");
     }
     Ok(())
 }
@@ -95,10 +98,10 @@ fn answers_on_the_sixteenth_channel(rt: HostRuntime) -> Result<(), Fail> {
         sequence: 1,
     };
     let unknown = answer_of(lane.take(rt.alloc(), &grant(1, 1, 8)));
-    assert_eq!(rt; unknown, Answer::Refused(3));
+    assert!(rt; unknown == Answer::Refused(3));
     let granted = answer_of(lane.take(rt.alloc(), &grant(1, 16_383, 8)));
-    assert_eq!(rt; granted, Answer::Accepted);
+    assert!(rt; granted == Answer::Accepted);
     let received = answer_of(lane.take(rt.alloc(), &burst(rt.alloc(), 1, true, &asked)?));
-    assert_eq!(rt; received, Answer::Admitted(Some(request)));
+    assert!(rt; received == Answer::Admitted(Some(request)));
     Ok(())
 }

@@ -237,6 +237,6 @@ fn error_says_what_its_fault_says(rt: HostRuntime) -> Result<(), Fail> {
     setup.mailbox = 0;
     let answer = receive_on_channel_0(alloc, rt, setup, no_inputs(alloc), Forgets, Forgets);
     let said = message(alloc, &answer.err().ok_or("an error")?)?;
-    assert_eq!(rt; said.as_str(), "a mailbox needs room for an entry");
+    assert!(rt; said.as_str() == "a mailbox needs room for an entry");
     Ok(())
 }

@@ -141,7 +141,7 @@ where
 {
     let watch = Watch::new(alloc)?;
     let answer = receive_watched(alloc, rt, &watch);
-    assert_eq!(rt; watch.alive(), 0, "still in use");
+    assert!(rt; watch.alive() == 0, "still in use");
     watch.has_returned();
     expect_asked(&rt, watch.asked(), answer.is_err());
     answer
@@ -193,7 +193,7 @@ fn expect_fault<R>(alloc: Global, rt: R, trace: Trace, fault: RunFault)
 where
     R: Abort + Threads + Wait + Copy + Send + 'static,
 {
-    assert_eq!(rt; receive(alloc, rt, trace).err(), Some(fault));
+    assert!(rt; receive(alloc, rt, trace).err() == Some(fault));
 }
 
 /// Faults of the flows come before those of the lanes, and these before that of the mailboxes. Each

@@ -50,7 +50,7 @@ impl Meeting {
 
     /// Ends the test if a party looked and didn't see all the others.
     pub fn expect_met(&self, rt: &impl Abort) {
-        assert_eq!(rt; self.missed.load(Ordering::SeqCst), 0, "not met");
+        assert!(rt; self.missed.load(Ordering::SeqCst) == 0, "not met");
     }
 }
 

@@ -1,11 +1,11 @@
 -- What the worker of frames has done.
-use Rattle.std.specs.Prelude.{◌≡◌, ℕ, true, List, [], ◌++◌, All, IfSome, map, slice_index_or}
+use Rattle.std.specs.Prelude.{◌≡◌, ℕ, true, List, [], ◌++◌, All, map, slice_index_or}
 use Rattle.delivery.specs.Takers.{taker_ring, taken, is_closed}
 use Rattle.delivery.specs.declared.taker.Taker.{Taker}
 use Rattle.consumer.specs.declared.given.Given.{Given}
 use Rattle.consumer.specs.declared.given.Given.TheVariants.{Frame}
 use Rattle.consumer.specs.Given.{frames_of, requests_given}
-use Rattle.workers.specs.declared.frame_worker.Consumed.{Consumed}
+use Rattle.workers.specs.declared.frame_worker.FrameWork.{FrameWork}
 use Rattle.workers.specs.Given.{BecameBy}
 
 -- what was taken by the taker of flow k, and nothing where there is none
@@ -38,9 +38,8 @@ module _ {F : Type 0} (after : F → List Given → F → Type 0) where
     pub became : BecameBy after consumer given consumer'
     pub have : HaveTaken takers given takers'
 
-  -- what was taken of all flows was given to the consumer, and unless the worker was told to stop
-  -- that is everything
-  pub record DidConsume (takers : List Taker) (consumer : F) (done : Consumed F) : Type 0 where
+  -- what was taken of all flows was given to the consumer, and that is everything
+  pub record DidConsume (work done : FrameWork F) : Type 0 where
     pub given : List Given
-    pub became : BecameBy after consumer given done.consumer
-    pub have_all : IfSome done.takers (λ all. HaveTakenAll takers given all.items)
+    pub became : BecameBy after work.consumer given done.consumer
+    pub have_all : HaveTakenAll work.takers.items given done.takers.items

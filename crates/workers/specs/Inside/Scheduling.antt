@@ -1,12 +1,12 @@
 -- What the worker of requests has done.
-use Rattle.std.specs.Prelude.{◌≡◌, ℕ, ◌<◌, ◌==◌, true, Option, Some, None, List, ◌++◌, All, IfSome, map, filter_map, if◌then◌else◌}
+use Rattle.std.specs.Prelude.{◌≡◌, ℕ, ◌<◌, ◌==◌, true, Option, Some, None, List, ◌++◌, All, map, filter_map, if◌then◌else◌}
 use Rattle.mailbox.specs.Mouths.{places, taken, ended}
 use Rattle.mailbox.specs.declared.mouth.Mouth.{Mouth}
 use Rattle.lane.specs.declared.admitted.Request.{Request}
 use Rattle.lane.specs.Limits.{senders}
 use Rattle.consumer.specs.declared.given.Given.{Given}
 use Rattle.consumer.specs.declared.given.Given.TheVariants.{Asked}
-use Rattle.workers.specs.declared.request_worker.Scheduled.{Scheduled}
+use Rattle.workers.specs.declared.request_worker.RequestWork.{RequestWork}
 use Rattle.workers.specs.Given.{BecameBy}
 
 -- a request, with the sender from which it came
@@ -43,9 +43,8 @@ module _ {Q : Type 0} (after : Q → List Given → Q → Type 0) where
     pub became : BecameBy after scheduler (given_of all) scheduler'
     pub has : HasTaken mouth all mouth'
 
-  -- what was taken was given to the scheduler, and unless the worker was told to stop that is
-  -- everything
-  pub record DidSchedule (mouth : Mouth Request) (scheduler : Q) (done : Scheduled Q) : Type 0 where
+  -- what was taken was given to the scheduler, and that is everything
+  pub record DidSchedule (work done : RequestWork Q) : Type 0 where
     pub all : List Sent
-    pub became : BecameBy after scheduler (given_of all) done.scheduler
-    pub has_all : IfSome done.mouth (HasTakenAll mouth all)
+    pub became : BecameBy after work.scheduler (given_of all) done.scheduler
+    pub has_all : HasTakenAll work.mouth all done.mouth

@@ -1,5 +1,5 @@
 -- The capture was joined with its map.
-use Rattle.std.proofs.Common.{◌≡◌, ℕ, Bool, true, inl, List, Option, Some, None, Result, Ok, Err, refl, ◌∙◌, rules}
+use Rattle.std.proofs.Common.{◌≡◌, ℕ, Bool, true, inl, inr, List, Option, Some, None, Result, Ok, Err, refl, ◌∙◌, rules}
 use Rattle.std.specs.Prelude.{IfSome, OnOk}
 use Rattle.std.proofs.lemmas.Result.{err_from_is_err_and, on_ok_weaker}
 use Rattle.engines.specs.Engine.{WritesText}
@@ -46,7 +46,7 @@ returns-clause-captures g c =
           (λ equal.
           written-so _ _ _ _ _
           (λ input text is. c.files_that_compare_equal_have_the_analysers_frames.ensures settings capture_map c.join_capture-joined.new.comparing c.finish.new.self input text is
-          c.finish.ensures equal)
+          c.finish.ensures.finishes equal)
           (rw c.in_ok-joined.was at compared))
           c.write_counts-counted.ensures.equal;
     })
@@ -90,3 +90,39 @@ returns-clause-says g c =
     rw c.new-told.ensures.same_writer at
     (says-told g.R.Read.remaining g.E.Write.contents settings c.args.asked.progress c.args.reader.now c.join_capture-joined.new.reader capture_map c.new-told.result
     c.join_capture-joined.new.told _ c.write_counts-counted.new.err c.new-told.ensures.unasked told c.write_counts-counted.ensures.said (search (rules, name)))
+
+-- ---- what stood flushed at each read
+
+pub returns-in_err-joined-clause-shown : goal.returns-in_err-joined-clause-shown
+returns-in_err-joined-clause-shown g c = λ start made.
+    inl (record {
+      capture_map = c.in_ok-capture_map.capture_map;
+      map_is = c.in_ok-capture_map.ensures;
+      shown = c.join_capture-joined.ensures.shown c.args.asked.settings c.in_ok-capture_map.capture_map c.in_ok-reading.ensures.begun start made;
+    })
+
+pub returns-clause-shown : goal.returns-clause-shown
+returns-clause-shown g c = λ start made.
+    inl (record {
+      capture_map = c.in_ok-capture_map.capture_map;
+      map_is = c.in_ok-capture_map.ensures;
+      shown = c.join_capture-joined.ensures.shown c.args.asked.settings c.in_ok-capture_map.capture_map c.in_ok-reading.ensures.begun start made;
+    })
+
+pub returns-in_err-capture_map-clause-shown : goal.returns-in_err-capture_map-clause-shown
+returns-in_err-capture_map-clause-shown g c = λ start made. inr refl
+
+pub returns-in_err-tally-clause-shown : goal.returns-in_err-tally-clause-shown
+returns-in_err-tally-clause-shown g c = λ start made. inr refl
+
+pub returns-in_err-comparing-clause-shown : goal.returns-in_err-comparing-clause-shown
+returns-in_err-comparing-clause-shown g c = λ start made. inr refl
+
+pub returns-in_err-sfids-clause-shown : goal.returns-in_err-sfids-clause-shown
+returns-in_err-sfids-clause-shown g c = λ start made. inr refl
+
+pub returns-in_err-reading-clause-shown : goal.returns-in_err-reading-clause-shown
+returns-in_err-reading-clause-shown g c = λ start made. inr refl
+
+pub returns-in_err-requests-clause-shown : goal.returns-in_err-requests-clause-shown
+returns-in_err-requests-clause-shown g c = λ start made. inr refl

@@ -1,4 +1,4 @@
-use Rattle.std.proofs.Common.{◌≡◌, Bool}
+use Rattle.std.proofs.Common.{◌≡◌, Bool, inr, refl}
 use Rattle.std.specs.Prelude.{map}
 use Rattle.flow_selection.specs.declared.selection.Selection.TheVariants.{All}
 use Rattle.loss_rule.specs.declared.rule.LossRule.{LossRule}
@@ -7,11 +7,13 @@ use Rattle.engines.specs.Fault.{usage_fault}
 use Rattle.command_line.specs.Command.{AsksToJoin, AsksToReplayBy, AsksToRunByAlone, AsksToFollowAlone, AsksToMap}
 use Rattle.command_line.specs.Channels.{channels_max}
 use Rattle.text_lines.specs.Capacities.{default_capacity}
+use Rattle.engines.specs.Device.{inner_of}
+use Rattle.commands.proofs.ShownWords.{shown-asked}
 use Rattle.commands.proofs.ObeyedWords.{Obeys-performed, Obeys-refused, is_fault}
 use Rattle.commands.proofs.whole_program.obey.Goals as goal
 
-pub returns : goal.returns
-returns g c =
+pub returns-clause-obeys : goal.returns-clause-obeys
+returns-clause-obeys g c =
     let words = map g.S.AsStr.text c.args.words.now in
     let joins : AsksToJoin words → c.in_ok-command.command ≡ Join = λ asks. cc (c.in_ok-command.was, c.read_words.ensures.join asks) in
     let maps : AsksToMap words → c.in_ok-command.command ≡ Map = λ asks. cc (c.in_ok-command.was, c.read_words.ensures.map asks) in
@@ -26,10 +28,10 @@ returns g c =
     in
     Obeys-performed g.R.Read.remaining g.W.Write.contents words c.args.reader.now c.perform.new.reader c.args.out.now c.perform.new.out
     c.in_ok-command.command c.perform.result c.replay_by_decisions_alone_is_a_replay.ensures.replay c.run_by_decisions_alone_is_a_run.ensures.run
-    c.report_of_all_flows_is_the_report.ensures.replay c.requires.reader c.requires.out c.in_ok-command.ensures.asked joins maps replays runs follows c.perform.ensures
+    c.report_of_all_flows_is_the_report.ensures.replay c.requires.reader c.requires.out c.in_ok-command.ensures.asked joins maps replays runs follows c.perform.ensures.performs
 
-pub returns-in_err-command : goal.returns-in_err-command
-returns-in_err-command g c =
+pub returns-in_err-command-clause-obeys : goal.returns-in_err-command-clause-obeys
+returns-in_err-command-clause-obeys g c =
     let words = map g.S.AsStr.text c.args.words.now in
     let no_join : ¬ AsksToJoin words = λ asks. absurd (cc (c.in_err-command.was, c.read_words.ensures.join asks)) in
     let no_map : ¬ AsksToMap words = λ asks. absurd (cc (c.in_err-command.was, c.read_words.ensures.map asks)) in
@@ -44,3 +46,11 @@ returns-in_err-command g c =
     in
     rw (is_fault (usage_fault c.in_err-command.field-0.0) c.from_residual.result c.from_residual.ensures.1)
     (Obeys-refused g.R.Read.remaining g.W.Write.contents words c.args.reader.now c.args.out.now c.in_err-command.field-0.0 c.requires.reader no_join no_replay no_alone no_follow no_map)
+
+pub returns-clause-shown : goal.returns-clause-shown
+returns-clause-shown g c =
+    shown-asked g.R.ReadBehind.after g.R.Read.remaining g.W.Write.contents (map g.S.AsStr.text c.args.words.now) (inner_of c.args.reader.now) (inner_of c.perform.new.reader)
+    (inner_of c.args.out.now) c.in_ok-command.command c.in_ok-command.ensures.asked c.perform.ensures.shown
+
+pub returns-in_err-command-clause-shown : goal.returns-in_err-command-clause-shown
+returns-in_err-command-clause-shown g c = λ is start made. inr refl

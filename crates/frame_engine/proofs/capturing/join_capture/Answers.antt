@@ -1,10 +1,11 @@
 -- The capture was joined, or whatever ended it.
 use Rattle.std.proofs.Common.{◌≡◌, inl, inr, [], take, length, refl, sym, ap, subst, ◌∙◌, rules}
 use Rattle.std.specs.Io.KnownBytes.{Consumes}
-use Rattle.std.proofs.KnownBytes.{Keeps-refl}
+use Rattle.std.proofs.KnownBytes.{Keeps-refl, Consumes-nil, Consumes-kept}
 use Rattle.std.proofs.lemmas.List.{length-take-le}
 use Rattle.std.proofs.lemmas.Result.{err_from_is_err_and, on_ok_weaker}
 use Rattle.engines.specs.Device.{inner_of}
+use Rattle.engines.specs.FlushedReads.{MakesReads}
 use Rattle.engines.proofs.FollowedDevices.{stays_flushed}
 use Rattle.engines.proofs.ReadLines.{of_room}
 use Rattle.frame_engine.specs.declared.frame_reading.FrameReading.{FrameReading}
@@ -12,6 +13,7 @@ use Rattle.frame_engine.proofs.Devices.{capture-refused, capture-unheaded, far-b
 use Rattle.frame_engine.proofs.Beside.{beside-begun, beside-more, beside-finished}
 use Rattle.frame_engine.proofs.Reading.{bytes-written}
 use Rattle.frame_engine.proofs.Told.{told-nothing, told-begun, told-unread, told-read, told-more}
+use Rattle.frame_engine.proofs.Shown.{shown-none, shown-begun, shown-read, shown-more}
 use Rattle.frame_engine.proofs.capturing.join_capture.Goals as goal
 
 pub returns-in_err-piece-clause-joins : goal.returns-in_err-piece-clause-joins
@@ -42,6 +44,10 @@ loop-init g c =
       told = λ settings capture_map begun start came.
           told-begun g.R.Read.remaining g.P.TakeProgress.after settings capture_map c.args.reader.now start _ new c.args.told.now
           (bytes-written settings capture_map [] [] old new begun refl c.write.ensures.link c.write.ensures.channels c.write.ensures.selected wrote.none_left) c.requires.reader.1 came;
+      shown = λ settings capture_map begun start made.
+          shown-begun g.R.ReadBehind.after settings capture_map start (g.R.Read.remaining (inner_of c.args.reader.now)) (g.W.Write.contents (inner_of c.args.writer.now))
+          (g.W.Write.contents (inner_of c.write.new.writer)) (inner_of c.args.reader.now) new old.joining.file.bytes.items made
+          (bytes-written settings capture_map [] [] old new begun refl c.write.ensures.link c.write.ensures.channels c.write.ensures.selected wrote.none_left) wrote.written;
       ready = c.requires.reading;
       empty = wrote.none_left;
       flushed = stays_flushed _ _ c.requires.writer.2 wrote.left_flushed;
@@ -113,6 +119,17 @@ loop-preserved g c =
           c.in-Ok.count _ c.join_piece.new.self _ c.tell_progress.new.told c.in-Ok.ensures.given
           (sym (ap length (ap (take c.in-Ok.count) piece ∙ front_is) ∙ length-take-le c.in-Ok.count front c.in-Ok.ensures.within)) joined.1.0
           (rw c.given.ensures at c.tell_progress.ensures);
+      shown = λ settings capture_map begun start made.
+          let far = c.loop.invariant.shown settings capture_map begun start made in
+          let joined = c.in-Ok-join_piece.ensures.joins settings capture_map far.bytes far.text far.has in
+          shown-more g.R.ReadBehind.after settings capture_map start (g.R.Read.remaining (inner_of c.args.reader.now)) (g.W.Write.contents (inner_of c.args.writer.now))
+          (g.R.Read.remaining (inner_of c.loop.reader)) (g.W.Write.contents (inner_of c.loop.writer)) (inner_of c.loop.reader) c.loop.reading far c.loop.invariant.empty
+          (g.R.Read.remaining (inner_of c.read_behind.new.reader)) (inner_of c.read_behind.new.reader) (take c.in-Ok.count c.deref.result.now)
+          (subst (MakesReads g.R.ReadBehind.after (g.W.Write.contents (inner_of c.loop.writer)) (inner_of c.loop.reader) (inner_of c.read_behind.new.reader))
+          (sym (ap (take c.in-Ok.count) piece ∙ front_is)) c.in-Ok.ensures.shown)
+          (subst (Consumes (g.R.Read.remaining (inner_of c.loop.reader)) (g.R.Read.remaining (inner_of c.read_behind.new.reader)))
+          (sym (ap (take c.in-Ok.count) piece ∙ front_is)) c.in-Ok.ensures.taken)
+          (g.W.Write.contents (inner_of c.join_piece.new.writer)) c.join_piece.new.self joined.0 joined.1.0 joined.1.1;
       ready = c.in-Ok-join_piece.ensures.ready;
       empty = c.in-Ok-join_piece.ensures.empty;
       flushed = stays_flushed _ _ c.loop.invariant.flushed c.in-Ok-join_piece.ensures.flushed;
@@ -169,3 +186,41 @@ pub returns-clause-told : goal.returns-clause-told
 returns-clause-told g c = λ settings capture_map begun start came.
     told-unread g.R.Read.remaining g.P.TakeProgress.after settings capture_map c.args.reader.now start c.loop.reader c.loop.reading c.loop.told
     (c.loop.invariant.told settings capture_map begun start came) c.loop.reader (Keeps-refl (g.R.Read.remaining (inner_of c.loop.reader)))
+
+-- ---- what stood flushed at each read
+
+pub returns-in_err-piece-clause-shown : goal.returns-in_err-piece-clause-shown
+returns-in_err-piece-clause-shown g c = λ settings capture_map begun start made.
+    shown-none g.R.ReadBehind.after settings capture_map start (g.R.Read.remaining (inner_of c.args.reader.now)) (g.W.Write.contents (inner_of c.args.writer.now))
+    (inner_of c.args.reader.now) made
+
+pub returns-in_err-write-clause-shown : goal.returns-in_err-write-clause-shown
+returns-in_err-write-clause-shown g c = λ settings capture_map begun start made.
+    shown-none g.R.ReadBehind.after settings capture_map start (g.R.Read.remaining (inner_of c.args.reader.now)) (g.W.Write.contents (inner_of c.args.writer.now))
+    (inner_of c.args.reader.now) made
+
+pub returns-in-Err-clause-shown : goal.returns-in-Err-clause-shown
+returns-in-Err-clause-shown g c = λ settings capture_map begun start made.
+    shown-read g.R.ReadBehind.after settings capture_map start (g.R.Read.remaining (inner_of c.args.reader.now)) (g.W.Write.contents (inner_of c.args.writer.now))
+    (g.R.Read.remaining (inner_of c.loop.reader)) (g.W.Write.contents (inner_of c.loop.writer)) (inner_of c.loop.reader) c.loop.reading
+    (c.loop.invariant.shown settings capture_map begun start made) c.loop.invariant.empty (g.R.Read.remaining (inner_of c.read_behind.new.reader)) (inner_of c.read_behind.new.reader)
+    [] c.in-Err.ensures.shown
+    (Consumes-kept (g.R.Read.remaining (inner_of c.loop.reader)) (g.R.Read.remaining (inner_of c.loop.reader)) (g.R.Read.remaining (inner_of c.read_behind.new.reader)) []
+    (Consumes-nil (g.R.Read.remaining (inner_of c.loop.reader))) c.in-Err.ensures.kept)
+
+pub returns-then-count-eq0-clause-shown : goal.returns-then-count-eq0-clause-shown
+returns-then-count-eq0-clause-shown g c = λ settings capture_map begun start made.
+    shown-read g.R.ReadBehind.after settings capture_map start (g.R.Read.remaining (inner_of c.args.reader.now)) (g.W.Write.contents (inner_of c.args.writer.now))
+    (g.R.Read.remaining (inner_of c.loop.reader)) (g.W.Write.contents (inner_of c.loop.writer)) (inner_of c.loop.reader) c.loop.reading
+    (c.loop.invariant.shown settings capture_map begun start made) c.loop.invariant.empty (g.R.Read.remaining (inner_of c.read_behind.new.reader)) (inner_of c.read_behind.new.reader)
+    (take c.in-Ok.count c.read_behind.new.room) c.in-Ok.ensures.shown c.in-Ok.ensures.taken
+
+pub returns-in-Err-join_piece-clause-shown : goal.returns-in-Err-join_piece-clause-shown
+returns-in-Err-join_piece-clause-shown g c = λ settings capture_map begun start made.
+    shown-read g.R.ReadBehind.after settings capture_map start (g.R.Read.remaining (inner_of c.args.reader.now)) (g.W.Write.contents (inner_of c.args.writer.now))
+    (g.R.Read.remaining (inner_of c.loop.reader)) (g.W.Write.contents (inner_of c.loop.writer)) (inner_of c.loop.reader) c.loop.reading
+    (c.loop.invariant.shown settings capture_map begun start made) c.loop.invariant.empty (g.R.Read.remaining (inner_of c.read_behind.new.reader)) (inner_of c.read_behind.new.reader)
+    (take c.in-Ok.count c.read_behind.new.room) c.in-Ok.ensures.shown c.in-Ok.ensures.taken
+
+pub returns-clause-shown : goal.returns-clause-shown
+returns-clause-shown g c = λ settings capture_map begun start made. (c.loop.invariant.shown settings capture_map begun start made).reads.all

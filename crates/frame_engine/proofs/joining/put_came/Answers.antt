@@ -9,4 +9,4 @@ use Rattle.frame_engine.proofs.joining.put_came.Goals as goal
 pub returns-clause-compared : goal.returns-clause-compared
 returns-clause-compared c =
     subst (λ (selected : Selection). Takes (arrivals_of_steps selected c.args.timed.now.waiting.items) c.args.comparing.now c.take_steps.new.self) c.put_all.ensures.selected
-    (subst (λ (steps : List TimedStep). Takes (arrivals_of_steps c.put_all.new.self.selected steps) c.args.comparing.now c.take_steps.new.self) c.waiting-3.ensures c.take_steps.ensures)
+    (subst (λ (steps : List TimedStep). Takes (arrivals_of_steps c.put_all.new.self.selected steps) c.args.comparing.now c.take_steps.new.self) c.waiting-3.ensures c.take_steps.ensures.takes)

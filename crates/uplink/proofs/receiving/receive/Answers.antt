@@ -17,7 +17,7 @@ use Rattle.workers.proofs.GivenInParts.{given-nothing}
 use Rattle.uplink.specs.declared.finish.Concluded.{Concluded}
 use Rattle.uplink.specs.declared.receiving.Received.{Received}
 use Rattle.uplink.specs.declared.receiving.ReceiveError.{ReceiveError}
-use Rattle.uplink.specs.Received.{CameFrom, IsAnswerBy, AreStraysOfSources, HasReceived, GivesBack}
+use Rattle.uplink.specs.Received.{CameFrom, IsAnswerBy, AreStraysOfSources, HasReceived, GivesBack, AreUntouched}
 use Rattle.uplink.specs.Inside.Running.{HaveNotes, notes_on, HasRun, ConcludesAnswer}
 use Rattle.uplink.proofs.receiving.receive.Given.{Over}
 use Rattle.uplink.proofs.receiving.receive.Goals as goal
@@ -126,3 +126,12 @@ returns-clause-given_back g c =
     subst Back (sym is)
     (record { frames = has.frames; requests = has.requests; were_given = has.were_given; first = has.first; untouched = λ not. absurd (not refl) }))
     c.received_of.ensures.not
+
+pub returns-in-Err-clause-not_begun : goal.returns-in-Err-clause-not_begun
+returns-in-Err-clause-not_begun g c = λ began. (refl, refl)
+
+pub returns-clause-not_begun : goal.returns-clause-not_begun
+returns-clause-not_begun g c =
+    let has = ran g (goal.at.returns-clause-not_begun g c).After-run_prepared-ran in
+    let Same : ReceiveError g.row.F.Denot g.row.Q.Denot → Type 0 = AreUntouched c.args.consumer c.args.scheduler in
+    IfErr-weaker c.received_of.result _ Same (λ error is. subst Same (sym is) has.not_begun) c.received_of.ensures.not

@@ -109,4 +109,8 @@ returns g c = λ accepted channels rule is.
             subst Answers (sym w.concluded-is) (answer w.conclude-concluded.result refl w.conclude-concluded.ensures.is)
         | in-None w ↦ subst Answers (sym w.concluded-is) tt
       ];
+      not_begun = elim c.match-ended.branch [
+        | in-Some w ↦ λ not. absurd (false≢true (sym not ∙ (c.is_some-began.ensures ∙ ap is_some w.in-Some.is)))
+        | in-None w ↦ λ not. ran.not_begun w.in-None.is
+      ];
     }

@@ -9,7 +9,7 @@ use Rattle.frame_comparison.proofs.comparison.FrameComparison.take.Goals as goal
 pub returns-else-is_err-clause-taken : goal.returns-else-is_err-clause-taken
 returns-else-is_err-clause-taken c = λ comparison is whole.
     let flow : ℕ = c.args.flow in
-    let frame : CameFrame = came c.args.time c.args.frame.now in
+    let frame : CameFrame = came c.args.time c.args.frame.now c.args.bursts.now in
     let keeps : c.new-frame.result ≡ kept frame = c.new-frame.ensures in
     let counted : c.len.result ≡ length c.self.inside.counts.items = search (rules, c.len.ensures) in
     let counts : length c.self.inside.counts.items ≡ length comparison.flows =

@@ -1,8 +1,0 @@
-use Rattle.comparison_report.specs.ReportLines.{only_line}
-use Rattle.text_lines.proofs.PutTexts.{puts-one-more}
-use Rattle.comparison_report.proofs.put_all_only.Goals as goal
-
-pub loop-frame-preserved : goal.loop-frame-preserved
-loop-frame-preserved g c =
-    puts-one-more g.O.PutText.after c.args.frames.now c.loop-frame.frame-index c.frame-item.result c.loop-frame-test.true (only_line c.args.words.now) c.args.out.now
-    c.loop-frame.out c.put_only.new.out c.loop-frame.invariant (rw (← c.frame-item.is) c.put_only.ensures)

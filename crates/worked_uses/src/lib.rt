@@ -1,0 +1,34 @@
+//! What the small programs of `uses` do, on cases that were worked out by hand: their tests.
+//!
+//! They stand apart from that crate, so that it is proved once and not a second time with its
+//! tests. There is nothing here for a caller.
+#![tactic(auto)]
+
+#[cfg(test)]
+mod burst;
+#[cfg(test)]
+mod byte_source;
+#[cfg(test)]
+mod cut_joined_again;
+#[cfg(test)]
+mod delivery_flows;
+#[cfg(test)]
+mod delivery_run;
+#[cfg(test)]
+mod five_senders;
+#[cfg(test)]
+mod flow;
+#[cfg(test)]
+mod handed_on;
+#[cfg(test)]
+mod header_check;
+#[cfg(test)]
+mod losses_by_rule;
+#[cfg(test)]
+mod midstream;
+#[cfg(test)]
+mod one_flow;
+#[cfg(test)]
+mod run_caller;
+#[cfg(test)]
+mod window;
