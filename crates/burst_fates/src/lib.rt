@@ -4,7 +4,8 @@
 //! 2. [`BurstFates::reason`] says why a frame that came of some bursts wasn't joined: the first of
 //!    them that isn't kept, and what became of it.
 //!
-//! [`put_reason`] puts a reason for people, and [`MissingReason::word`] gives its word for programs.
+//! [`put_reason`] puts a reason for people, and [`MissingReason::word`] gives its word for
+//! programs.
 //!
 //! The last 32,768 things that were told are kept, in memory that is asked for once.
 //!

@@ -48,8 +48,8 @@ module _ {R W File : Type 0} (remaining : R → Option (List ℕ)) (contents : W
     pub unread : reader' ≡ reader
     pub unwritten : writer' ≡ writer
 
-  -- **The capture was joined with the map that a file holds**, and with these settings. Where frames
-  -- were to be compared and all was done, those that were written are the analyser's.
+  -- **The capture was joined with the map that a file holds**, and with these settings. Where
+  -- frames were to be compared and all was done, those that were written are the analyser's.
   pub record JoinsByMap (settings : CaptureSettings) (compares : Bool) (reader reader' : Device R) (writer writer' : Device W) (result : Result (Unit {0}) CaptureCommandFault) : Type 0 where
     pub capture_map : CaptureMap
     pub map_is : IsMapOfFile bytes_of capture_map
@@ -86,8 +86,8 @@ module _ {R W File : Type 0} (remaining : R → Option (List ℕ)) (contents : W
     pub unread : reader' ≡ reader
     pub unwritten : writer' ≡ writer
 
-  -- **what comes of words is of what they ask for, or their own fault**: so a fault of another kind,
-  -- and a capture that was joined, is of words that ask to capture, or for help
+  -- **what comes of words is of what they ask for, or their own fault**: so a fault of another
+  -- kind, and a capture that was joined, is of words that ask to capture, or for help
   abbrev pub DoesAsked : List (List ℕ) → Device R → Device R → Device W → Device W → Result (Unit {0}) CaptureCommandFault → Type 0
   DoesAsked words reader reader' writer writer' result =
       ((settings : CaptureSettings) × (compares : Bool) × AskForSettings words settings × AskToCompare words compares × Captures settings compares reader reader' writer writer' result)
@@ -106,9 +106,9 @@ module _ {R W File : Type 0} (remaining : R → Option (List ℕ)) (contents : W
     pub does : DoesAsked words input input' output output' result
 
   module _ (after : R → List FlushedRead → R → Type 0) where
-    -- **The capture was joined with the map that a file holds, and at each read just the file of all
-    -- records that were read before stood flushed in the output**: by the relation that the reader
-    -- keeps.
+    -- **The capture was joined with the map that a file holds, and at each read just the file of
+    -- all records that were read before stood flushed in the output**: by the relation that the
+    -- reader keeps.
     pub record JoinsBehindFile (settings : CaptureSettings) (reader reader' : R) (writer : W) (start : R) : Type 0 where
       pub capture_map : CaptureMap
       pub map_is : IsMapOfFile bytes_of capture_map

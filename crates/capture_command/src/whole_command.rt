@@ -374,8 +374,8 @@ fn print_help<W: Write>(out: &mut Device<W>, text: &str) -> Result<(), CaptureCo
 }
 
 /// Does what the words ask for, the program's name first, between a reader and a writer that were
-/// not used yet. How far the reading is, where they ask for it, and the summary go to `err`, but not
-/// the line of a fault.
+/// not used yet. How far the reading is, where they ask for it, and the summary go to `err`, but
+/// not the line of a fault.
 pub fn obey_words<S: AsStr, F: Files + Clock, R: ReadBehind, W: Write, E: Write>(
     alloc: Global,
     rt: &F,

@@ -11,9 +11,7 @@ use capture_summary::{CaptureSummary, FlowSummary};
 use frame_comparison::{ComparedCounts, FrameComparison, LonelyFrame, Side};
 use serde_json::{Value, json};
 use std::alloc::{AllocError, Global};
-
-/// So many nanoseconds are a second.
-const SECOND: u64 = 1_000_000_000;
+use text_lines::NANOSECONDS_PER_SECOND;
 
 /// The flow with this index, if there is one.
 fn flow_at(flows: &[FlowSummary], flow: usize) -> Option<FlowSummary>
@@ -113,8 +111,8 @@ fn only_value(
         "bytes": frame.length,
         "first": first,
         "flow": frame.flow,
-        "nanoseconds": frame.time % SECOND,
-        "seconds": frame.time / SECOND,
+        "nanoseconds": frame.time % NANOSECONDS_PER_SECOND,
+        "seconds": frame.time / NANOSECONDS_PER_SECOND,
         "sfid": sfid
     })
 }
@@ -184,8 +182,8 @@ fn missing_value(
         "bytes": frame.length,
         "first": first,
         "flow": frame.flow,
-        "nanoseconds": frame.time % SECOND,
-        "seconds": frame.time / SECOND,
+        "nanoseconds": frame.time % NANOSECONDS_PER_SECOND,
+        "seconds": frame.time / NANOSECONDS_PER_SECOND,
         "sfid": sfid,
         "why": why
     })

@@ -10,7 +10,8 @@ use Rattle.std.proofs.lemmas.Fmt.{decimal_is_IsNumeral}
 use Rattle.std.proofs.lemmas.Str.Parse.{digit_from_value}
 use Rattle.std.proofs.lemmas.List.Folds.{list_any-append}
 use Rattle.csv.specs.Writing.{default_writer, field_text, fields_text, is_blank, needs_quotes, needs_byte, row_text}
-use Rattle.capture_summary.specs.Requests.{seconds_text, field_text as number_text, names_line, second, IsNumberField}
+use Rattle.capture_summary.specs.Requests.{field_text as number_text, names_line, IsNumberField}
+use Rattle.text_lines.specs.Putting.{second, seconds_text}
 
 -- no byte of the field calls for quotes
 abbrev pub IsPlain : List ℕ → Type 0

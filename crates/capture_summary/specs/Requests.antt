@@ -1,19 +1,12 @@
 -- Requests as CSV.
-use Rattle.std.specs.Prelude.{◌≡◌, ℕ, ◌+◌, ◌/◌, ◌%◌, List, [], ◌∷◌, ◌++◌, drop, codes, false, Vec}
+use Rattle.std.specs.Prelude.{◌≡◌, ℕ, List, [], ◌∷◌, ◌++◌, codes, false, Vec}
 use Rattle.std.specs.Fmt.{decimal}
 use Rattle.text_lines.specs.Lines.{line_feed}
+use Rattle.text_lines.specs.Putting.{seconds_text}
 use Rattle.lane.specs.declared.admitted.Request.{Request}
 use Rattle.std.specs.declared.alloc.Global.{Global}
 use Rattle.csv.specs.declared.writer.Writer.{Writer}
 use Rattle.csv.specs.Writing.{default_writer, needs_quotes, writer_setup, fields_written, has_written}
-
--- nanoseconds in a second
-abbrev pub second : ℕ
-second = 1000000000
-
--- a time in seconds, with nine digits behind the point: those of a second more, but for the first
-abbrev pub seconds_text : ℕ → List ℕ
-seconds_text nanoseconds = decimal (nanoseconds / second) ++ codes "." ++ drop 1 (decimal (second + nanoseconds % second))
 
 -- a comma and a number
 abbrev pub field_text : ℕ → List ℕ

@@ -1,32 +1,15 @@
 //! Requests as CSV.
 ghost use Rattle.std.specs.Prelude.{◌≡◌, [], List, ℕ, IsTrue, IfOk, map};
 ghost use Rattle.csv.specs.Writing.{default_writer, row_text};
-ghost use Rattle.text_lines.specs.Putting.{Puts};
-ghost use Rattle.capture_summary.specs.Requests.{seconds_text, names_line, request_line};
+ghost use Rattle.text_lines.specs.Putting.{seconds_text};
+ghost use Rattle.capture_summary.specs.Requests.{names_line, request_line};
 ghost use Rattle.capture_summary.specs.Requests.{IsReady, IsNumberField};
 
 use csv::{Writer, WriterBuilder};
 use itoa::Buffer;
 use lane::Request;
 use std::alloc::{AllocError, Global};
-use text_lines::{PutText, TextBuffer, put_number, put_word};
-
-/// So many nanoseconds are a second.
-const SECOND: u64 = 1_000_000_000;
-
-/// Puts a time in seconds, with nine digits behind the point.
-fn put_seconds<O: PutText>(out: &mut O, nanoseconds: u64)
-    ensures { Puts O.after out.old (seconds_text nanoseconds) out.new }
-{
-    put_number(out, nanoseconds / SECOND);
-    put_word(out, ".");
-    let mut buffer = Buffer::new();
-    let (_, digits) = buffer
-        .format(SECOND + nanoseconds % SECOND)
-        .as_bytes()
-        .split_at(1);
-    out.put(digits);
-}
+use text_lines::{TextBuffer, put_seconds};
 
 /// The text of a time in seconds.
 fn seconds_of(alloc: Global, nanoseconds: u64) -> Result<Vec<u8>, AllocError>

@@ -6,9 +6,9 @@ use Rattle.receiver.specs.declared.reply.Reply.{Reply}
 use Rattle.capture_rules.specs.declared.arrival.Arrival.{Arrival}
 use Rattle.captured_flows.specs.declared.sound_burst.SoundBurst.{SoundBurst}
 
--- **One step**: a burst of the flow with this index is handed in; something is given; the burst with
--- this number, if it has one, was handed in, and this was replied to it; or the flow was closed and
--- begins anew, and this was counted of it since it was begun.
+-- **One step**: a burst of the flow with this index is handed in; something is given; the burst
+-- with this number, if it has one, was handed in, and this was replied to it; or the flow was
+-- closed and begins anew, and this was counted of it since it was begun.
 pub data CaptureStep : Type 0 where
   handed_in : ℕ → Arrival SoundBurst → CaptureStep
   gave : Given → CaptureStep

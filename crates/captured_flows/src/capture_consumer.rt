@@ -11,8 +11,8 @@ use receiver::Reply;
 
 /// Takes what is given of a capture, and is told of each burst when it is handed in: so it knows
 /// when what it is given came. It is told, too, what was replied to the burst, and when a flow was
-/// closed and begins anew. Its relation `after` speaks of what is given while it is told of nothing,
-/// and `saw` of all of it.
+/// closed and begins anew. Its relation `after` speaks of what is given while it is told of
+/// nothing, and `saw` of all of it.
 pub trait CaptureConsumer: Consumer {
     // The first became the second by these steps, in order.
     ghost saw: { Self → List CaptureStep → Self → Type 0 };
@@ -24,8 +24,8 @@ pub trait CaptureConsumer: Consumer {
         ensures { (start : Self) (steps : List CaptureStep) → saw start steps self.old
             → saw start (steps ++ handed_in flow burst.now ∷ []) self.new };
 
-    /// The burst of this flow that was handed in last, with this number if it has one, has given all
-    /// that it gives now, and this was replied to it.
+    /// The burst of this flow that was handed in last, with this number if it has one, has given
+    /// all that it gives now, and this was replied to it.
     fn replied(&mut self, flow: usize, burst_id: Option<u64>, reply: Reply)
         ensures { (start : Self) (steps : List CaptureStep) → saw start steps self.old
             → saw start (steps ++ replied flow burst_id reply ∷ []) self.new };

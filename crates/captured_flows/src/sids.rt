@@ -4,12 +4,8 @@ ghost use Rattle.capture_map.specs.declared.map.MapSid.{MapSid};
 ghost use Rattle.captured_flows.specs.Sids.{channel_of, flow_of, place_of, IsTableOf, most_channels, most_sids};
 
 use capture_map::{MapChannel, MapSid};
+use lane::{MOST_CHANNELS, SIDS};
 use std::alloc::{AllocError, Global};
-
-/// So many channels have service identifiers.
-const CHANNELS: usize = 16;
-/// Each has so many.
-const SIDS: usize = 16_384;
 
 /// The channel of an upstream channel id.
 pub(crate) fn channel_of(channels: &[MapChannel], id: u32) -> Option<u8>
@@ -32,7 +28,7 @@ impl SidFlows {
     pub(crate) fn new(alloc: Global, rows: &[MapSid]) -> Result<SidFlows, AllocError>
         ensures { IfOk result (HasFlowsOf rows.now) }
     {
-        let mut flows = empty_table(alloc, CHANNELS * SIDS)?;
+        let mut flows = empty_table(alloc, MOST_CHANNELS * SIDS)?;
         for row in rows {
             put(&mut flows, *row);
         }
@@ -67,7 +63,7 @@ fn place_of(channel: u8, sid: u16) -> Option<usize>
     ensures { MatchOption result ((most_channels ≤ channel) ⊎ (most_sids ≤ sid))
         (λ place. (channel < most_channels) × (sid < most_sids) × (place ≡ place_of channel sid)) }
 {
-    if usize::from(channel) >= CHANNELS || usize::from(sid) >= SIDS {
+    if usize::from(channel) >= MOST_CHANNELS || usize::from(sid) >= SIDS {
         return None;
     }
     Some(usize::from(channel) * SIDS + usize::from(sid))

@@ -131,8 +131,8 @@ RunsFollow rule channels words remaining contents reader reader' writer writer' 
     × RunsFollowBy rule channels settings remaining contents reader reader' writer writer' result
 
 module _ {R W : Type 0} (after : R → List FlushedRead → R → Type 0) (remaining : R → Option (List ℕ)) (contents : W → Option (List ℕ)) (words : List (List ℕ)) where
-  -- **A trace was followed as the words ask for it, and at each read just the text of all lines that
-  -- were read before stood flushed in the output**: by the relation that the reader keeps.
+  -- **A trace was followed as the words ask for it, and at each read just the text of all lines
+  -- that were read before stood flushed in the output**: by the relation that the reader keeps.
   pub record FollowsBehindText (reader reader' : R) (writer : W) (start : R) : Type 0 where
     pub rule : LossRule
     pub channels : ℕ

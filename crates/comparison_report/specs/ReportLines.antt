@@ -51,7 +51,8 @@ abbrev pub comparison_line : Bool → ℕ → List ℕ
 comparison_line is_whole strangers = codes "comparison " ++ whole_word is_whole ++ codes " strangers" ++ spaced strangers ++ codes "\n"
 
 -- **The lines of a comparison for programs**: one for each flow of which something came, one for
--- each frame that is listed, first the analyser's, each with the reason at its place, and a last one
+-- each frame that is listed, first the analyser's, each with the reason at its place, and a last
+-- one
 abbrev pub report_text : ComparisonSeen → List MissingReason → ℕ → List ℕ
 report_text seen reasons strangers =
     numbered_texts compared_line seen.counts ++ numbered_texts (missing_line reasons) seen.analyser.only

@@ -160,8 +160,8 @@ fn put_last<O: PutText>(out: &mut O, is_whole: bool, strangers: u64)
 
 /// Puts the lines of a comparison for programs: one for each flow of which something was counted,
 /// by its index, one for each frame that is listed, first the analyser's, each with why we haven't
-/// it where `reasons` has that at its place, and a last one. So many frames of the analyser's are of
-/// no flow, and were compared with none. The times are in nanoseconds since 1970.
+/// it where `reasons` has that at its place, and a last one. So many frames of the analyser's are
+/// of no flow, and were compared with none. The times are in nanoseconds since 1970.
 pub fn put_comparison_report<O: PutText>(
     out: &mut O,
     comparison: &FrameComparison,

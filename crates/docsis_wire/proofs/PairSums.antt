@@ -78,8 +78,8 @@ pub bytes_as_pair : (bytes : List ℕ) → length bytes ≡ 16 → Each1 (Fits w
     → bit_xor (number_l 256 bytes % 2 ^ 64) (number_l 256 bytes / 2 ^ 64 % 2 ^ 64 * 2 ^ 64) ≡ message bytes
 bytes_as_pair bytes size fits = split_words (number_l 256 bytes) (number_below bytes size fits) ∙ number_is_message bytes
 
--- The sums that a step makes, gathered by what they come of: p, q, r and s is what stays of the four
--- pairs that are moved, po, qo, ro and so what goes over.
+-- The sums that a step makes, gathered by what they come of: p, q, r and s is what stays of the
+-- four pairs that are moved, po, qo, ro and so what goes over.
 regrouped : (p q l h b0 b1 ro s so po qo r la : ℕ) → bit_xor b0 b1 ≡ bit_xor (bit_xor po qo) (bit_xor r la)
     → bit_xor (bit_xor (bit_xor p q) (bit_xor l (bit_xor h b0))) (bit_xor (bit_xor b1 (bit_xor ro s)) so)
     ≡ bit_xor (bit_xor (bit_xor h l) la) (bit_xor (bit_xor (bit_xor p po) (bit_xor q qo)) (bit_xor (bit_xor r ro) (bit_xor s so)))

@@ -2,8 +2,8 @@
 use Rattle.std.specs.Prelude.{◌≡◌, ℕ, List, [], ◌∷◌, ◌++◌, ◌⊎◌, Option, Result, Ok, Err, take, flat_map}
 use Rattle.std.specs.Io.KnownBytes.{Appends, Consumes}
 
--- A call of a reader for bytes: what an output is known to hold when it was made, all of it flushed,
--- and the bytes that it gave, none where it failed.
+-- A call of a reader for bytes: what an output is known to hold when it was made, all of it
+-- flushed, and the bytes that it gave, none where it failed.
 pub record FlushedRead : Type 0 where
   pub held : Option (List ℕ)
   pub given : List ℕ

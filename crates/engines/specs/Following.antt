@@ -100,7 +100,8 @@ module _ (rule : LossRule) (width : Width) (settings : FollowSettings) where
     pub flushed : OnOk result (IsLeftFlushed writer writer')
     pub flushed_above : IfErr result (λ fault. fault ≢ Write → IsLeftFlushed writer writer')
     -- **each read was made behind a flush**, whatever the result: by no other call than
-    -- `read_behind`, which requires that all that was written to the writer that it names is flushed
+    -- `read_behind`, which requires that all that was written to the writer that it names is
+    -- flushed
     pub behind_flushes : is_read_behind_flushes reader' ≡ true
     -- each fault has its cause, and without a fault there is none
     pub cause : IfErr result (HasFollowCause width (remaining (inner_of reader)) reader' writer')

@@ -1,21 +1,13 @@
 -- What people read of a comparison.
-use Rattle.std.specs.Prelude.{ℕ, ◌+◌, ◌/◌, ◌%◌, ◌==◌, ◌&&◌, Bool, true, false, Option, Some, None, List, [], ◌++◌, drop, flat_map, codes, if◌then◌else◌, slice_get}
+use Rattle.std.specs.Prelude.{ℕ, ◌==◌, ◌&&◌, Bool, true, false, Option, Some, None, List, [], ◌++◌, flat_map, codes, if◌then◌else◌, slice_get}
 use Rattle.std.specs.Fmt.{decimal}
 use Rattle.hex.specs.Hex.{encode_lower}
-use Rattle.text_lines.specs.Putting.{numbered_texts}
+use Rattle.text_lines.specs.Putting.{numbered_texts, seconds_text}
 use Rattle.burst_fates.specs.declared.missing_reason.MissingReason.{MissingReason}
 use Rattle.burst_fates.specs.Words.{reason_text}
 use Rattle.frame_comparison.specs.declared.counts.ComparedCounts.{ComparedCounts}
 use Rattle.frame_comparison.specs.Frames.{ShownFrame}
 use Rattle.frame_comparison.specs.Seen.{ComparisonSeen}
-
--- nanoseconds in a second
-abbrev pub second : ℕ
-second = 1000000000
-
--- a time in seconds, with nine digits behind the point: those of a second more, but for the first
-abbrev pub seconds_text : ℕ → List ℕ
-seconds_text nanoseconds = decimal (nanoseconds / second) ++ codes "." ++ drop 1 (decimal (second + nanoseconds % second))
 
 -- a flow's service flow identifier, where it is known
 abbrev pub sfid_text : Option ℕ → List ℕ

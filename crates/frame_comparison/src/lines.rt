@@ -1,32 +1,14 @@
 //! What people read of a comparison.
 ghost use Rattle.std.specs.Prelude.{◌≡◌, flat_map, slice_get};
 ghost use Rattle.text_lines.specs.Putting.{Puts, numbered_texts};
-ghost use Rattle.frame_comparison.specs.ComparisonText.{seconds_text, sfid_text, is_quiet, counts_text, flow_line, lonely_text, here_line, told_reason, missing_line, whole_line, comparison_text};
+ghost use Rattle.frame_comparison.specs.ComparisonText.{sfid_text, is_quiet, counts_text, flow_line, lonely_text, here_line, told_reason, missing_line, whole_line, comparison_text};
 
 use crate::comparison::FrameComparison;
 use crate::counts::ComparedCounts;
 use crate::lonely_frame::LonelyFrame;
 use crate::side::Side;
 use burst_fates::{MissingReason, put_reason};
-use itoa::Buffer;
-use text_lines::{PutText, put_hex, put_number, put_word};
-
-/// So many nanoseconds are a second.
-const SECOND: u64 = 1_000_000_000;
-
-/// Puts a time in seconds, with nine digits behind the point.
-fn put_seconds<O: PutText>(out: &mut O, nanoseconds: u64)
-    ensures { Puts O.after out.old (seconds_text nanoseconds) out.new }
-{
-    put_number(out, nanoseconds / SECOND);
-    put_word(out, ".");
-    let mut buffer = Buffer::new();
-    let (_, digits) = buffer
-        .format(SECOND + nanoseconds % SECOND)
-        .as_bytes()
-        .split_at(1);
-    out.put(digits);
-}
+use text_lines::{PutText, put_hex, put_number, put_seconds, put_word};
 
 /// Puts a flow's service flow identifier, where it is known.
 fn put_sfid<O: PutText>(out: &mut O, sfid: Option<u32>)

@@ -172,8 +172,8 @@ impl Comparing {
         self.strangers
     }
 
-    /// Why each frame is missing that is listed as only the analyser's, in the order of the list, by
-    /// what was known of its bursts when it was listed; none, if frames aren't compared.
+    /// Why each frame is missing that is listed as only the analyser's, in the order of the list,
+    /// by what was known of its bursts when it was listed; none, if frames aren't compared.
     pub fn reasons(&self) -> &[MissingReason]
         ensures { result.now ≡ reasons_in self.now.reasons }
     {

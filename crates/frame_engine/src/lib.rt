@@ -9,8 +9,8 @@
 //!    and the bursts that wait take. How far it is [`TakeProgress`] takes behind each piece, if it
 //!    wants to; [`NoProgress`] doesn't.
 //!
-//! Where frames are compared with those that the analyser joined itself, [`Comparing::reasons`] says
-//! why each frame is missing that is listed as only the analyser's.
+//! Where frames are compared with those that the analyser joined itself, [`Comparing::reasons`]
+//! says why each frame is missing that is listed as only the analyser's.
 //!
 //! What matters most: the frames that are written are those which the receiver's definitions give
 //! for the bursts of the records, each with the time and the origin of the burst that completed it

@@ -29,8 +29,8 @@ None >>= next = None
 abbrev pub number_at : ℕ → List Field → Option ℕ
 number_at kind fields = last_value kind fields >>= number_in 4
 
--- **The frame that a packet of these parts holds**: its type is 80, TLV 10 is the channel and TLV 11
--- the SID
+-- **The frame that a packet of these parts holds**: its type is 80, TLV 10 is the channel and TLV
+-- 11 the SID
 abbrev pub recorded_of : ℕ → Parts → Option FrameParts
 recorded_of time parts = if parts.kind == 80 then (do
   channel ← number_at 10 parts.fields

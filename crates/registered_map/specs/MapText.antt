@@ -1,10 +1,10 @@
 -- The text of a map that was registered.
-use Rattle.std.specs.Prelude.{ℕ, ◌+◌, ◌/◌, ◌%◌, ◌==◌, List, [], ◌∷◌, ◌++◌, drop, slice_range, flat_map, codes, if◌then◌else◌}
+use Rattle.std.specs.Prelude.{ℕ, ◌==◌, List, [], ◌∷◌, ◌++◌, drop, slice_range, flat_map, codes, if◌then◌else◌}
 use Rattle.std.specs.Int.{w64, to_be_bytes}
 use Rattle.std.specs.Fmt.{decimal}
 use Rattle.hex.specs.Hex.{encode_lower}
 use Rattle.text_lines.specs.Lines.{line_feed}
-use Rattle.text_lines.specs.Putting.{spaced}
+use Rattle.text_lines.specs.Putting.{spaced, seconds_text}
 use Rattle.registrations.specs.declared.part.MessageName.{MessageName}
 use Rattle.registrations.specs.declared.part.MessageName.TheVariants.{RegRspMp, DbcReq}
 use Rattle.registered_map.specs.Registered.{Registered, RemarksMade}
@@ -23,12 +23,6 @@ colon_octet octet = codes ":" ++ encode_lower (octet ∷ [])
 -- the address of a modem: the lower six of eight octets
 abbrev pub modem_text : ℕ → List ℕ
 modem_text modem = encode_lower (slice_range (to_be_bytes w64 modem) 2 3) ++ flat_map colon_octet (drop 3 (to_be_bytes w64 modem))
-
--- a time in seconds, with nine digits behind the point: those of a thousand million more, but for
--- the first one
-abbrev pub seconds_text : ℕ → List ℕ
-seconds_text nanoseconds =
-    decimal (nanoseconds / 1000000000) ++ codes "." ++ drop 1 (decimal (1000000000 + nanoseconds % 1000000000))
 
 abbrev pub message_text : MessageName → List ℕ
 message_text (RegRspMp sid response) = codes "REG-RSP-MP"

@@ -1,15 +1,11 @@
 //! The words of a map's lines.
 ghost use Rattle.std.specs.Prelude.{flat_map};
 ghost use Rattle.text_lines.specs.Putting.{Puts};
-ghost use Rattle.registered_map.specs.MapText.{colon_octet, modem_text, seconds_text, message_text, telling_text};
+ghost use Rattle.registered_map.specs.MapText.{colon_octet, modem_text, message_text, telling_text};
 
 use crate::telling::Telling;
-use itoa::Buffer;
 use registrations::MessageName;
-use text_lines::{PutText, put_hex, put_number, put_spaced, put_word};
-
-/// So many nanoseconds are a second.
-const SECOND: u64 = 1_000_000_000;
+use text_lines::{PutText, put_hex, put_number, put_seconds, put_spaced, put_word};
 
 /// Puts a colon and the two digits of an octet.
 fn put_colon_octet<O: PutText>(out: &mut O, octet: u8)
@@ -35,20 +31,6 @@ fn put_modem<O: PutText>(out: &mut O, modem: u64)
     let octets = modem.to_be_bytes();
     put_hex(out, &octets[2..3]);
     put_colon_octets(out, &octets[3..]);
-}
-
-/// Puts a time in seconds, with nine digits behind the point.
-fn put_seconds<O: PutText>(out: &mut O, nanoseconds: u64)
-    ensures { Puts O.after out.old (seconds_text nanoseconds) out.new }
-{
-    put_number(out, nanoseconds / SECOND);
-    put_word(out, ".");
-    let mut buffer = Buffer::new();
-    let (_, digits) = buffer
-        .format(SECOND + nanoseconds % SECOND)
-        .as_bytes()
-        .split_at(1);
-    out.put(digits);
 }
 
 /// Puts the name of a message.

@@ -3,9 +3,10 @@ ghost use Rattle.std.specs.Prelude.{◌≡◌};
 ghost use Rattle.seen_sids.specs.Guess.{ahead, lies_within, some_within, is_one_of, have_one, look_like_one, twin_of};
 
 use crate::seen_sid::SeenSid;
+use docsis_wire::SEQUENCE_MODULUS;
 
 /// Numbers are counted modulo this.
-const MODULUS: u32 = 8192;
+const MODULUS: u32 = SEQUENCE_MODULUS as u32;
 
 /// How far a number lies ahead of another.
 fn ahead(first: u16, number: u16) -> u32

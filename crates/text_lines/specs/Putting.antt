@@ -1,5 +1,5 @@
 -- What is put to a text.
-use Rattle.std.specs.Prelude.{◌≡◌, ℕ, IsTrue, List, ◌++◌, codes, flat_map}
+use Rattle.std.specs.Prelude.{◌≡◌, ℕ, ◌+◌, ◌/◌, ◌%◌, IsTrue, List, ◌++◌, drop, codes, flat_map}
 use Rattle.std.specs.List.{enumerate_from}
 use Rattle.std.specs.Fmt.{decimal}
 use Rattle.text_lines.specs.declared.text_buffer.TextBuffer.{TextBuffer}
@@ -19,6 +19,14 @@ HasGrown start text end = IsTrue end.whole → IsTrue start.whole × (end.text.i
 -- the texts of items one behind another, each made with the item's place
 abbrev pub numbered_texts : {T : Type 0} → (ℕ → T → List ℕ) → List T → List ℕ
 numbered_texts text items = flat_map (λ one. text one.0 one.1) (enumerate_from 0 items)
+
+-- nanoseconds in a second
+abbrev pub second : ℕ
+second = 1000000000
+
+-- a time in seconds, with nine digits behind the point: those of a second more, but for the first
+abbrev pub seconds_text : ℕ → List ℕ
+seconds_text nanoseconds = decimal (nanoseconds / second) ++ codes "." ++ drop 1 (decimal (second + nanoseconds % second))
 
 -- a space and a number
 abbrev pub spaced : ℕ → List ℕ

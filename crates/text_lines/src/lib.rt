@@ -18,9 +18,9 @@
 //!   split what follows the first field of a line, where it has just so many words, and
 //!   [`three_words`] where there may be more.
 //! - [`read_number`], [`read_number_in`] and [`read_hex`] read a field, and [`read_only_hex`] what
-//!   is to be the last one of a line; [`put_word`],
-//!   [`put_number`], [`put_spaced`] and [`put_hex`] write one to whatever takes a text,
-//!   [`PutText`]: [`TextBuffer`] keeps it.
+//!   is to be the last one of a line; [`put_word`], [`put_number`], [`put_spaced`],
+//!   [`put_seconds`] and [`put_hex`] write one to whatever takes a text, [`PutText`]:
+//!   [`TextBuffer`] keeps it.
 //! - What is wrong with a line is a [`LineFault`], its kind a [`TraceKind`]; a failed allocation,
 //!   the fault of a segment and that of a cut become faults of lines and of texts by `?`.
 //! - [`Capacities`] says how much room a receiver of a trace has, [`DEFAULT_CAPACITY`] where no
@@ -51,7 +51,9 @@ pub use line_input::LineInput;
 pub use line_reader::LineReader;
 pub use lines::{TakeLine, split_behind_line, split_line, take_lines};
 pub use number::{read_number, read_number_in};
-pub use put_text::{PutText, put_hex, put_number, put_spaced, put_word};
+pub use put_text::{
+    NANOSECONDS_PER_SECOND, PutText, put_hex, put_number, put_seconds, put_spaced, put_word,
+};
 pub use text_buffer::TextBuffer;
 pub use words::{
     no_word, only_four_words, only_three_words, only_two_words, only_word, split_field, three_words,

@@ -2,7 +2,7 @@
 ghost use Rattle.std.specs.Prelude.{◌*◌, ◌/◌, ◌++◌, ◌≤◌, IsTrue, List, ℕ, length};
 ghost use Rattle.std.specs.Fmt.{decimal};
 ghost use Rattle.hex.specs.Hex.{encode_lower};
-ghost use Rattle.text_lines.specs.Putting.{Puts, IsClosed, spaced};
+ghost use Rattle.text_lines.specs.Putting.{Puts, IsClosed, seconds_text, spaced};
 
 use crate::digit_writer::write_digits;
 use itoa::Buffer;
@@ -12,6 +12,9 @@ const SPELLED_BYTES: usize = 64;
 
 /// How many bytes a space and the digits of a number are at most.
 const SPACED_MAX: usize = 21;
+
+/// So many nanoseconds are a second.
+pub const NANOSECONDS_PER_SECOND: u64 = 1_000_000_000;
 
 /// Takes a text, piece by piece. It can't refuse: one that can't take what it is given says so
 /// itself, as [`TextBuffer`](crate::TextBuffer) does.
@@ -53,6 +56,20 @@ pub fn put_number<O: PutText>(out: &mut O, number: u64)
     ensures { Puts O.after out.old (decimal number) out.new }
 {
     out.put(Buffer::new().format(number).as_bytes());
+}
+
+/// Puts a time in seconds, with nine digits behind the point.
+pub fn put_seconds<O: PutText>(out: &mut O, nanoseconds: u64)
+    ensures { Puts O.after out.old (seconds_text nanoseconds) out.new }
+{
+    put_number(out, nanoseconds / NANOSECONDS_PER_SECOND);
+    put_word(out, ".");
+    let mut buffer = Buffer::new();
+    let (_, digits) = buffer
+        .format(NANOSECONDS_PER_SECOND + nanoseconds % NANOSECONDS_PER_SECOND)
+        .as_bytes()
+        .split_at(1);
+    out.put(digits);
 }
 
 /// Puts the lower-case digits of some bytes, two for each.

@@ -150,8 +150,8 @@ module _ {F Q : Type 0} (takes : F → List Given → F → Type 0) (asks : Q �
     pub lane_count : length received.lanes.items ≡ channels
     pub strays : AreStraysOfSources channels sources received.strays
 
-  -- Both come back with a fault. Where the setup can't be run the threads didn't begin, and they are
-  -- as they were handed in. Where the threads began they were given what comes first.
+  -- Both come back with a fault. Where the setup can't be run the threads didn't begin, and they
+  -- are as they were handed in. Where the threads began they were given what comes first.
   pub record GivesBack (channels : ℕ) (rule : LossRule) (check : List ℕ → Bool) (setup : Setup) (came_first : List (List ChannelInput) → Incoming → Type 0) (consumer : F) (scheduler : Q) (error : ReceiveError F Q) : Type 0 where
     pub frames : List Given
     pub requests : List Given
@@ -159,7 +159,7 @@ module _ {F Q : Type 0} (takes : F → List Given → F → Type 0) (asks : Q �
     pub first : IsTrue error.began → (sources : List (List ChannelInput)) × (incoming : Incoming) × came_first sources incoming × GivesTheFirst channels rule check setup incoming frames requests
     pub untouched : ¬ (error.fault ≡ OutOfMemory) → (error.began ≡ false) × (error.consumer ≡ consumer) × (error.scheduler ≡ scheduler)
 
--- Where the threads did not begin, since the setup can't be run or not all of them could be started,
--- both are as they were handed in: nothing was given to them.
+-- Where the threads did not begin, since the setup can't be run or not all of them could be
+-- started, both are as they were handed in: nothing was given to them.
 abbrev pub AreUntouched : {F Q : Type 0} → F → Q → ReceiveError F Q → Type 0
 AreUntouched consumer scheduler error = error.began ≡ false → (error.consumer ≡ consumer) × (error.scheduler ≡ scheduler)

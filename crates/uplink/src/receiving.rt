@@ -90,8 +90,8 @@ pub struct ReceiveError<F, Q> {
 /// failed asks its source for nothing more, all others go on to their end, and no frame is made of
 /// what is taken then: so what the two were given is what comes first of what they would have been
 /// given (`given_back`, which allows for a flow that is being closed when an allocation fails). The
-/// two come back on every answer. The check is used by the caller's thread alone. The call waits for
-/// its threads, and they for the sources: it returns only if these end.
+/// two come back on every answer. The check is used by the caller's thread alone. The call waits
+/// for its threads, and they for the sources: it returns only if these end.
 ///
 /// **A slow consumer is waited for.** While a frame finds no room in its flow's ring, no item is
 /// taken, so the mailboxes fill, and sources are asked for nothing more. What waits is bounded by

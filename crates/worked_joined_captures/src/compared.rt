@@ -177,8 +177,8 @@ fn frames_of_no_flow_of_the_map(rt: HostRuntime) -> Result<(), Fail> {
     Ok(())
 }
 
-/// A capture of a burst that is kept, one of no channel of the map, one whose header is spoiled, and
-/// one that comes again, and of frames that the analyser joined of such.
+/// A capture of a burst that is kept, one of no channel of the map, one whose header is spoiled,
+/// and one that comes again, and of frames that the analyser joined of such.
 fn frames_of_bursts(alloc: Global) -> Result<Vec<u8>, AllocError> {
     let mut file = Vec::new(alloc);
     put_file(&mut file)?;

@@ -11,7 +11,8 @@
 //!    makes what threads tell each other by: when to begin, and when to wake.
 //! 2. [`Work::new`] gives each worker its part of what was opened. [`Sources`], [`LiveDecisions`]
 //!    and [`Consumers`] are what the caller brings.
-//! 3. [`start_team`] starts all workers, and hands each its part once all are there; where one can't
+//! 3. [`start_team`] starts all workers, and hands each its part once all are there; where one
+//! can't
 //!    be started, everything comes back as it was. [`Team::join`] waits for them and hands on what
 //!    they have [`Done`]. The consumers come back from both, whatever failed.
 //! 4. Meanwhile the caller takes [`Item`]s and drives the feeders: [`flush_all`] and

@@ -10,8 +10,8 @@ use mailbox::{Mouth, Taken};
 use std::alloc::Global;
 use std::sync::Wait;
 
-/// What the worker of requests works with, and hands back: the mouth of their mailbox, and who takes
-/// them.
+/// What the worker of requests works with, and hands back: the mouth of their mailbox, and who
+/// takes them.
 #[derive(Drop)]
 pub struct RequestWork<Q> {
     pub mouth: Mouth<Request>,

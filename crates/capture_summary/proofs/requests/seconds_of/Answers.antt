@@ -1,4 +1,4 @@
-use Rattle.capture_summary.specs.Requests.{seconds_text}
+use Rattle.text_lines.specs.Putting.{seconds_text}
 use Rattle.capture_summary.proofs.BufferFinished.{buffer-finished}
 use Rattle.capture_summary.proofs.requests.seconds_of.Goals as goal
 

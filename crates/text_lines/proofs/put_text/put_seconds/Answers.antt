@@ -1,7 +1,7 @@
 use Rattle.std.proofs.Common.{◌<◌, ◌+◌, ◌%◌, length, ap, ◌∙◌, arith}
 use Rattle.std.specs.Fmt.{decimal}
 use Rattle.std.proofs.lemmas.Fmt.{decimal_nonempty}
-use Rattle.capture_summary.proofs.requests.put_seconds.Goals as goal
+use Rattle.text_lines.proofs.put_text.put_seconds.Goals as goal
 
 pub split_at-requires : goal.split_at-requires
 split_at-requires g c =
