@@ -9,6 +9,8 @@
 //!   end, piece by piece, and only then writes its text, as its lines are made. [`replay_text_by`]
 //!   decides besides by a rule which segments are lost, and [`replay_text_of`] reports some flows.
 //! - [`follow_text`] is the engine of `follow`, which writes what a line brings before it reads on.
+//!   Its reader is a [`ReadBehind`], which may be shown the output at each read, as
+//!   [`read_behind`] makes one.
 //! - [`read_lines`] reads an input piece by piece, and [`write_report`] writes a report in the room
 //!   that [`held_room`] gives, for the engine of `run`; [`write_text`] writes a whole text.
 //! - [`TextWriter`] writes a text as it is put, and [`read_some`] makes one read without a limit
