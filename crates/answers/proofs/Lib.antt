@@ -1,0 +1,14 @@
+pub mod Everywhere
+pub mod SomeWalk
+pub mod SomeJoining
+pub mod Sizes
+pub mod Keeping
+pub mod SomeOutcome
+pub mod FewFrames
+pub mod RuledEvents
+pub mod AdmittedPayloads
+pub mod SomeReplay
+pub mod SomeIntake
+pub mod ReadTraces
+pub mod SomeText
+pub mod NoWalk

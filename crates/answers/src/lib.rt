@@ -1,0 +1,141 @@
+//! Laws about the definitions of the crates below: what they say a receiver gives is there, always.
+//!
+//! That it is one thing is said by laws of those crates, as `ccf::laws::joining_has_one_answer` and
+//! `flow_core::laws::flow_has_at_most_one_outcome`. Here it is said that there is one, from the
+//! joining of a segment upwards, whether or not a call gave it. What comes in is of bytes: of
+//! numbers below 256.
+//!
+//! Each function states a law in its contract; its body is empty or only calls another law.
+#![tactic(auto)]
+
+ghost use Rattle.std.specs.Prelude.{◌+◌, ◌*◌, ◌≤◌, ◌<◌, ◌^◌, ℕ, Bool, Option, List, length, sum_by};
+ghost use Rattle.std.specs.List.{concat, AllByRecursion};
+ghost use Rattle.docsis_wire.specs.declared.segment.Segment.{Segment};
+ghost use Rattle.docsis_wire.specs.Frame.{IsFrame};
+ghost use Rattle.ccf.specs.Walk.{Walks};
+ghost use Rattle.ccf.specs.Feed.{Feeds};
+ghost use Rattle.ccf.specs.Join.{Joins};
+ghost use Rattle.flow_core.specs.Counts.{payload_bytes};
+ghost use Rattle.flow_records.specs.declared.record.FlowRecord.{FlowRecord};
+ghost use Rattle.flow_core.specs.declared.counts.FlowCounts.{FlowCounts};
+ghost use Rattle.flow_core.specs.Events.{FlowEvent};
+ghost use Rattle.flow_core.specs.Outcome.{IsFlowOutcome};
+ghost use Rattle.loss_rule.specs.declared.rule.LossRule.{LossRule};
+ghost use Rattle.receiver.specs.declared.setup.Setup.{Setup};
+ghost use Rattle.receiver.specs.declared.outcome.Outcome.{Outcome};
+ghost use Rattle.receiver.specs.Faults.{CanReceive};
+ghost use Rattle.receiver.specs.Items.{Incoming, AreLanesOf, items_of};
+ghost use Rattle.receiver.specs.Order.{lengths_of, IsLawfulOrder};
+ghost use Rattle.receiver.specs.AdmittedOrder.{input_counts, IsAdmittedOrder};
+ghost use Rattle.receiver.specs.Intake.{IsIntake};
+ghost use Rattle.receiver.specs.Outcome.{GivesAtItsClose, IsOutcome};
+ghost use Rattle.receiver.specs.Ruled.{IsOutcomeBy};
+ghost use Rattle.lane.specs.Inputs.{AnsweredInput};
+ghost use Rattle.text_lines.specs.Capacities.{default_capacity};
+ghost use Rattle.text_lines.specs.Lines.{lines_of};
+ghost use Rattle.text_lines.specs.Format.{IsRead};
+ghost use Rattle.texts.specs.AnyHeader.{any_header};
+ghost use Rattle.texts.specs.Trace.Place.{Said, nothing_said, trace_format};
+ghost use Rattle.texts.specs.Replay.{IsSetupOf, IsReplayed, IsReplayedBy};
+ghost use Rattle.answers.specs.Room.{AreBurstsOfBytes, HasRoom};
+ghost use Rattle.answers.specs.Bytes.{AreBytes, CarryBytes, BringBytes};
+
+/// **Each settled list joins to some frames**: whatever bytes were unfinished, whatever the check
+/// says of headers, and whatever bytes the segments carry. Each of the frames is one. Together with
+/// what is left unfinished they have no more bytes than what was unfinished before and the
+/// payloads, and so there is no more than one for six of these.
+pub fn each_settled_list_joins()
+    ensures walked { (check : List ℕ → Bool) (bytes : List ℕ) → AreBytes bytes
+        → (frames : List (List ℕ)) × (after : List ℕ) × Walks check bytes frames after }
+    ensures fed { (check : List ℕ → Bool) (before : List ℕ) (segment : Segment)
+        → AreBytes before → AreBytes segment.payload
+        → (frames : List (List ℕ)) × (after : List ℕ)
+        × Feeds check before segment frames after × AreBytes after }
+    ensures joined { (check : List ℕ → Bool) (before : List ℕ) (settled : List (Option Segment))
+        → AreBytes before → CarryBytes settled
+        → (frames : List (List ℕ)) × (after : List ℕ) × Joins check before settled frames after }
+    ensures frames { (check : List ℕ → Bool) (before : List ℕ) (settled : List (Option Segment))
+        (frames : List (List ℕ)) (after : List ℕ)
+        → Joins check before settled frames after → AllByRecursion (IsFrame check) frames }
+    ensures bytes { (check : List ℕ → Bool) (before : List ℕ) (settled : List (Option Segment))
+        (frames : List (List ℕ)) (after : List ℕ)
+        → Joins check before settled frames after
+        → length (concat frames) + length after
+        ≤ length before + sum_by payload_bytes settled }
+    ensures count { (check : List ℕ → Bool) (before : List ℕ) (settled : List (Option Segment))
+        (frames : List (List ℕ)) (after : List ℕ)
+        → Joins check before settled frames after
+        → 6 * length frames ≤ length before + sum_by payload_bytes settled }
+{}
+
+/// Of numbers that aren't bytes this doesn't hold: some are walked in no way, though no header is
+/// refused.
+pub fn some_numbers_have_no_walk()
+    ensures { (numbers : List ℕ) × ((frames : List (List ℕ)) (after : List ℕ)
+        → ¬ (Walks any_header numbers frames after)) }
+{}
+
+/// **Each flow has an outcome**: whatever its record says and whatever events come to it, there are
+/// frames and counts that it gives once it is drained, and some that it gives at its close, after
+/// as many gaps as still change anything.
+pub fn each_flow_has_an_outcome()
+    ensures drained { (check : List ℕ → Bool) (flow_record : FlowRecord) (events : List FlowEvent)
+        → BringBytes events
+        → (frames : List (List ℕ)) × (counts : FlowCounts)
+        × IsFlowOutcome check flow_record events frames counts }
+    ensures closed { (check : List ℕ → Bool) (flow_record : FlowRecord) (events : List FlowEvent)
+        → BringBytes events
+        → (frames : List (List ℕ)) × (counts : FlowCounts)
+        × GivesAtItsClose check flow_record events frames counts }
+{}
+
+/// **Each intake has an outcome**, by each rule and by decisions alone: where inputs have answers
+/// and items are taken in an order, there is a whole answer of the receiver, which has the frames
+/// of each flow. Bursts are of bytes, and there are fewer inputs and items than memory has room
+/// for.
+pub fn each_intake_has_an_outcome()
+    ensures by_rule { (rule : LossRule) (check : List ℕ → Bool) (setup : Setup)
+        (incoming : Incoming) (order : List ℕ)
+        → IsIntake setup incoming order → AreBurstsOfBytes incoming → HasRoom incoming order
+        → (outcome : Outcome) × IsOutcomeBy rule check setup incoming order outcome }
+    ensures decided { (check : List ℕ → Bool) (setup : Setup) (incoming : Incoming)
+        (order : List ℕ)
+        → IsIntake setup incoming order → AreBurstsOfBytes incoming → HasRoom incoming order
+        → (outcome : Outcome) × IsOutcome check setup incoming order outcome }
+{
+    receiver::laws::replay_by_decisions_alone_is_a_replay();
+}
+
+/// **What comes in has an intake**, where the setup can be received with and bursts are of bytes:
+/// each input has an answer; in each lawful order of the items there is an intake; and of lawful
+/// tags of all that came there is an admitted order, in which there is one.
+pub fn what_comes_in_has_an_intake()
+    ensures lanes { (setup : Setup) (incoming : Incoming)
+        → CanReceive setup → AreBurstsOfBytes incoming
+        → (answered : ℕ → List AnsweredInput) × AreLanesOf setup incoming answered }
+    ensures ordered { (setup : Setup) (incoming : Incoming)
+        (answered : ℕ → List AnsweredInput) (order : List ℕ)
+        → AreLanesOf setup incoming answered
+        → IsLawfulOrder (lengths_of (items_of setup incoming answered)) order
+        → IsIntake setup incoming order }
+    ensures admitted { (setup : Setup) (incoming : Incoming) (tags : List ℕ)
+        → CanReceive setup → AreBurstsOfBytes incoming
+        → IsLawfulOrder (input_counts incoming) tags
+        → (order : List ℕ) × IsAdmittedOrder setup incoming tags order
+        × IsIntake setup incoming order }
+{}
+
+/// **Each trace has a text**, by each rule and without one: where its lines are read, there is a
+/// setup of what they say, and they are fewer than 2^48.
+pub fn each_trace_has_a_text()
+    ensures by_rule { (rule : LossRule) (input : List ℕ) (said : Said) (setup : Setup)
+        → IsRead trace_format (nothing_said default_capacity) (lines_of input) said
+        → IsSetupOf said setup → length (lines_of input) < 2 ^ 48
+        → (text : List ℕ) × IsReplayedBy rule input text }
+    ensures decided { (input : List ℕ) (said : Said) (setup : Setup)
+        → IsRead trace_format (nothing_said default_capacity) (lines_of input) said
+        → IsSetupOf said setup → length (lines_of input) < 2 ^ 48
+        → (text : List ℕ) × IsReplayed input text }
+{
+    texts::laws::replay_by_decisions_alone_is_a_replay();
+}
