@@ -1,4 +1,5 @@
 pub mod Everywhere
+pub mod Vectors
 pub mod SomeWalk
 pub mod SomeJoining
 pub mod Sizes
@@ -12,3 +13,7 @@ pub mod SomeIntake
 pub mod ReadTraces
 pub mod SomeText
 pub mod NoWalk
+pub mod Pairs
+pub mod StandIns
+pub mod OtherItems
+pub mod OtherOutcomes

@@ -1,5 +1,5 @@
 -- Numbers that aren't all bytes, and that are walked in no way.
-use Rattle.std.proofs.Common.{◌≡◌, ℕ, ◌<◌, ◌%◌, inl, inr, true, false, List, [], ◌∷◌, ◌++◌, length, replicate, get_or, ap, sym, subst, ◌∙◌, arith}
+use Rattle.std.proofs.Common.{◌≡◌, ℕ, ◌%◌, inl, inr, List, [], ◌∷◌, ◌++◌, replicate, get_or, ap, sym, subst, ◌∙◌, arith}
 use Rattle.std.specs.List.{concat}
 use Rattle.std.proofs.lemmas.List.{length-replicate}
 use Rattle.docsis_wire.specs.declared.frame.HeadRead.TheVariants.{Head}

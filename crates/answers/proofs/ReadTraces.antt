@@ -1,5 +1,5 @@
 -- What the lines of a trace say: its bursts are of bytes, and there is no more than there are lines.
-use Rattle.std.proofs.Common.{◌≡◌, ℕ, suc, ◌+◌, ◌<◌, ◌≤◌, ◌==◌, inl, inr, Bool, true, false, cond, Some, None, List, [], ◌∷◌, length, map, filter_map, slice_index_or, lit<, sym, ap, subst, arith, length-append}
+use Rattle.std.proofs.Common.{◌≡◌, ℕ, suc, ◌+◌, ◌≤◌, ◌==◌, inl, inr, Bool, true, false, cond, Some, None, List, [], ◌∷◌, length, map, filter_map, slice_index_or, lit<, sym, ap, subst, ◌∙◌, arith, length-append}
 use Rattle.std.specs.List.{AllByRecursion}
 use Rattle.std.proofs.lemmas.List.Elements.{All-from_recursion}
 use Rattle.std.proofs.lemmas.Grind.{get_or_default_zero}
@@ -89,20 +89,26 @@ read-tags ring lines said read =
           (times_of-decisions entries each);
     }
 
--- each line gives one entry at most
-entries-with : (said : Said) (one : TraceLine) → length (with_line said one).entries ≤ suc (length said.entries)
-entries-with said (line.Flow flow_record) = omega arith
-entries-with said (line.Sid row) = omega arith
-entries-with said (line.Input channel input) = omega (arith, length-append said.entries (came channel input ∷ []))
-entries-with said (line.Gap decision) = omega (arith, length-append said.entries (decided decision ∷ []))
+-- how much lines say
+abbrev said_count : Said → ℕ
+said_count said = length said.flows + length said.sids + length said.entries
 
-entries-taken : (before : Said) (fields : List (List ℕ)) (after : Said) → trace_format.Takes before fields after → length after.entries ≤ suc (length before.entries)
-entries-taken before fields after takes = omega (arith, ap (λ (said : Said). length said.entries) takes.0.added, entries-with before takes.0.line)
+-- each line says one thing more
+said-with : (said : Said) (one : TraceLine) → said_count (with_line said one) ≡ suc (said_count said)
+said-with said (line.Flow flow_record) = omega (arith, length-append said.flows (flow_record ∷ []))
+said-with said (line.Sid row) = omega (arith, length-append said.sids (row ∷ []))
+said-with said (line.Input channel input) = omega (arith, length-append said.entries (came channel input ∷ []))
+said-with said (line.Gap decision) = omega (arith, length-append said.entries (decided decision ∷ []))
 
-read-more : {before after : Said} {lines : List (List ℕ)} → IsRead trace_format before lines after → length after.entries ≤ length before.entries + length lines
+said-taken : (before : Said) (fields : List (List ℕ)) (after : Said) → trace_format.Takes before fields after → said_count after ≡ suc (said_count before)
+said-taken before fields after takes = ap said_count takes.0.added ∙ said-with before takes.0.line
+
+read-more : {before after : Said} {lines : List (List ℕ)} → IsRead trace_format before lines after → said_count after ≤ said_count before + length lines
 read-more no_lines = omega arith
 read-more (skipped none read) = let rest = read-more read in omega arith
-read-more (taken takes read) = let rest = read-more read in let first = entries-taken _ _ _ takes in omega arith
+read-more (taken takes read) = let rest = read-more read in let first = said-taken _ _ _ takes in omega arith
 
-pub read-few : (ring : ℕ) (lines : List (List ℕ)) (said : Said) → IsRead trace_format (nothing_said ring) lines said → length said.entries ≤ length lines
+-- so lines say no more than there are
+pub read-few : (ring : ℕ) (lines : List (List ℕ)) (said : Said) → IsRead trace_format (nothing_said ring) lines said
+    → length said.flows + length said.sids + length said.entries ≤ length lines
 read-few ring lines said read = let few = read-more read in omega arith

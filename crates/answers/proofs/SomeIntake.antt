@@ -31,7 +31,7 @@ module _ {T : Type 0} where
   drop-one (x ∷ xs) = omega arith
 
   -- what is left of each sender's list once one's first item is taken
-  abbrev left : (ℕ → List T) → ℕ → ℕ → List T
+  abbrev pub left : (ℕ → List T) → ℕ → ℕ → List T
   left lists tag s = cond (s == tag) (drop 1 (lists s)) (lists s)
 
   -- the first place of an order names a sender, or another
@@ -64,7 +64,7 @@ module _ {T : Type 0} where
       omega arith
 
   -- with the first item in front what is picked of each sender is its list
-  picked-first : (lists : ℕ → List T) (tag s : ℕ) (order : List ℕ) (item : T) (items : List T) → lists tag ≡ item ∷ drop 1 (lists tag)
+  pub picked-first : (lists : ℕ → List T) (tag s : ℕ) (order : List ℕ) (item : T) (items : List T) → lists tag ≡ item ∷ drop 1 (lists tag)
       → picked s order items ≡ left lists tag s → picked s (tag ∷ order) (item ∷ items) ≡ lists s
   picked-first lists tag s order item items first rest =
       elim (cases_eq s tag) [
@@ -97,7 +97,7 @@ module _ {T : Type 0} where
       )
 
 -- one of four lists, by the channel
-of_four : (a b c d : List AnsweredInput) → ℕ → List AnsweredInput
+abbrev pub of_four : (a b c d : List AnsweredInput) → ℕ → List AnsweredInput
 of_four a b c d zero = a
 of_four a b c d (suc zero) = b
 of_four a b c d (suc (suc zero)) = c
@@ -112,7 +112,6 @@ module _ (setup : Setup) (incoming : Incoming) where
       (found.0, record { answers = found.1; inputs = found.2 })
 
   pub some_lanes : CanReceive setup → AreBurstsOfBytes incoming → (answered : ℕ → List AnsweredInput) × AreLanesOf setup incoming answered
-  unfolding of_four
   some_lanes can are =
       let a = some_lane can are 0 (lit< tt) in
       let b = some_lane can are 1 (lit< tt) in

@@ -30,15 +30,12 @@ use Rattle.receiver.proofs.RuledCounts.{arrives_one, segments-arrive}
 use Rattle.receiver.proofs.Senders.{four}
 use Rattle.answers.specs.Bytes.{AreBytes, Brings}
 use Rattle.answers.specs.Room.{AreBurstsOfBytes, HasRoom}
+use Rattle.answers.proofs.Vectors.{vec_of}
 use Rattle.answers.proofs.Everywhere.{all_weaker, few_given}
 use Rattle.answers.proofs.SomeOutcome.{some_close}
 use Rattle.answers.proofs.FewFrames.{IsShort, close-few}
 use Rattle.answers.proofs.RuledEvents.{ItemBrings, rules-bring, comings-bring, comings-few}
 use Rattle.answers.proofs.AdmittedPayloads.{IsPayload, intake-brings}
-
--- a list in memory of these elements, in the place of another
-abbrev vec_of : {X Y : Type 0} → Vec X → (items : List Y) → length items < 2 ^ 63 → Vec Y
-vec_of other items few = record { ptr = other.ptr; len = length items; cap = length items; alloc = other.alloc; items = items; ok = (refl, omega arith); small = few }
 
 -- events that bring such payloads bring bytes, and no more than a grant has
 brings-bytes : (event : FlowEvent) → Brings IsPayload event → Brings AreBytes event
@@ -71,7 +68,7 @@ some_flow rule check setup order incoming intake bring few k flow_record =
     let segments = count_by-le-length is_segment comings in
     let came = comings-few k order intake.items in
     let room : length close.frames < 2 ^ 63 = omega arith in (
-      record { sfid = flow_record.sfid; frames = vec_of setup.flows close.frames room; counts = close.counts },
+      record { sfid = flow_record.sfid; frames = vec_of close.frames room; counts = close.counts },
       record { events = events; lasts = found.1; fates = found.2; ruled = ruled; gave = record { sfid = refl; gives = close.gives } },
     )
 
@@ -132,12 +129,12 @@ module _ (setup : Setup) (incoming : Incoming) (order : List ℕ) (intake : IsIn
       omega (arith, few_refusals (intake.answered channel))
 
   abbrev requests : (channel : ℕ) → channel < channel_limit → Vec Request
-  requests channel below = vec_of setup.flows (requests_of (intake.answered channel)) (requests-room channel below)
+  requests channel below = vec_of (requests_of (intake.answered channel)) (requests-room channel below)
 
   abbrev report : (channel : ℕ) → channel < channel_limit → LaneReport
   report channel below = record {
     admitted = admitted_count (intake.answered channel);
-    refused = vec_of setup.flows (refusal_numbers (intake.answered channel)) (refusals-room channel below);
+    refused = vec_of (refusal_numbers (intake.answered channel)) (refusals-room channel below);
   }
 
   report-of : (channel : ℕ) (below : channel < channel_limit) (found : LaneReport) → report channel below ≡ found → IsReportOf (intake.answered channel) found
@@ -157,10 +154,10 @@ module _ (setup : Setup) (incoming : Incoming) (order : List ℕ) (intake : IsIn
       let items = room.items in
       let order-room : length order < 2 ^ 63 = omega arith in
       let outcome : Outcome = record {
-        flows = vec_of setup.flows flows.ys flows-room;
+        flows = vec_of flows.ys flows-room;
         requests = requests 0 (lit< tt) ∷ requests 1 (lit< tt) ∷ requests 2 (lit< tt) ∷ requests 3 (lit< tt) ∷ [];
         lanes = report 0 (lit< tt) ∷ report 1 (lit< tt) ∷ report 2 (lit< tt) ∷ report 3 (lit< tt) ∷ [];
-        order = vec_of setup.flows order order-room;
+        order = vec_of order order-room;
       } in (
         outcome,
         record {

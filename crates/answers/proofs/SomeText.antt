@@ -13,22 +13,32 @@ use Rattle.texts.specs.Replay.{IsSetupOf, IsReplayedBy}
 use Rattle.texts.specs.Trace.Place.{Said, nothing_said, trace_format}
 use Rattle.texts.proofs.OneReplay.{given_receives}
 use Rattle.answers.specs.Room.{HasRoom}
+use Rattle.answers.proofs.Vectors.{vec_of}
 use Rattle.answers.proofs.Everywhere.{few_given}
 use Rattle.answers.proofs.SomeIntake.{some_admitted}
 use Rattle.answers.proofs.SomeReplay.{some_replay}
 use Rattle.answers.proofs.ReadTraces.{read-bytes, read-tags, read-few}
 
-pub some_text : (rule : LossRule) (input : List ℕ) (said : Said) (setup : Setup) → IsRead trace_format (nothing_said default_capacity) (lines_of input) said
-    → IsSetupOf said setup → length (lines_of input) < 2 ^ 48 → (text : List ℕ) × IsReplayedBy rule input text
-some_text rule input said setup read given few =
+-- a setup of what lines say, where they say little enough
+some_setup : (said : Said) → length said.flows < 2 ^ 63 → length said.sids < 2 ^ 63 → (setup : Setup) × IsSetupOf said setup
+some_setup said flows sids = (
+  record { flows = vec_of said.flows flows; sids = vec_of said.sids sids; mailbox = default_capacity },
+  record { flows = refl; sids = refl; mailbox = refl },
+)
+
+pub some_text : (rule : LossRule) (input : List ℕ) (said : Said) → IsRead trace_format (nothing_said default_capacity) (lines_of input) said
+    → length (lines_of input) < 2 ^ 48 → (text : List ℕ) × IsReplayedBy rule input text
+some_text rule input said read few =
     let lines = lines_of input in
+    let says = read-few default_capacity lines said read in
+    let made = some_setup said (omega arith) (omega arith) in
+    let setup = made.0 in
     let incoming = incoming_in said.entries in
     let tags = map tag_of said.entries in
-    let can = given_receives lines said setup read given in
+    let can = given_receives lines said setup read made.1 in
     let are = read-bytes default_capacity lines said read in
     let found = some_admitted setup incoming tags can are (read-tags default_capacity lines said read) in
     let order = found.0 in
-    let entries = read-few default_capacity lines said read in
     let count = length-map said.entries tag_of in
     let shorter = found.3 in
     let room : HasRoom incoming order = record {
@@ -41,7 +51,7 @@ some_text rule input said setup read given few =
         said = said;
         read = read;
         outcome = replayed.0;
-        played = record { setup = setup; given = given; order = order; admitted = found.1; answered = replayed.1 };
+        played = record { setup = setup; given = made.1; order = order; admitted = found.1; answered = replayed.1 };
         printed = refl;
       },
     )

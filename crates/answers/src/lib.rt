@@ -3,7 +3,8 @@
 //! That it is one thing is said by laws of those crates, as `ccf::laws::joining_has_one_answer` and
 //! `flow_core::laws::flow_has_at_most_one_outcome`. Here it is said that there is one, from the
 //! joining of a segment upwards, whether or not a call gave it. What comes in is of bytes: of
-//! numbers below 256.
+//! numbers below 256. And it is said which parts of an answer depend on which parts of what comes
+//! in, so that who has made only a part of it knows of the rest.
 //!
 //! Each function states a law in its contract; its body is empty or only calls another law.
 #![tactic(auto)]
@@ -36,7 +37,8 @@ ghost use Rattle.text_lines.specs.Lines.{lines_of};
 ghost use Rattle.text_lines.specs.Format.{IsRead};
 ghost use Rattle.texts.specs.AnyHeader.{any_header};
 ghost use Rattle.texts.specs.Trace.Place.{Said, nothing_said, trace_format};
-ghost use Rattle.texts.specs.Replay.{IsSetupOf, IsReplayed, IsReplayedBy};
+ghost use Rattle.texts.specs.Replay.{IsReplayed, IsReplayedBy};
+ghost use Rattle.answers.specs.Elsewhere.{DiffersElsewhere, AgreesOn};
 ghost use Rattle.answers.specs.Room.{AreBurstsOfBytes, HasRoom};
 ghost use Rattle.answers.specs.Bytes.{AreBytes, CarryBytes, BringBytes};
 
@@ -125,17 +127,35 @@ pub fn what_comes_in_has_an_intake()
         × IsIntake setup incoming order }
 {}
 
-/// **Each trace has a text**, by each rule and without one: where its lines are read, there is a
-/// setup of what they say, and they are fewer than 2^48.
+/// **Each trace has a text**, by each rule and without one, where its lines are read and are fewer
+/// than 2^48.
 pub fn each_trace_has_a_text()
-    ensures by_rule { (rule : LossRule) (input : List ℕ) (said : Said) (setup : Setup)
+    ensures by_rule { (rule : LossRule) (input : List ℕ) (said : Said)
         → IsRead trace_format (nothing_said default_capacity) (lines_of input) said
-        → IsSetupOf said setup → length (lines_of input) < 2 ^ 48
+        → length (lines_of input) < 2 ^ 48
         → (text : List ℕ) × IsReplayedBy rule input text }
-    ensures decided { (input : List ℕ) (said : Said) (setup : Setup)
+    ensures decided { (input : List ℕ) (said : Said)
         → IsRead trace_format (nothing_said default_capacity) (lines_of input) said
-        → IsSetupOf said setup → length (lines_of input) < 2 ^ 48
+        → length (lines_of input) < 2 ^ 48
         → (text : List ℕ) × IsReplayed input text }
 {
     texts::laws::replay_by_decisions_alone_is_a_replay();
 }
+
+/// **What the bursts of other flows carry changes nothing of those that are selected**: where they
+/// have other bytes behind the same header, as many as before, what comes in can be taken in the
+/// same orders, and outcomes by the same rule agree in requests, in reports and in what each flow
+/// gave that is selected.
+pub fn other_payloads_change_no_selected_flow()
+    ensures intake { (selected : ℕ → Bool) (setup : Setup) (incoming other : Incoming)
+        (order : List ℕ)
+        → CanReceive setup → DiffersElsewhere selected setup incoming other
+        → IsIntake setup incoming order → IsIntake setup other order }
+    ensures agree { (selected : ℕ → Bool) (rule : LossRule) (check : List ℕ → Bool)
+        (setup : Setup) (incoming other : Incoming) (order : List ℕ)
+        (outcome another : Outcome)
+        → CanReceive setup → DiffersElsewhere selected setup incoming other
+        → IsOutcomeBy rule check setup incoming order outcome
+        → IsOutcomeBy rule check setup other order another
+        → AgreesOn selected outcome another }
+{}

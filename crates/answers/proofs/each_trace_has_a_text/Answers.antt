@@ -6,6 +6,6 @@ pub returns-clause-by_rule : goal.returns-clause-by_rule
 returns-clause-by_rule c = some_text
 
 pub returns-clause-decided : goal.returns-clause-decided
-returns-clause-decided c = λ input said setup read given few.
-    let found = some_text Decided input said setup read given few in
+returns-clause-decided c = λ input said read few.
+    let found = some_text Decided input said read few in
     (found.0, c.replay_by_decisions_alone_is_a_replay.ensures.replay input found.0 found.1)
