@@ -17,3 +17,5 @@ pub mod Pairs
 pub mod StandIns
 pub mod OtherItems
 pub mod OtherOutcomes
+pub mod PartsOfReports
+pub mod PartsOfTexts

@@ -1,5 +1,5 @@
 -- Outcomes of what comes in and of what stands in for it agree on the flows that are selected.
-use Rattle.std.proofs.Common.{◌≡◌, ℕ, zero, suc, ◌<◌, Bool, List, [], length, map, filter, lit<, sym, subst, ◌∙◌, arith}
+use Rattle.std.proofs.Common.{◌≡◌, ℕ, ◌<◌, Bool, List, length, map, filter, lit<, sym, subst, ◌∙◌, arith}
 use Rattle.std.specs.List.{AllZip}
 use Rattle.std.proofs.lemmas.Option.{same_Some}
 use Rattle.ccf.proofs.OneJoining.{Joins-once}
@@ -48,50 +48,55 @@ other_lane selected setup incoming other channel answered lane stands =
     let found = some_answers selected (lane_setup setup channel) answered (other.inputs channel) lane.answers stands in
     record { more = found.0; lane = record { answers = found.1; inputs = found.2 }; answer_for = found.3 }
 
+-- the answers of all four
+pub other_lanes : (selected : ℕ → Bool) (setup : Setup) (incoming other : Incoming) (differs : DiffersElsewhere selected setup incoming other)
+    → (answered : ℕ → List AnsweredInput) × AreLanesOf setup other answered
+    × ((channel : ℕ) → channel < channel_limit → AllZip (AnswersFor selected) (differs.answered channel) (answered channel))
+other_lanes selected setup incoming other differs =
+    let one : (channel : ℕ) → channel < channel_limit → OtherLane selected setup other channel (differs.answered channel) =
+    λ channel below. other_lane selected setup incoming other channel (differs.answered channel) (differs.lanes channel below) (differs.inputs channel below) in
+    let a = one 0 (lit< tt) in
+    let b = one 1 (lit< tt) in
+    let c = one 2 (lit< tt) in
+    let d = one 3 (lit< tt) in
+    let answered = of_four a.more b.more c.more d.more in (
+      answered,
+      four (λ channel. IsLaneOf setup other channel (answered channel)) a.lane b.lane c.lane d.lane,
+      four (λ channel. AllZip (AnswersFor selected) (differs.answered channel) (answered channel)) a.answer_for b.answer_for c.answer_for d.answer_for,
+    )
+
 -- What is taken in of the others, in the same order.
 pub record OtherIntake (selected : ℕ → Bool) (setup : Setup) (incoming other : Incoming) (order : List ℕ) (intake : IsIntake setup incoming order) : Type 0 where
   pub taken : IsIntake setup other order
   pub answer_for : (channel : ℕ) → channel < channel_limit → AllZip (AnswersFor selected) (intake.answered channel) (taken.answered channel)
   pub items_for : AllZip (IsItemFor selected) intake.items taken.items
 
-module _ (selected : ℕ → Bool) (setup : Setup) (incoming other : Incoming) (order : List ℕ) (intake : IsIntake setup incoming order) where
-  other_intake-of : ((channel : ℕ) → channel < channel_limit → AllZip (StandsIn selected) (intake.answered channel) (other.inputs channel))
-      → other.decisions ≡ incoming.decisions → OtherIntake selected setup incoming other order intake
-  other_intake-of inputs decisions =
-      let one : (channel : ℕ) → channel < channel_limit → OtherLane selected setup other channel (intake.answered channel) =
-      λ channel below. other_lane selected setup incoming other channel (intake.answered channel) (intake.lanes channel below) (inputs channel below) in
-      let a = one 0 (lit< tt) in
-      let b = one 1 (lit< tt) in
-      let c = one 2 (lit< tt) in
-      let d = one 3 (lit< tt) in
-      let answered = of_four a.more b.more c.more d.more in
-      let lanes : AreLanesOf setup other answered = four (λ channel. IsLaneOf setup other channel (answered channel)) a.lane b.lane c.lane d.lane in
-      let for : (channel : ℕ) → channel < channel_limit → AllZip (AnswersFor selected) (intake.answered channel) (answered channel) =
-      four (λ channel. AllZip (AnswersFor selected) (intake.answered channel) (answered channel)) a.answer_for b.answer_for c.answer_for d.answer_for in
-      let lists = items_of setup other answered in
-      let R = IsItemFor selected in
-      let names = names_a_flow (length setup.flows.items) in
-      let same_decisions : AllZip R (map event_of_decision (filter names incoming.decisions)) (map event_of_decision (filter names other.decisions)) =
-      subst (λ (ds : List Decision). AllZip R (map event_of_decision (filter names incoming.decisions)) (map event_of_decision (filter names ds))) (sym decisions)
-      (zip_same R (item_same selected) (map event_of_decision (filter names incoming.decisions))) in
-      let of_sender : (s : ℕ) → s < senders → AllZip R (items_of setup incoming intake.answered s) (lists s) =
-      five (λ s. AllZip R (items_of setup incoming intake.answered s) (lists s))
-      (items-for selected (intake.answered 0) a.more a.answer_for) (items-for selected (intake.answered 1) b.more b.answer_for)
-      (items-for selected (intake.answered 2) c.more c.answer_for) (items-for selected (intake.answered 3) d.more d.answer_for)
-      same_decisions in
-      let merge = merged-for R order intake.items lists intake.merged.named intake.merged.paired
-      (λ s below. subst (λ (t : List Event). AllZip R t (lists s)) (sym (intake.merged.lists_are s below)) (of_sender s below)) in
-      record {
-        taken = record { answered = answered; lanes = lanes; items = merge.0; merged = merge.1 };
-        answer_for = for;
-        items_for = merge.2;
-      }
-
-  pub other_intake : CanReceive setup → DiffersElsewhere selected setup incoming other → OtherIntake selected setup incoming other order intake
-  other_intake can differs =
-      other_intake-of (λ channel below.
-      subst (λ (t : List AnsweredInput). AllZip (StandsIn selected) t (other.inputs channel)) (one-lane setup incoming can differs.answered intake.answered differs.lanes intake.lanes channel below)
-      (differs.inputs channel below)) differs.decisions
+pub other_intake : (selected : ℕ → Bool) (setup : Setup) (incoming other : Incoming) (order : List ℕ) (intake : IsIntake setup incoming order)
+    → CanReceive setup → DiffersElsewhere selected setup incoming other → OtherIntake selected setup incoming other order intake
+other_intake selected setup incoming other order intake can differs =
+    let made = other_lanes selected setup incoming other differs in
+    let answered = made.0 in
+    let R = IsItemFor selected in
+    let for : (channel : ℕ) → channel < channel_limit → AllZip (AnswersFor selected) (intake.answered channel) (answered channel) =
+    λ channel below. subst (λ (t : List AnsweredInput). AllZip (AnswersFor selected) t (answered channel))
+    (one-lane setup incoming can differs.answered intake.answered differs.lanes intake.lanes channel below) (made.2 channel below) in
+    let lists = items_of setup other answered in
+    let names = names_a_flow (length setup.flows.items) in
+    let same_decisions : AllZip R (map event_of_decision (filter names incoming.decisions)) (map event_of_decision (filter names other.decisions)) =
+    subst (λ (ds : List Decision). AllZip R (map event_of_decision (filter names incoming.decisions)) (map event_of_decision (filter names ds))) (sym differs.decisions)
+    (zip_same R (item_same selected) (map event_of_decision (filter names incoming.decisions))) in
+    let of_sender : (s : ℕ) → s < senders → AllZip R (items_of setup incoming intake.answered s) (lists s) =
+    five (λ s. AllZip R (items_of setup incoming intake.answered s) (lists s))
+    (items-for selected (intake.answered 0) (answered 0) (for 0 (lit< tt))) (items-for selected (intake.answered 1) (answered 1) (for 1 (lit< tt)))
+    (items-for selected (intake.answered 2) (answered 2) (for 2 (lit< tt))) (items-for selected (intake.answered 3) (answered 3) (for 3 (lit< tt)))
+    same_decisions in
+    let merge = merged-for R order intake.items lists intake.merged.named intake.merged.paired
+    (λ s below. subst (λ (t : List Event). AllZip R t (lists s)) (sym (intake.merged.lists_are s below)) (of_sender s below)) in
+    record {
+      taken = record { answered = answered; lanes = made.1; items = merge.0; merged = merge.1 };
+      answer_for = for;
+      items_for = merge.2;
+    }
 
 -- a flow to which the same comes gives the same
 flow-agrees : (rule : LossRule) (check : List ℕ → Bool) (flow : RuledFlow) (flow_record : FlowRecord) (comings more : List Coming) (one other : FlowOutcome)

@@ -104,6 +104,13 @@ of_four a b c d (suc (suc zero)) = c
 of_four a b c d (suc (suc (suc zero))) = d
 of_four a b c d (suc (suc (suc (suc channel)))) = []
 
+-- no more places are kept than there are
+pub few_kept : (tags : List ℕ) (flags : List Bool) → length (kept_places tags flags) ≤ length tags
+few_kept [] flags = omega arith
+few_kept (tag ∷ tags) [] = omega arith
+few_kept (tag ∷ tags) (true ∷ flags) = omega (arith, few_kept tags flags)
+few_kept (tag ∷ tags) (false ∷ flags) = omega (arith, few_kept tags flags)
+
 module _ (setup : Setup) (incoming : Incoming) where
   -- the inputs of a channel have answers
   some_lane : CanReceive setup → AreBurstsOfBytes incoming → (channel : ℕ) → channel < channel_limit → (answered : List AnsweredInput) × IsLaneOf setup incoming channel answered
@@ -154,9 +161,3 @@ module _ (setup : Setup) (incoming : Incoming) where
       let order = kept_places tags merge.0 in
       let admitted : IsAdmittedOrder setup incoming tags order = record { answered = lanes.0; lanes = lanes.1; flags = merge.0; merged = merge.1; order_is = refl } in
       (order, admitted, some_intake lanes.0 order lanes.1 (admitted-lawful setup incoming tags order admitted), few_kept tags merge.0)
-    where
-      few_kept : (tags : List ℕ) (flags : List Bool) → length (kept_places tags flags) ≤ length tags
-      few_kept [] flags = omega arith
-      few_kept (tag ∷ tags) [] = omega arith
-      few_kept (tag ∷ tags) (true ∷ flags) = omega (arith, few_kept tags flags)
-      few_kept (tag ∷ tags) (false ∷ flags) = omega (arith, few_kept tags flags)

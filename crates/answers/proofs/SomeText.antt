@@ -2,8 +2,11 @@
 use Rattle.std.proofs.Common.{ℕ, ◌^◌, ◌<◌, List, length, map, refl, arith}
 use Rattle.std.proofs.lemmas.List.{length-map}
 use Rattle.loss_rule.specs.declared.rule.LossRule.{LossRule}
+use Rattle.receiver.specs.declared.outcome.Outcome.{Outcome}
 use Rattle.receiver.specs.declared.setup.Setup.{Setup}
 use Rattle.receiver.specs.Entries.{tag_of, came_on, incoming_in}
+use Rattle.receiver.specs.AdmittedOrder.{IsAdmittedOrder}
+use Rattle.receiver.specs.Ruled.{IsOutcomeBy}
 use Rattle.text_lines.specs.Capacities.{default_capacity}
 use Rattle.text_lines.specs.Lines.{lines_of}
 use Rattle.text_lines.specs.Format.{IsRead}
@@ -26,6 +29,19 @@ some_setup said flows sids = (
   record { flows = refl; sids = refl; mailbox = refl },
 )
 
+-- the report of an outcome in the admitted order is the text
+abbrev pub replayed_of : (rule : LossRule) (input : List ℕ) (said : Said) (setup : Setup) (order : List ℕ) (outcome : Outcome)
+    → IsRead trace_format (nothing_said default_capacity) (lines_of input) said → IsSetupOf said setup
+    → IsAdmittedOrder setup (incoming_in said.entries) (map tag_of said.entries) order
+    → IsOutcomeBy rule any_header setup (incoming_in said.entries) order outcome → IsReplayedBy rule input (report_text outcome)
+replayed_of rule input said setup order outcome read given admitted answered = record {
+  said = said;
+  read = read;
+  outcome = outcome;
+  played = record { setup = setup; given = given; order = order; admitted = admitted; answered = answered };
+  printed = refl;
+}
+
 pub some_text : (rule : LossRule) (input : List ℕ) (said : Said) → IsRead trace_format (nothing_said default_capacity) (lines_of input) said
     → length (lines_of input) < 2 ^ 48 → (text : List ℕ) × IsReplayedBy rule input text
 some_text rule input said read few =
@@ -45,13 +61,5 @@ some_text rule input said read few =
       inputs = λ channel below. omega (arith, few_given (came_on channel) said.entries);
       items = omega arith;
     } in
-    let replayed = some_replay setup incoming order found.2 room rule any_header are in (
-      report_text replayed.0,
-      record {
-        said = said;
-        read = read;
-        outcome = replayed.0;
-        played = record { setup = setup; given = made.1; order = order; admitted = found.1; answered = replayed.1 };
-        printed = refl;
-      },
-    )
+    let replayed = some_replay setup incoming order found.2 room rule any_header are in
+    (report_text replayed.0, replayed_of rule input said setup order replayed.0 read made.1 found.1 replayed.1)

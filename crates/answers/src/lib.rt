@@ -9,7 +9,7 @@
 //! Each function states a law in its contract; its body is empty or only calls another law.
 #![tactic(auto)]
 
-ghost use Rattle.std.specs.Prelude.{◌+◌, ◌*◌, ◌≤◌, ◌<◌, ◌^◌, ℕ, Bool, Option, List, length, sum_by};
+ghost use Rattle.std.specs.Prelude.{◌≡◌, ◌+◌, ◌*◌, ◌≤◌, ◌<◌, ◌^◌, ℕ, Bool, Option, List, length, map, sum_by};
 ghost use Rattle.std.specs.List.{concat, AllByRecursion};
 ghost use Rattle.docsis_wire.specs.declared.segment.Segment.{Segment};
 ghost use Rattle.docsis_wire.specs.Frame.{IsFrame};
@@ -35,9 +35,14 @@ ghost use Rattle.lane.specs.Inputs.{AnsweredInput};
 ghost use Rattle.text_lines.specs.Capacities.{default_capacity};
 ghost use Rattle.text_lines.specs.Lines.{lines_of};
 ghost use Rattle.text_lines.specs.Format.{IsRead};
+ghost use Rattle.flow_selection.specs.declared.selection.Selection.{Selection};
+ghost use Rattle.flow_selection.specs.Selection.{is_selected};
+ghost use Rattle.lane.specs.Limits.{channel_limit};
+ghost use Rattle.receiver.specs.Entries.{tag_of, incoming_in};
+ghost use Rattle.texts.specs.Selected.{report_of, IsReplayedOf};
 ghost use Rattle.texts.specs.AnyHeader.{any_header};
 ghost use Rattle.texts.specs.Trace.Place.{Said, nothing_said, trace_format};
-ghost use Rattle.texts.specs.Replay.{IsReplayed, IsReplayedBy};
+ghost use Rattle.texts.specs.Replay.{IsSetupOf, IsReplayed, IsReplayedBy};
 ghost use Rattle.answers.specs.Elsewhere.{DiffersElsewhere, AgreesOn};
 ghost use Rattle.answers.specs.Room.{AreBurstsOfBytes, HasRoom};
 ghost use Rattle.answers.specs.Bytes.{AreBytes, CarryBytes, BringBytes};
@@ -158,4 +163,24 @@ pub fn other_payloads_change_no_selected_flow()
         → IsOutcomeBy rule check setup incoming order outcome
         → IsOutcomeBy rule check setup other order another
         → AgreesOn selected outcome another }
+{}
+
+/// **What stands in for a trace gives a part of its text**: where the lines of a trace are read, and
+/// bursts of flows that aren't selected have other bytes behind the same header, the report of the
+/// selected flows, made of these, is just what is left of the whole text of `replay`, which nobody
+/// need have made. Outcomes that agree on flows have one report of them.
+pub fn stand_ins_give_a_part_of_the_whole_text()
+    ensures report { (selected : Selection) (outcome another : Outcome)
+        → length outcome.requests ≡ channel_limit → length another.requests ≡ channel_limit
+        → length outcome.lanes ≡ channel_limit → length another.lanes ≡ channel_limit
+        → AgreesOn (is_selected selected) outcome another
+        → report_of selected outcome ≡ report_of selected another }
+    ensures replay { (selected : Selection) (rule : LossRule) (input : List ℕ) (said : Said)
+        (setup : Setup) (other : Incoming) (order : List ℕ) (another : Outcome)
+        → IsRead trace_format (nothing_said default_capacity) (lines_of input) said
+        → IsSetupOf said setup → length (lines_of input) < 2 ^ 48
+        → DiffersElsewhere (is_selected selected) setup (incoming_in said.entries) other
+        → IsAdmittedOrder setup other (map tag_of said.entries) order
+        → IsOutcomeBy rule any_header setup other order another
+        → IsReplayedOf selected rule input (report_of selected another) }
 {}
