@@ -19,3 +19,4 @@ pub mod OtherItems
 pub mod OtherOutcomes
 pub mod PartsOfReports
 pub mod PartsOfTexts
+pub mod OtherSide

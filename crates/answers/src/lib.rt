@@ -150,8 +150,11 @@ pub fn each_trace_has_a_text()
 /// **What the bursts of other flows carry changes nothing of those that are selected**: where they
 /// have other bytes behind the same header, as many as before, what comes in can be taken in the
 /// same orders, and outcomes by the same rule agree in requests, in reports and in what each flow
-/// gave that is selected.
+/// gave that is selected. Whose a burst is may be said by the answers on either side.
 pub fn other_payloads_change_no_selected_flow()
+    ensures either_side { (selected : ℕ → Bool) (setup : Setup) (incoming other : Incoming)
+        → DiffersElsewhere selected setup incoming other
+        → DiffersElsewhere selected setup other incoming }
     ensures intake { (selected : ℕ → Bool) (setup : Setup) (incoming other : Incoming)
         (order : List ℕ)
         → CanReceive setup → DiffersElsewhere selected setup incoming other
