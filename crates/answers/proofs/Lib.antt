@@ -20,3 +20,4 @@ pub mod OtherOutcomes
 pub mod PartsOfReports
 pub mod PartsOfTexts
 pub mod OtherSide
+pub mod LookedAtDigits

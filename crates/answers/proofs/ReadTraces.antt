@@ -25,7 +25,7 @@ use Rattle.answers.proofs.Everywhere.{all_append, all_given, all_at}
 use Rattle.answers.proofs.SomeWalk.{no_bytes}
 
 -- a field spells bytes
-spelled-bytes : (field bytes : List ℕ) → SpellsBytes field bytes → AreBytes bytes
+pub spelled-bytes : (field bytes : List ℕ) → SpellsBytes field bytes → AreBytes bytes
 spelled-bytes field bytes (inl none) = subst AreBytes (sym none.1) no_bytes
 spelled-bytes field bytes (inr decoded) =
     λ k d within. let small = (decode_of-ok field bytes decoded).3 k in let same = get_or_default_zero bytes k d within in omega arith

@@ -9,8 +9,9 @@
 //! Each function states a law in its contract; its body is empty or only calls another law.
 #![tactic(auto)]
 
-ghost use Rattle.std.specs.Prelude.{◌≡◌, ◌+◌, ◌*◌, ◌≤◌, ◌<◌, ◌^◌, ℕ, Bool, Option, List, length, map, sum_by};
-ghost use Rattle.std.specs.List.{concat, AllByRecursion};
+ghost use Rattle.std.specs.Prelude.{◌≡◌, ◌+◌, ◌*◌, ◌%◌, ◌≤◌, ◌<◌, ◌^◌, ℕ, Bool, Option, List, Ok, length, map, sum_by, take};
+ghost use Rattle.std.specs.List.{concat, AllByRecursion, AllPass};
+ghost use Rattle.hex.specs.Hex.{decode_of, is_hex_digit};
 ghost use Rattle.docsis_wire.specs.declared.segment.Segment.{Segment};
 ghost use Rattle.docsis_wire.specs.Frame.{IsFrame};
 ghost use Rattle.ccf.specs.Walk.{Walks};
@@ -32,6 +33,7 @@ ghost use Rattle.receiver.specs.Intake.{IsIntake};
 ghost use Rattle.receiver.specs.Outcome.{GivesAtItsClose, IsOutcome};
 ghost use Rattle.receiver.specs.Ruled.{IsOutcomeBy};
 ghost use Rattle.lane.specs.Inputs.{AnsweredInput};
+ghost use Rattle.text_lines.specs.Field.{SpellsBytes};
 ghost use Rattle.text_lines.specs.Capacities.{default_capacity};
 ghost use Rattle.text_lines.specs.Lines.{lines_of};
 ghost use Rattle.text_lines.specs.Format.{IsRead};
@@ -186,4 +188,15 @@ pub fn stand_ins_give_a_part_of_the_whole_text()
         → IsAdmittedOrder setup other (map tag_of said.entries) order
         → IsOutcomeBy rule any_header setup other order another
         → IsReplayedOf selected rule input (report_of selected another) }
+{}
+
+/// **Digits that are looked at and not decoded spell bytes**: an even number of them half as many,
+/// and of those that spell some bytes the first ones spell the first bytes, as those of a header.
+pub fn digits_that_are_looked_at_spell_bytes()
+    ensures some { (field : List ℕ) → length field % 2 ≡ 0 → AllPass is_hex_digit field
+        → (bytes : List ℕ) × SpellsBytes field bytes × (length field ≡ 2 * length bytes)
+        × AreBytes bytes }
+    ensures front { (n : ℕ) (field bytes : List ℕ)
+        → decode_of field ≡ Ok bytes → 2 * n ≤ length field
+        → decode_of (take (2 * n) field) ≡ Ok (take n bytes) }
 {}
