@@ -1,4 +1,5 @@
-//! The command `capture` over any runtime with files, any reader and any two writers.
+//! The command `capture` over any runtime with files, any reader that may be shown the output, and
+//! any two writers.
 ghost use Rattle.std.specs.Prelude.{◌≡◌, ◌++◌, true, false, None, Err, ℕ, List, [], map, Result, OnOk, OnErr, IfOk, IfErr, IfSome};
 ghost use Rattle.std.specs.Io.KnownBytes.{Appends};
 ghost use Rattle.engines.specs.Device.{inner_of, has_failed, IsFresh};

@@ -9,9 +9,8 @@ use Rattle.burst_fates.specs.declared.missing_reason.MissingReason.{MissingReaso
 use Rattle.burst_fates.specs.Words.{reason_word, burst_in}
 use Rattle.frame_comparison.specs.declared.counts.ComparedCounts.{ComparedCounts}
 use Rattle.frame_comparison.specs.Frames.{ShownFrame}
-use Rattle.frame_comparison.specs.Seen.{ComparisonSeen}
+use Rattle.frame_comparison.specs.Seen.{ComparisonSeen, is_quiet}
 use Rattle.text_lines.specs.Putting.{second}
-use Rattle.frame_comparison.specs.ComparisonText.{is_quiet}
 use Rattle.capture_json.specs.Counted.{numbers_then}
 
 -- the service flow identifier of a flow, if there is such a flow

@@ -4,11 +4,10 @@ ghost use Rattle.std.specs.List.{enumerate_from};
 ghost use Rattle.serde_json.specs.View.{view};
 ghost use Rattle.capture_json.specs.Compared.{sfid_data, compared_data, told_if, only_data, compared_flows, burst_data, reason_data, missing_data};
 ghost use Rattle.capture_json.specs.Compared.{comparison_data, compared_or_null};
-ghost use Rattle.frame_comparison.specs.ComparisonText.{is_quiet};
 
 use burst_fates::MissingReason;
 use capture_summary::{CaptureSummary, FlowSummary};
-use frame_comparison::{ComparedCounts, FrameComparison, LonelyFrame, Side};
+use frame_comparison::{ComparedCounts, FrameComparison, LonelyFrame, Side, reason_at};
 use serde_json::{Value, json};
 use std::alloc::{AllocError, Global};
 use text_lines::NANOSECONDS_PER_SECOND;
@@ -49,13 +48,6 @@ fn compared_value(
     })
 }
 
-/// Whether nothing was counted of a flow.
-fn is_quiet(counts: &ComparedCounts) -> bool
-    ensures { result ≡ is_quiet counts.now }
-{
-    counts.both == 0 && counts.has_none_alone()
-}
-
 /// Adds a flow, if something came of it.
 fn push_compared(
     alloc: Global,
@@ -67,7 +59,7 @@ fn push_compared(
     ensures { OnOk result (map view values.new.items
         ≡ map view values.old.items ++ map (compared_data flows.now) (told_if (flow, counts.now))) }
 {
-    if is_quiet(counts) {
+    if counts.is_quiet() {
         return Ok(());
     }
     values.push(compared_value(alloc, flows, flow, counts)?)?;
@@ -97,7 +89,7 @@ fn sfid_of(flows: &[FlowSummary], frame: &LonelyFrame) -> Value
     sfid_value(flow_at(flows, frame.flow))
 }
 
-/// A frame that only one side has.
+/// A frame that only we have.
 fn only_value(
     alloc: Global,
     flows: &[FlowSummary],
@@ -117,7 +109,7 @@ fn only_value(
     })
 }
 
-/// The frames that only one side has.
+/// The frames that only we have.
 fn all_only(
     alloc: Global,
     flows: &[FlowSummary],
@@ -155,13 +147,6 @@ fn reason_value(alloc: Global, reason: Option<MissingReason>) -> Result<Value, A
         "burst": burst,
         "reason": reason.word()
     })
-}
-
-/// The reason at a place, if there is one.
-fn reason_at(reasons: &[MissingReason], place: usize) -> Option<MissingReason>
-    ensures { result ≡ slice_get reasons.now place }
-{
-    reasons.get(place).copied()
 }
 
 /// A frame that only the analyser has, with the reason at its place.

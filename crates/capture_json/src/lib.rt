@@ -185,10 +185,10 @@ fn line_of(alloc: Global, value: &Value) -> Result<Vec<u8>, AllocError>
     Ok(text)
 }
 
-/// The text of all that was counted, a line, with how frames compare, where they are compared. So
-/// many frames of the analyser's are then of no flow, and `reasons` says of each that is listed, at
-/// its place, why we haven't it. Otherwise it reports that an allocation
-/// failed.
+/// The text of all that was counted, a line, with how frames compare where they are compared: then
+/// `strangers` frames of the analyser's are of no flow, and `reasons` says of each frame that only
+/// the analyser has, at its place in the list, why we haven't it. Otherwise it reports that an
+/// allocation failed.
 pub fn summary_json(
     alloc: Global,
     summary: &CaptureSummary,

@@ -57,7 +57,7 @@ fn put_flow<O: PutText>(out: &mut O, k: usize, flow: &FlowSummary)
 }
 
 /// Puts the lines of the flows that are selected.
-fn put_flows<O: PutText>(out: &mut O, flows: &[FlowSummary])
+fn put_all_flows<O: PutText>(out: &mut O, flows: &[FlowSummary])
     ensures { Puts O.after out.old (numbered_texts flow_lines flows.now) out.new }
 {
     for (k, flow) in flows.iter().enumerate() {
@@ -78,7 +78,7 @@ fn put_counted_refusal<O: PutText>(out: &mut O, number: u8, count: u64)
 }
 
 /// Puts those of these refusals that came.
-fn put_refusals<O: PutText>(out: &mut O, refused: &RefusalCounts, refusals: &[Refusal])
+fn put_all_refusals<O: PutText>(out: &mut O, refused: &RefusalCounts, refusals: &[Refusal])
     ensures { Puts O.after out.old (flat_map
         (λ refusal. counted_refusal (refusal_number refusal) (count_of_refusal refused.now refusal))
         refusals.now) out.new }
@@ -95,7 +95,7 @@ fn put_refused<O: PutText>(out: &mut O, refused: &RefusalCounts)
     if refused.is_empty() {
         return put_word(out, " -");
     }
-    put_refusals(out, refused, &ALL_REFUSALS);
+    put_all_refusals(out, refused, &ALL_REFUSALS);
 }
 
 /// Puts what the lane of a channel did.
@@ -129,7 +129,7 @@ fn put_channel<O: PutText>(out: &mut O, channel: &ChannelSummary)
 }
 
 /// Puts the lines of channels.
-fn put_channels<O: PutText>(out: &mut O, channels: &[ChannelSummary])
+fn put_all_channels<O: PutText>(out: &mut O, channels: &[ChannelSummary])
     ensures { Puts O.after out.old (flat_map channel_lines channels.now) out.new }
 {
     for channel in channels {
@@ -184,8 +184,8 @@ fn put_clock_line<O: PutText>(out: &mut O, summary: &CaptureSummary)
 pub fn put_report<O: PutText>(out: &mut O, summary: &CaptureSummary)
     ensures { Puts O.after out.old (report_text summary.now) out.new }
 {
-    put_flows(out, &summary.flows);
-    put_channels(out, &summary.channels);
+    put_all_flows(out, &summary.flows);
+    put_all_channels(out, &summary.channels);
     put_passed(out, &summary.passed, &ALL_REASONS);
     put_records_line(out, summary);
     put_clock_line(out, summary);

@@ -64,7 +64,7 @@ fn put_flow<O: PutText>(out: &mut O, flow: &FlowSummary)
 }
 
 /// Puts what came of flows.
-fn put_flows<O: PutText>(out: &mut O, flows: &[FlowSummary])
+fn put_all_flows<O: PutText>(out: &mut O, flows: &[FlowSummary])
     ensures { Puts O.after out.old (flat_map flow_text flows.now) out.new }
 {
     for flow in flows {
@@ -106,7 +106,7 @@ fn put_refusal_line<O: PutText>(out: &mut O, refusal: Refusal, count: u64)
 }
 
 /// Puts those of these refusals that came.
-fn put_refusals<O: PutText>(out: &mut O, refused: &RefusalCounts, refusals: &[Refusal])
+fn put_all_refusals<O: PutText>(out: &mut O, refused: &RefusalCounts, refusals: &[Refusal])
     ensures { Puts O.after out.old (flat_map
         (λ refusal. refusal_line refusal (count_of_refusal refused.now refusal))
         refusals.now) out.new }
@@ -133,11 +133,11 @@ fn put_channel<O: PutText>(out: &mut O, channel: &ChannelSummary)
     ensures { Puts O.after out.old (channel_text channel.now) out.new }
 {
     put_channel_line(out, channel);
-    put_refusals(out, &channel.refused, &ALL_REFUSALS);
+    put_all_refusals(out, &channel.refused, &ALL_REFUSALS);
 }
 
 /// Puts what came on channels.
-fn put_channels<O: PutText>(out: &mut O, channels: &[ChannelSummary])
+fn put_all_channels<O: PutText>(out: &mut O, channels: &[ChannelSummary])
     ensures { Puts O.after out.old (flat_map channel_text channels.now) out.new }
 {
     for channel in channels {
@@ -183,7 +183,7 @@ fn put_reason_line<O: PutText>(out: &mut O, why: PassedReason, count: u64)
 }
 
 /// Puts how many records were passed over for each of these reasons.
-fn put_reasons<O: PutText>(out: &mut O, passed: &PassedCounts, reasons: &[PassedReason])
+fn put_all_reasons<O: PutText>(out: &mut O, passed: &PassedCounts, reasons: &[PassedReason])
     ensures { Puts O.after out.old
         (flat_map (λ why. reason_line why (count_of_reason passed.now why)) reasons.now) out.new }
 {
@@ -199,11 +199,11 @@ fn put_reasons<O: PutText>(out: &mut O, passed: &PassedCounts, reasons: &[Passed
 pub fn put_summary<O: PutText>(out: &mut O, summary: &CaptureSummary)
     ensures { Puts O.after out.old (summary_text summary.now) out.new }
 {
-    put_flows(out, &summary.flows);
+    put_all_flows(out, &summary.flows);
     let quiet = quiet_count(&summary.flows) as u64;
     put_counted_line(out, "flows of which nothing came:", quiet);
-    put_channels(out, &summary.channels);
+    put_all_channels(out, &summary.channels);
     put_records_line(out, summary);
     put_times_told(out, summary);
-    put_reasons(out, &summary.passed, &ALL_REASONS);
+    put_all_reasons(out, &summary.passed, &ALL_REASONS);
 }

@@ -7,12 +7,11 @@ use Rattle.burst_fates.specs.declared.missing_reason.MissingReason.{MissingReaso
 use Rattle.burst_fates.specs.Words.{reason_word, burst_in}
 use Rattle.frame_comparison.specs.declared.counts.ComparedCounts.{ComparedCounts}
 use Rattle.frame_comparison.specs.Frames.{ShownFrame}
-use Rattle.frame_comparison.specs.Seen.{ComparisonSeen}
-use Rattle.frame_comparison.specs.ComparisonText.{is_quiet}
+use Rattle.frame_comparison.specs.Seen.{ComparisonSeen, is_quiet}
 
 -- a flow of which something came
-abbrev pub compared_line : ℕ → ComparedCounts → List ℕ
-compared_line flow counts =
+abbrev pub flow_line : ℕ → ComparedCounts → List ℕ
+flow_line flow counts =
     if is_quiet counts then []
     else (codes "compared" ++ spaced flow ++ codes " both" ++ spaced counts.both ++ codes " analyser" ++ spaced counts.only_analyser
     ++ codes " here" ++ spaced counts.only_here ++ codes "\n")
@@ -55,5 +54,5 @@ comparison_line is_whole strangers = codes "comparison " ++ whole_word is_whole 
 -- one
 abbrev pub report_text : ComparisonSeen → List MissingReason → ℕ → List ℕ
 report_text seen reasons strangers =
-    numbered_texts compared_line seen.counts ++ numbered_texts (missing_line reasons) seen.analyser.only
+    numbered_texts flow_line seen.counts ++ numbered_texts (missing_line reasons) seen.analyser.only
     ++ flat_map here_line seen.here.only ++ comparison_line seen.is_whole strangers

@@ -5,27 +5,19 @@
 //! What matters most: what is put is the text of the definition `report_text`.
 #![tactic(auto)]
 
-ghost use Rattle.std.specs.Prelude.{◌≡◌, flat_map, slice_get};
+ghost use Rattle.std.specs.Prelude.{◌≡◌, flat_map};
 ghost use Rattle.text_lines.specs.Putting.{Puts, numbered_texts};
-ghost use Rattle.frame_comparison.specs.ComparisonText.{is_quiet};
-ghost use Rattle.comparison_report.specs.ReportLines.{compared_line, hex_field, only_fields, here_line, burst_field, reason_fields, missing_line, whole_word, comparison_line, report_text};
+ghost use Rattle.comparison_report.specs.ReportLines.{flow_line, hex_field, only_fields, here_line, burst_field, reason_fields, missing_line, whole_word, comparison_line, report_text};
 
 use burst_fates::MissingReason;
-use frame_comparison::{ComparedCounts, FrameComparison, LonelyFrame, Side};
+use frame_comparison::{ComparedCounts, FrameComparison, LonelyFrame, Side, reason_at};
 use text_lines::{PutText, put_hex, put_number, put_spaced, put_word};
 
-/// Whether nothing was counted of a flow.
-fn is_quiet(counts: &ComparedCounts) -> bool
-    ensures { result ≡ is_quiet counts.now }
-{
-    counts.both == 0 && counts.has_none_alone()
-}
-
 /// Puts the line of a flow, if something came of it.
-fn put_compared<O: PutText>(out: &mut O, flow: usize, counts: &ComparedCounts)
-    ensures { Puts O.after out.old (compared_line flow counts.now) out.new }
+fn put_flow<O: PutText>(out: &mut O, flow: usize, counts: &ComparedCounts)
+    ensures { Puts O.after out.old (flow_line flow counts.now) out.new }
 {
-    if is_quiet(counts) {
+    if counts.is_quiet() {
         return;
     }
     put_word(out, "compared");
@@ -40,11 +32,11 @@ fn put_compared<O: PutText>(out: &mut O, flow: usize, counts: &ComparedCounts)
 }
 
 /// Puts the lines of flows.
-fn put_all_compared<O: PutText>(out: &mut O, counts: &[ComparedCounts])
-    ensures { Puts O.after out.old (numbered_texts compared_line counts.now) out.new }
+fn put_all_flows<O: PutText>(out: &mut O, counts: &[ComparedCounts])
+    ensures { Puts O.after out.old (numbered_texts flow_line counts.now) out.new }
 {
     for (flow, one) in counts.iter().enumerate() {
-        put_compared(out, flow, one);
+        put_flow(out, flow, one);
     }
 }
 
@@ -110,13 +102,6 @@ fn put_reason<O: PutText>(out: &mut O, reason: Option<MissingReason>)
     put_burst_field(out, reason.burst());
 }
 
-/// The reason at a place, if there is one.
-fn reason_at(reasons: &[MissingReason], place: usize) -> Option<MissingReason>
-    ensures { result ≡ slice_get reasons.now place }
-{
-    reasons.get(place).copied()
-}
-
 /// Puts the line of a frame that only the analyser has, with the reason at its place.
 fn put_missing<O: PutText>(
     out: &mut O,
@@ -170,7 +155,7 @@ pub fn put_comparison_report<O: PutText>(
 )
     ensures { Puts O.after out.old (report_text comparison.now reasons.now strangers) out.new }
 {
-    put_all_compared(out, comparison.counts());
+    put_all_flows(out, comparison.counts());
     put_all_missing(out, reasons, comparison.lonely(Side::Analyser));
     put_all_here(out, comparison.lonely(Side::Here));
     put_last(out, comparison.is_whole(), strangers);

@@ -1,5 +1,5 @@
 -- What people read of a comparison.
-use Rattle.std.specs.Prelude.{ℕ, ◌==◌, ◌&&◌, Bool, true, false, Option, Some, None, List, [], ◌++◌, flat_map, codes, if◌then◌else◌, slice_get}
+use Rattle.std.specs.Prelude.{ℕ, Bool, true, false, Option, Some, None, List, [], ◌++◌, flat_map, codes, if◌then◌else◌, slice_get}
 use Rattle.std.specs.Fmt.{decimal}
 use Rattle.hex.specs.Hex.{encode_lower}
 use Rattle.text_lines.specs.Putting.{numbered_texts, seconds_text}
@@ -7,16 +7,12 @@ use Rattle.burst_fates.specs.declared.missing_reason.MissingReason.{MissingReaso
 use Rattle.burst_fates.specs.Words.{reason_text}
 use Rattle.frame_comparison.specs.declared.counts.ComparedCounts.{ComparedCounts}
 use Rattle.frame_comparison.specs.Frames.{ShownFrame}
-use Rattle.frame_comparison.specs.Seen.{ComparisonSeen}
+use Rattle.frame_comparison.specs.Seen.{ComparisonSeen, is_quiet}
 
 -- a flow's service flow identifier, where it is known
 abbrev pub sfid_text : Option ℕ → List ℕ
 sfid_text (Some sfid) = codes " (SFID " ++ decimal sfid ++ codes ")"
 sfid_text None = []
-
--- nothing was counted of a flow
-abbrev pub is_quiet : ComparedCounts → Bool
-is_quiet counts = counts.both == 0 && counts.only_analyser == 0 && counts.only_here == 0
 
 -- a flow of which something came
 abbrev pub counts_text : ComparedCounts → List ℕ

@@ -111,6 +111,10 @@ has_none_alone counts = counts.only_analyser == 0 && counts.only_here == 0
 abbrev pub have_none_alone : List ComparedCounts → Bool
 have_none_alone counts = list_all has_none_alone counts
 
+-- nothing was counted of a flow
+abbrev pub is_quiet : ComparedCounts → Bool
+is_quiet counts = counts.both == 0 && has_none_alone counts
+
 -- the frames that are listed of one side
 abbrev pub listed_of : Side → ComparisonSeen → List ShownFrame
 listed_of Analyser seen = seen.analyser.only

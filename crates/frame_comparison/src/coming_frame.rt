@@ -2,7 +2,7 @@
 ghost use Rattle.std.specs.Prelude.{◌≡◌, nat_le, if◌then◌else◌, length};
 ghost use Rattle.frame_records.specs.Frames.{longest_frame};
 ghost use Rattle.frame_comparison.specs.Frames.{came, kept, shown_front};
-ghost use Rattle.frame_comparison.specs.Fingerprint.{fingerprint_of};
+ghost use Rattle.frame_comparison.specs.Fingerprint.{siphash};
 
 use crate::lonely_frame::SHOWN_BYTES;
 use frame_records::LONGEST_FRAME;
@@ -20,14 +20,14 @@ pub(crate) struct ComingFrame<'a> {
     pub(crate) bytes: &'a [u8],
     /// The numbers of the bursts that are named of it.
     pub(crate) bursts: &'a [u64],
-    /// A hash of these bytes.
+    /// A hash of the bytes that are kept, SipHash-1-3.
     pub(crate) fingerprint: u64,
 }
 
 impl<'a> Model for ComingFrame<'a> {
     ghost use Rattle.std.specs.Prelude.{◌≡◌};
     ghost use Rattle.frame_comparison.specs.Frames.{CameFrame};
-    ghost use Rattle.frame_comparison.specs.Fingerprint.{fingerprint_of};
+    ghost use Rattle.frame_comparison.specs.Fingerprint.{siphash};
 
     ghost Value = { CameFrame };
 
@@ -38,7 +38,7 @@ impl<'a> Model for ComingFrame<'a> {
       bursts = one.bursts.now;
     } };
 
-    ghost invariant = { λ one. one.fingerprint ≡ fingerprint_of one.bytes.now };
+    ghost invariant = { λ one. one.fingerprint ≡ siphash one.bytes.now };
 }
 
 impl<'a> ComingFrame<'a> {
@@ -53,7 +53,7 @@ impl<'a> ComingFrame<'a> {
             length: frame.len(),
             bytes,
             bursts,
-            fingerprint: fingerprint(bytes),
+            fingerprint: siphash(bytes),
         }
     }
 }
@@ -70,10 +70,10 @@ fn kept_bytes(frame: &[u8]) -> &[u8]
     }
 }
 
-/// A hash of some bytes, SipHash-1-3: that of other bytes is another one, but for very few that are
-/// hard to find.
-fn fingerprint(bytes: &[u8]) -> u64
-    ensures { result ≡ fingerprint_of bytes.now }
+/// SipHash-1-3 of some bytes: that of other bytes is another one, but for very few that are hard to
+/// find.
+fn siphash(bytes: &[u8]) -> u64
+    ensures { result ≡ siphash bytes.now }
 {
     let mut hasher = DefaultHasher::new();
     hasher.write(bytes);

@@ -1,6 +1,6 @@
 //! How many frames both sides have, and how many only one.
 ghost use Rattle.std.specs.Prelude.{◌≡◌};
-ghost use Rattle.frame_comparison.specs.Seen.{has_none_alone, no_counts, with_counts};
+ghost use Rattle.frame_comparison.specs.Seen.{has_none_alone, is_quiet, no_counts, with_counts};
 
 /// How many frames of a flow are in both, and how many only one side has. Each count stays at its
 /// greatest value, 2^64 − 1.
@@ -31,6 +31,13 @@ impl ComparedCounts {
         ensures { result ≡ has_none_alone self.now }
     {
         self.only_analyser == 0 && self.only_here == 0
+    }
+
+    /// Whether nothing was counted.
+    pub fn is_quiet(&self) -> bool
+        ensures { result ≡ is_quiet self.now }
+    {
+        self.both == 0 && self.has_none_alone()
     }
 
     /// Counts so many more of each.

@@ -15,7 +15,9 @@
 //! The calls, in the order of use: [`FrameComparison::new`], [`FrameComparison::take`] for each
 //! frame of either [`Side`], [`FrameComparison::finish`] once, and then
 //! [`FrameComparison::counts`], [`FrameComparison::lonely`] and [`FrameComparison::is_equal`], or
-//! [`put_comparison`], which puts them as lines for people.
+//! [`put_comparison`], which puts them as lines for people. Who makes another text of them leaves
+//! out the flows of which nothing was counted ([`ComparedCounts::is_quiet`]), and finds the reason
+//! of a listed frame by its place ([`reason_at`]).
 //!
 //! What matters most: what is counted and listed is what the definitions `with_frame` and
 //! `finished` make of all that was taken, as long as no allocation failed
@@ -31,6 +33,7 @@ pub mod laws;
 mod lines;
 mod lonely_frame;
 mod one_side;
+mod reasons;
 mod settle;
 mod side;
 mod waiting_frame;
@@ -40,4 +43,5 @@ pub use counts::ComparedCounts;
 pub use lines::put_comparison;
 pub use lonely_frame::{LonelyFrame, MOST_LISTED, SHOWN_BYTES};
 pub use one_side::LONGEST_WAIT;
+pub use reasons::reason_at;
 pub use side::Side;

@@ -1,11 +1,12 @@
 //! What people read of a comparison.
 ghost use Rattle.std.specs.Prelude.{◌≡◌, flat_map, slice_get};
 ghost use Rattle.text_lines.specs.Putting.{Puts, numbered_texts};
-ghost use Rattle.frame_comparison.specs.ComparisonText.{sfid_text, is_quiet, counts_text, flow_line, lonely_text, here_line, told_reason, missing_line, whole_line, comparison_text};
+ghost use Rattle.frame_comparison.specs.ComparisonText.{sfid_text, counts_text, flow_line, lonely_text, here_line, told_reason, missing_line, whole_line, comparison_text};
 
 use crate::comparison::FrameComparison;
 use crate::counts::ComparedCounts;
 use crate::lonely_frame::LonelyFrame;
+use crate::reasons::reason_at;
 use crate::side::Side;
 use burst_fates::{MissingReason, put_reason};
 use text_lines::{PutText, put_hex, put_number, put_seconds, put_word};
@@ -19,13 +20,6 @@ fn put_sfid<O: PutText>(out: &mut O, sfid: Option<u32>)
         put_number(out, u64::from(sfid));
         put_word(out, ")");
     }
-}
-
-/// Whether nothing was counted of a flow.
-fn is_quiet(counts: &ComparedCounts) -> bool
-    ensures { result ≡ is_quiet counts.now }
-{
-    counts.both == 0 && counts.only_analyser == 0 && counts.only_here == 0
 }
 
 /// Puts what was counted of a flow.
@@ -52,7 +46,7 @@ fn sfid_of(sfids: &[u32], flow: usize) -> Option<u32>
 fn put_flow<O: PutText>(out: &mut O, sfids: &[u32], flow: usize, counts: &ComparedCounts)
     ensures { Puts O.after out.old (flow_line sfids.now flow counts.now) out.new }
 {
-    if is_quiet(counts) {
+    if counts.is_quiet() {
         return;
     }
     put_word(out, "  flow ");
@@ -62,7 +56,7 @@ fn put_flow<O: PutText>(out: &mut O, sfids: &[u32], flow: usize, counts: &Compar
 }
 
 /// Puts the lines of flows.
-fn put_flows<O: PutText>(out: &mut O, sfids: &[u32], counts: &[ComparedCounts])
+fn put_all_flows<O: PutText>(out: &mut O, sfids: &[u32], counts: &[ComparedCounts])
     ensures { Puts O.after out.old (numbered_texts (flow_line sfids.now) counts.now) out.new }
 {
     for (flow, one) in counts.iter().enumerate() {
@@ -111,13 +105,6 @@ fn put_told_reason<O: PutText>(out: &mut O, reason: Option<MissingReason>)
     }
 }
 
-/// The reason at a place, if there is one.
-fn reason_at(reasons: &[MissingReason], place: usize) -> Option<MissingReason>
-    ensures { result ≡ slice_get reasons.now place }
-{
-    reasons.get(place).copied()
-}
-
 /// Puts the line of a frame that only the analyser has, with the reason at its place.
 fn put_missing<O: PutText>(
     out: &mut O,
@@ -163,7 +150,7 @@ pub fn put_comparison<O: PutText>(
     ensures { Puts O.after out.old (comparison_text sfids.now reasons.now comparison.now) out.new }
 {
     put_word(out, "comparison with the analyser's frames\n");
-    put_flows(out, sfids, comparison.counts());
+    put_all_flows(out, sfids, comparison.counts());
     put_all_missing(out, reasons, comparison.lonely(Side::Analyser));
     put_all_here(out, comparison.lonely(Side::Here));
     put_whole(out, comparison.is_whole());

@@ -43,19 +43,19 @@ impl Model for LonelyFrame {
 
 /// The first frames that only one side has.
 #[derive(Debug, Drop)]
-pub(crate) struct LonelyFrames {
+pub(crate) struct ListedFrames {
     frames: Vec<LonelyFrame>,
     ghost room: { listed_most ≤ vec_capacity frames },
     ghost few: { length frames.items ≤ listed_most },
 }
 
-impl LonelyFrames {
+impl ListedFrames {
     /// None is listed, and there is room for all that may be.
-    pub(crate) fn new(alloc: Global) -> Result<LonelyFrames, AllocError>
+    pub(crate) fn new(alloc: Global) -> Result<ListedFrames, AllocError>
         ensures { IfOk result (λ all. all.frames.items ≡ []) }
     {
         let frames = Vec::with_capacity(alloc, MOST_LISTED)?;
-        Ok(LonelyFrames { frames })
+        Ok(ListedFrames { frames })
     }
 
     /// They, in the order in which they were listed.

@@ -5,7 +5,7 @@ ghost use Rattle.frame_comparison.specs.Compared.{place_of_equal, own_moved, oth
 ghost use Rattle.frame_comparison.specs.Seen.{SideSeen, listed, listed_most, side_seen_after, none_waits};
 
 use crate::coming_frame::ComingFrame;
-use crate::lonely_frame::{LonelyFrame, LonelyFrames};
+use crate::lonely_frame::{ListedFrames, LonelyFrame};
 use crate::waiting_frame::{WaitingFrame, place_of_equal};
 use std::alloc::{AllocError, Global};
 use std::collections::VecDeque;
@@ -19,7 +19,7 @@ pub const LONGEST_WAIT: usize = 1024;
 #[derive(Debug, Drop)]
 pub(crate) struct OneSide {
     waiting: Vec<VecDeque<WaitingFrame>>,
-    only: LonelyFrames,
+    only: ListedFrames,
 }
 
 impl Model for OneSide {
@@ -44,7 +44,7 @@ impl OneSide {
         for _ in 0..flows {
             waiting.push(VecDeque::new(alloc))?;
         }
-        let only = LonelyFrames::new(alloc)?;
+        let only = ListedFrames::new(alloc)?;
         Ok(OneSide { waiting, only })
     }
 
@@ -134,7 +134,7 @@ impl OneSide {
 }
 
 /// Gives up the first so many frames of a flow that wait, or all where there are fewer.
-fn give_up(waiting: &mut VecDeque<WaitingFrame>, count: usize, flow: usize, only: &mut LonelyFrames)
+fn give_up(waiting: &mut VecDeque<WaitingFrame>, count: usize, flow: usize, only: &mut ListedFrames)
     ensures waiting { waiting.new.items ≡ drop count waiting.old.items }
     ensures listed { only.new.frames.items
         ≡ listed (only.old.frames.items ++ map (shown_of flow) (take count waiting.old.items)) }

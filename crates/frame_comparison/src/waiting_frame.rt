@@ -23,7 +23,7 @@ pub(crate) struct WaitingFrame {
 impl Model for WaitingFrame {
     ghost use Rattle.std.specs.Prelude.{◌≡◌};
     ghost use Rattle.frame_comparison.specs.Frames.{CameFrame};
-    ghost use Rattle.frame_comparison.specs.Fingerprint.{fingerprint_of};
+    ghost use Rattle.frame_comparison.specs.Fingerprint.{siphash};
 
     ghost Value = { CameFrame };
 
@@ -34,7 +34,7 @@ impl Model for WaitingFrame {
       bursts = one.bursts.items;
     } };
 
-    ghost invariant = { λ one. one.fingerprint ≡ fingerprint_of one.bytes.items };
+    ghost invariant = { λ one. one.fingerprint ≡ siphash one.bytes.items };
 }
 
 impl WaitingFrame {

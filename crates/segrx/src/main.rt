@@ -9,8 +9,8 @@
 //!
 //! It hands its arguments, its standard input and its two outputs to
 //! [`capture_command::capture_program`], which also opens files, where they ask to capture, else to
-//! [`commands::program`]. Either is all of it over any reader and any two writers, and answers the
-//! exit status.
+//! [`commands::program`]. Either is all of it over any reader that may be shown the output
+//! ([`engines::ReadBehind`]) and any two writers, and answers the exit status.
 #![tactic(auto)]
 
 use capture_command::{asks_to_capture, capture_program};

@@ -108,11 +108,13 @@ fn channel_has_as_few_bytes_as_it_needs(rt: HostRuntime) -> Result<(), Fail> {
         let Some(packet) = read_packet(&bytes) else {
             return Err(Fail::from(AllocError));
         };
-        assert!(rt; packet.kind == 80 && packet.payload == &FRAME[..]);
+        assert!(rt; packet.kind == 80);
+        assert!(rt; packet.payload == &FRAME[..]);
         assert!(rt; last_value(packet.tlvs, 10) == Some(value));
         assert!(rt; last_value(packet.tlvs, 11) == Some(&[0x3f, 0xff][..]));
         let burst = last_value(packet.tlvs, 14).unwrap_or(&[]);
-        assert!(rt; last_value(burst, 1).is_none() && last_value(burst, 10) == Some(value));
+        assert!(rt; last_value(burst, 1).is_none());
+        assert!(rt; last_value(burst, 10) == Some(value));
     }
     Ok(())
 }

@@ -3,7 +3,7 @@ use Rattle.frame_comparison.proofs.lines.put_comparison.Goals as goal
 
 pub returns : goal.returns
 returns g c =
-    let flows = rw c.counts.ensures at c.put_flows.ensures in
+    let flows = rw c.counts.ensures at c.put_all_flows.ensures in
     let analyser = rw c.lonely.ensures at c.put_all_missing.ensures in
     let here = rw c.lonely-2.ensures at c.put_all_here.ensures in
     let whole = rw c.is_whole.ensures at c.put_whole.ensures in

@@ -2,7 +2,7 @@ use Rattle.std.proofs.Common.{[]}
 use Rattle.capture_summary.specs.Report.{channel_lines}
 use Rattle.capture_summary.specs.declared.channel_summary.ChannelSummary.{ChannelSummary}
 use Rattle.text_lines.proofs.PutTexts.{puts-one-more}
-use Rattle.capture_summary.proofs.report.put_channels.Goals as goal
+use Rattle.capture_summary.proofs.report.put_all_channels.Goals as goal
 
 pub loop-channel-preserved : goal.loop-channel-preserved
 loop-channel-preserved g c =

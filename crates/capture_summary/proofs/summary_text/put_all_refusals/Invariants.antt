@@ -3,7 +3,7 @@ use Rattle.std.specs.Prelude.{flat_map}
 use Rattle.text_lines.specs.Putting.{Puts}
 use Rattle.capture_summary.specs.Counting.{count_of_refusal}
 use Rattle.capture_summary.specs.SummaryText.{refusal_line}
-use Rattle.capture_summary.proofs.summary_text.put_refusals.Given as goal
+use Rattle.capture_summary.proofs.summary_text.put_all_refusals.Given as goal
 
 abbrev pub invariant-loop-refusal : goal.invariant-loop-refusal
 invariant-loop-refusal g l = Puts g.O.PutText.after l.fn.out (flat_map (λ refusal. refusal_line refusal (count_of_refusal l.refused refusal)) (take l.refusal-index l.refusals)) l.out

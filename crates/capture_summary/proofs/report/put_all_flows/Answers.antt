@@ -2,7 +2,7 @@ use Rattle.std.proofs.Common.{false}
 use Rattle.capture_summary.specs.Counting.{new_flow}
 use Rattle.capture_summary.specs.Report.{flow_lines}
 use Rattle.text_lines.proofs.PutTexts.{puts-one-more-numbered}
-use Rattle.capture_summary.proofs.report.put_flows.Goals as goal
+use Rattle.capture_summary.proofs.report.put_all_flows.Goals as goal
 
 pub loop-k-preserved : goal.loop-k-preserved
 loop-k-preserved g c =

@@ -1,7 +1,7 @@
 use Rattle.frame_comparison.specs.ComparisonText.{flow_line}
 use Rattle.frame_comparison.specs.Seen.{no_counts}
 use Rattle.text_lines.proofs.PutTexts.{puts-one-more-numbered}
-use Rattle.frame_comparison.proofs.lines.put_flows.Goals as goal
+use Rattle.frame_comparison.proofs.lines.put_all_flows.Goals as goal
 
 pub loop-flow-preserved : goal.loop-flow-preserved
 loop-flow-preserved g c =

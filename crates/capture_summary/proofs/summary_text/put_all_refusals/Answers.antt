@@ -2,7 +2,7 @@ use Rattle.lane.specs.declared.refusal.Refusal.TheVariants.{GrantRange}
 use Rattle.capture_summary.specs.Counting.{count_of_refusal}
 use Rattle.capture_summary.specs.SummaryText.{refusal_line}
 use Rattle.text_lines.proofs.PutTexts.{puts-one-more}
-use Rattle.capture_summary.proofs.summary_text.put_refusals.Goals as goal
+use Rattle.capture_summary.proofs.summary_text.put_all_refusals.Goals as goal
 
 pub loop-refusal-preserved : goal.loop-refusal-preserved
 loop-refusal-preserved g c =

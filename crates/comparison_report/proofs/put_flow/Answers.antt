@@ -1,6 +1,6 @@
 use Rattle.std.proofs.Common.{sym, ◌∙◌}
 use Rattle.text_lines.proofs.PutTexts.{puts-then}
-use Rattle.comparison_report.proofs.put_compared.Goals as goal
+use Rattle.comparison_report.proofs.put_flow.Goals as goal
 
 pub returns : goal.returns
 returns g c =
