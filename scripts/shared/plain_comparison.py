@@ -8,9 +8,9 @@ than 1,024 that wait then on its side the first has none. What waits at the end 
 has a frame that is longer than a MAC frame can be.
 
 Of each frame that is listed as only the analyser's the reason is told: the first of the bursts that
-its packet names, of the first 16, that isn't kept, and what was told last of it among the last
-32,768 things that were told of bursts, once all is done that the record brought by which the frame
-came to be listed.
+its packet names, of the first 16, that isn't known to be kept, and what was told last of it, once
+all is done that the record brought by which the frame came to be listed. The last 32,768 things that
+were told of bursts are known, and a burst was kept if one of them says so, whatever was told later.
 """
 
 import collections
@@ -147,7 +147,7 @@ class ComparedReading(CaptureReading):
 
     def reason_of(self, bursts):
         """Why a frame is missing that came of these bursts, by what was told until now."""
-        fates = dict(self.told)
+        fates = dict(self.told) | {burst: fate for burst, fate in self.told if fate == KEPT}
         unknown = NOT_SEEN if len(self.told) == MOST_TOLD else NEVER_CAME
         for burst in bursts:
             word, text = FATES[fates[burst]] if burst in fates else unknown

@@ -1,1 +1,1 @@
-pub mod LastOf
+pub mod Known

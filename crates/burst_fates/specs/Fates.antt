@@ -1,5 +1,6 @@
 -- What is known of bursts, of what was told of them.
-use Rattle.std.specs.Prelude.{◌≡◌, ◌≢◌, ℕ, ◌==◌, Bool, true, false, nat_le, Option, Some, None, List, [], ◌∷◌, ◌++◌, length, if◌then◌else◌, unwrap_or, slice_get}
+use Rattle.std.specs.Prelude.{◌≡◌, ◌≢◌, ℕ, ◌==◌, Bool, true, false, ◌||◌, nat_le, Option, Some, None, List, [], ◌∷◌, ◌++◌, length, if◌then◌else◌, unwrap_or, slice_get}
+use Rattle.std.specs.Option.{option_or}
 use Rattle.circular_buffer.specs.Buffer.{keep_last}
 use Rattle.burst_fates.specs.Room.{most_told}
 use Rattle.burst_fates.specs.declared.burst_fate.BurstFate.{BurstFate}
@@ -21,11 +22,6 @@ Tells one old new = (told : List ToldFate) → old.told.items ≡ kept_of told �
 abbrev pub IsOther : ℕ → ToldFate → Type 0
 IsOther id one = one.id ≢ id
 
--- the second, or the first where there is none
-abbrev pub later_or : Option BurstFate → Option BurstFate → Option BurstFate
-later_or earlier (Some fate) = Some fate
-later_or earlier None = earlier
-
 -- what one thing tells of a burst
 abbrev pub told_of : ℕ → ToldFate → Option BurstFate
 told_of id one = if one.id == id then Some one.fate else None
@@ -37,10 +33,25 @@ told_by id (Some one) = told_of id one
 abbrev pub told_at : ℕ → ℕ → List ToldFate → Option BurstFate
 told_at place id told = told_by id (slice_get told place)
 
--- **What was told last of a burst**
+-- what was told last of a burst
 abbrev pub last_of : ℕ → List ToldFate → Option BurstFate
 last_of id [] = None
-last_of id (one ∷ later) = later_or (told_of id one) (last_of id later)
+last_of id (one ∷ later) = option_or (last_of id later) (told_of id one)
+
+-- whether this says that a burst was kept
+abbrev pub is_kept : Option BurstFate → Bool
+is_kept (Some Kept) = true
+is_kept _ = false
+
+-- whether it was told, at any time, that a burst was kept
+abbrev pub was_kept : ℕ → List ToldFate → Bool
+was_kept id [] = false
+was_kept id (one ∷ later) = is_kept (told_of id one) || was_kept id later
+
+-- **What is known of a burst**: one that was kept once was kept, whatever came of it later, and of
+-- another it is what was told last
+abbrev pub known_of : ℕ → List ToldFate → Option BurstFate
+known_of id told = if was_kept id told then Some Kept else last_of id told
 
 -- a burst of which nothing is known never came, unless so much was told that something may be
 -- forgotten
@@ -61,7 +72,7 @@ reason_by told id (Some Beyond) = Some (Burst id Beyond)
 reason_by told id None = Some (unknown (nat_le most_told (length told)) id)
 
 abbrev pub reason_of_burst : List ToldFate → ℕ → Option MissingReason
-reason_of_burst told id = reason_by told id (last_of id told)
+reason_of_burst told id = reason_by told id (known_of id told)
 
 -- the reason of the first of these bursts that wasn't kept, or this
 abbrev pub first_reason : MissingReason → List ToldFate → List ℕ → MissingReason

@@ -1,4 +1,7 @@
 //! What became of a burst.
+ghost use Rattle.std.specs.Prelude.{◌≡◌};
+ghost use Rattle.burst_fates.specs.Fates.{is_kept};
+
 use lane::Refusal;
 
 /// What became of a burst of a capture.
@@ -29,4 +32,11 @@ pub struct ToldFate {
     pub id: u64,
     /// What became of it.
     pub fate: BurstFate,
+}
+
+/// Whether this says that a burst was kept.
+pub(crate) fn is_kept(told: Option<BurstFate>) -> bool
+    ensures { result ≡ is_kept told }
+{
+    matches!(told, Some(BurstFate::Kept))
 }

@@ -2,7 +2,7 @@
 ghost use Rattle.std.specs.Prelude.{◌≡◌};
 ghost use Rattle.burst_fates.specs.Room.{most_told};
 
-use crate::burst_fate::{BurstFate, ToldFate};
+use crate::burst_fate::{BurstFate, ToldFate, is_kept};
 use crate::missing_reason::MissingReason;
 use circular_buffer::HeapCircularBuffer;
 use std::alloc::{AllocError, Global};
@@ -19,7 +19,7 @@ pub struct BurstFates {
 
 impl BurstFates {
     ghost use Rattle.std.specs.Prelude.{◌<◌, [], IfOk, nat_le, length};
-    ghost use Rattle.burst_fates.specs.Fates.{last_of, told_at, Tells, unknown, reason_of_burst, reason_of};
+    ghost use Rattle.burst_fates.specs.Fates.{known_of, told_at, Tells, unknown, reason_of_burst, reason_of};
 
     /// Nothing was told. All memory that will be used is asked for here.
     pub fn new(alloc: Global) -> Result<BurstFates, AllocError>
@@ -38,18 +38,22 @@ impl BurstFates {
         let _ = self.told.push_back(ToldFate { id, fate });
     }
 
-    /// What was told last of a burst, among what is kept.
+    /// What is known of a burst, by what is kept of what was told: that it was kept, if that was told
+    /// once, and else what was told last.
     pub fn fate_of(&self, id: u64) -> Option<BurstFate>
-        ensures { result ≡ last_of id self.now.told.items }
+        ensures { result ≡ known_of id self.now.told.items }
     {
+        let mut last = None;
         let mut left = self.told.len();
         while left > 0 {
             left -= 1;
-            if let Some(fate) = self.told_at(left, id) {
-                return Some(fate);
+            let told = self.told_at(left, id);
+            if is_kept(told) {
+                return Some(BurstFate::Kept);
             }
+            last = last.or(told);
         }
-        None
+        last
     }
 
     /// What the thing at this place tells of a burst, if it is of that.

@@ -9,8 +9,8 @@
 //!
 //! The last 32,768 things that were told are kept, in memory that is asked for once.
 //!
-//! What matters most: what was told last of a burst is what is known of it, if fewer than 32,768
-//! things were told since, and else nothing is ([`laws`]).
+//! What matters most: a burst that was kept once is known to be kept, and of another what was told
+//! last is known, if fewer than 32,768 things were told since, and else nothing is ([`laws`]).
 #![tactic(auto)]
 
 mod burst_fate;

@@ -19,6 +19,8 @@ use Rattle.engines.specs.Engine.{WritesText}
 use Rattle.flow_selection.specs.declared.selection.Selection.{Selection}
 use Rattle.frame_comparison.specs.Compared.{Comparison, nothing_came}
 use Rattle.frame_comparison.specs.Aligned.{Arrival, with_all}
+use Rattle.frame_reasons.specs.declared.reasons.Reasons.{Reasons}
+use Rattle.frame_reasons.specs.Told.{fate_of_taken, told_if, told_in_steps}
 use Rattle.timed_frames.specs.declared.timed_frames.TimedFrames.{TimedFrames}
 use Rattle.timed_frames.specs.declared.timed_step.TimedStep.{TimedStep}
 use Rattle.timed_frames.specs.Seen.{HasGiven, HasSeen}
@@ -28,20 +30,23 @@ use Rattle.frame_engine.specs.declared.frame_file.FrameFile.{FrameFile}
 use Rattle.frame_engine.specs.declared.frame_reading.FrameReading.{FrameReading}
 use Rattle.frame_engine.specs.declared.joining.Joining.{Joining}
 use Rattle.frame_engine.specs.Settings.{inner_accepts}
-use Rattle.frame_engine.specs.Records.{IsBurstOf, passed_over, one_burst, counted}
+use Rattle.frame_engine.specs.Records.{IsBurstOf, passed_over, one_burst}
 use Rattle.frame_engine.specs.Compared.{arrivals_of_steps, Brings, one_record, more_steps}
-use Rattle.frame_engine.specs.Comparing.{IsComparing, Takes, TakesBrought, Compares, IsComparedFile}
+use Rattle.frame_engine.specs.Explaining.{Tells, Explains, ExplainsAfter}
+use Rattle.frame_engine.specs.Reasoned.{answers_in, reasons_then, behind_record, behind_burst, behind_last}
+use Rattle.frame_engine.specs.Comparing.{IsComparing, IsWholeIn, Takes, TakesBrought, Compares, IsComparedFile}
 use Rattle.frame_engine.specs.Inside.Joins.{PutsCame, HasTaken, HasReadBytes, WritesAll}
 use Rattle.frame_engine.specs.Inside.Beside.{HasTakenBeside, HasEndedBeside, HasJoinedBeside, HasReadBeside, AreAllBeside, TakesBurstBeside, JoinsSomeBeside, JoinsPieceBeside, JoinsWrittenBeside}
 use Rattle.frame_engine.proofs.Arrivals.{all-append}
 use Rattle.frame_engine.proofs.Filed.{filed-written}
-use Rattle.frame_engine.proofs.Taken.{taken-more, taken-came, taken-end, end-came, ended-closed, closed-came, counted-more}
+use Rattle.frame_engine.proofs.Reasoned.{known-told, known-explained, known-steps, whole-before}
+use Rattle.frame_engine.proofs.Taken.{taken-more, taken-came, taken-answers, taken-end, end-came, end-answers, ended-closed, closed-came, closed-answers, counted-more}
 use Rattle.frame_engine.proofs.Ended.{wrote-both}
 
--- what follows from two clauses of a call that succeeded
-pub both-ok : {T E P Q S : Type 0} (r : Result T E) → (P → Q → S) → OnOk r P → OnOk r Q → OnOk r S
-both-ok (Ok x) next p q = next p q
-both-ok (Err e) next p q = tt
+-- what follows from three clauses of a call that succeeded
+pub three-ok : {T E P Q S U : Type 0} (r : Result T E) → (P → Q → S → U) → OnOk r P → OnOk r Q → OnOk r S → OnOk r U
+three-ok (Ok x) next p q s = next p q s
+three-ok (Err e) next p q s = tt
 
 module _ (settings : CaptureSettings) (capture_map : CaptureMap) where
   -- more came to be compared
@@ -51,45 +56,110 @@ module _ (settings : CaptureSettings) (capture_map : CaptureMap) where
       let none = nothing_came (length capture_map.flows.items) in
       subst (λ (c : Comparison). IsComparing c new) (sym (all-append arrivals more none)) (takes (with_all arrivals none) is)
 
-  steps-more : (records : List CaptureParts) (timed waiting timed' : List TimedStep) (selected : Selection) (old new : Comparing) → selected ≡ settings.selected → timed' ≡ timed ++ waiting
-      → Compares settings capture_map records timed old → Takes (arrivals_of_steps selected waiting) old new → Compares settings capture_map records timed' new
-  steps-more records timed waiting timed' selected old new is then_is has takes =
+  -- it was whole before, where it still is
+  was_whole : (arrivals more : List Arrival) (old new : Comparing) → IsComparing (with_all arrivals (nothing_came (length capture_map.flows.items))) old → Takes more old new
+      → IsWholeIn new.comparison → IsWholeIn old.comparison
+  was_whole arrivals more old new is takes whole =
+      whole-before old.comparison new.comparison (with_all arrivals (nothing_came (length capture_map.flows.items))) is (λ before still. (more, takes before still)) whole
+
+  -- steps came that a burst brought, of which something was told before
+  burst-more : (records : List CaptureParts) (one : CaptureParts) (bursts : List CapturedBurst) (burst : CapturedBurst) (answers answers' : List BurstTaken) (answer : BurstTaken) (timed waiting timed' : List TimedStep) (selected : Selection)
+      (old new : Comparing) (mid : Option Reasons) → IsBurstOf one (Ok burst) → selected ≡ settings.selected → timed' ≡ timed ++ waiting → answers' ≡ answers ++ answer ∷ []
+      → Compares settings capture_map (records ++ one ∷ []) bursts answers timed old → Tells (told_if burst.burst_id (fate_of_taken answer)) old.reasons mid
+      → Takes (arrivals_of_steps selected waiting) old new → ExplainsAfter (told_in_steps waiting) new.comparison mid new.reasons
+      → Compares settings capture_map (records ++ one ∷ []) (bursts ++ burst ∷ []) answers' timed' new
+  burst-more records one bursts burst answers answers' answer timed waiting timed' selected old new mid holds is then_is answered has tells takes explains =
       let brings = subst (λ (s : Selection). Takes (arrivals_of_steps s waiting) old new) is takes in
-      subst (λ (t : List TimedStep). Compares settings capture_map records t new) (sym then_is) (
-        has.0 ++ arrivals_of_steps settings.selected waiting,
-        more_steps has.1 waiting,
-        more-compared has.0 (arrivals_of_steps settings.selected waiting) old new has.2 brings,
-      )
+      let more = arrivals_of_steps settings.selected waiting in
+      let kept = more-compared has.arrivals more old new has.compared brings in
+      subst (λ (t : List TimedStep). Compares settings capture_map (records ++ one ∷ []) (bursts ++ burst ∷ []) answers' t new) (sym then_is)
+      (subst (λ (a : List BurstTaken). Compares settings capture_map (records ++ one ∷ []) (bursts ++ burst ∷ []) a (timed ++ waiting) new) (sym answered) (record {
+        arrivals = has.arrivals ++ more;
+        are = more_steps has.are waiting;
+        compared = kept;
+        explained = λ whole.
+            let was = has.explained (was_whole has.arrivals more old new has.compared brings whole) in
+            let first = told_if burst.burst_id (fate_of_taken answer) in
+            record {
+              told = was.told ++ first ++ told_in_steps waiting;
+              reasons = reasons_then settings.selected capture_map (has.arrivals ++ more) (was.told ++ first ++ told_in_steps waiting) was.reasons;
+              are = behind_burst records one was.are burst answer waiting holds;
+              knows =
+                  known-steps (was.told ++ first) was.reasons waiting (with_all (has.arrivals ++ more) (nothing_came (length capture_map.flows.items))) new.comparison mid new.reasons whole kept
+                  (known-told was.told first was.reasons old.reasons mid was.knows tells) explains;
+            };
+      }))
+
+  -- steps came behind the last burst
+  steps-more : (records : List CaptureParts) (bursts : List CapturedBurst) (answers answers' : List BurstTaken) (timed waiting timed' : List TimedStep) (selected : Selection) (old new : Comparing)
+      → selected ≡ settings.selected → timed' ≡ timed ++ waiting → answers' ≡ answers → Compares settings capture_map records bursts answers timed old
+      → Takes (arrivals_of_steps selected waiting) old new → ExplainsAfter (told_in_steps waiting) new.comparison old.reasons new.reasons
+      → Compares settings capture_map records bursts answers' timed' new
+  steps-more records bursts answers answers' timed waiting timed' selected old new is then_is answered has takes explains =
+      let brings = subst (λ (s : Selection). Takes (arrivals_of_steps s waiting) old new) is takes in
+      let more = arrivals_of_steps settings.selected waiting in
+      let kept = more-compared has.arrivals more old new has.compared brings in
+      subst (λ (t : List TimedStep). Compares settings capture_map records bursts answers' t new) (sym then_is)
+      (subst (λ (a : List BurstTaken). Compares settings capture_map records bursts a (timed ++ waiting) new) (sym answered) (record {
+        arrivals = has.arrivals ++ more;
+        are = more_steps has.are waiting;
+        compared = kept;
+        explained = λ whole.
+            let was = has.explained (was_whole has.arrivals more old new has.compared brings whole) in
+            record {
+              told = was.told ++ told_in_steps waiting;
+              reasons = reasons_then settings.selected capture_map (has.arrivals ++ more) (was.told ++ told_in_steps waiting) was.reasons;
+              are = behind_last was.are waiting;
+              knows =
+                  known-steps was.told was.reasons waiting (with_all (has.arrivals ++ more) (nothing_came (length capture_map.flows.items))) new.comparison old.reasons new.reasons whole kept was.knows
+                  explains;
+            };
+      }))
 
   -- a record more came to be compared
-  record-more : (records : List CaptureParts) (timed : List TimedStep) (one : CaptureParts) (selected : Selection) (its_map : CaptureMap) (old new : Comparing)
-      → selected ≡ settings.selected → its_map ≡ capture_map → Compares settings capture_map records timed old → TakesBrought selected its_map one old new
-      → Compares settings capture_map (records ++ one ∷ []) timed new
-  record-more records timed one selected its_map old new is map_is has takes =
+  record-more : (records : List CaptureParts) (bursts : List CapturedBurst) (answers : List BurstTaken) (timed : List TimedStep) (one : CaptureParts) (selected : Selection) (its_map : CaptureMap) (old new : Comparing)
+      → selected ≡ settings.selected → its_map ≡ capture_map → Compares settings capture_map records bursts answers timed old → TakesBrought selected its_map one old new
+      → Explains new.comparison old.reasons new.reasons → Compares settings capture_map (records ++ one ∷ []) bursts answers timed new
+  record-more records bursts answers timed one selected its_map old new is map_is has takes explains =
       let none = nothing_came (length capture_map.flows.items) in
-      let brought = takes (with_all has.0 none) has.2 in
+      let brought = takes (with_all has.arrivals none) has.compared in
       let brings =
       subst (λ (s : Selection). Brings s capture_map one brought.0) is
-      (subst (λ (m : CaptureMap). Brings selected m one brought.0) map_is brought.1) in (
-        has.0 ++ brought.0,
-        one_record has.1 one brought.0 brings,
-        subst (λ (c : Comparison). IsComparing c new) (sym (all-append has.0 brought.0 none)) brought.2,
-      )
+      (subst (λ (m : CaptureMap). Brings selected m one brought.0) map_is brought.1) in
+      let kept = subst (λ (c : Comparison). IsComparing c new) (sym (all-append has.arrivals brought.0 none)) brought.2 in
+      record {
+        arrivals = has.arrivals ++ brought.0;
+        are = one_record has.are one brought.0 brings;
+        compared = kept;
+        explained = λ whole.
+            let was =
+            has.explained
+            (whole-before old.comparison new.comparison (with_all has.arrivals none) has.compared (λ before still. let came = takes before still in (came.0, came.2)) whole) in
+            record {
+              told = was.told;
+              reasons = reasons_then settings.selected capture_map (has.arrivals ++ brought.0) was.told was.reasons;
+              are = behind_record was.are one brought.0 brings;
+              knows = known-explained was.told was.reasons (with_all (has.arrivals ++ brought.0) none) new.comparison old.reasons new.reasons whole kept was.knows explains;
+            };
+      }
 
   -- **A burst more.**
-  pub taken-beside : (records : List CaptureParts) (bursts : List CapturedBurst) (burst : CapturedBurst) (told : BurstTaken) (written : List ℕ) (old new : Joining) (mid : TimedFrames) (comparing comparing' : Comparing)
-      → HasTakenBeside settings capture_map records bursts written old comparing
+  pub taken-beside : (records : List CaptureParts) (one : CaptureParts) (bursts : List CapturedBurst) (burst : CapturedBurst) (told : BurstTaken) (written : List ℕ) (old new : Joining) (mid : TimedFrames) (comparing comparing' : Comparing) (reasons : Option Reasons)
+      → IsBurstOf one (Ok burst) → HasTakenBeside settings capture_map (records ++ one ∷ []) bursts written old comparing
       → TakesBy inner_accepts HasSeen (SpellsNext old.flows burst told new.flows) old.flows.receiver old.timed new.flows.receiver mid
       → PutsCame mid old.file new.timed new.file → new.flows.map ≡ old.flows.map → new.flows.waits ≡ old.flows.waits
+      → Tells (told_if burst.burst_id (fate_of_taken told)) comparing.reasons reasons
       → Takes (arrivals_of_steps old.file.selected mid.waiting.items) comparing comparing'
-      → HasTakenBeside settings capture_map records (bursts ++ burst ∷ []) written new comparing'
-  taken-beside records bursts burst told written old new mid comparing comparing' has takes puts map_kept waits_kept takes_all =
+      → ExplainsAfter (told_in_steps mid.waiting.items) comparing'.comparison reasons comparing'.reasons
+      → HasTakenBeside settings capture_map (records ++ one ∷ []) (bursts ++ burst ∷ []) written new comparing'
+  taken-beside records one bursts burst told written old new mid comparing comparing' reasons holds has takes puts map_kept waits_kept tells takes_all explains =
       let taken = taken-more settings capture_map bursts burst told written old new mid has.taken takes puts map_kept waits_kept in
       record {
         taken = taken;
         compares =
-            steps-more records has.taken.filed.came mid.waiting.items taken.filed.came old.file.selected comparing comparing' has.taken.filed.selected
-            (taken-came settings capture_map bursts burst told written old new mid has.taken takes puts map_kept waits_kept) has.compares takes_all;
+            burst-more records one bursts burst (answers_in has.taken.comes.spelled) (answers_in taken.comes.spelled) told has.taken.filed.came mid.waiting.items taken.filed.came old.file.selected
+            comparing comparing' reasons holds has.taken.filed.selected (taken-came settings capture_map bursts burst told written old new mid has.taken takes puts map_kept waits_kept)
+            (taken-answers settings capture_map bursts burst told written old new mid has.taken takes puts map_kept waits_kept) has.compares tells takes_all explains;
       }
 
   -- **Nothing more.**
@@ -97,14 +167,16 @@ module _ (settings : CaptureSettings) (capture_map : CaptureMap) where
       → HasTakenBeside settings capture_map records bursts written old comparing
       → TakesBy inner_accepts HasSeen (EndsWaitingOfAll old.flows new.flows) old.flows.receiver old.timed new.flows.receiver mid
       → PutsCame mid old.file new.timed new.file → Takes (arrivals_of_steps old.file.selected mid.waiting.items) comparing comparing'
+      → ExplainsAfter (told_in_steps mid.waiting.items) comparing'.comparison comparing.reasons comparing'.reasons
       → HasEndedBeside settings capture_map records bursts written new comparing'
-  end-beside records bursts written old new mid comparing comparing' has takes puts takes_all =
+  end-beside records bursts written old new mid comparing comparing' has takes puts takes_all explains =
       let ended = taken-end settings capture_map bursts written old new mid has.taken takes puts in
       record {
         ended = ended;
         compares =
-            steps-more records has.taken.filed.came mid.waiting.items ended.filed.came old.file.selected comparing comparing' has.taken.filed.selected
-            (end-came settings capture_map bursts written old new mid has.taken takes puts) has.compares takes_all;
+            steps-more records bursts (answers_in has.taken.comes.spelled) (answers_in ended.comes.came.spelled) has.taken.filed.came mid.waiting.items ended.filed.came old.file.selected
+            comparing comparing' has.taken.filed.selected (end-came settings capture_map bursts written old new mid has.taken takes puts)
+            (end-answers settings capture_map bursts written old new mid has.taken takes puts) has.compares takes_all explains;
       }
 
   -- **The receiver was closed.**
@@ -112,14 +184,16 @@ module _ (settings : CaptureSettings) (capture_map : CaptureMap) where
       → HasEndedBeside settings capture_map records bursts written old comparing
       → Closes HasGiven inner_accepts old.flows.receiver old.timed closed mid → PutsCame mid old.file timed' file'
       → Takes (arrivals_of_steps old.file.selected mid.waiting.items) comparing comparing'
+      → ExplainsAfter (told_in_steps mid.waiting.items) comparing'.comparison comparing.reasons comparing'.reasons
       → AreAllBeside settings capture_map records bursts (written ++ file'.bytes.items) comparing'
-  closed-beside records bursts written old mid timed' file' closed comparing comparing' has closes puts takes_all =
+  closed-beside records bursts written old mid timed' file' closed comparing comparing' has closes puts takes_all explains =
       let all = ended-closed settings capture_map bursts written old mid timed' file' closed has.ended closes puts in
       record {
         all = all;
         compares =
-            steps-more records has.ended.filed.came mid.waiting.items all.file.timed old.file.selected comparing comparing' has.ended.filed.selected
-            (closed-came settings capture_map bursts written old mid timed' file' closed has.ended closes puts) has.compares takes_all;
+            steps-more records bursts (answers_in has.ended.comes.came.spelled) (answers_in all.comes.came.spelled) has.ended.filed.came mid.waiting.items all.file.timed old.file.selected
+            comparing comparing' has.ended.filed.selected (closed-came settings capture_map bursts written old mid timed' file' closed has.ended closes puts)
+            (closed-answers settings capture_map bursts written old mid timed' file' closed has.ended closes puts) has.compares takes_all explains;
       }
 
   -- ---- records
@@ -140,9 +214,9 @@ module _ (settings : CaptureSettings) (capture_map : CaptureMap) where
   -- a record that is passed over
   pub passed-beside : (records : List CaptureParts) (written : List ℕ) (one : CaptureParts) (why : PassedReason) (old : Joining) (n : ℕ) (comparing comparing' : Comparing)
       → HasJoinedBeside settings capture_map records written old comparing → TakesBrought old.file.selected old.flows.map one comparing comparing'
-      → IsBurstOf one (Err why) → n ≡ min (old.records + 1) (2 ^ 64 - 1)
+      → Explains comparing'.comparison comparing.reasons comparing'.reasons → IsBurstOf one (Err why) → n ≡ min (old.records + 1) (2 ^ 64 - 1)
       → HasJoinedBeside settings capture_map (records ++ one ∷ []) written (record old { records = n }) comparing'
-  passed-beside records written one why old n comparing comparing' has brings is count =
+  passed-beside records written one why old n comparing comparing' has brings explains is count =
       let taken = has.joined.taken_in in
       record {
         joined = record {
@@ -151,20 +225,24 @@ module _ (settings : CaptureSettings) (capture_map : CaptureMap) where
           taken_in = counted_on has.joined.bursts written old n taken;
           count = count ∙ counted-more settings capture_map old.records records one has.joined.count;
         };
-        compares = record-more records taken.filed.came one old.file.selected old.flows.map comparing comparing' taken.filed.selected taken.map_is has.compares brings;
+        compares =
+            record-more records has.joined.bursts (answers_in taken.comes.spelled) taken.filed.came one old.file.selected old.flows.map comparing comparing' taken.filed.selected taken.map_is
+            has.compares brings explains;
       }
 
   -- one that is a burst
   pub burst-beside : (records : List CaptureParts) (written : List ℕ) (one : CaptureParts) (burst : CapturedBurst) (old new : Joining) (n : ℕ) (comparing comparing' comparing'' : Comparing)
       → HasJoinedBeside settings capture_map records written old comparing → TakesBrought old.file.selected old.flows.map one comparing comparing'
-      → IsBurstOf one (Ok burst) → n ≡ min (old.records + 1) (2 ^ 64 - 1) → new.records ≡ n
+      → Explains comparing'.comparison comparing.reasons comparing'.reasons → IsBurstOf one (Ok burst) → n ≡ min (old.records + 1) (2 ^ 64 - 1) → new.records ≡ n
       → TakesBurstBeside (record old { records = n }) comparing' burst new comparing''
       → HasJoinedBeside settings capture_map (records ++ one ∷ []) written new comparing''
-  burst-beside records written one burst old new n comparing comparing' comparing'' has brings is count kept takes =
+  burst-beside records written one burst old new n comparing comparing' comparing'' has brings explains is count kept takes =
       let taken = has.joined.taken_in in
-      let after = takes settings capture_map (records ++ one ∷ []) has.joined.bursts written (record {
+      let after = takes settings capture_map records one has.joined.bursts written is (record {
         taken = counted_on has.joined.bursts written old n taken;
-        compares = record-more records taken.filed.came one old.file.selected old.flows.map comparing comparing' taken.filed.selected taken.map_is has.compares brings;
+        compares =
+            record-more records has.joined.bursts (answers_in taken.comes.spelled) taken.filed.came one old.file.selected old.flows.map comparing comparing' taken.filed.selected taken.map_is
+            has.compares brings explains;
       }) in
       record {
         joined = record {

@@ -6,6 +6,7 @@ pub mod Ended
 pub mod Devices
 pub mod Arrivals
 pub mod Explained
+pub mod Reasoned
 pub mod Beside
 pub mod EqualFrames
 pub mod EqualEnds

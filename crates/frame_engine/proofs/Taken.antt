@@ -30,6 +30,7 @@ use Rattle.capture_summary.specs.declared.passed.PassedReason.{PassedReason}
 use Rattle.frame_engine.specs.Settings.{inner_accepts}
 use Rattle.frame_engine.specs.Records.{IsBurstOf, passed_over, one_burst, counted}
 use Rattle.frame_engine.specs.Joined.{made, check, ComesOf, IsFileOf, AreFramesAtEnd, AreAllFrames}
+use Rattle.frame_engine.specs.Reasoned.{answers_in}
 use Rattle.frame_engine.specs.Inside.Joins.{PutsCame, HasFiled, HasTaken, HasEnded, HasJoined, TakesBurst}
 use Rattle.frame_engine.proofs.Filed.{filed-more, filed-came, filed-file, filed-written}
 
@@ -81,6 +82,14 @@ module _ (settings : CaptureSettings) (capture_map : CaptureMap) where
       filed-came settings capture_map has.steps takes.steps written old.timed mid new.timed old.file new.file has.filed
       (takes.was_seen old.timed [] (seen_nothing old.timed)) puts
 
+  -- and what was told of each burst
+  pub taken-answers : (bursts : List CapturedBurst) (burst : CapturedBurst) (told : BurstTaken) (written : List ℕ) (old new : Joining) (mid : TimedFrames) (has : HasTaken settings capture_map bursts written old)
+      (takes : TakesBy inner_accepts HasSeen (SpellsNext old.flows burst told new.flows) old.flows.receiver old.timed new.flows.receiver mid)
+      (puts : PutsCame mid old.file new.timed new.file) (map_kept : new.flows.map ≡ old.flows.map) (waits_kept : new.flows.waits ≡ old.flows.waits)
+      → answers_in (taken-more bursts burst told written old new mid has takes puts map_kept waits_kept).comes.spelled ≡ answers_in has.comes.spelled ++ told ∷ []
+  unfolding taken-more
+  taken-answers bursts burst told written old new mid has takes puts map_kept waits_kept = refl
+
   -- **Nothing more.**
   pub taken-end : (bursts : List CapturedBurst) (written : List ℕ) (old new : Joining) (mid : TimedFrames) → HasTaken settings capture_map bursts written old
       → TakesBy inner_accepts HasSeen (EndsWaitingOfAll old.flows new.flows) old.flows.receiver old.timed new.flows.receiver mid
@@ -119,6 +128,12 @@ module _ (settings : CaptureSettings) (capture_map : CaptureMap) where
       filed-came settings capture_map has.steps takes.steps written old.timed mid new.timed old.file new.file has.filed
       (takes.was_seen old.timed [] (seen_nothing old.timed)) puts
 
+  pub end-answers : (bursts : List CapturedBurst) (written : List ℕ) (old new : Joining) (mid : TimedFrames) (has : HasTaken settings capture_map bursts written old)
+      (takes : TakesBy inner_accepts HasSeen (EndsWaitingOfAll old.flows new.flows) old.flows.receiver old.timed new.flows.receiver mid)
+      (puts : PutsCame mid old.file new.timed new.file) → answers_in (taken-end bursts written old new mid has takes puts).comes.came.spelled ≡ answers_in has.comes.spelled
+  unfolding taken-end
+  end-answers bursts written old new mid has takes puts = refl
+
   -- **The receiver was closed.**
   pub ended-closed : (bursts : List CapturedBurst) (written : List ℕ) (old : Joining) (mid timed' : TimedFrames) (file' : FrameFile) (closed : Closed) → HasEnded settings capture_map bursts written old
       → Closes HasGiven inner_accepts old.flows.receiver old.timed closed mid → PutsCame mid old.file timed' file' → AreAllFrames settings capture_map bursts (written ++ file'.bytes.items)
@@ -142,6 +157,12 @@ module _ (settings : CaptureSettings) (capture_map : CaptureMap) where
   closed-came bursts written old mid timed' file' closed has closes puts =
       filed-came settings capture_map has.steps (map gave closes.given_more) written old.timed mid timed' old.file file' has.filed
       (closes.was_given old.timed [] (seen_nothing old.timed)) puts
+
+  pub closed-answers : (bursts : List CapturedBurst) (written : List ℕ) (old : Joining) (mid timed' : TimedFrames) (file' : FrameFile) (closed : Closed) (has : HasEnded settings capture_map bursts written old)
+      (closes : Closes HasGiven inner_accepts old.flows.receiver old.timed closed mid) (puts : PutsCame mid old.file timed' file')
+      → answers_in (ended-closed bursts written old mid timed' file' closed has closes puts).comes.came.spelled ≡ answers_in has.comes.came.spelled
+  unfolding ended-closed
+  closed-answers bursts written old mid timed' file' closed has closes puts = refl
 
   -- ---- records
 

@@ -8,6 +8,7 @@ use Rattle.frame_engine.specs.Settings.{inner_accepts}
 use Rattle.frame_comparison.specs.Compared.{nothing_came}
 use Rattle.frame_engine.specs.declared.comparing.Comparing.{Comparing}
 use Rattle.frame_engine.specs.Comparing.{IsComparing}
+use Rattle.frame_engine.specs.Explaining.{NothingTold}
 use Rattle.frame_engine.specs.Inside.Joins.{HasReadBytes}
 use Rattle.frame_engine.specs.Inside.Beside.{HasReadBeside}
 
@@ -19,9 +20,10 @@ IsBegun settings capture_map reading = HasReadBytes settings capture_map [] [] r
 abbrev pub CanJoin : FrameReading → Type 0
 CanJoin reading = IsCapturing inner_accepts reading.joining.flows
 
--- nothing came yet that could be compared
+-- nothing came yet that could be compared, and nothing was told of bursts
 abbrev pub ComparesNothing : CaptureMap → Comparing → Type 0
-ComparesNothing capture_map comparing = IsComparing (nothing_came (length capture_map.flows.items)) comparing
+ComparesNothing capture_map comparing =
+    IsComparing (nothing_came (length capture_map.flows.items)) comparing × NothingTold comparing.reasons
 
 -- so with frames that are compared
 abbrev pub IsBegunBeside : CaptureSettings → CaptureMap → FrameReading → Type 0

@@ -2,6 +2,7 @@
 use Rattle.std.specs.Prelude.{◌≡◌, Option, Some, None, List, []}
 use Rattle.burst_fates.specs.declared.burst_fate.ToldFate.{ToldFate}
 use Rattle.burst_fates.specs.declared.missing_reason.MissingReason.{MissingReason}
+use Rattle.burst_fates.specs.Fates.{kept_of}
 use Rattle.frame_comparison.specs.Seen.{ComparisonSeen}
 use Rattle.frame_reasons.specs.declared.reasons.Reasons.{Reasons}
 use Rattle.frame_reasons.specs.Told.{TellsAll, explained}
@@ -10,6 +11,11 @@ use Rattle.frame_reasons.specs.Told.{TellsAll, explained}
 abbrev pub reasons_in : Option Reasons → List MissingReason
 reasons_in (Some reasons) = reasons.listed.items
 reasons_in None = []
+
+-- this was told, of which the last is kept, and these reasons are listed
+abbrev pub Knows : List ToldFate → List MissingReason → Option Reasons → Type 0
+Knows told reasons (Some one) = (one.fates.told.items ≡ kept_of told) × (one.listed.items ≡ reasons)
+Knows told reasons None = ⊥
 
 -- nothing was told, and no reason is listed
 abbrev pub NothingTold : Option Reasons → Type 0

@@ -3,6 +3,7 @@ pub mod Records
 pub mod Written
 pub mod Compared
 pub mod Explaining
+pub mod Reasoned
 pub mod Comparing
 pub mod Judged
 pub mod Joined

@@ -11,6 +11,8 @@ ghost use Rattle.frame_engine.specs.Inside.Joins.{TakesBurst, TakesRecord, EndsJ
 ghost use Rattle.frame_engine.specs.Inside.Joins.{ClosesWritten, FinishesBursts};
 ghost use Rattle.frame_engine.specs.Compared.{arrivals_of_steps};
 ghost use Rattle.frame_engine.specs.Comparing.{Takes};
+ghost use Rattle.frame_engine.specs.Explaining.{ExplainsAfter};
+ghost use Rattle.frame_reasons.specs.Told.{told_in_steps};
 ghost use Rattle.frame_engine.specs.Inside.Beside.{TakesBurstBeside, TakesRecordBeside};
 ghost use Rattle.frame_engine.specs.Begun.{ComparesNothing};
 ghost use Rattle.frame_engine.specs.declared.comparing.Comparing.{Comparing};
@@ -43,7 +45,7 @@ pub(crate) struct Joining {
     pub(crate) records: u64,
 }
 
-/// Puts all that waits into the file, and compares its frames. Where an allocation failed, here or
+/// Puts all that waits into the file, is told what it says of bursts, and compares its frames. Where an allocation failed, here or
 /// before, the file stays as it was.
 fn put_came(
     alloc: Global,
@@ -56,6 +58,8 @@ fn put_came(
     ensures compared { OnOk result (Takes
         (arrivals_of_steps file.old.selected timed.old.waiting.items)
         comparing.old comparing.new) }
+    ensures explained { OnOk result (ExplainsAfter (told_in_steps timed.old.waiting.items)
+        comparing.new.comparison comparing.old.reasons comparing.new.reasons) }
     ensures file { OnErr result (KeepsFile file.old file.new) }
     ensures only { IfErr result (λ fault. fault ≡ OutOfMemory) }
 {

@@ -5,7 +5,7 @@
 //! of the bursts that are named of them when they are listed.
 //!
 //! What matters most: what is told is what the replies say (`told_in_steps`), and each reason is
-//! that of the definition `reason_of`, of what was told last.
+//! that of the definition `reason_of`, of what is known then.
 #![tactic(auto)]
 
 mod fates;

@@ -28,7 +28,7 @@ fn expect_words(
 }
 
 #[test]
-fn what_was_told_last_is_known(rt: HostRuntime) -> Result<(), Fail> {
+fn what_was_told_is_known(rt: HostRuntime) -> Result<(), Fail> {
     let mut fates = BurstFates::new(rt.alloc())?;
     assert!(rt; fates.fate_of(7).is_none());
     fates.tell(7, BurstFate::Waits);
@@ -41,6 +41,27 @@ fn what_was_told_last_is_known(rt: HostRuntime) -> Result<(), Fail> {
     assert!(rt; fates.reason(&[7, 7]) == MissingReason::AllKept);
     assert!(rt; fates.reason(&[7, 8, 9]) == MissingReason::Burst(8, BurstFate::Late));
     assert!(rt; fates.reason(&[7, 10, 8]) == MissingReason::NeverCame(10));
+    Ok(())
+}
+
+#[test]
+fn a_burst_that_was_kept_once_was_kept(rt: HostRuntime) -> Result<(), Fail> {
+    let mut fates = BurstFates::new(rt.alloc())?;
+    fates.tell(7, BurstFate::Waits);
+    fates.tell(7, BurstFate::Kept);
+    fates.tell(8, BurstFate::Repeat);
+    fates.tell(7, BurstFate::Waits);
+    fates.tell(7, BurstFate::Late);
+    assert!(rt; fates.fate_of(7) == Some(BurstFate::Kept));
+    assert!(rt; fates.fate_of(8) == Some(BurstFate::Repeat));
+    assert!(rt; fates.reason(&[7]) == MissingReason::AllKept);
+    assert!(rt; fates.reason(&[7, 8]) == MissingReason::Burst(8, BurstFate::Repeat));
+    for id in 4..MOST_TOLD as u64 {
+        fates.tell(1000 + id, BurstFate::Beyond);
+    }
+    assert!(rt; fates.fate_of(7) == Some(BurstFate::Kept));
+    fates.tell(9, BurstFate::Beyond);
+    assert!(rt; fates.fate_of(7) == Some(BurstFate::Late));
     Ok(())
 }
 

@@ -1,5 +1,5 @@
 -- How far the frames of a capture were compared, beside how far it was joined.
-use Rattle.std.specs.Prelude.{◌≡◌, ℕ, Option, List, ◌∷◌, [], ◌++◌}
+use Rattle.std.specs.Prelude.{◌≡◌, ℕ, Option, List, ◌∷◌, [], ◌++◌, Ok}
 use Rattle.capture.specs.PcapngBlocks.{CaptureParts}
 use Rattle.capture_map.specs.declared.map.CaptureMap.{CaptureMap}
 use Rattle.captured_flows.specs.declared.captured_burst.CapturedBurst.{CapturedBurst}
@@ -11,38 +11,42 @@ use Rattle.frame_engine.specs.declared.joining.Joining.{Joining}
 use Rattle.frame_engine.specs.declared.frame_reading.FrameReading.{FrameReading}
 use Rattle.frame_engine.specs.Comparing.{Compares, IsComparedFile}
 use Rattle.frame_engine.specs.Joined.{AreAllFrames}
+use Rattle.frame_engine.specs.Reasoned.{answers_in}
+use Rattle.frame_engine.specs.Records.{IsBurstOf}
 use Rattle.frame_engine.specs.Inside.Joins.{HasTaken, HasEnded, HasJoined, HasReadBytes, WritesAll}
 
 module _ (settings : CaptureSettings) (capture_map : CaptureMap) where
   -- these bursts came, and what came of them was compared with these records
   pub record HasTakenBeside (records : List CaptureParts) (bursts : List CapturedBurst) (written : List ℕ) (joining : Joining) (comparing : Comparing) : Type 0 where
     pub taken : HasTaken settings capture_map bursts written joining
-    pub compares : Compares settings capture_map records taken.filed.came comparing
+    pub compares : Compares settings capture_map records bursts (answers_in taken.comes.spelled) taken.filed.came comparing
 
   pub record HasEndedBeside (records : List CaptureParts) (bursts : List CapturedBurst) (written : List ℕ) (joining : Joining) (comparing : Comparing) : Type 0 where
     pub ended : HasEnded settings capture_map bursts written joining
-    pub compares : Compares settings capture_map records ended.filed.came comparing
+    pub compares : Compares settings capture_map records bursts (answers_in ended.comes.came.spelled) ended.filed.came comparing
 
   pub record HasJoinedBeside (records : List CaptureParts) (written : List ℕ) (joining : Joining) (comparing : Comparing) : Type 0 where
     pub joined : HasJoined settings capture_map records written joining
-    pub compares : Compares settings capture_map records joined.taken_in.filed.came comparing
+    pub compares : Compares settings capture_map records joined.bursts (answers_in joined.taken_in.comes.spelled) joined.taken_in.filed.came comparing
 
   pub record HasReadBeside (bytes written : List ℕ) (reading : FrameReading) (comparing : Comparing) : Type 0 where
     pub read : HasReadBytes settings capture_map bytes written reading
-    pub compares : Compares settings capture_map read.records read.joined.taken_in.filed.came comparing
+    pub compares :
+        Compares settings capture_map read.records read.joined.bursts (answers_in read.joined.taken_in.comes.spelled) read.joined.taken_in.filed.came comparing
 
   -- the receiver was closed, and all that it gave was compared with these records
   pub record AreAllBeside (records : List CaptureParts) (bursts : List CapturedBurst) (text : List ℕ) (comparing : Comparing) : Type 0 where
     pub all : AreAllFrames settings capture_map bursts text
-    pub compares : Compares settings capture_map records all.file.timed comparing
+    pub compares : Compares settings capture_map records bursts (answers_in all.comes.came.spelled) all.file.timed comparing
 
--- whatever came, this came besides
+-- whatever came, and last the record that holds this burst, it came besides
 abbrev pub TakesBurstBeside : Joining → Comparing → CapturedBurst → Joining → Comparing → Type 0
 TakesBurstBeside old comparing burst new comparing' =
-    (settings : CaptureSettings) (capture_map : CaptureMap) (records : List CaptureParts) (bursts : List CapturedBurst) (written : List ℕ)
-    → HasTakenBeside settings capture_map records bursts written old comparing
-    → HasTakenBeside settings capture_map records (bursts ++ burst ∷ []) written new comparing'
+    (settings : CaptureSettings) (capture_map : CaptureMap) (records : List CaptureParts) (one : CaptureParts) (bursts : List CapturedBurst) (written : List ℕ)
+    → IsBurstOf one (Ok burst) → HasTakenBeside settings capture_map (records ++ one ∷ []) bursts written old comparing
+    → HasTakenBeside settings capture_map (records ++ one ∷ []) (bursts ++ burst ∷ []) written new comparing'
 
+-- whatever came, this came besides
 abbrev pub TakesRecordBeside : Joining → Comparing → CaptureParts → Joining → Comparing → Type 0
 TakesRecordBeside old comparing one new comparing' =
     (settings : CaptureSettings) (capture_map : CaptureMap) (records : List CaptureParts) (written : List ℕ)

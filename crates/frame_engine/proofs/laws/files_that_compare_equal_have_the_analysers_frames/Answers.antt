@@ -8,7 +8,7 @@ returns c = λ settings capture_map old new input text compared finishes equal.
     record {
       joined = compared.joined;
       same = λ k within chosen.
-          let alone = none-lonely capture_map has.0 old new k has.2 finishes equal in
-          c.frames_that_compare_equal_are_the_analysers.ensures settings.selected capture_map compared.joined.records compared.joined.joined.frames.file.timed has.0 _ k has.1
+          let alone = none-lonely capture_map has.arrivals old new k has.compared finishes equal in
+          c.frames_that_compare_equal_are_the_analysers.ensures settings.selected capture_map compared.joined.records compared.joined.joined.frames.file.timed has.arrivals _ k has.are
           within chosen alone.0 alone.1;
     }

@@ -1,5 +1,5 @@
 use Rattle.std.proofs.Common.{◌≡◌, sym, ◌∙◌}
-use Rattle.burst_fates.proofs.LastOf.{reason-more, reason-found, reason-none, reason-named}
+use Rattle.burst_fates.proofs.Known.{reason-more, reason-found, reason-none, reason-named}
 use Rattle.burst_fates.proofs.burst_fates.BurstFates.reason.Goals as goal
 
 pub returns-in-Some : goal.returns-in-Some

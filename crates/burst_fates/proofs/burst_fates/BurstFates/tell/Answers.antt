@@ -2,7 +2,7 @@ use Rattle.std.proofs.Common.{◌≡◌, ℕ, List, [], ◌∷◌, ◌++◌, ap,
 use Rattle.circular_buffer.specs.Buffer.{Buffer, keep_last}
 use Rattle.burst_fates.specs.Room.{most_told}
 use Rattle.burst_fates.specs.declared.burst_fate.ToldFate.{ToldFate}
-use Rattle.burst_fates.proofs.LastOf.{keep-more}
+use Rattle.burst_fates.proofs.Known.{keep-more}
 use Rattle.burst_fates.proofs.burst_fates.BurstFates.tell.Goals as goal
 
 pub returns : goal.returns

@@ -7,7 +7,7 @@ use Rattle.timed_frames.specs.Seen.{HasGiven}
 use Rattle.frame_engine.specs.declared.inner_check.InnerCheck.{InnerCheck}
 use Rattle.frame_engine.specs.Settings.{inner_accepts}
 use Rattle.frame_engine.proofs.Taken.{ended-closed}
-use Rattle.frame_engine.proofs.Beside.{both-ok, closed-beside}
+use Rattle.frame_engine.proofs.Beside.{three-ok, closed-beside}
 use Rattle.frame_engine.proofs.joining.Joining.close.Goals as goal
 
 pub returns-in-Ok-clause-closed : goal.returns-in-Ok-clause-closed
@@ -21,8 +21,8 @@ returns-in-Ok-clause-closed c =
 pub returns-in-Ok-clause-compared : goal.returns-in-Ok-clause-compared
 returns-in-Ok-clause-compared c =
     let closes = subst (λ (receiver : Receiver InnerCheck). Closes HasGiven inner_accepts receiver c.args.self.timed c.in-Ok.closed c.close.new.out) c.into_receiver.ensures c.in-Ok.ensures.closes in
-    both-ok c.put_came-put.result
-    (λ puts takes. λ settings capture_map records bursts written has.
+    three-ok c.put_came-put.result
+    (λ puts takes explains. λ settings capture_map records bursts written has.
     closed-beside settings capture_map records bursts written c.args.self c.close.new.out c.put_came-put.new.timed c.put_came-put.new.file c.in-Ok.closed c.args.comparing.now
-    c.put_came-put.new.comparing has closes puts takes)
-    c.put_came-put.ensures.put c.put_came-put.ensures.compared
+    c.put_came-put.new.comparing has closes puts takes explains)
+    c.put_came-put.ensures.put c.put_came-put.ensures.compared c.put_came-put.ensures.explained

@@ -1,7 +1,7 @@
 -- Nothing more comes.
 use Rattle.std.proofs.lemmas.Result.{on_ok_weaker}
 use Rattle.frame_engine.proofs.Taken.{taken-end}
-use Rattle.frame_engine.proofs.Beside.{both-ok, end-beside}
+use Rattle.frame_engine.proofs.Beside.{three-ok, end-beside}
 use Rattle.frame_engine.proofs.joining.Joining.end_waiting.Goals as goal
 
 pub returns-in-Ok-clause-ended : goal.returns-in-Ok-clause-ended
@@ -15,9 +15,9 @@ returns-in-Ok-clause-ended c =
 
 pub returns-in-Ok-clause-compared : goal.returns-in-Ok-clause-compared
 returns-in-Ok-clause-compared c =
-    both-ok c.put_came.result
-    (λ puts takes. λ settings capture_map records bursts written has.
+    three-ok c.put_came.result
+    (λ puts takes explains. λ settings capture_map records bursts written has.
     end-beside settings capture_map records bursts written c.args.self.now
     (record { flows = c.end_waiting.new.self; timed = c.put_came.new.timed; file = c.put_came.new.file; records = c.args.self.now.records })
-    c.end_waiting.new.out c.args.comparing.now c.put_came.new.comparing has c.in-Ok.ensures.takes puts takes)
-    c.put_came.ensures.put c.put_came.ensures.compared
+    c.end_waiting.new.out c.args.comparing.now c.put_came.new.comparing has c.in-Ok.ensures.takes puts takes explains)
+    c.put_came.ensures.put c.put_came.ensures.compared c.put_came.ensures.explained

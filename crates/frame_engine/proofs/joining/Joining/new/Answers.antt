@@ -1,6 +1,7 @@
 -- Nothing came, and the header is in the file.
 use Rattle.std.proofs.Common.{◌≡◌, ℕ, [], List, Option, None, replicate, length, refl, sym, ap, subst, ◌∙◌, map, append-nil, rules}
 use Rattle.capture.specs.Pcap.{header_bytes}
+use Rattle.captured_flows.specs.declared.burst_taken.BurstTaken.{BurstTaken}
 use Rattle.captured_flows.specs.Captures.{SpellsBursts, none_comes}
 use Rattle.captured_flows.specs.Flow.{FlowView}
 use Rattle.captured_flows.specs.Plays.{nothing}
@@ -11,6 +12,9 @@ use Rattle.timed_frames.specs.Timed.{Timed, nothing_came}
 use Rattle.frame_engine.specs.Records.{no_records}
 use Rattle.frame_engine.specs.Compared.{nothing_yet}
 use Rattle.frame_engine.specs.Joined.{made, none_handed_in}
+use Rattle.frame_engine.specs.Comparing.{Compares}
+use Rattle.frame_engine.specs.Reasoned.{nothing_told}
+use Rattle.frame_engine.proofs.Reasoned.{answers-none, known-nothing}
 use Rattle.frame_engine.proofs.joining.Joining.new.Goals as goal
 
 pub returns-clause-begun : goal.returns-clause-begun
@@ -55,4 +59,16 @@ returns-clause-begun c =
 pub returns-clause-begun_beside : goal.returns-clause-begun_beside
 unfolding returns-clause-begun
 returns-clause-begun_beside c = λ comparing none.
-    record { joined = returns-clause-begun c; compares = ([], nothing_yet, none) }
+    let joined = returns-clause-begun c in
+    let settings = c.args.settings in
+    let capture_map = c.args.capture_map in
+    record {
+      joined = joined;
+      compares =
+          subst (λ (answers : List BurstTaken). Compares settings capture_map [] [] answers [] comparing) (sym (answers-none joined.taken_in.comes.spelled)) (record {
+            arrivals = [];
+            are = nothing_yet;
+            compared = none.0;
+            explained = λ whole. record { told = []; reasons = []; are = nothing_told; knows = known-nothing comparing.reasons none.1 };
+          });
+    }

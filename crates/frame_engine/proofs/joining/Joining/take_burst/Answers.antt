@@ -3,7 +3,7 @@ use Rattle.std.proofs.Common.{refl}
 use Rattle.std.proofs.lemmas.Result.{on_ok_weaker}
 use Rattle.frame_engine.specs.Compared.{arrivals_of_steps}
 use Rattle.frame_engine.proofs.Taken.{taken-more}
-use Rattle.frame_engine.proofs.Beside.{both-ok, taken-beside}
+use Rattle.frame_engine.proofs.Beside.{three-ok, taken-beside}
 use Rattle.frame_engine.proofs.Explained.{takes-kept}
 use Rattle.frame_engine.proofs.joining.Joining.take_burst.Goals as goal
 
@@ -18,9 +18,13 @@ returns-in-Ok-clause-taken c =
 
 pub returns-in-Ok-clause-compared : goal.returns-in-Ok-clause-compared
 returns-in-Ok-clause-compared c =
-    both-ok c.put_came-put.result
-    (λ puts takes. λ settings capture_map records bursts written has.
-    taken-beside settings capture_map records bursts c.args.burst c.in-Ok.told written c.args.self.now
+    let old = c.args.comparing.now in
+    let told = c.tell_taken.new.self in
+    let new = c.put_came-put.new.comparing in
+    three-ok c.put_came-put.result
+    (λ puts takes explains. λ settings capture_map records one bursts written holds has.
+    taken-beside settings capture_map records one bursts c.args.burst c.in-Ok.told written c.args.self.now
     (record { flows = c.take.new.self; timed = c.put_came-put.new.timed; file = c.put_came-put.new.file; records = c.args.self.now.records })
-    c.take.new.out c.args.comparing.now c.put_came-put.new.comparing has c.in-Ok.ensures.takes puts c.take.ensures.map c.take.ensures.waits (takes-kept (arrivals_of_steps c.args.self.now.file.selected c.take.new.out.waiting.items) c.args.comparing.now c.tell_taken.new.self c.put_came-put.new.comparing c.put_came-put.new.comparing c.tell_taken.ensures.comparison takes refl))
-    c.put_came-put.ensures.put c.put_came-put.ensures.compared
+    c.take.new.out old new told.reasons holds has c.in-Ok.ensures.takes puts c.take.ensures.map c.take.ensures.waits c.tell_taken.ensures.tells
+    (takes-kept (arrivals_of_steps c.args.self.now.file.selected c.take.new.out.waiting.items) old told new new c.tell_taken.ensures.comparison takes refl) explains)
+    c.put_came-put.ensures.put c.put_came-put.ensures.compared c.put_came-put.ensures.explained
