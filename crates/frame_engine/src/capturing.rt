@@ -50,7 +50,8 @@ pub fn join_capture<R: ReadBehind, W: Write, Q: Write, P: TakeProgress>(
         → JoinsCapture settings capture_map R.remaining W.contents
         reader.old reader.new writer.old writer.new result }
     // Where nothing was compared before, the records of the capture were compared with just the
-    // frames that were written.
+    // frames that were written, and the reasons that are listed are those of what became of the
+    // bursts of the records.
     ensures compared { (settings : CaptureSettings) (capture_map : CaptureMap)
         → IsBegunBeside settings capture_map reading → ComparesNothing capture_map comparing.old
         → OnOk result (IfSome (R.remaining (inner_of reader.old)) (WritesText
