@@ -1,6 +1,8 @@
 -- Outcomes of what comes in and of what stands in for it agree on the flows that are selected.
-use Rattle.std.proofs.Common.{◌≡◌, ℕ, ◌<◌, Bool, List, length, map, filter, lit<, sym, subst, ◌∙◌, arith}
+use Rattle.std.proofs.Common.{◌≡◌, ℕ, ◌<◌, ◌≤◌, inl, inr, Bool, List, [], length, map, filter, lit<, sym, subst, ◌∙◌, arith}
 use Rattle.std.specs.List.{AllZip}
+use Rattle.std.proofs.lemmas.Bool.{cases_lt}
+use Rattle.std.proofs.lemmas.List.{length-map, get_or_past}
 use Rattle.std.proofs.lemmas.Option.{same_Some}
 use Rattle.ccf.proofs.OneJoining.{Joins-once}
 use Rattle.flow_records.specs.declared.decision.Decision.{Decision}
@@ -24,7 +26,7 @@ use Rattle.receiver.specs.declared.setup.Setup.{Setup}
 use Rattle.receiver.specs.Faults.{CanReceive}
 use Rattle.receiver.specs.Items.{Incoming, lane_setup, IsLaneOf, AreLanesOf, items_of}
 use Rattle.receiver.specs.Intake.{IsIntake}
-use Rattle.receiver.specs.Outcome.{IsOutcomeOfFlow}
+use Rattle.receiver.specs.Outcome.{IsOutcomeOfFlow, requests_on}
 use Rattle.receiver.specs.Ruled.{ruled_flow, comings_at, IsRuledOutcome, IsOutcomeBy}
 use Rattle.receiver.specs.SameOutcome.{GaveTheSame}
 use Rattle.receiver.proofs.OneReplay.{one-answered, one-items}
@@ -111,6 +113,21 @@ flow-agrees rule check flow flow_record comings more one other same p q =
     gives.outcome again.outcome gives.closed again.closed in
     record { sfid = p.gave.sfid ∙ sym gave.sfid; frames = both.0; counts = both.1 }
 
+-- no list of requests is of a channel at the limit or above it
+none_past : (outcome : Outcome) (channel : ℕ) → length outcome.requests ≡ channel_limit → channel_limit ≤ channel → requests_on outcome channel ≡ []
+none_past outcome channel long past =
+    let size = length-map outcome.requests (λ requests. requests.items) in
+    get_or_past (map (λ requests. requests.items) outcome.requests) channel [] (omega (arith, size, long, past))
+
+-- so requests that are the same below the limit are the same on every channel
+on-every : (outcome other : Outcome) → length outcome.requests ≡ channel_limit → length other.requests ≡ channel_limit
+    → ((channel : ℕ) → channel < channel_limit → requests_on outcome channel ≡ requests_on other channel)
+    → (channel : ℕ) → requests_on outcome channel ≡ requests_on other channel
+on-every outcome other long as_long each channel = elim (cases_lt channel channel_limit) [
+  | inl below ↦ each channel below
+  | inr past ↦ none_past outcome channel long past ∙ sym (none_past other channel as_long past)
+]
+
 -- outcomes agree
 pub outcomes-agree : (selected : ℕ → Bool) (rule : LossRule) (check : List ℕ → Bool) (setup : Setup) (incoming other : Incoming) (order : List ℕ) (outcome another : Outcome)
     → CanReceive setup → DiffersElsewhere selected setup incoming other → IsOutcomeBy rule check setup incoming order outcome → IsOutcomeBy rule check setup other order another
@@ -136,9 +153,12 @@ outcomes-agree selected rule check setup incoming other order outcome another ca
           let agrees = flow-agrees rule check (ruled_flow setup.sids.items k flow_record.0) flow_record.0 (comings_at k order is.intake.items) (comings_at k order are.intake.items) p.0 q.0
           (comings-same selected k order is.intake.items are.intake.items chosen items_for) p.2 q.2 in
           subst (λ (f : FlowOutcome). GaveTheSame flow f) same_q (subst (λ (f : FlowOutcome). GaveTheSame f q.0) same_p agrees);
-      requests = λ channel below.
-          is.requests channel below ∙ sym (requests-same selected (is.intake.answered channel) (are.intake.answered channel) (answer_for channel below)) ∙ sym (are.requests channel below);
-      reports = λ channel report again below there here.
+      request_lists = is.request_lists ∙ sym are.request_lists;
+      requests = on-every outcome another is.request_lists are.request_lists (λ channel below.
+          is.requests channel below ∙ sym (requests-same selected (is.intake.answered channel) (are.intake.answered channel) (answer_for channel below)) ∙ sym (are.requests channel below));
+      report_count = is.report_count ∙ sym are.report_count;
+      reports = λ channel report again there here.
+          let below : channel < channel_limit = omega (arith, slice_get_within outcome.lanes channel report there, is.report_count) in
           let p = is.reports channel report below there in
           let q = are.reports channel again below here in
           record {

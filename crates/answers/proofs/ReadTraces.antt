@@ -1,4 +1,5 @@
--- What the lines of a trace say: its bursts are of bytes, and there is no more than there are lines.
+-- What the lines of a trace say: its bursts are of bytes, and there is no more of it than there are
+-- lines.
 use Rattle.std.proofs.Common.{◌≡◌, ℕ, suc, ◌+◌, ◌≤◌, ◌==◌, inl, inr, Bool, true, false, cond, Some, None, List, [], ◌∷◌, length, map, filter_map, slice_index_or, lit<, sym, ap, subst, ◌∙◌, arith, length-append}
 use Rattle.std.specs.List.{AllByRecursion}
 use Rattle.std.proofs.lemmas.List.Elements.{All-from_recursion}

@@ -37,13 +37,16 @@ pub record DiffersElsewhere (selected : ℕ → Bool) (setup : Setup) (incoming 
   pub inputs : (channel : ℕ) → channel < channel_limit → AllZip (StandsIn selected) (answered channel) (other.inputs channel)
   pub decisions : other.decisions ≡ incoming.decisions
 
--- As many flows gave something, those that are selected the same, and on each channel the same was
--- asked for and reported, in the same order of items.
+-- As many flows gave something, those that are selected the same; there are as many lists of
+-- requests and reports of lanes; and on each channel the same was asked for and reported, in the
+-- same order of items. Where all flows are selected this says all that `IsSameOutcome` does.
 pub record AgreesOn (selected : ℕ → Bool) (outcome other : Outcome) : Type 0 where
   pub count : length outcome.flows.items ≡ length other.flows.items
   pub flows : (k : ℕ) (flow another : FlowOutcome) → selected k ≡ true
       → slice_get outcome.flows.items k ≡ Some flow → slice_get other.flows.items k ≡ Some another → GaveTheSame flow another
-  pub requests : (channel : ℕ) → channel < channel_limit → requests_on outcome channel ≡ requests_on other channel
-  pub reports : (channel : ℕ) (report another : LaneReport) → channel < channel_limit
+  pub request_lists : length outcome.requests ≡ length other.requests
+  pub requests : (channel : ℕ) → requests_on outcome channel ≡ requests_on other channel
+  pub report_count : length outcome.lanes ≡ length other.lanes
+  pub reports : (channel : ℕ) (report another : LaneReport)
       → slice_get outcome.lanes channel ≡ Some report → slice_get other.lanes channel ≡ Some another → ReportTheSame report another
   pub order : outcome.order.items ≡ other.order.items

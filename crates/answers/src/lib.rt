@@ -1,10 +1,20 @@
-//! Laws about the definitions of the crates below: what they say a receiver gives is there, always.
+//! Laws about the definitions of the crates below: what they say a receiver gives is there, within
+//! limits.
 //!
 //! That it is one thing is said by laws of those crates, as `ccf::laws::joining_has_one_answer` and
 //! `flow_core::laws::flow_has_at_most_one_outcome`. Here it is said that there is one, from the
-//! joining of a segment upwards, whether or not a call gave it. What comes in is of bytes: of
-//! numbers below 256. And it is said which parts of an answer depend on which parts of what comes
-//! in, so that who has made only a part of it knows of the rest.
+//! joining of a segment upwards, whether or not a call gave it. And it is said which parts of an
+//! answer depend on which parts of what comes in, so that who has made only a part of it knows of
+//! the rest.
+//!
+//! The limits, of which each law names those that it needs:
+//!
+//! - What comes in is of bytes, numbers below 256: some other numbers are walked in no way
+//!   (`some_numbers_have_no_walk`).
+//! - The setup can be received with.
+//! - A channel has fewer than 2^63 inputs, and of all channels and decisions together fewer than
+//!   2^48 items are taken, so that what is given has room in the vectors of an outcome.
+//! - The lines of a trace are read, without a fault, and are fewer than 2^48.
 //!
 //! Each function states a law in its contract; its body is empty or only calls another law.
 #![tactic(auto)]
@@ -39,7 +49,6 @@ ghost use Rattle.text_lines.specs.Lines.{lines_of};
 ghost use Rattle.text_lines.specs.Format.{IsRead};
 ghost use Rattle.flow_selection.specs.declared.selection.Selection.{Selection};
 ghost use Rattle.flow_selection.specs.Selection.{is_selected};
-ghost use Rattle.lane.specs.Limits.{channel_limit};
 ghost use Rattle.receiver.specs.Entries.{tag_of, incoming_in};
 ghost use Rattle.texts.specs.Selected.{report_of, IsReplayedOf};
 ghost use Rattle.texts.specs.AnyHeader.{any_header};
@@ -84,9 +93,9 @@ pub fn some_numbers_have_no_walk()
         → ¬ (Walks any_header numbers frames after)) }
 {}
 
-/// **Each flow has an outcome**: whatever its record says and whatever events come to it, there are
-/// frames and counts that it gives once it is drained, and some that it gives at its close, after
-/// as many gaps as still change anything.
+/// **Each flow has an outcome**: whatever its record says and whatever events come to it, if their
+/// segments carry bytes, there are frames and counts that it gives once it is drained, and some
+/// that it gives at its close, after as many gaps as still change anything.
 pub fn each_flow_has_an_outcome()
     ensures drained { (check : List ℕ → Bool) (flow_record : FlowRecord) (events : List FlowEvent)
         → BringBytes events
@@ -100,8 +109,8 @@ pub fn each_flow_has_an_outcome()
 
 /// **Each intake has an outcome**, by each rule and by decisions alone: where inputs have answers
 /// and items are taken in an order, there is a whole answer of the receiver, which has the frames
-/// of each flow. Bursts are of bytes, and there are fewer inputs and items than memory has room
-/// for.
+/// of each flow. Bursts are of bytes, a channel has fewer than 2^63 inputs, and there are fewer
+/// than 2^48 items.
 pub fn each_intake_has_an_outcome()
     ensures by_rule { (rule : LossRule) (check : List ℕ → Bool) (setup : Setup)
         (incoming : Incoming) (order : List ℕ)
@@ -170,14 +179,12 @@ pub fn other_payloads_change_no_selected_flow()
         → AgreesOn selected outcome another }
 {}
 
-/// **What stands in for a trace gives a part of its text**: where the lines of a trace are read, and
-/// bursts of flows that aren't selected have other bytes behind the same header, the report of the
-/// selected flows, made of these, is just what is left of the whole text of `replay`, which nobody
-/// need have made. Outcomes that agree on flows have one report of them.
+/// **What stands in for a trace gives a part of its text**: where the lines of a trace are read and
+/// are fewer than 2^48, and bursts of flows that aren't selected have other bytes behind the same
+/// header, the report of the selected flows, made of these, is just what is left of the whole text
+/// of `replay`, which nobody need have made. Outcomes that agree on flows have one report of them.
 pub fn stand_ins_give_a_part_of_the_whole_text()
     ensures report { (selected : Selection) (outcome another : Outcome)
-        → length outcome.requests ≡ channel_limit → length another.requests ≡ channel_limit
-        → length outcome.lanes ≡ channel_limit → length another.lanes ≡ channel_limit
         → AgreesOn (is_selected selected) outcome another
         → report_of selected outcome ≡ report_of selected another }
     ensures replay { (selected : Selection) (rule : LossRule) (input : List ℕ) (said : Said)
