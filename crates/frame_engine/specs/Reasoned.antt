@@ -37,10 +37,10 @@ module _ (selected : Selection) (capture_map : CaptureMap) where
   abbrev pub reasons_then : List Arrival → List ToldFate → List MissingReason → List MissingReason
   reasons_then arrivals told reasons = explained (kept_of told) reasons (missing_of arrivals)
 
-  -- **What is told of bursts, and why frames are missing**: of a record nothing is told; if it holds
-  -- a burst, what became of that when it came, and then what the steps that it brought say of it and
-  -- of others; behind the last what the last steps say. Behind each the frames that are listed by
-  -- then get their reasons, by what was told by then.
+  -- **What is told of bursts, and why frames are missing**: of a record nothing is told; if it
+  -- holds a burst, what became of that when it came, and then what the steps that it brought say of
+  -- it and of others; behind the last what the last steps say. Behind each the frames that are
+  -- listed by then get their reasons, by what was told by then.
   pub data AreReasons : List CaptureParts → List CapturedBurst → List BurstTaken → List TimedStep → List Arrival → List ToldFate → List MissingReason → Type 0 where
     nothing_told : AreReasons [] [] [] [] [] [] []
     behind_record : {records : List CaptureParts} {bursts : List CapturedBurst} {answers : List BurstTaken} {timed : List TimedStep} {arrivals : List Arrival} {told : List ToldFate} {reasons : List MissingReason}
