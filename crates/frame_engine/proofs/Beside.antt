@@ -10,7 +10,7 @@ use Rattle.capture.specs.Captures.{IsWholeCapture, TakesCapture}
 use Rattle.capture_map.specs.declared.map.CaptureMap.{CaptureMap}
 use Rattle.captured_flows.specs.declared.captured_burst.CapturedBurst.{CapturedBurst}
 use Rattle.captured_flows.specs.declared.burst_taken.BurstTaken.{BurstTaken}
-use Rattle.captured_flows.specs.Capturing.{SpellsNext, EndsWaitingOfAll}
+use Rattle.captured_flows.specs.Capturing.{SpellsNext, EndsWaitingOfAll, views_in}
 use Rattle.captured_flows.specs.Taking.{TakesBy}
 use Rattle.capture_summary.specs.declared.passed.PassedReason.{PassedReason}
 use Rattle.engines.specs.declared.device.Device.{Device}
@@ -33,7 +33,7 @@ use Rattle.frame_engine.specs.Settings.{inner_accepts}
 use Rattle.frame_engine.specs.Records.{IsBurstOf, passed_over, one_burst}
 use Rattle.frame_engine.specs.Compared.{arrivals_of_steps, Brings, one_record, more_steps}
 use Rattle.frame_engine.specs.Explaining.{Tells, Explains, ExplainsAfter}
-use Rattle.frame_engine.specs.Reasoned.{answers_in, reasons_then, behind_record, behind_burst, behind_last}
+use Rattle.frame_engine.specs.Reasoned.{answers_in, reasons_then, ComesTimed, ComesTimedAtEnd, waiting_ended, receiver_closed, behind_record, behind_burst, behind_last}
 use Rattle.frame_engine.specs.Comparing.{IsComparing, IsWholeIn, Takes, TakesBrought, Compares, IsComparedFile}
 use Rattle.frame_engine.specs.Inside.Joins.{PutsCame, HasTaken, HasReadBytes, WritesAll}
 use Rattle.frame_engine.specs.Inside.Beside.{HasTakenBeside, HasEndedBeside, HasJoinedBeside, HasReadBeside, AreAllBeside, TakesBurstBeside, JoinsSomeBeside, JoinsPieceBeside, JoinsWrittenBeside}
@@ -67,8 +67,9 @@ module _ (settings : CaptureSettings) (capture_map : CaptureMap) where
       (old new : Comparing) (mid : Option Reasons) → IsBurstOf one (Ok burst) → selected ≡ settings.selected → timed' ≡ timed ++ waiting → answers' ≡ answers ++ answer ∷ []
       → Compares settings capture_map (records ++ one ∷ []) bursts answers timed old → Tells (told_if burst.burst_id (fate_of_taken answer)) old.reasons mid
       → Takes (arrivals_of_steps selected waiting) old new → ExplainsAfter (told_in_steps waiting) new.comparison mid new.reasons
+      → ComesTimed settings capture_map bursts timed → ComesTimed settings capture_map (bursts ++ burst ∷ []) timed'
       → Compares settings capture_map (records ++ one ∷ []) (bursts ++ burst ∷ []) answers' timed' new
-  burst-more records one bursts burst answers answers' answer timed waiting timed' selected old new mid holds is then_is answered has tells takes explains =
+  burst-more records one bursts burst answers answers' answer timed waiting timed' selected old new mid holds is then_is answered has tells takes explains came comes =
       let brings = subst (λ (s : Selection). Takes (arrivals_of_steps s waiting) old new) is takes in
       let more = arrivals_of_steps settings.selected waiting in
       let kept = more-compared has.arrivals more old new has.compared brings in
@@ -82,8 +83,10 @@ module _ (settings : CaptureSettings) (capture_map : CaptureMap) where
             let first = told_if burst.burst_id (fate_of_taken answer) in
             record {
               told = was.told ++ first ++ told_in_steps waiting;
-              reasons = reasons_then settings.selected capture_map (has.arrivals ++ more) (was.told ++ first ++ told_in_steps waiting) was.reasons;
-              are = behind_burst records one was.are burst answer waiting holds;
+              reasons = reasons_then settings capture_map (has.arrivals ++ more) (was.told ++ first ++ told_in_steps waiting) was.reasons;
+              are =
+                  behind_burst records one was.are came burst answer waiting holds
+                  (subst (λ (t : List TimedStep). ComesTimed settings capture_map (bursts ++ burst ∷ []) t) then_is comes);
               knows =
                   known-steps (was.told ++ first) was.reasons waiting (with_all (has.arrivals ++ more) (nothing_came (length capture_map.flows.items))) new.comparison mid new.reasons whole kept
                   (known-told was.told first was.reasons old.reasons mid was.knows tells) explains;
@@ -94,8 +97,8 @@ module _ (settings : CaptureSettings) (capture_map : CaptureMap) where
   steps-more : (records : List CaptureParts) (bursts : List CapturedBurst) (answers answers' : List BurstTaken) (timed waiting timed' : List TimedStep) (selected : Selection) (old new : Comparing)
       → selected ≡ settings.selected → timed' ≡ timed ++ waiting → answers' ≡ answers → Compares settings capture_map records bursts answers timed old
       → Takes (arrivals_of_steps selected waiting) old new → ExplainsAfter (told_in_steps waiting) new.comparison old.reasons new.reasons
-      → Compares settings capture_map records bursts answers' timed' new
-  steps-more records bursts answers answers' timed waiting timed' selected old new is then_is answered has takes explains =
+      → ComesTimedAtEnd settings capture_map bursts timed' → Compares settings capture_map records bursts answers' timed' new
+  steps-more records bursts answers answers' timed waiting timed' selected old new is then_is answered has takes explains ends =
       let brings = subst (λ (s : Selection). Takes (arrivals_of_steps s waiting) old new) is takes in
       let more = arrivals_of_steps settings.selected waiting in
       let kept = more-compared has.arrivals more old new has.compared brings in
@@ -108,8 +111,8 @@ module _ (settings : CaptureSettings) (capture_map : CaptureMap) where
             let was = has.explained (was_whole has.arrivals more old new has.compared brings whole) in
             record {
               told = was.told ++ told_in_steps waiting;
-              reasons = reasons_then settings.selected capture_map (has.arrivals ++ more) (was.told ++ told_in_steps waiting) was.reasons;
-              are = behind_last was.are waiting;
+              reasons = reasons_then settings capture_map (has.arrivals ++ more) (was.told ++ told_in_steps waiting) was.reasons;
+              are = behind_last was.are waiting (subst (λ (t : List TimedStep). ComesTimedAtEnd settings capture_map bursts t) then_is ends);
               knows =
                   known-steps was.told was.reasons waiting (with_all (has.arrivals ++ more) (nothing_came (length capture_map.flows.items))) new.comparison old.reasons new.reasons whole kept was.knows
                   explains;
@@ -119,8 +122,9 @@ module _ (settings : CaptureSettings) (capture_map : CaptureMap) where
   -- a record more came to be compared
   record-more : (records : List CaptureParts) (bursts : List CapturedBurst) (answers : List BurstTaken) (timed : List TimedStep) (one : CaptureParts) (selected : Selection) (its_map : CaptureMap) (old new : Comparing)
       → selected ≡ settings.selected → its_map ≡ capture_map → Compares settings capture_map records bursts answers timed old → TakesBrought selected its_map one old new
-      → Explains new.comparison old.reasons new.reasons → Compares settings capture_map (records ++ one ∷ []) bursts answers timed new
-  record-more records bursts answers timed one selected its_map old new is map_is has takes explains =
+      → Explains new.comparison old.reasons new.reasons → ComesTimed settings capture_map bursts timed
+      → Compares settings capture_map (records ++ one ∷ []) bursts answers timed new
+  record-more records bursts answers timed one selected its_map old new is map_is has takes explains came =
       let none = nothing_came (length capture_map.flows.items) in
       let brought = takes (with_all has.arrivals none) has.compared in
       let brings =
@@ -137,11 +141,23 @@ module _ (settings : CaptureSettings) (capture_map : CaptureMap) where
             (whole-before old.comparison new.comparison (with_all has.arrivals none) has.compared (λ before still. let came = takes before still in (came.0, came.2)) whole) in
             record {
               told = was.told;
-              reasons = reasons_then settings.selected capture_map (has.arrivals ++ brought.0) was.told was.reasons;
-              are = behind_record was.are one brought.0 brings;
+              reasons = reasons_then settings capture_map (has.arrivals ++ brought.0) was.told was.reasons;
+              are = behind_record was.are came one brought.0 brings;
               knows = known-explained was.told was.reasons (with_all (has.arrivals ++ brought.0) none) new.comparison old.reasons new.reasons whole kept was.knows explains;
             };
       }
+
+  -- what came of bursts that were taken
+  taken-timed : (bursts : List CapturedBurst) (written : List ℕ) (joining : Joining) (has : HasTaken settings capture_map bursts written joining)
+      → ComesTimed settings capture_map bursts has.filed.came
+  taken-timed bursts written joining has = record {
+    handed = has.handed;
+    steps = has.steps;
+    flows = views_in joining.flows;
+    lasts = joining.timed.lasts.items;
+    comes = has.comes;
+    is_timed = has.filed.is_timed;
+  }
 
   -- **A burst more.**
   pub taken-beside : (records : List CaptureParts) (one : CaptureParts) (bursts : List CapturedBurst) (burst : CapturedBurst) (told : BurstTaken) (written : List ℕ) (old new : Joining) (mid : TimedFrames) (comparing comparing' : Comparing) (reasons : Option Reasons)
@@ -159,7 +175,8 @@ module _ (settings : CaptureSettings) (capture_map : CaptureMap) where
         compares =
             burst-more records one bursts burst (answers_in has.taken.comes.spelled) (answers_in taken.comes.spelled) told has.taken.filed.came mid.waiting.items taken.filed.came old.file.selected
             comparing comparing' reasons holds has.taken.filed.selected (taken-came settings capture_map bursts burst told written old new mid has.taken takes puts map_kept waits_kept)
-            (taken-answers settings capture_map bursts burst told written old new mid has.taken takes puts map_kept waits_kept) has.compares tells takes_all explains;
+            (taken-answers settings capture_map bursts burst told written old new mid has.taken takes puts map_kept waits_kept) has.compares tells takes_all explains
+            (taken-timed bursts written old has.taken) (taken-timed (bursts ++ burst ∷ []) written new taken);
       }
 
   -- **Nothing more.**
@@ -176,7 +193,8 @@ module _ (settings : CaptureSettings) (capture_map : CaptureMap) where
         compares =
             steps-more records bursts (answers_in has.taken.comes.spelled) (answers_in ended.comes.came.spelled) has.taken.filed.came mid.waiting.items ended.filed.came old.file.selected
             comparing comparing' has.taken.filed.selected (end-came settings capture_map bursts written old new mid has.taken takes puts)
-            (end-answers settings capture_map bursts written old new mid has.taken takes puts) has.compares takes_all explains;
+            (end-answers settings capture_map bursts written old new mid has.taken takes puts) has.compares takes_all explains
+            (waiting_ended ended.handed ended.steps new.timed.lasts.items ended.comes ended.filed.is_timed);
       }
 
   -- **The receiver was closed.**
@@ -193,7 +211,8 @@ module _ (settings : CaptureSettings) (capture_map : CaptureMap) where
         compares =
             steps-more records bursts (answers_in has.ended.comes.came.spelled) (answers_in all.comes.came.spelled) has.ended.filed.came mid.waiting.items all.file.timed old.file.selected
             comparing comparing' has.ended.filed.selected (closed-came settings capture_map bursts written old mid timed' file' closed has.ended closes puts)
-            (closed-answers settings capture_map bursts written old mid timed' file' closed has.ended closes puts) has.compares takes_all explains;
+            (closed-answers settings capture_map bursts written old mid timed' file' closed has.ended closes puts) has.compares takes_all explains
+            (receiver_closed all.handed all.steps all.rest all.closed all.file.lasts all.comes all.received all.file.is_timed);
       }
 
   -- ---- records
@@ -227,7 +246,7 @@ module _ (settings : CaptureSettings) (capture_map : CaptureMap) where
         };
         compares =
             record-more records has.joined.bursts (answers_in taken.comes.spelled) taken.filed.came one old.file.selected old.flows.map comparing comparing' taken.filed.selected taken.map_is
-            has.compares brings explains;
+            has.compares brings explains (taken-timed has.joined.bursts written old taken);
       }
 
   -- one that is a burst
@@ -242,7 +261,7 @@ module _ (settings : CaptureSettings) (capture_map : CaptureMap) where
         taken = counted_on has.joined.bursts written old n taken;
         compares =
             record-more records has.joined.bursts (answers_in taken.comes.spelled) taken.filed.came one old.file.selected old.flows.map comparing comparing' taken.filed.selected taken.map_is
-            has.compares brings explains;
+            has.compares brings explains (taken-timed has.joined.bursts written old taken);
       }) in
       record {
         joined = record {

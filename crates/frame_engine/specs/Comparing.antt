@@ -53,7 +53,7 @@ module _ (settings : CaptureSettings) (capture_map : CaptureMap) where
   pub record ListsReasons (records : List CaptureParts) (bursts : List CapturedBurst) (answers : List BurstTaken) (timed : List TimedStep) (arrivals : List Arrival) (comparing : Comparing) : Type 0 where
     pub told : List ToldFate
     pub reasons : List MissingReason
-    pub are : AreReasons settings.selected capture_map records bursts answers timed arrivals told reasons
+    pub are : AreReasons settings capture_map records bursts answers timed arrivals told reasons
     pub knows : Knows told reasons comparing.reasons
 
   -- these records and what came of them were compared, and as long as no allocation failed, the

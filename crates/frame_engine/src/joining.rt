@@ -45,8 +45,8 @@ pub(crate) struct Joining {
     pub(crate) records: u64,
 }
 
-/// Puts all that waits into the file, is told what it says of bursts, and compares its frames. Where an allocation failed, here or
-/// before, the file stays as it was.
+/// Puts all that waits into the file, tells what it says of bursts, and compares its frames. Where
+/// an allocation failed, here or before, the file stays as it was.
 fn put_came(
     alloc: Global,
     timed: &mut TimedFrames,
