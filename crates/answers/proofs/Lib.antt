@@ -13,7 +13,6 @@ pub mod SomeIntake
 pub mod ReadTraces
 pub mod SomeText
 pub mod NoWalk
-pub mod Pairs
 pub mod StandIns
 pub mod OtherItems
 pub mod OtherOutcomes

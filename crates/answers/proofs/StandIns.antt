@@ -17,7 +17,7 @@ use Rattle.lane.specs.Inputs.{LaneSetup, Answer, AnsweredInput, number_of, spend
 use Rattle.lane.specs.Report.{admitted_by, refused_by}
 use Rattle.lane.proofs.LaneTaking.{granted, answered-more}
 use Rattle.receiver.specs.Elsewhere.{StandsIn}
-use Rattle.answers.proofs.Pairs.{zip_at, zip_flip, zip_weaker, zip_push, zip_count}
+use Rattle.receiver.proofs.Pairs.{zip_at, zip_flip, zip_weaker, zip_push, zip_count}
 
 -- For what is outstanding one answered input is as good as another.
 pub record CountsAs (one other : AnsweredInput) : Type 0 where

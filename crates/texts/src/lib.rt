@@ -49,7 +49,9 @@ pub use follow::{
     InputName, finish_follow, put_end,
 };
 pub use join::{JoinInput, join_lines};
-pub use replay::{ReplayInput, UnderWay, finish_replay, replay_lines, replay_lines_by};
+pub use replay::{
+    ReplayInput, SelectedReplay, UnderWay, finish_replay, replay_lines, replay_lines_by,
+};
 pub use report_lines::{put_flow_line, put_frame_line, put_lane_line, put_request_line};
 pub use report_text::{put_report, put_report_of, report};
 pub use text_lines::{
