@@ -19,4 +19,4 @@ pub mod OtherOutcomes
 pub mod PartsOfReports
 pub mod PartsOfTexts
 pub mod OtherSide
-pub mod LookedAtDigits
+pub mod SpelledDigits

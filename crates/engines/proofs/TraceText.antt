@@ -12,7 +12,6 @@ use Rattle.receiver.specs.Entries.{tag_of, incoming_in}
 use Rattle.receiver.specs.Items.{Incoming}
 use Rattle.receiver.specs.Ruled.{IsOutcomeBy}
 use Rattle.text_lines.specs.Capacities.{default_capacity}
-use Rattle.text_lines.specs.declared.fault.ParseFault.TheVariants as parse
 use Rattle.text_lines.specs.Format.{IsRead, IsFirstFaultyLine}
 use Rattle.text_lines.specs.Lines.{lines_of, lines_of_parts, is_line_feed}
 use Rattle.text_lines.specs.declared.fault.TextFault.{TextFault}
@@ -27,7 +26,6 @@ use Rattle.texts.specs.Report.{report_text}
 use Rattle.texts.specs.Selected.{report_of, IsReplayedOf}
 use Rattle.texts.specs.Trace.Place.{Said, nothing_said, trace_format}
 use Rattle.texts.proofs.HandedLines.{read_alone, faulty_alone}
-use Rattle.texts.proofs.OneReplay.{replay_fault}
 use Rattle.engines.specs.Limits.{input_limit}
 use Rattle.engines.specs.LinesRead.{HasReadLines, IsLinesFault}
 
@@ -45,15 +43,6 @@ is_replayed Has start known lines outcome none read played =
       played = subst (λ (by : LossRule). IsPlayedBy by read.state.said outcome) all.1 (played read.state read.stands);
       printed = refl;
     }
-
--- so where some flows are asked for
-pub is_replayed_of : {Lines : Type 0} (selected : Selection) (Has : TraceState (Unit {0}) → Lines → Type 0) (start : TraceState (Unit {0})) (known : Option (List ℕ))
-    (lines : Lines) (outcome : Outcome) → start.said ≡ nothing_said default_capacity → (read : HasReadLines taking_format start Has known lines)
-    → ((given : TraceState (Unit {0})) → Has given lines → IsPlayedBy given.rule given.said outcome)
-    → IsReplayedOf selected start.rule read.input (report_of selected outcome)
-unfolding is_replayed
-is_replayed_of selected Has start known lines outcome none read played =
-    record { whole = report_text outcome; replayed = is_replayed Has start known lines outcome none read played; printed = refl }
 
 -- there are few lines in an input that an engine reads
 few_lines : (input : List ℕ) → length input ≤ input_limit → length (lines_of input) < 2 ^ 48
@@ -92,14 +81,9 @@ part_replayed selected Has start known lines outcome none chosen read played eit
     (either_side (is_selected selected) part.setup part.other (incoming_in said.entries) part.differs) part.admitted part.answered
 
 -- and why they give nothing
-pub part_fault : (start : TraceState Selection) → start.said ≡ nothing_said default_capacity → (input : List ℕ) (fault : TextFault)
+pub lines_fault : {State : Type 0} (start : TraceState State) → start.said ≡ nothing_said default_capacity → (input : List ℕ) (fault : TextFault)
     → IsLinesFault taking_format start input fault → IsReplayFault input fault
-part_fault start none input (Trace fault) faulty = subst (λ (said : Said). IsFirstFaultyLine trace_format said (lines_of input) fault) none (faulty_alone start (lines_of input) fault faulty)
-part_fault start none input (Cut fault) faulty = absurd faulty
-part_fault start none input OutOfMemory faulty = tt
-
-pub lines_fault : (start : TraceState (Unit {0})) → start.said ≡ nothing_said default_capacity → (input : List ℕ) (fault : TextFault)
-    → IsLinesFault taking_format start input fault → IsReplayFault input fault
-lines_fault start none input (Trace fault) faulty = replay_fault start input (parse.Line fault) none faulty
+lines_fault start none input (Trace fault) faulty =
+    subst (λ (said : Said). IsFirstFaultyLine trace_format said (lines_of input) fault) none (faulty_alone start (lines_of input) fault faulty)
 lines_fault start none input (Cut fault) faulty = absurd faulty
 lines_fault start none input OutOfMemory faulty = tt

@@ -85,14 +85,18 @@ pub fn replay_text_by<R: Read, W: Write>(
     ensures { RunsEngine R.remaining W.contents (IsReplayedBy rule) IsReplayFault
         reader.old reader.new writer.old writer.new result }
 {
-    laws::report_of_all_flows_is_the_report();
-    replay_text_of(&Selection::All, rule, alloc, reader, writer)
+    let input = ReplayInput::new(alloc, Width::PROFILE, rule)?;
+    let lines = read_lines(alloc, input, reader)?;
+    let outcome = finish_replay(alloc, lines)?;
+    let mut room = held_room(alloc)?;
+    write_report(&outcome, &mut room, writer)?;
+    Ok(())
 }
 
 /// Replays as [`replay_text_by`] does, and writes the report of the flows that are selected: the
 /// whole one but for the lines of the other flows and of their frames. All lines of the trace are
-/// read, so that a fault of the whole is a fault here, too; but of a burst of another flow the
-/// digits are looked at and not decoded, and nothing is joined.
+/// read, so that a fault of the whole is a fault here, too; but of a burst that would come to no
+/// selected flow the digits behind the header are looked at and not decoded, and nothing is joined.
 pub fn replay_text_of<R: Read, W: Write>(
     selected: &Selection,
     rule: LossRule,
@@ -105,31 +109,11 @@ pub fn replay_text_of<R: Read, W: Write>(
     ensures { RunsEngine R.remaining W.contents (IsReplayedOf selected.now rule) IsReplayFault
         reader.old reader.new writer.old writer.new result }
 {
-    match selected {
-        Selection::All => replay_whole(selected, rule, alloc, reader, writer),
-        _ => replay_in_part(selected, rule, alloc, reader, writer),
+    if let Selection::All = selected {
+        laws::report_of_all_flows_is_the_report();
+        return replay_text_by(rule, alloc, reader, writer);
     }
-}
-
-/// Replays all that comes in, and writes the report of the flows that are selected.
-fn replay_whole<R: Read, W: Write>(
-    selected: &Selection,
-    rule: LossRule,
-    alloc: Global,
-    reader: &mut Device<R>,
-    writer: &mut Device<W>,
-) -> Result<(), EngineFault>
-    requires reader { IsFresh reader.old }
-    requires writer { IsFresh writer.old }
-    ensures { RunsEngine R.remaining W.contents (IsReplayedOf selected.now rule) IsReplayFault
-        reader.old reader.new writer.old writer.new result }
-{
-    let input = ReplayInput::new(alloc, Width::PROFILE, rule)?;
-    let lines = read_lines(alloc, input, reader)?;
-    let outcome = finish_replay(alloc, lines)?;
-    let mut room = held_room(alloc)?;
-    write_report_of(&outcome, selected, &mut room, writer)?;
-    Ok(())
+    replay_in_part(selected, rule, alloc, reader, writer)
 }
 
 /// Replays what comes in but for what the bursts of flows that aren't selected carry, and writes

@@ -127,8 +127,8 @@ impl<C: HeaderCheck + Drop> Receiver<C> {
     }
 
     /// The flow of which a segment would be admitted of this input, if it came on this channel now;
-    /// none if nothing would be, or there is no such channel. Of a burst it looks at the header and
-    /// the length alone. It takes no memory.
+    /// none if nothing would be, or there is no such channel. Of a burst's bytes it looks at the
+    /// header, and at how many there are. It takes no memory.
     pub fn look(&self, channel: usize, input: &Input) -> Option<usize>
         ensures none { length self.now.lanes.items ≤ channel → result ≡ None }
         ensures flow { WouldCome C.accepts self.now channel input.now result }

@@ -60,9 +60,9 @@ impl<C: HeaderCheck + Drop> Replaying<C> {
         append_if(&mut self.order, is_item, channel)
     }
 
-    /// The flow of which a segment would be admitted of this input, if it came on this channel, 0 to
-    /// 3, now; none if nothing would be. Of a burst it looks at the header and the length alone. It
-    /// takes no memory.
+    /// The flow of which a segment would be admitted of this input, if it came on this channel, 0
+    /// to 3, now; none if nothing would be. Of a burst's bytes it looks at the header, and at how
+    /// many there are. It takes no memory.
     pub fn look(&self, channel: u8, input: &Input) -> Option<usize>
         requires channel { channel < channel_limit }
         ensures { (rule : LossRule) (check : List ℕ → Bool) (setup : Setup) (entries : List Entry)

@@ -84,8 +84,8 @@ fn append_blocks(bytes: &mut Vec<u8>, digits: &[u8])
     }
 }
 
-/// Whether these are all hexadecimal digits, in either case. Of a block only that is worked out: the
-/// bytes that it spells are never put together.
+/// Whether these are all hexadecimal digits, in either case. Of a block nothing else is asked, so
+/// that the compiler leaves out what would put the bytes together that it spells.
 pub fn are_digits(digits: &[u8]) -> bool
     ensures { result ≡ list_all is_hex_digit digits.now }
 {

@@ -118,7 +118,7 @@ fn all_behind_space(rest: &[u8]) -> Option<&[u8]>
 }
 
 /// The first so many of the bytes that a hexadecimal field spells, and zeros in place of those
-/// behind them.
+/// behind them. It asks for the memory of all; it is an error that this failed.
 pub fn read_hex_front(alloc: Global, field: &[u8], count: usize) -> Result<Vec<u8>, AllocError>
     requires { IsHex field.now }
     ensures spelled { IfOk result (λ front. (bytes : List ℕ) → SpellsBytes field.now bytes

@@ -1,6 +1,5 @@
 -- A burst's fields, of which the last is to be hexadecimal.
 use Rattle.std.proofs.Common.{◌≡◌, ◌≢◌, ℕ, List, ◌∷◌, [], length, sym, ap, subst, arith, Option, Some, None, Err}
-use Rattle.std.specs.Prelude.{MatchOption}
 use Rattle.std.specs.Option.{ok_or}
 use Rattle.text_lines.specs.declared.fault.LineFault.{LineFault}
 use Rattle.text_lines.specs.declared.fault.LineFault.TheVariants as line_fault
@@ -18,18 +17,7 @@ none_behind shape words behind channel number check (line_fault.Kind kind) are w
     (miscounted shape burst_line words tt (λ four. wrong.1 (omega (arith, four, ap length are))))
 none_behind shape words behind channel number check line_fault.OutOfMemory are wrong = tt
 
--- what is known where nothing was found, and where something was
-pub where_none : {B : Type 0} (P : Type 0) (Q : B → Type 0) (found : Option B) → found ≡ None → MatchOption found P Q → P
-where_none P Q None is other = other
-where_none P Q (Some one) is one_is = cc
-
-pub where_some : {B : Type 0} (P : Type 0) (Q : B → Type 0) (found : Option B) (one : B) → found ≡ Some one → MatchOption found P Q → Q one
-where_some P Q None one is other = cc
-where_some P Q (Some first) one is first_is =
-    let same : first ≡ one = cc in
-    subst Q same first_is
-
--- then that is the fault
+-- where a field isn't hexadecimal, that is the fault
 pub not_hex : {B : Type 0} (found : Option B) (fault : LineFault) → found ≡ None → Err fault ≡ ok_or found (line_fault.Kind NotHex) → fault ≡ line_fault.Kind NotHex
 not_hex None fault is value = cc
 not_hex (Some one) fault is value = cc

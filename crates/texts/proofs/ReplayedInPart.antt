@@ -1,11 +1,13 @@
 -- What was replayed for some flows of the lines of a trace, with one line more.
 use Rattle.std.proofs.Common.{◌≡◌, ℕ, ◌<◌, ◌⊎◌, inl, inr, Bool, false, Option, Some, List, [], ◌∷◌, ◌++◌, length, map, get_or, refl, sym, ap, subst, ◌∙◌, arith}
 use Rattle.std.specs.Prelude.{Result, Ok, Err, OnOk, IfErr, MatchResult}
-use Rattle.std.proofs.lemmas.List.{length-map}
+use Rattle.std.specs.Option.{option_map}
+use Rattle.std.proofs.lemmas.List.{length-map, nil_from_length}
 use Rattle.docsis_wire.specs.declared.header_check.NoCheck.{NoCheck}
 use Rattle.flow_selection.specs.declared.selection.Selection.{Selection}
 use Rattle.flow_selection.specs.Selection.{is_selected}
 use Rattle.flow_records.specs.declared.record.FlowRecord.{FlowRecord}
+use Rattle.lane.specs.declared.admitted.Admitted.{Admitted}
 use Rattle.lane.specs.declared.input.Input.{Input}
 use Rattle.lane.specs.declared.sids.SidRow.{SidRow}
 use Rattle.lane.specs.Inputs.{LaneSetup, AreAnswered, IsAnswer}
@@ -97,9 +99,9 @@ as_many selected entries said is = sym (length-map entries tag_of) ∙ ap length
 
 -- ---- one line more
 
-none_left : (entries : List Entry) → ¬ (0 < length entries) → entries ≡ []
-none_left [] none = refl
-none_left (entry ∷ entries) none = absurd (none (omega arith))
+-- entries that aren't some are none
+without_entries : (entries : List Entry) → ¬ (0 < length entries) → entries ≡ []
+without_entries entries none = nil_from_length entries (omega (arith, none))
 
 -- entries that stand in where one line more is read
 lines_in_place : (selected : ℕ → Bool) (said : Said) (others : List Entry) (fields : List (List ℕ)) (one : TraceLine)
@@ -107,14 +109,14 @@ lines_in_place : (selected : ℕ → Bool) (said : Said) (others : List Entry) (
     → (more : List Entry) × (with_line (with_entries said others) one ≡ with_entries (with_line said one) more)
     × AreInPlace selected (with_line said one).entries (with_entries (with_line said one) more)
 lines_in_place selected said others fields (line.Flow flow_record) is carries none =
-    let no_entries = none_left said.entries (λ some. none SetupLate (record { form = flow_line; after = carries.after; are = carries.are; sets_up = inl refl }, some)) in
+    let no_entries = without_entries said.entries (λ some. none SetupLate (record { form = flow_line; after = carries.after; are = carries.are; sets_up = inl refl }, some)) in
     let many = as_many selected said.entries (with_entries said others) is in
-    let no_others = none_left others (λ some. let zero = ap length no_entries in omega arith) in
+    let no_others = without_entries others (λ some. let zero = ap length no_entries in omega arith) in
     (others, refl, nothing_in_place selected said.entries (with_entries (with_line said (line.Flow flow_record)) others) no_entries no_others)
 lines_in_place selected said others fields (line.Sid row) is carries none =
-    let no_entries = none_left said.entries (λ some. none SetupLate (record { form = sid_line; after = carries.after; are = carries.are; sets_up = inr refl }, some)) in
+    let no_entries = without_entries said.entries (λ some. none SetupLate (record { form = sid_line; after = carries.after; are = carries.are; sets_up = inr refl }, some)) in
     let many = as_many selected said.entries (with_entries said others) is in
-    let no_others = none_left others (λ some. let zero = ap length no_entries in omega arith) in
+    let no_others = without_entries others (λ some. let zero = ap length no_entries in omega arith) in
     (others, refl, nothing_in_place selected said.entries (with_entries (with_line said (line.Sid row)) others) no_entries no_others)
 lines_in_place selected said others fields (line.Input channel input) is carries none = (
   others ++ came channel input ∷ [],
@@ -165,23 +167,21 @@ refused_in_part before selected width rule so_far taker fields (Err fault) fault
 
 -- ---- whose a burst is
 
--- the lane of a channel by what lines say, and by the setup that they give
-same_lane : (said : Said) (so_far : SetupSoFar) (channel : ℕ) → HasSetup said so_far → said_lane said channel ≡ lane_setup so_far.setup channel
-same_lane said so_far channel has =
-    ap (λ (rows : List SidRow). let lane : LaneSetup = record { channel = channel; rows = rows; records = said.flows } in lane) (sym has.sids)
-    ∙ ap (λ (records : List FlowRecord). let lane : LaneSetup = record { channel = channel; rows = so_far.setup.sids.items; records = records } in lane) (sym has.flows)
+-- the lane of a channel by the setup that lines give, and by what they say
+same_lane : (said : Said) (setup : Setup) (channel : ℕ) → setup.flows.items ≡ said.flows → setup.sids.items ≡ said.sids
+    → lane_setup setup channel ≡ said_lane said channel
+same_lane said setup channel flows sids =
+    ap (λ (rows : List SidRow). let lane : LaneSetup = record { channel = channel; rows = rows; records = setup.flows.items } in lane) sids
+    ∙ ap (λ (records : List FlowRecord). let lane : LaneSetup = record { channel = channel; rows = said.sids; records = records } in lane) flows
 
--- a burst is of a flow that isn't selected if its lane says so
-pub bound_elsewhere : (selected : ℕ → Bool) (said : Said) (so_far : SetupSoFar) (channel : ℕ) (input : Input) (flow : ℕ) → HasSetup said so_far
-    → IsBoundFor so_far.setup said.entries channel input (Some flow) → selected flow ≡ false → IsBoundElsewhere selected said channel input
-bound_elsewhere selected said so_far channel input flow has bound chosen = (
-  flow,
-  chosen,
-  λ answered answer are is.
-      let lane = same_lane said so_far channel has in
-      bound answered answer (record { answers = subst (λ (l : LaneSetup). AreAnswered l answered) lane are.answers; inputs = are.inputs })
-      (subst (λ (l : LaneSetup). IsAnswer l answered input answer) lane is),
-)
+-- nothing of a burst comes to a selected flow where its lane says so
+pub bound_elsewhere : (selected : ℕ → Bool) (said : Said) (so_far : SetupSoFar) (channel : ℕ) (input : Input) (looked : Option ℕ) → HasSetup said so_far
+    → IsBoundFor so_far.setup said.entries channel input looked → ((flow : ℕ) → looked ≡ Some flow → selected flow ≡ false) → IsBoundElsewhere selected said channel input
+bound_elsewhere selected said so_far channel input looked has bound other answered answer admitted are is gives =
+    let lane = sym (same_lane said so_far.setup channel has.flows has.sids) in
+    let flow = bound answered answer (record { answers = subst (λ (l : LaneSetup). AreAnswered l answered) lane are.answers; inputs = are.inputs })
+    (subst (λ (l : LaneSetup). IsAnswer l answered input answer) lane is) in
+    other admitted.flow (sym flow ∙ ap (option_map (λ (a : Admitted). a.flow)) gives)
 
 -- what lines give, where the receiver gave this
 pub played_in_part : (given : TraceState Selection) (selected : Selection) (width : Width) (rule : LossRule) (so_far : SetupSoFar) (taker : Option (Replaying NoCheck))
@@ -198,18 +198,16 @@ played_in_part given selected width rule so_far taker has setup outcome is admit
     inputs = λ channel below.
         let lane = admitted.lanes channel below in
         has.in_place.inputs channel below (admitted.answered channel)
-        (record { answers = subst (λ (l : LaneSetup). AreAnswered l (admitted.answered channel)) (lane_is channel) lane.answers; inputs = lane.inputs });
+        (record {
+          answers = subst (λ (l : LaneSetup). AreAnswered l (admitted.answered channel)) (same_lane given.said setup channel is.flows is.sids) lane.answers;
+          inputs = lane.inputs;
+        });
     decisions = sym has.in_place.decisions;
   };
   order = outcome.order.items;
   admitted = subst (λ (tags : List ℕ). IsAdmittedOrder setup (incoming_in has.others) tags outcome.order.items) has.in_place.tags admitted;
   answered = answered;
 }
-  where
-    lane_is : (channel : ℕ) → lane_setup setup channel ≡ said_lane given.said channel
-    lane_is channel =
-        ap (λ (rows : List SidRow). let lane : LaneSetup = record { channel = channel; rows = rows; records = setup.flows.items } in lane) is.sids
-        ∙ ap (λ (records : List FlowRecord). let lane : LaneSetup = record { channel = channel; rows = given.said.sids; records = records } in lane) is.flows
 
 -- ---- a burst
 

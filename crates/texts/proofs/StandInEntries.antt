@@ -1,13 +1,10 @@
 -- Entries that stand in for those of a trace, one after another.
 use Rattle.std.proofs.Common.{◌≡◌, ◌≢◌, ℕ, ◌<◌, ◌⊎◌, ⊎_elim, Bool, true, false, Option, Some, None, List, [], ◌∷◌, ◌++◌, length, map, filter_map, refl, sym, ap, subst, ◌∙◌, arith, append-nil}
-use Rattle.std.specs.Option.{option_map}
 use Rattle.std.specs.List.{AllZip}
 use Rattle.std.proofs.lemmas.Bool.{cases_eq, false≢true}
-use Rattle.std.proofs.lemmas.Option.{same_Some}
 use Rattle.std.proofs.lemmas.List.{map-append}
 use Rattle.std.proofs.lemmas.List.Elements.{filter_map-append}
 use Rattle.flow_records.specs.declared.decision.Decision.{Decision}
-use Rattle.lane.specs.declared.admitted.Admitted.{Admitted}
 use Rattle.lane.specs.declared.input.Input.{Input}
 use Rattle.lane.specs.declared.input.Input.TheVariants.{Grant, Burst}
 use Rattle.lane.specs.Limits.{channel_limit}
@@ -30,14 +27,12 @@ looks_same (Burst number hcs_ok bytes) = (refl, refl, refl, refl)
 pub itself : (selected : ℕ → Bool) (said : Said) (channel : ℕ) (input : Input) → IsInPlaceOf selected said channel input input
 itself selected said channel input answered answer are is = record { looks_like = looks_same input; same = λ admitted gives chosen. refl }
 
--- one that looks like it, where it would come to a flow that isn't selected
+-- one that looks like it, where nothing of it would come to a selected flow
 pub of_another : (selected : ℕ → Bool) (said : Said) (channel : ℕ) (input other : Input) → LooksLike other input → IsBoundElsewhere selected said channel other
     → IsInPlaceOf selected said channel input other
 of_another selected said channel input other like bound answered answer are is = record {
   looks_like = like;
-  same = λ admitted gives chosen.
-      let flow = ap (option_map (λ (a : Admitted). a.flow)) (sym gives) ∙ bound.2 answered answer are is in
-      absurd (false≢true (sym bound.1 ∙ ap selected (sym (same_Some admitted.flow bound.0 flow)) ∙ chosen));
+  same = λ admitted gives chosen. absurd (false≢true (sym (bound answered answer admitted are is gives) ∙ chosen));
 }
 
 -- ---- what stands in for entries

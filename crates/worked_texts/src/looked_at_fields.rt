@@ -39,13 +39,16 @@ fn looks_at_the_only_field(rt: HostRuntime) {
 }
 
 /// What has no field, or more than one.
-const OTHER_COUNTS: [&str; 4] = ["", " ", " 00 00", "\t-\t-"];
+const OTHER_COUNTS: [&str; 5] = ["", " ", " 00 00", " 00 000", "\t-\t-"];
 
 #[test]
 fn refuses_other_counts_of_fields(rt: HostRuntime) {
     for rest in OTHER_COUNTS {
         let fault = only_hex_field(rest.as_bytes());
-        assert!(rt; matches!(fault, Err(LineFault::Kind(TraceKind::FieldCount))), "{rest}");
+        assert!(rt;
+            matches!(fault, Err(LineFault::Kind(TraceKind::FieldCount))),
+            "{rest}"
+        );
     }
 }
 

@@ -1,10 +1,10 @@
 -- What is handed in in the place of bursts of flows that aren't selected.
 use Rattle.std.specs.Prelude.{◌≡◌, ◌<◌, ℕ, Bool, false, Option, Some, List, map}
 use Rattle.std.specs.List.{AllZip}
-use Rattle.std.specs.Option.{option_map}
 use Rattle.docsis_wire.specs.declared.header_check.NoCheck.{NoCheck}
 use Rattle.flow_selection.specs.declared.selection.Selection.{Selection}
 use Rattle.flow_selection.specs.Selection.{is_selected}
+use Rattle.lane.specs.declared.admitted.Admitted.{Admitted}
 use Rattle.lane.specs.declared.input.Input.{Input}
 use Rattle.lane.specs.Limits.{channel_limit}
 use Rattle.lane.specs.Inputs.{LaneSetup, Answer, AnsweredInput, AreAnswered, IsAnswer, inputs_of}
@@ -35,23 +35,23 @@ pub record AreAnswersOn (said : Said) (channel : ℕ) (answered : List AnsweredI
   pub answers : AreAnswered (said_lane said channel) answered
   pub inputs : inputs_of answered ≡ (incoming_in said.entries).inputs channel
 
--- Behind what lines say, whatever is answered to the second input on this channel, it stands in for
--- the first one.
+-- Behind what lines say, the second input may be handed in on this channel in the place of the
+-- first: whatever is answered to it, the first would stand in for it.
 abbrev pub IsInPlaceOf : (ℕ → Bool) → Said → ℕ → Input → Input → Type 0
 IsInPlaceOf selected said channel input other =
     (answered : List AnsweredInput) (answer : Answer) → AreAnswersOn said channel answered → IsAnswer (said_lane said channel) answered other answer
     → StandsIn selected (record { input = other; answer = answer }) input
 
--- Behind what lines say, whatever is answered to this input on this channel, it is of a flow that
--- isn't selected.
+-- Behind what lines say, whatever is answered to this input on this channel, nothing is admitted of
+-- it to a flow that is selected.
 abbrev pub IsBoundElsewhere : (ℕ → Bool) → Said → ℕ → Input → Type 0
 IsBoundElsewhere selected said channel input =
-    (flow : ℕ) × (selected flow ≡ false)
-    × ((answered : List AnsweredInput) (answer : Answer) → AreAnswersOn said channel answered → IsAnswer (said_lane said channel) answered input answer
-    → option_map (λ admitted. admitted.flow) (admitted_by answer) ≡ Some flow)
+    (answered : List AnsweredInput) (answer : Answer) (admitted : Admitted) → AreAnswersOn said channel answered → IsAnswer (said_lane said channel) answered input answer
+    → admitted_by answer ≡ Some admitted → selected admitted.flow ≡ false
 
--- What is said stands in for these entries: of the same senders, the same decisions, and whatever
--- is answered to its inputs, each stands in for the one at its place.
+-- What is said may be handed in in the place of these entries: it is of the same senders, has the
+-- same decisions, and whatever is answered to its inputs, the one at the place of each would stand
+-- in for it.
 pub record AreInPlace (selected : ℕ → Bool) (entries : List Entry) (said : Said) : Type 0 where
   pub tags : map tag_of said.entries ≡ map tag_of entries
   pub decisions : (incoming_in said.entries).decisions ≡ (incoming_in entries).decisions
@@ -62,12 +62,12 @@ pub record AreInPlace (selected : ℕ → Bool) (entries : List Entry) (said : S
 abbrev pub with_entries : Said → List Entry → Said
 with_entries said entries = record said { entries = entries }
 
--- the same of lines that are replayed for some flows
+-- the same of the state of lines that are replayed for some flows, which tells these no more
 abbrev pub other_lines : TraceState Selection → List Entry → TraceState (Unit {0})
 other_lines given entries = record { state = tt; rule = given.rule; width = given.width; said = with_entries given.said entries }
 
--- **What the lines say was replayed but for what other flows' bursts carry**: entries that stand in
--- for theirs, as far as flows are selected.
+-- **What the lines say was replayed but for what other flows' bursts carry**: entries were that may
+-- be handed in in the place of theirs where these flows are selected.
 pub record HasReplayedInPart (given : TraceState Selection) (selected : Selection) (width : Width) (rule : LossRule) (so_far : SetupSoFar) (taker : Option (Replaying NoCheck)) : Type 0 where
   pub selected_is : selected ≡ given.state
   pub others : List Entry

@@ -1,5 +1,5 @@
 //! A replay of a trace for some flows, as its lines are read.
-ghost use Rattle.std.specs.Prelude.{◌≡◌, ◌<◌, ◌∷◌, ℕ, true, IsTrue, List, IfOk, IfErr, OnOk};
+ghost use Rattle.std.specs.Prelude.{◌≡◌, ◌<◌, ◌∷◌, ℕ, true, IsFalse, List, IfOk, IfErr, OnOk};
 ghost use Rattle.lane.specs.Limits.{channel_limit};
 ghost use Rattle.flow_selection.specs.declared.selection.Selection.{Selection};
 ghost use Rattle.flow_selection.specs.Selection.{is_selected};
@@ -22,8 +22,9 @@ use std::alloc::{AllocError, Global};
 use text_lines::{LineFault, TakeLine, read_hex, read_hex_front};
 
 /// The lines so far of a trace that is replayed for some flows. In the place of a burst that would
-/// come to another flow it hands in one with the same header and zeros behind it: its digits are
-/// looked at and not decoded, and nothing of it is joined. It is for the profile's width.
+/// come to no selected flow it hands in one with the same header and zeros behind it: the digits
+/// behind the header are looked at and not decoded, and nothing of it is joined. It is for the
+/// profile's width.
 #[derive(Drop)]
 pub struct SelectedReplay<'a> {
     input: ReplayInput,
@@ -32,7 +33,7 @@ pub struct SelectedReplay<'a> {
 
 impl<'a> SelectedReplay<'a> {
     /// A trace for a receiver of this width, of which no line was read yet. Losses are decided by
-    /// this rule.
+    /// this rule. It is an error that an allocation failed.
     pub fn new(
         alloc: Global,
         width: Width,
@@ -51,7 +52,7 @@ impl<'a> SelectedReplay<'a> {
     }
 
     /// What a trace gives, of which all lines were read: of other flows what comes of bursts with
-    /// zeros in them.
+    /// zeros in them. It is an error that an allocation failed.
     pub fn finish(self, alloc: Global) -> Result<Outcome, AllocError>
         requires { (given : TraceState Selection) × HasReplayedInPart given self.selected.now
             self.input.width self.input.rule self.input.setup self.input.taker }
@@ -65,25 +66,26 @@ impl<'a> SelectedReplay<'a> {
         replay.finish(alloc, &setup)
     }
 
-    /// Whether a burst like this one would come to a flow that isn't selected.
-    fn is_of_another(&self, channel: u8, input: &Input) -> bool
+    /// Whether a burst like this one has to be handed in as it came: it would come to a selected
+    /// flow, or nothing was handed in that says to which.
+    fn is_wanted(&self, channel: u8, input: &Input) -> bool
         requires { channel < channel_limit }
-        ensures { IsTrue result → (state : TraceState (Unit {0}))
+        ensures { IsFalse result → (state : TraceState (Unit {0}))
             → HasReplayedLines state self.now.input.width self.now.input.rule
             self.now.input.setup self.now.input.taker
             → IsBoundElsewhere (is_selected self.now.selected.now) state.said channel input.now }
     {
         let Some(under_way) = &self.input.taker else {
-            return false;
+            return true;
         };
         match under_way.look(channel, input) {
-            Some(flow) => !self.selected.has(flow),
+            Some(flow) => self.selected.has(flow),
             None => false,
         }
     }
 
-    /// What is handed in of a burst: what stands in for it if it would come to a flow that isn't
-    /// selected, and else the burst.
+    /// What is handed in of a burst: itself if it would come to a selected flow, and else what
+    /// stands in for it.
     fn input_for(&self, alloc: Global, burst: &LookedAtBurst) -> Result<Input, LineFault>
         requires channel { burst.now.channel < channel_limit }
         requires hex { IsHex burst.now.field.now }
@@ -96,9 +98,11 @@ impl<'a> SelectedReplay<'a> {
     {
         let front = read_hex_front(alloc, burst.field, HEADER_BYTES)?;
         let stand_in = burst_of(burst, front);
-        if self.is_of_another(burst.channel, &stand_in) {
+        if !self.is_wanted(burst.channel, &stand_in) {
             return Ok(stand_in);
         }
+        // Its memory is given back before as much is asked for again.
+        drop(stand_in);
         Ok(burst_of(burst, read_hex(alloc, burst.field)?))
     }
 

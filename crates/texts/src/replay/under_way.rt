@@ -45,8 +45,9 @@ impl Model for UnderWay {
 }
 
 impl UnderWay {
-    /// The flow of which a segment would be admitted of this input, if it came on this channel, 0 to
-    /// 3, now; none if nothing would be. Of a burst it looks at the header and the length alone.
+    /// The flow of which a segment would be admitted of this input, if it came on this channel, 0
+    /// to 3, now; none if nothing would be. Of a burst's bytes it looks at the header, and at how
+    /// many there are. It takes no memory.
     pub fn look(&self, channel: u8, input: &Input) -> Option<usize>
         requires { channel < channel_limit }
         ensures { (rule : LossRule) (setup : Setup) (entries : List Entry)

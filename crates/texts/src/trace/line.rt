@@ -42,10 +42,13 @@ pub enum TraceLine {
 /// What a line says of a burst whose bytes aren't decoded.
 #[derive(Debug, Clone, Copy)]
 pub struct LookedAtBurst<'a> {
+    /// Its channel, below how many the receiver has.
     pub channel: u8,
+    /// The number of its grant.
     pub grant: u32,
+    /// Whether the check of its segment header is right.
     pub hcs_ok: bool,
-    /// The digits of its bytes, which are hexadecimal.
+    /// What spells its bytes: an even number of hexadecimal digits, or `-` for none.
     pub field: &'a [u8],
 }
 

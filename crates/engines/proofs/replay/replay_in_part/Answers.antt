@@ -4,7 +4,7 @@ use Rattle.texts.specs.Inside.TraceInput.{taking_format}
 use Rattle.texts.specs.Replay.{IsReplayFault}
 use Rattle.texts.specs.Selected.{IsReplayedOf, report_of}
 use Rattle.engines.proofs.EngineRan.{ran-refused, ran-unread, ran-written, ran-failed}
-use Rattle.engines.proofs.TraceText.{part_replayed, part_fault}
+use Rattle.engines.proofs.TraceText.{part_replayed, lines_fault}
 use Rattle.engines.proofs.replay.replay_in_part.Goals as goal
 
 pub returns-in_err-replay : goal.returns-in_err-replay
@@ -15,7 +15,7 @@ returns-in_err-replay g c =
 pub returns-in_err-lines : goal.returns-in_err-lines
 returns-in_err-lines g c =
     let p = err_from_is_err_and c.from_residual-in_err-lines.result c.from_residual-in_err-lines.ensures.1 in
-    rw (p.1, p.2) (ran-unread g.R.Read.remaining g.W.Write.contents (IsReplayedOf c.args.selected.now c.args.rule) IsReplayFault taking_format _ (part_fault _ refl)
+    rw (p.1, p.2) (ran-unread g.R.Read.remaining g.W.Write.contents (IsReplayedOf c.args.selected.now c.args.rule) IsReplayFault taking_format _ (lines_fault _ refl)
     c.args.reader.now c.read_lines.new.reader c.args.writer.now c.in_err-lines.field-0.0 (c.in_err-lines.ensures.cause _ c.in_ok-replay.ensures)
     c.in_err-lines.ensures.read_first)
 

@@ -1,4 +1,5 @@
 use Rattle.std.proofs.Common.{◌≡◌, ◌≢◌, ◌∙◌, List, ℕ, ◌∷◌, [], length, inl, inr, refl, sym, ap, subst, arith}
+use Rattle.std.proofs.lemmas.Option.{MatchOption-at_none, MatchOption-at_some}
 use Rattle.std.proofs.lemmas.Result.{err_from_is_err_and}
 use Rattle.text_lines.specs.Field.{SpellsBytes, IsHex}
 use Rattle.text_lines.specs.Lines.{words_of}
@@ -6,7 +7,7 @@ use Rattle.text_lines.specs.declared.fault.LineFault.TheVariants as line_fault
 use Rattle.text_lines.specs.declared.fault.TraceKind.TheVariants.{NotHex}
 use Rattle.texts.specs.Trace.Line.{shape_of, word_of, a_number, a_check, burst_line}
 use Rattle.texts.proofs.TraceLineFaults.{miscounted, number_fault, check_fault, hex_fault, IsBadField-hex}
-use Rattle.texts.proofs.BurstFields.{none_behind, where_none, where_some, not_hex}
+use Rattle.texts.proofs.BurstFields.{none_behind, not_hex}
 use Rattle.texts.proofs.trace.line.look_at_burst.Goals as goal
 
 pub returns-in_default-clause-fault : goal.returns-in_default-clause-fault
@@ -48,7 +49,7 @@ pub returns-in_err-field-clause-fault : goal.returns-in_err-field-clause-fault
 returns-in_err-field-clause-fault c = λ ring.
     let one = c.in_ok-looked_at.ensures.looked_at in
     let words = c.in-Some.ensures ∙ ap (λ behind. c.in-Some.channel.now ∷ c.in-Some.number.now ∷ c.in-Some.check.now ∷ behind) one.1 in
-    let none = where_none (¬ IsHex one.0) (λ found. (found.now ≡ one.0) × IsHex one.0) c.in_ok-looked_at.looked_at c.in_err-field.ensures.ok_part one.2 in
+    let none = MatchOption-at_none (¬ IsHex one.0) (λ found. (found.now ≡ one.0) × IsHex one.0) c.in_err-field.ensures.ok_part one.2 in
     let fault = not_hex c.in_ok-looked_at.looked_at c.in_err-field.field-0.0 c.in_err-field.ensures.ok_part c.in_err-field.ensures.value in
     let p = err_from_is_err_and c.from_residual-in_err-field.result c.from_residual-in_err-field.ensures.1 in
     rw (p.1, p.2, fault) (hex_fault (shape_of c.args.width ring) burst_line _ _ one.0 (line_fault.Kind NotHex) words refl
@@ -66,14 +67,14 @@ returns-in_err-field-clause-fault c = λ ring.
 pub returns-clause-hex : goal.returns-clause-hex
 returns-clause-hex c =
     let one = c.in_ok-looked_at.ensures.looked_at in
-    let found = where_some (¬ IsHex one.0) (λ found. (found.now ≡ one.0) × IsHex one.0) c.in_ok-looked_at.looked_at c.in_ok-field.field c.in_ok-field.ensures.ok_part one.2 in
+    let found = MatchOption-at_some (¬ IsHex one.0) (λ found. (found.now ≡ one.0) × IsHex one.0) c.in_ok-field.field c.in_ok-field.ensures.ok_part one.2 in
     subst IsHex (sym found.0) found.1
 
 pub returns-clause-carried : goal.returns-clause-carried
 returns-clause-carried c = λ ring bytes spells.
     let one = c.in_ok-looked_at.ensures.looked_at in
     let words = c.in-Some.ensures ∙ ap (λ behind. c.in-Some.channel.now ∷ c.in-Some.number.now ∷ c.in-Some.check.now ∷ behind) one.1 in
-    let found = where_some (¬ IsHex one.0) (λ found. (found.now ≡ one.0) × IsHex one.0) c.in_ok-looked_at.looked_at c.in_ok-field.field c.in_ok-field.ensures.ok_part one.2 in
+    let found = MatchOption-at_some (¬ IsHex one.0) (λ found. (found.now ≡ one.0) × IsHex one.0) c.in_ok-field.field c.in_ok-field.ensures.ok_part one.2 in
     record {
       after = c.in-Some.channel.now ∷ c.in-Some.number.now ∷ c.in-Some.check.now ∷ one.0 ∷ [];
       are = ap (λ (after : List (List ℕ)). word_of burst_line ∷ after) words;
