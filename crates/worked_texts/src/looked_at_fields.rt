@@ -1,6 +1,5 @@
-//! Hexadecimal fields that are looked at and not decoded, and those of which the front is.
-use std::test::Fail;
-use text_lines::{LineFault, only_hex_field, read_hex_front};
+//! Hexadecimal fields that are looked at and not decoded.
+use text_lines::{LineFault, only_hex_field};
 use texts::TraceKind;
 
 /// What stands behind a word, and its only field, or none where it isn't hexadecimal.
@@ -50,23 +49,4 @@ fn refuses_other_counts_of_fields(rt: HostRuntime) {
             "{rest}"
         );
     }
-}
-
-/// Fields, of how many bytes the front is read, and that with the zeros behind it.
-const FRONTS: [(&str, usize, &[u8]); 6] = [
-    ("-", 0, &[]),
-    ("-", 9, &[]),
-    ("0aFf10", 0, &[0, 0, 0]),
-    ("0aFf10", 2, &[10, 255, 0]),
-    ("0aFf10", 3, &[10, 255, 16]),
-    ("0aFf10", usize::MAX, &[10, 255, 16]),
-];
-
-#[test]
-fn reads_the_front_of_a_field(rt: HostRuntime) -> Result<(), Fail> {
-    for (field, count, wanted) in &FRONTS {
-        let front = read_hex_front(rt.alloc(), field.as_bytes(), *count)?;
-        assert!(rt; front.as_slice() == *wanted, "{count} bytes of {field}");
-    }
-    Ok(())
 }
