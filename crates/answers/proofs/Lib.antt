@@ -13,10 +13,11 @@ pub mod SomeIntake
 pub mod ReadTraces
 pub mod SomeText
 pub mod NoWalk
+pub mod Pairs
 pub mod StandIns
 pub mod OtherItems
 pub mod OtherOutcomes
 pub mod PartsOfReports
 pub mod PartsOfTexts
 pub mod OtherSide
-pub mod SpelledDigits
+pub mod LookedAtDigits

@@ -20,4 +20,3 @@ pub mod HandedOrder
 pub mod Entries
 pub mod Playing
 pub mod Replaying
-pub mod Elsewhere
