@@ -10,8 +10,8 @@
 //! The last 32,768 things that were told are kept, in memory that is asked for once.
 //!
 //! What matters most: a burst that was kept once is known to be kept, and of another what was told
-//! last is known, if fewer than 32,768 things were told since; of one to which none of the last
-//! 32,768 things was told, nothing is known ([`laws`]).
+//! last is known, if fewer than 32,768 things were told since; of one of which none of the
+//! last 32,768 things was told, nothing is known ([`laws`]).
 #![tactic(auto)]
 
 mod burst_fate;
