@@ -13,11 +13,10 @@ pub mod SomeIntake
 pub mod ReadTraces
 pub mod SomeText
 pub mod NoWalk
-pub mod Pairs
 pub mod StandIns
 pub mod OtherItems
 pub mod OtherOutcomes
 pub mod PartsOfReports
 pub mod PartsOfTexts
 pub mod OtherSide
-pub mod LookedAtDigits
+pub mod SpelledDigits

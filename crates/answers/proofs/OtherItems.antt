@@ -15,7 +15,7 @@ use Rattle.lane.specs.Report.{admitted_by, admitted_of, refused_by, requests_of,
 use Rattle.loss_rule.specs.Rule.{Coming}
 use Rattle.receiver.specs.Order.{picked, IsMergeOf}
 use Rattle.receiver.specs.Ruled.{coming_of, comings_at}
-use Rattle.answers.proofs.Pairs.{zip_weaker, zip_map, zip_length}
+use Rattle.receiver.proofs.Pairs.{zip_weaker, zip_map, zip_length}
 use Rattle.answers.proofs.SomeIntake.{left, picked-first}
 use Rattle.answers.proofs.StandIns.{IsAdmittedFor, AreAdmittedFor, AnswersFor}
 

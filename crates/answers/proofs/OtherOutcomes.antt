@@ -32,8 +32,8 @@ use Rattle.receiver.specs.SameOutcome.{GaveTheSame}
 use Rattle.receiver.proofs.OneReplay.{one-answered, one-items}
 use Rattle.receiver.proofs.MergedLists.{one-lane}
 use Rattle.receiver.proofs.Senders.{four, five}
-use Rattle.answers.specs.Elsewhere.{StandsIn, DiffersElsewhere, AgreesOn}
-use Rattle.answers.proofs.Pairs.{zip_same}
+use Rattle.receiver.specs.Elsewhere.{StandsIn, DiffersElsewhere, AgreesOn}
+use Rattle.receiver.proofs.Pairs.{zip_same}
 use Rattle.answers.proofs.SomeIntake.{of_four}
 use Rattle.answers.proofs.StandIns.{AnswersFor, some_answers}
 use Rattle.answers.proofs.OtherItems.{IsItemFor, item_same, items-for, requests-same, count-same, refused-same, merged-for, comings-same}

@@ -8,7 +8,7 @@ use Rattle.lane.specs.Inputs.{AnsweredInput, inputs_of}
 use Rattle.lane.specs.Report.{admitted_by}
 use Rattle.receiver.specs.declared.setup.Setup.{Setup}
 use Rattle.receiver.specs.Items.{Incoming}
-use Rattle.answers.specs.Elsewhere.{LooksLike, StandsIn, DiffersElsewhere}
+use Rattle.receiver.specs.Elsewhere.{LooksLike, StandsIn, DiffersElsewhere}
 use Rattle.answers.proofs.StandIns.{AreAdmittedFor, AnswersFor}
 use Rattle.answers.proofs.OtherOutcomes.{other_lanes}
 

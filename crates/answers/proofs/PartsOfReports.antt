@@ -18,7 +18,7 @@ use Rattle.texts.specs.Report.{named, flow_line, frame_line, request_line, refus
 use Rattle.texts.specs.Selected.{report_of}
 use Rattle.texts.specs.Inside.Selected.{selected_flow_lines}
 use Rattle.texts.proofs.SelectedLines.{report_of-flows}
-use Rattle.answers.specs.Elsewhere.{AgreesOn}
+use Rattle.receiver.specs.Elsewhere.{AgreesOn}
 
 -- the lines of items are those of others, if those of each place are
 lines_same : {T : Type 0} (lines : ℕ → T → List ℕ) (n : ℕ) (items others : List T) → length items ≡ length others

@@ -31,7 +31,7 @@ use Rattle.texts.specs.Selected.{report_of, IsReplayedOf}
 use Rattle.texts.specs.Trace.Place.{Said, nothing_said, trace_format}
 use Rattle.texts.proofs.OneReplay.{given_receives}
 use Rattle.answers.specs.Room.{HasRoom}
-use Rattle.answers.specs.Elsewhere.{DiffersElsewhere}
+use Rattle.receiver.specs.Elsewhere.{DiffersElsewhere}
 use Rattle.answers.proofs.Everywhere.{few_given}
 use Rattle.answers.proofs.SomeIntake.{some_intake, few_kept}
 use Rattle.answers.proofs.SomeReplay.{some_replay}

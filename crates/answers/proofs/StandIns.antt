@@ -16,8 +16,8 @@ use Rattle.lane.specs.Admission.{IsMadeOf}
 use Rattle.lane.specs.Inputs.{LaneSetup, Answer, AnsweredInput, number_of, spends_its_grant, is_accepted, IsOutstanding, IsKnown, outstanding_count, IsGrant, IsAnswerToGrant, IsAnswerToBurst, IsAnswer, AreAnswered, inputs_of}
 use Rattle.lane.specs.Report.{admitted_by, refused_by}
 use Rattle.lane.proofs.LaneTaking.{granted, answered-more}
-use Rattle.answers.specs.Elsewhere.{StandsIn}
-use Rattle.answers.proofs.Pairs.{zip_at, zip_flip, zip_weaker, zip_push, zip_count}
+use Rattle.receiver.specs.Elsewhere.{StandsIn}
+use Rattle.receiver.proofs.Pairs.{zip_at, zip_flip, zip_weaker, zip_push, zip_count}
 
 -- For what is outstanding one answered input is as good as another.
 pub record CountsAs (one other : AnsweredInput) : Type 0 where

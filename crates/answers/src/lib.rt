@@ -54,7 +54,7 @@ ghost use Rattle.texts.specs.Selected.{report_of, IsReplayedOf};
 ghost use Rattle.texts.specs.AnyHeader.{any_header};
 ghost use Rattle.texts.specs.Trace.Place.{Said, nothing_said, trace_format};
 ghost use Rattle.texts.specs.Replay.{IsSetupOf, IsReplayed, IsReplayedBy};
-ghost use Rattle.answers.specs.Elsewhere.{DiffersElsewhere, AgreesOn};
+ghost use Rattle.receiver.specs.Elsewhere.{DiffersElsewhere, AgreesOn};
 ghost use Rattle.answers.specs.Room.{AreBurstsOfBytes, HasRoom};
 ghost use Rattle.answers.specs.Bytes.{AreBytes, CarryBytes, BringBytes};
 

@@ -11,12 +11,13 @@ use crate::device::Device;
 use crate::fault::{EngineFault, WriteFault};
 use crate::lines_read::read_lines;
 use crate::text_writer::{TextWriter, held_room};
+use answers::{other_payloads_change_no_selected_flow, stand_ins_give_a_part_of_the_whole_text};
 use flow_selection::Selection;
 use loss_rule::LossRule;
 use receiver::{Outcome, Width};
 use std::alloc::Global;
 use std::io::{Read, Write};
-use texts::{ReplayInput, finish_replay, laws, put_report, put_report_of};
+use texts::{ReplayInput, SelectedReplay, finish_replay, laws, put_report, put_report_of};
 
 /// Writes the report of an outcome as it makes it. The room is empty, and no other memory is taken.
 /// What it held last is left in it.
@@ -84,13 +85,18 @@ pub fn replay_text_by<R: Read, W: Write>(
     ensures { RunsEngine R.remaining W.contents (IsReplayedBy rule) IsReplayFault
         reader.old reader.new writer.old writer.new result }
 {
-    laws::report_of_all_flows_is_the_report();
-    replay_text_of(&Selection::All, rule, alloc, reader, writer)
+    let input = ReplayInput::new(alloc, Width::PROFILE, rule)?;
+    let lines = read_lines(alloc, input, reader)?;
+    let outcome = finish_replay(alloc, lines)?;
+    let mut room = held_room(alloc)?;
+    write_report(&outcome, &mut room, writer)?;
+    Ok(())
 }
 
 /// Replays as [`replay_text_by`] does, and writes the report of the flows that are selected: the
 /// whole one but for the lines of the other flows and of their frames. All lines of the trace are
-/// read and played, so that a fault of the whole is a fault here, too.
+/// read, so that a fault of the whole is a fault here, too; but of a burst that would come to no
+/// selected flow the digits behind the header are looked at and not decoded, and nothing is joined.
 pub fn replay_text_of<R: Read, W: Write>(
     selected: &Selection,
     rule: LossRule,
@@ -103,9 +109,32 @@ pub fn replay_text_of<R: Read, W: Write>(
     ensures { RunsEngine R.remaining W.contents (IsReplayedOf selected.now rule) IsReplayFault
         reader.old reader.new writer.old writer.new result }
 {
-    let input = ReplayInput::new(alloc, Width::PROFILE, rule)?;
-    let lines = read_lines(alloc, input, reader)?;
-    let outcome = finish_replay(alloc, lines)?;
+    if let Selection::All = selected {
+        laws::report_of_all_flows_is_the_report();
+        return replay_text_by(rule, alloc, reader, writer);
+    }
+    replay_in_part(selected, rule, alloc, reader, writer)
+}
+
+/// Replays what comes in but for what the bursts of flows that aren't selected carry, and writes
+/// the report of those that are.
+fn replay_in_part<R: Read, W: Write>(
+    selected: &Selection,
+    rule: LossRule,
+    alloc: Global,
+    reader: &mut Device<R>,
+    writer: &mut Device<W>,
+) -> Result<(), EngineFault>
+    requires reader { IsFresh reader.old }
+    requires writer { IsFresh writer.old }
+    ensures { RunsEngine R.remaining W.contents (IsReplayedOf selected.now rule) IsReplayFault
+        reader.old reader.new writer.old writer.new result }
+{
+    other_payloads_change_no_selected_flow();
+    stand_ins_give_a_part_of_the_whole_text();
+    let replay = SelectedReplay::new(alloc, Width::PROFILE, rule, selected)?;
+    let lines = read_lines(alloc, replay, reader)?;
+    let outcome = lines.finish(alloc)?;
     let mut room = held_room(alloc)?;
     write_report_of(&outcome, selected, &mut room, writer)?;
     Ok(())

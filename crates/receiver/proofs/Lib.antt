@@ -4,6 +4,7 @@ pub mod OrderPlaces
 pub mod Senders
 pub mod ChannelInputs
 pub mod MergedLists
+pub mod Pairs
 pub mod OneReplay
 pub mod DecidedOutcomes
 pub mod FlowComings

@@ -6,9 +6,10 @@ use Rattle.std.proofs.lemmas.List.Elements.{All-nil, All-cons, All-head, All-tai
 use Rattle.flow_records.specs.declared.decision.Decision.{Decision}
 use Rattle.lane.specs.declared.input.Input.{Input}
 use Rattle.lane.specs.Limits.{channel_limit, senders}
-use Rattle.lane.specs.Inputs.{inputs_of}
+use Rattle.lane.specs.Inputs.{inputs_of, IsAnswer}
+use Rattle.lane.proofs.OneLaneAnswer.{one-list-of-answers}
 use Rattle.bonded_flows.specs.declared.decision.FlowDecision.TheVariants.{Gap, GapTo, SkipTo}
-use Rattle.receiver.specs.HandedIn.{HandedIn, answered_on}
+use Rattle.receiver.specs.HandedIn.{HandedIn, answered_on, made_of}
 use Rattle.receiver.specs.HandedIn as handed_in
 use Rattle.receiver.specs.HandedOrder.{sender_of, IsSent, handed_by, flow_decision, handed_decision, IsHandedFrom, IsUsedUp}
 use Rattle.receiver.specs.AdmittedOrder.{input_counts}
@@ -22,8 +23,9 @@ use Rattle.receiver.specs.Items.{Incoming, lane_setup}
 use Rattle.receiver.specs.HandedOrder.{gives_item, order_of}
 use Rattle.receiver.specs.AdmittedOrder.{IsAdmittedOrder}
 use Rattle.receiver.specs.Ruled.{IsOutcomeBy}
+use Rattle.receiver.specs.Receiving.{WouldCome}
 use Rattle.receiver.specs.Playing.{Plays, PlaysOne, IsPlaying, IsGiven}
-use Rattle.receiver.specs.Replaying.{decision_entry, entry_of, IsGapDecision, IsRecorded, HasReplayed, IsReplaying, ReplaysMore}
+use Rattle.receiver.specs.Replaying.{decision_entry, entry_of, IsGapDecision, IsRecorded, HasReplayed, IsReplaying, ReplaysMore, IsBoundFor}
 use Rattle.receiver.proofs.HandedOrder.{order-append, order-one}
 use Rattle.receiver.proofs.ReplayedOrder.{counts-are, count-channel, all-answered, handed-admitted, handed-outcome}
 
@@ -169,6 +171,16 @@ module _ {C : Type 0} (accepts : C → List ℕ → Bool) where
 
     answered : (channel : ℕ) → channel < channel_limit → AreAnswered (lane_setup setup channel) (answered_on channel was.handed)
     answered = all-answered accepts rule check setup replaying.playing was.handed was.plays
+
+    -- what is admitted of an input after the entries is of the flow that was looked up
+    pub bound-for : (channel : ℕ) (input : Input) (flow : Option ℕ) → channel < channel_limit → WouldCome accepts replaying.playing.receiver channel input flow
+        → IsBoundFor setup entries channel input flow
+    bound-for channel input flow below would taken answer lane is =
+        let inputs = inputs-recorded channel was.handed ∙ ap (filter_map (came_on channel)) was.are in
+        let same = one-list-of-answers channel_limit (lane_setup setup channel) was.plays.stands.lanes.rows_fit taken (answered_on channel was.handed)
+        lane.answers (answered channel below) (lane.inputs ∙ sym inputs) in
+        would check (made_of rule channel_limit setup) was.handed was.plays.given answer was.plays.stands below
+        (subst (λ t. IsAnswer (lane_setup setup channel) t input answer) same is)
 
     -- the order of its items is the admitted order
     pub entries-admitted : IsAdmittedOrder setup (incoming_in entries) (map tag_of entries) replaying.order.items

@@ -20,3 +20,4 @@ pub mod HandedOrder
 pub mod Entries
 pub mod Playing
 pub mod Replaying
+pub mod Elsewhere

@@ -1,6 +1,7 @@
 -- What a receiver stands for that takes one input at a time: all that was handed in, in order, and
 -- all that was given for it.
 use Rattle.std.specs.Prelude.{◌≡◌, ℕ, ◌<◌, ◌≤◌, Bool, Option, Some, None, Result, Ok, Err, MatchOption, IfSome, List, [], ◌∷◌, ◌++◌, length, map, slice_get}
+use Rattle.std.specs.Option.{option_map}
 use Rattle.flow_records.specs.declared.record.FlowRecord.{FlowRecord}
 use Rattle.flow_core.specs.declared.counts.FlowCounts.{FlowCounts}
 use Rattle.flow_core.specs.Fates.{Fates, number_of, IsExpected}
@@ -106,6 +107,14 @@ abbrev pub FlowIsSettled : {C : Type 0} → Receiver C → Reply → Type 0
 FlowIsSettled receiver reply.Granted = Unit {0}
 FlowIsSettled receiver (reply.Refused refusal) = Unit {0}
 FlowIsSettled receiver (reply.Admitted flow sequence told) = IsSettledAt receiver flow
+
+-- Whatever was handed in: what any answer to this input on this channel admits is of this flow, or
+-- it admits nothing.
+abbrev pub WouldCome : {C : Type 0} → (C → List ℕ → Bool) → Receiver C → ℕ → Input → Option ℕ → Type 0
+WouldCome accepts receiver channel input flow =
+    (check : List ℕ → Bool) (made : TableSetup) (handed : List HandedIn) (given : List Given) (answer : Answer)
+    → StandsFor accepts receiver check made handed given → channel < made.channels → IsAnswer (lane_of made channel) (answered_on channel handed) input answer
+    → option_map (λ admitted. admitted.flow) (admitted_by answer) ≡ flow
 
 module _ {C O : Type 0} (after : O → List Given → O → Type 0) (accepts : C → List ℕ → Bool) where
   -- The input is taken: it was answered so by its lane, and came to its flow.

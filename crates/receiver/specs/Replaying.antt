@@ -1,6 +1,10 @@
 -- A replay to which what was recorded is handed in, one entry after another.
 use Rattle.std.specs.Prelude.{◌≡◌, ℕ, ◌<◌, Bool, All, Option, Some, None, List, ◌∷◌, [], ◌++◌, length, filter_map}
+use Rattle.std.specs.Option.{option_map}
+use Rattle.lane.specs.declared.input.Input.{Input}
 use Rattle.lane.specs.Limits.{channel_limit, senders}
+use Rattle.lane.specs.Inputs.{Answer, AnsweredInput, IsAnswer}
+use Rattle.lane.specs.Report.{admitted_by}
 use Rattle.loss_rule.specs.declared.rule.LossRule.{LossRule}
 use Rattle.bonded_flows.specs.declared.decision.FlowDecision.{FlowDecision}
 use Rattle.bonded_flows.specs.declared.decision.FlowDecision.TheVariants.{Gap, GapTo, SkipTo}
@@ -9,7 +13,8 @@ use Rattle.receiver.specs.declared.replaying.Replaying.{Replaying}
 use Rattle.receiver.specs.HandedIn.{HandedIn}
 use Rattle.receiver.specs.HandedIn as handed_in
 use Rattle.receiver.specs.HandedOrder.{order_of}
-use Rattle.receiver.specs.Entries.{Entry, came, decided}
+use Rattle.receiver.specs.Entries.{Entry, came, decided, incoming_in}
+use Rattle.receiver.specs.Items.{lane_setup, IsLaneOf}
 use Rattle.receiver.specs.Playing.{Plays}
 
 -- the entry that a decision is which was handed in
@@ -34,6 +39,14 @@ abbrev pub IsRecorded : HandedIn → Type 0
 IsRecorded (handed_in.came channel one) = channel < channel_limit
 IsRecorded (handed_in.decided flow decision) = IsGapDecision decision
 IsRecorded (handed_in.restarted flow first) = ⊥
+
+-- Whatever is answered to this input on this channel after these entries: what is admitted of it is
+-- of this flow, or nothing is.
+abbrev pub IsBoundFor : Setup → List Entry → ℕ → Input → Option ℕ → Type 0
+IsBoundFor setup entries channel input flow =
+    (answered : List AnsweredInput) (answer : Answer)
+    → IsLaneOf setup (incoming_in entries) channel answered → IsAnswer (lane_setup setup channel) answered input answer
+    → option_map (λ admitted. admitted.flow) (admitted_by answer) ≡ flow
 
 module _ {C : Type 0} (accepts : C → List ℕ → Bool) where
   -- **These entries were handed in**, in this order, and nothing else; what it gave was kept, and

@@ -10,6 +10,7 @@ ghost use Rattle.receiver.specs.Order.{IsLawfulOrder};
 ghost use Rattle.receiver.specs.AdmittedOrder.{input_counts};
 ghost use Rattle.receiver.specs.HandedIn.{HandedIn};
 ghost use Rattle.receiver.specs.HandedOrder.{IsSent, flow_decision, handed_decision, gives_item, count_from, IsUsedUp};
+ghost use Rattle.receiver.specs.Receiving.{WouldCome};
 ghost use Rattle.receiver.specs.Playing.{Plays, IsPlaying, PlaysOne, PlaysInput, PlaysNext, PlaysMore, PlaysTags, FindsNone, HaveGiven, IsReportWith, IsGiven};
 
 use crate::outcome::{FlowOutcome, Outcome};
@@ -160,6 +161,13 @@ impl<C: HeaderCheck + Drop> Playing<C> {
                 Ok(false)
             }
         }
+    }
+
+    /// The flow of which a segment would be admitted of this input, as [`Receiver::look`] answers.
+    pub fn look(&self, channel: usize, input: &Input) -> Option<usize>
+        ensures { WouldCome C.accepts self.now.receiver channel input.now result }
+    {
+        self.receiver.look(channel, input)
     }
 
     /// Hands in a decision, and answers whether it names a flow.

@@ -19,7 +19,7 @@ ghost use Rattle.receiver.specs.declared.reply.RestartError.{RestartError};
 ghost use Rattle.receiver.specs.Tallies.{IsTallyOf};
 ghost use Rattle.receiver.specs.HandedIn.{HandedIn, decided, made_of, answered_on};
 ghost use Rattle.receiver.specs.Held.{HoldsSince};
-ghost use Rattle.receiver.specs.Receiving.{StandsFor, IsReceiving, TakesMore, IsSettledAt};
+ghost use Rattle.receiver.specs.Receiving.{StandsFor, IsReceiving, TakesMore, IsSettledAt, WouldCome};
 ghost use Rattle.receiver.specs.Receiving.{Replies, Fails, FlowIsSettled, Restarts, HasGivenSince};
 ghost use Rattle.receiver.specs.Receiving.{ChangesOneFlow, ChangesItsFlow, KeepsToItsFlow};
 ghost use Rattle.receiver.specs.Receiving.{IsReadyFor, AnswersFor, TakesAdmitted, IsLossToldRightly, IsNumberExpected};
@@ -124,6 +124,16 @@ impl<C: HeaderCheck + Drop> Receiver<C> {
                 }
             }
         }
+    }
+
+    /// The flow of which a segment would be admitted of this input, if it came on this channel now;
+    /// none if nothing would be, or there is no such channel. Of a burst's bytes it looks at the
+    /// header, and at how many there are. It takes no memory.
+    pub fn look(&self, channel: usize, input: &Input) -> Option<usize>
+        ensures none { length self.now.lanes.items ≤ channel → result ≡ None }
+        ensures flow { WouldCome C.accepts self.now channel input.now result }
+    {
+        self.lanes.get(channel)?.lane.look(input)
     }
 
     /// Takes the decision that segments of a flow are lost. One that names no flow, or a number

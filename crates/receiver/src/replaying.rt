@@ -5,7 +5,8 @@ ghost use Rattle.loss_rule.specs.declared.rule.LossRule.{LossRule};
 ghost use Rattle.receiver.specs.AdmittedOrder.{IsAdmittedOrder};
 ghost use Rattle.receiver.specs.Entries.{Entry, came, decided, tag_of, incoming_in};
 ghost use Rattle.receiver.specs.Faults.{CanReceive};
-ghost use Rattle.receiver.specs.Replaying.{HasReplayed, IsReplaying, ReplaysMore};
+ghost use Rattle.receiver.specs.Replaying.{HasReplayed, IsReplaying, ReplaysMore, IsBoundFor};
+ghost use Rattle.receiver.specs.declared.setup.Setup.{Setup};
 ghost use Rattle.receiver.specs.Ruled.{IsOutcomeBy};
 
 use crate::outcome::Outcome;
@@ -57,6 +58,18 @@ impl<C: HeaderCheck + Drop> Replaying<C> {
     {
         let is_item = (self.playing).take_input(alloc, usize::from(channel), input)?;
         append_if(&mut self.order, is_item, channel)
+    }
+
+    /// The flow of which a segment would be admitted of this input, if it came on this channel, 0
+    /// to 3, now; none if nothing would be. Of a burst's bytes it looks at the header, and at how
+    /// many there are. It takes no memory.
+    pub fn look(&self, channel: u8, input: &Input) -> Option<usize>
+        requires channel { channel < channel_limit }
+        ensures { (rule : LossRule) (check : List ℕ → Bool) (setup : Setup) (entries : List Entry)
+            → HasReplayed C.accepts rule check setup self.now entries
+            → IsBoundFor setup entries channel input.now result }
+    {
+        (self.playing).look(usize::from(channel), input)
     }
 
     /// Hands in a decision. Where an allocation failed nothing is promised of what is handed in or

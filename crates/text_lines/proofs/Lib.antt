@@ -13,5 +13,7 @@ pub mod DigitLanes
 pub mod DigitBlocks
 pub mod DigitsWritten
 pub mod DigitValues
+pub mod FrontDigits
+pub mod DigitsLookedAt
 pub mod PutTexts
 pub mod SpelledBytes

@@ -1,6 +1,8 @@
 //! Hexadecimal digits, read in blocks ([`spell_block`]) and the last ones by a table: a branch for
 //! each digit would be guessed wrongly as often as digits and letters change.
 ghost use Rattle.std.specs.Prelude.{◌≡◌, ◌<◌, ◌≤◌, ◌*◌, ◌/◌, ◌%◌, ◌⊎◌, IsTrue, IsFalse, length, take, drop, vec_capacity};
+ghost use Rattle.std.specs.List.{list_all};
+ghost use Rattle.hex.specs.Hex.{is_hex_digit};
 ghost use Rattle.text_lines.specs.Inside.Digits.{IsDigitEntry, SpellsPairs, SpellsNothing};
 ghost use Rattle.text_lines.specs.Inside.DigitBlocks.{SpellsFront};
 
@@ -80,4 +82,23 @@ fn append_blocks(bytes: &mut Vec<u8>, digits: &[u8])
         bytes.extend_from_slice(&spelled).unwrap();
         rest = others;
     }
+}
+
+/// Whether these are all hexadecimal digits, in either case. Of a block nothing else is asked, so
+/// that the compiler leaves out what would put the bytes together that it spells.
+pub fn are_digits(digits: &[u8]) -> bool
+    ensures { result ≡ list_all is_hex_digit digits.now }
+{
+    let mut rest = digits;
+    while let Some((block, others)) = rest.split_first_chunk::<BLOCK_DIGITS>() {
+        if spell_block(block).is_none() {
+            return false;
+        }
+        rest = others;
+    }
+    let mut greatest = 0;
+    for digit in rest {
+        greatest = greater(greatest, digit_value(*digit));
+    }
+    greatest < NO_DIGIT
 }

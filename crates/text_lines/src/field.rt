@@ -1,14 +1,14 @@
 //! Hexadecimal fields.
-ghost use Rattle.std.specs.Prelude.{◌≡◌, ◌≢◌, ◌∷◌, [], ℕ, List, IfOk, IfErr, IfSome, MatchOption, length};
+ghost use Rattle.std.specs.Prelude.{◌≡◌, ◌≢◌, ◌∷◌, [], ◌<◌, ◌-◌, ◌↔◌, ℕ, List, IsTrue, IfOk, IfErr, IfSome, MatchOption, length, take, drop, replicate};
 ghost use Rattle.text_lines.specs.Inside.LineFault.{IsLineFault};
 ghost use Rattle.text_lines.specs.Field.{SpellsBytes, IsHex};
 ghost use Rattle.text_lines.specs.Inside.LineFault.{HasHexFault};
 ghost use Rattle.text_lines.specs.Lines.{words_of};
 
-use crate::digits::append_spelled;
+use crate::digits::{append_spelled, are_digits};
 use crate::fault::{LineFault, TraceKind};
 use crate::words::only_word;
-use std::alloc::Global;
+use std::alloc::{AllocError, Global};
 
 /// The bytes that a hexadecimal field spells: two digits for each, in either case, or `-` for none.
 ///
@@ -70,14 +70,66 @@ fn read_behind_space(alloc: Global, rest: &[u8]) -> Result<Option<Vec<u8>>, Line
         × (words_of rest.now ≡ field ∷ []) × SpellsBytes field bytes.items)) }
     ensures fault { IfErr result (λ fault. fault ≡ LineFault.OutOfMemory) }
 {
-    let Some((first, field)) = rest.split_first() else {
-        return Ok(None);
+    match all_behind_space(rest) {
+        Some(field) => read_if_hex(alloc, field),
+        None => Ok(None),
+    }
+}
+
+/// The only word, if it is hexadecimal: its digits are looked at and not decoded. A field that ends
+/// the line and has one space before it is looked at where it stands.
+///
+/// `FieldCount`: there are more words or none.
+pub fn only_hex_field(rest: &[u8]) -> Result<Option<&[u8]>, LineFault>
+    ensures looked_at { IfOk result (λ known. (field : List ℕ) × (words_of rest.now ≡ field ∷ [])
+        × MatchOption known (¬ IsHex field) (λ found. (found.now ≡ field) × IsHex field)) }
+    ensures fault { IfErr result (IsLineFault
+        (λ kind. (kind ≡ TraceKind.FieldCount) × (length (words_of rest.now) ≢ 1))) }
+{
+    if let Some(field) = all_behind_space(rest) {
+        if is_hex(field) {
+            return Ok(Some(field));
+        }
+    }
+    let Some(field) = only_word(rest) else {
+        return Err(LineFault::Kind(TraceKind::FieldCount));
     };
-    if *first != b' ' {
-        return Ok(None);
+    Ok(is_hex(field).then_some(field))
+}
+
+/// Whether a field spells bytes.
+fn is_hex(field: &[u8]) -> bool
+    ensures { IsTrue result ↔ IsHex field.now }
+{
+    field == b"-".as_slice() || (field.len() % 2 == 0 && are_digits(field))
+}
+
+/// All that stands behind a space, if something does.
+#[inline(always)]
+fn all_behind_space(rest: &[u8]) -> Option<&[u8]>
+    ensures { IfSome result (λ field. (rest.now ≡ 32 ∷ field.now) × (0 < length field.now)) }
+{
+    let (first, field) = rest.split_first()?;
+    if *first == b' ' && !field.is_empty() {
+        Some(field)
+    } else {
+        None
     }
-    if field.is_empty() {
-        return Ok(None);
-    }
-    read_if_hex(alloc, field)
+}
+
+/// The first so many of the bytes that a hexadecimal field spells, and zeros in place of those
+/// behind them. It asks for the memory of all; it is an error that this failed.
+pub fn read_hex_front(alloc: Global, field: &[u8], count: usize) -> Result<Vec<u8>, AllocError>
+    requires { IsHex field.now }
+    ensures spelled { IfOk result (λ front. (bytes : List ℕ) → SpellsBytes field.now bytes
+        → (length front.items ≡ length bytes) × (take count front.items ≡ take count bytes)) }
+    ensures zeros { IfOk result (λ front.
+        drop count front.items ≡ replicate (length front.items - count) 0) }
+{
+    let length = field.len() / 2;
+    let mut front = Vec::with_capacity(alloc, length)?;
+    // They are digits, so they are read; of `-` there are none.
+    append_spelled(&mut front, &field[..2 * count.min(length)]);
+    front.resize(length, 0)?;
+    Ok(front)
 }

@@ -14,11 +14,14 @@ pub mod LastElement
 pub mod TraceChecks
 pub mod TraceTags
 pub mod TraceLineFaults
+pub mod BurstFields
 pub mod TraceLines
 pub mod OneTrace
 pub mod TraceSoFar
 pub mod SetupKept
 pub mod HandedLines
+pub mod StandInEntries
+pub mod ReplayedInPart
 pub mod FollowedTrace
 pub mod WiderRule
 pub mod WiderTrace

@@ -80,14 +80,14 @@ AreListsOf-decision entries before after decision are same pushed = record {
 }
 
 -- one input more of its channel
-came_on-same : (entries : List Entry) (channel : ℕ) (input : Input)
+pub came_on-same : (entries : List Entry) (channel : ℕ) (input : Input)
     → filter_map (came_on channel) (entries ++ came channel input ∷ []) ≡ filter_map (came_on channel) entries ++ input ∷ []
 came_on-same entries channel input =
     filter_map-append (came_on channel) entries (came channel input ∷ [])
     ∙ ap (λ b. filter_map (came_on channel) entries ++ cons_option (cond b (Some input) None) []) (eq-eqb channel channel refl)
 
 -- and of no other
-came_on-other : (entries : List Entry) (channel other : ℕ) (input : Input) → other ≢ channel
+pub came_on-other : (entries : List Entry) (channel other : ℕ) (input : Input) → other ≢ channel
     → filter_map (came_on channel) (entries ++ came other input ∷ []) ≡ filter_map (came_on channel) entries
 came_on-other entries channel other input apart =
     filter_map-append (came_on channel) entries (came other input ∷ [])

@@ -6,5 +6,6 @@ pub mod SetupLines
 pub mod Reading
 pub mod TraceInput
 pub mod Replayed
+pub mod InPlace
 pub mod Selected
 pub mod Followed

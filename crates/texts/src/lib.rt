@@ -15,9 +15,9 @@
 //!
 //! - Where an input comes in pieces, [`CutInput`], [`JoinInput`] and [`Reading`] are what its lines
 //!   are to be taken by, of a cut, of a join and of a trace; so the crate `commands` receives a
-//!   trace on threads. [`ReplayInput`] replays a trace as its lines are taken. [`put_cut`]
-//!   puts the lines of a cut, [`put_report`] a report, and [`put_report_of`] that of some flows
-//!   alone.
+//!   trace on threads. [`ReplayInput`] replays a trace as its lines are taken, and
+//!   [`SelectedReplay`] for some flows, whose other bursts it doesn't decode. [`put_cut`] puts the
+//!   lines of a cut, [`put_report`] a report, and [`put_report_of`] that of some flows alone.
 //! - [`FollowInput`] follows a trace of up to 16 channels and 16,384 flows: what a receiver gives
 //!   for its lines is put as they are taken, and with events also what became of each input and
 //!   each decision, of all flows or of some ([`FollowSettings`]); [`put_end`] puts what is left at
@@ -49,7 +49,9 @@ pub use follow::{
     InputName, finish_follow, put_end,
 };
 pub use join::{JoinInput, join_lines};
-pub use replay::{ReplayInput, UnderWay, finish_replay, replay_lines, replay_lines_by};
+pub use replay::{
+    ReplayInput, SelectedReplay, UnderWay, finish_replay, replay_lines, replay_lines_by,
+};
 pub use report_lines::{put_flow_line, put_frame_line, put_lane_line, put_request_line};
 pub use report_text::{put_report, put_report_of, report};
 pub use text_lines::{

@@ -11,8 +11,10 @@ use receiver::{Outcome, Width};
 use std::alloc::{AllocError, Global};
 use text_lines::{TextFault, take_lines};
 
+mod selected_replay;
 mod under_way;
 
+pub use selected_replay::SelectedReplay;
 pub use under_way::UnderWay;
 
 /// The lines so far of a trace that is replayed as they are read. It is for the profile's width.

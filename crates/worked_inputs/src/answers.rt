@@ -88,7 +88,15 @@ const ANSWERED: [(Line, Reply); 7] = [
     (Line::Burst(1, 1, SECOND), REPEATED),
 ];
 
-/// Hands in the lines, and compares each answer.
+/// The flow to which a segment was admitted, if one was.
+fn flow_of(reply: &Reply) -> Option<usize> {
+    match reply {
+        Reply::Admitted { flow, .. } => Some(*flow),
+        _ => None,
+    }
+}
+
+/// Hands in the lines, and compares each answer, and with it where the input was to come before.
 fn expect_replies<C: HeaderCheck + Drop>(
     rt: &impl Abort,
     alloc: Global,
@@ -100,6 +108,7 @@ fn expect_replies<C: HeaderCheck + Drop>(
 {
     for (line, wanted) in &ANSWERED {
         if let Some((channel, input)) = input(alloc, line)? {
+            expect_same(rt, "look", receiver.look(channel, &input), flow_of(wanted));
             let reply = receiver.take(alloc, channel, input, out)?;
             expect_same(rt, "reply", reply, *wanted);
         }

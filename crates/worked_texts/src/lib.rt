@@ -33,6 +33,8 @@ mod line_words;
 #[cfg(test)]
 mod lines_in_pieces;
 #[cfg(test)]
+mod looked_at_fields;
+#[cfg(test)]
 mod number_fields;
 #[cfg(test)]
 mod ruled_texts;

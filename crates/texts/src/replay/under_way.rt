@@ -1,9 +1,11 @@
 //! A replay under way of what the lines of a trace say.
-ghost use Rattle.std.specs.Prelude.{List, IfOk, map};
+ghost use Rattle.std.specs.Prelude.{◌<◌, List, IfOk, map};
+ghost use Rattle.lane.specs.Limits.{channel_limit};
 ghost use Rattle.loss_rule.specs.declared.rule.LossRule.{LossRule};
 ghost use Rattle.receiver.specs.AdmittedOrder.{IsAdmittedOrder};
 ghost use Rattle.receiver.specs.Entries.{Entry, tag_of, incoming_in};
-ghost use Rattle.receiver.specs.Replaying.{HasReplayed};
+ghost use Rattle.receiver.specs.Replaying.{HasReplayed, IsBoundFor};
+ghost use Rattle.receiver.specs.declared.setup.Setup.{Setup};
 ghost use Rattle.receiver.specs.Ruled.{IsOutcomeBy};
 ghost use Rattle.texts.specs.AnyHeader.{any_header};
 ghost use Rattle.texts.specs.AnyHeader.{no_check};
@@ -43,6 +45,18 @@ impl Model for UnderWay {
 }
 
 impl UnderWay {
+    /// The flow of which a segment would be admitted of this input, if it came on this channel, 0
+    /// to 3, now; none if nothing would be. Of a burst's bytes it looks at the header, and at how
+    /// many there are. It takes no memory.
+    pub fn look(&self, channel: u8, input: &Input) -> Option<usize>
+        requires { channel < channel_limit }
+        ensures { (rule : LossRule) (setup : Setup) (entries : List Entry)
+            → HasReplayed no_check rule any_header setup self.now entries
+            → IsBoundFor setup entries channel input.now result }
+    {
+        self.replaying.look(channel, input)
+    }
+
     /// Closes the receiver: what it gave.
     pub fn finish(self, alloc: Global, setup: &Setup) -> Result<Outcome, AllocError>
         requires { (rule : LossRule) × (entries : List Entry)

@@ -90,8 +90,20 @@ impl<P: TakeEntries + Drop> TraceInput<P> {
         }
     }
 
+    /// The width of the receiver.
+    pub(crate) fn width(&self) -> Width
+        ensures { result ≡ self.now.width }
+    {
+        self.width
+    }
+
     /// Hands in what came in on a channel.
-    fn add_input(&mut self, alloc: Global, channel: u8, input: Input) -> Result<(), LineFault>
+    pub(crate) fn add_input(
+        &mut self,
+        alloc: Global,
+        channel: u8,
+        input: Input,
+    ) -> Result<(), LineFault>
         requires { channel < self.old.width.channels }
         ensures { (given : TraceState P.State) → AddsTo (λ said input.
             HasTakenLines P.start P.has_taken (record given { said = said })

@@ -1,5 +1,6 @@
 //! A line of a trace, by itself.
-ghost use Rattle.std.specs.Prelude.{◌≡◌, ◌↔◌, ◌⊎◌, ◌∷◌, ℕ, IsTrue, IfOk, IfErr};
+ghost use Rattle.std.specs.Prelude.{◌≡◌, ◌<◌, ◌↔◌, ◌⊎◌, ◌∷◌, ℕ, List, IsTrue, IfOk, IfErr};
+ghost use Rattle.text_lines.specs.Field.{SpellsBytes, IsHex};
 ghost use Rattle.text_lines.specs.Inside.LineFault.{IsLineFault};
 ghost use Rattle.text_lines.specs.Lines.{words_of};
 ghost use Rattle.texts.specs.Trace.Line.{number_in, check_word, a_number, a_check};
@@ -8,6 +9,7 @@ ghost use Rattle.texts.specs.Trace.Line.{word_of, IsField, IsBadField};
 ghost use Rattle.texts.specs.Trace.Line.{TraceShape, shape_of, Carries};
 ghost use Rattle.texts.specs.Trace.Line.{channel_number, flow_number};
 ghost use Rattle.texts.specs.Inside.TraceLine.{IsLeastFaultByItself};
+ghost use Rattle.texts.specs.declared.trace.line.TraceLine.TheVariants as line;
 
 use docsis_wire::Bytes;
 use flow_core::FlowRecord;
@@ -15,8 +17,8 @@ use lane::{Input, SidRow};
 use receiver::{Decision, Width};
 use std::alloc::Global;
 use text_lines::{
-    LineFault, TraceKind, only_four_words, only_three_words, only_two_words, only_word,
-    read_number_in, read_only_hex, three_words,
+    LineFault, TraceKind, only_four_words, only_hex_field, only_three_words, only_two_words,
+    only_word, read_number_in, read_only_hex, three_words,
 };
 
 /// The greatest service identifier.
@@ -35,6 +37,19 @@ pub enum TraceLine {
     Input { channel: u8, input: Input },
     /// A decision that segments are lost.
     Gap(Decision),
+}
+
+/// What a line says of a burst whose bytes aren't decoded.
+#[derive(Debug, Clone, Copy)]
+pub struct LookedAtBurst<'a> {
+    /// Its channel, below how many the receiver has.
+    pub channel: u8,
+    /// The number of its grant.
+    pub grant: u32,
+    /// Whether the check of its segment header is right.
+    pub hcs_ok: bool,
+    /// What spells its bytes: an even number of hexadecimal digits, or `-` for none.
+    pub field: &'a [u8],
 }
 
 /// Whether a line that begins with this word sets up a flow or a service identifier.
@@ -208,6 +223,34 @@ fn read_burst(alloc: Global, width: Width, rest: &[u8]) -> Result<TraceLine, Lin
         bytes: Bytes::from(bytes),
     };
     Ok(TraceLine::Input { channel, input })
+}
+
+/// What `burst <channel> <number> ok|bad <hex>` says, by what follows the first word, but for its
+/// bytes: their digits are looked at and not decoded.
+pub fn look_at_burst(width: Width, rest: &[u8]) -> Result<LookedAtBurst<'_>, LineFault>
+    ensures hex { IfOk result (λ burst. IsHex burst.field.now) }
+    ensures channel { IfOk result (λ burst. burst.channel < width.channels) }
+    ensures carried { (ring : ℕ) → IfOk result (λ burst. (bytes : List ℕ)
+        → SpellsBytes burst.field.now bytes
+        → Carries (shape_of width ring) (word_of burst_line ∷ words_of rest.now)
+        (line.Input burst.channel (Input.Burst burst.grant burst.hcs_ok bytes))) }
+    ensures fault { (ring : ℕ) → IfErr result (IsLineFault
+        (IsLeastFaultByItself (shape_of width ring) (word_of burst_line ∷ words_of rest.now))) }
+{
+    let Some((channel, number, check, behind)) = three_words(rest) else {
+        return Err(LineFault::Kind(TraceKind::FieldCount));
+    };
+    let looked_at = only_hex_field(behind)?;
+    let channel = channel_of(width, channel)?;
+    let grant_number = number_of(number, u32::MAX)?;
+    let hcs_ok = read_check(check)?;
+    let field = looked_at.ok_or(LineFault::Kind(TraceKind::NotHex))?;
+    Ok(LookedAtBurst {
+        channel,
+        grant: grant_number,
+        hcs_ok,
+        field,
+    })
 }
 
 /// `gap <flow>` or `gap <flow> <number>`, by what follows the first word.

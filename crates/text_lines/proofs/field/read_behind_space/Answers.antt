@@ -1,4 +1,4 @@
-use Rattle.std.proofs.Common.{◌≡◌, ℕ, ◌<◌, List, [], ◌∷◌, length, Option, Some, None, Result, Ok, Err, Vec, rules, sym, ap, ◌∙◌}
+use Rattle.std.proofs.Common.{◌≡◌, ℕ, ◌<◌, List, [], ◌∷◌, length, Option, Some, None, Result, Ok, Err, ap, ◌∙◌}
 use Rattle.std.specs.Prelude.{IfOk, IfSome, MatchOption}
 use Rattle.text_lines.specs.Field.{SpellsBytes, IsHex}
 use Rattle.text_lines.specs.Lines.{words_of}
@@ -14,9 +14,7 @@ is_only items rest field is some (Ok (Some bytes)) spells = (field, ap words_of 
 is_only items rest field is some (Ok None) other = tt
 is_only items rest field is some (Err fault) failed = tt
 
-pub returns-clause-spelled : goal.returns-clause-spelled
-returns-clause-spelled c =
-    let field = c.in-Some.field.now in
-    let space : c.in-Some.first.now ≡ 32 = search rules in
-    let some : 0 < length field = search rules in
-    is_only (λ bytes. bytes.items) c.args.rest.now field (c.in-Some.ensures.cases.0 ∙ ap (λ first. first ∷ field) space) some c.read_if_hex.result c.read_if_hex.ensures.spelled
+pub returns-in-Some-clause-spelled : goal.returns-in-Some-clause-spelled
+returns-in-Some-clause-spelled c =
+    let behind = c.in-Some.ensures in
+    is_only (λ bytes. bytes.items) c.args.rest.now c.in-Some.field.now behind.0 behind.1 c.read_if_hex.result c.read_if_hex.ensures.spelled
