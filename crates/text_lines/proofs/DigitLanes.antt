@@ -4,7 +4,7 @@ use Rattle.std.proofs.Common.{◌≡◌, ℕ, zero, suc, ◌+◌, ◌-◌, ◌*�
 use Rattle.std.proofs.lemmas.Bool.{agree_below_at, eqb-true, eqb-false, eq-eqb, ltb-true, ltb-false, le-leb, lt-leb, ne_eqb}
 use Rattle.std.proofs.lemmas.Simd.{mask_l-mod}
 use lib.Lanes.{zip2, sel_l, mask_l, top, Each1}
-use Rattle.text_lines.specs.Inside.DigitBlocks.{value_or_16, are_below_16}
+use Rattle.text_lines.specs.Inside.DigitBlocks.{value_or_16, letter_from_10, are_below_16}
 
 -- a difference from 255 on again below 0
 abbrev pub less : ℕ → ℕ → ℕ
@@ -72,9 +72,17 @@ lesser_is [] ys = refl
 lesser_is (x ∷ xs) [] = refl
 lesser_is (x ∷ xs) (y ∷ ys) = both (one_lesser x y) (lesser_is xs ys)
 
+-- the letters of a vector
+pub letters_are : (n : ℕ) (xs : List ℕ) → length xs ≡ n
+    → map (λ x. min (x + 10) 255) (map (λ x. (x + (256 - 65)) % 256) (zip2 bit_and xs (replicate n 223))) ≡ map letter_from_10 xs
+letters_are zero [] size = refl
+letters_are zero (x ∷ xs) size = absurd (omega arith)
+letters_are (suc n) [] size = absurd (omega arith)
+letters_are (suc n) (x ∷ xs) size = both refl (letters_are n xs (omega arith))
+
 -- the value of a byte by these operations, at each byte
 abbrev by_moves : ℕ → ℕ
-by_moves x = min (min (((x + (256 - 58)) % 256 - 6 + (256 - 240)) % 256) (min ((bit_and x 223 + (256 - 65)) % 256 + 10) 255)) 16
+by_moves x = min (min (((x + (256 - 58)) % 256 - 6 + (256 - 240)) % 256) (letter_from_10 x)) 16
 
 -- it is computed at each byte
 one_value : (x : ℕ) → x < 256 → by_moves x ≡ value_or_16 x
@@ -83,7 +91,7 @@ one_value x small = eqb-true (by_moves x) (value_or_16 x) (agree_below_at (λ y.
 -- the values of a vector of digits
 pub values_are : (n : ℕ) (xs : List ℕ) → length xs ≡ n → Each1 (Fits w8) xs
     → zip2 min (zip2 min (map (λ x. (x + (256 - 240)) % 256) (map (λ x. x - 6) (map (λ x. (x + (256 - 58)) % 256) xs)))
-    (map (λ x. min (x + 10) 255) (map (λ x. (x + (256 - 65)) % 256) (zip2 bit_and xs (replicate n 223))))) (replicate n 16)
+    (map letter_from_10 xs)) (replicate n 16)
     ≡ map value_or_16 xs
 values_are zero [] size fits = refl
 values_are zero (x ∷ xs) size fits = absurd (omega arith)

@@ -1,8 +1,11 @@
 //! A block of hexadecimal digits at once, by vectors: 32 digits, which spell sixteen bytes.
-ghost use Rattle.std.specs.Prelude.{◌≡◌, ◌+◌, ◌-◌, ◌%◌, ◌&&◌, map, min, MatchOption};
+ghost use Rattle.std.specs.Prelude.{◌≡◌, ◌+◌, ◌-◌, ◌%◌, ◌&&◌, nat_lt, map, min, MatchOption};
+ghost use Rattle.std.specs.List.{list_all};
 ghost use Rattle.std.specs.Simd.Lanes.{zip2};
+ghost use Rattle.hex.specs.Hex.{is_hex_digit};
 ghost use Rattle.text_lines.specs.Inside.Digits.{SpellsPairs, SpellsNothing};
-ghost use Rattle.text_lines.specs.Inside.DigitBlocks.{paired, value_or_16, are_below_16};
+ghost use Rattle.text_lines.specs.Inside.DigitBlocks.{paired, value_or_16, letter_from_10};
+ghost use Rattle.text_lines.specs.Inside.DigitBlocks.{are_below_16};
 
 use std::simd::prelude::*;
 
@@ -30,6 +33,28 @@ pub(crate) fn spell_block(digits: &[u8; BLOCK_DIGITS]) -> Option<[u8; BLOCK_BYTE
     }
 }
 
+/// Whether all of a block are digits, in either case. What they spell isn't worked out.
+#[inline(always)]
+pub(crate) fn is_digit_block(digits: &[u8; BLOCK_DIGITS]) -> bool
+    ensures { result ≡ list_all is_hex_digit digits.now }
+{
+    let front = u8x16::from_slice(&digits[..BLOCK_BYTES]);
+    let back = u8x16::from_slice(&digits[BLOCK_BYTES..]);
+    are_all_values(marks_of_digits(front), marks_of_digits(back))
+}
+
+/// Of each byte less than 16 exactly if it is a digit, in either case.
+///
+/// One way counts the ten decimal digits up to 15, the other the letters; a sum that stops at the
+/// end of a byte's range keeps each other byte at 16 or more. So the lesser of the two tells.
+#[inline(always)]
+fn marks_of_digits(digits: u8x16) -> u8x16
+    ensures { map (λ mark. nat_lt mark 16) result ≡ map is_hex_digit digits }
+{
+    let decimal = raised(moved_down(digits, b'0'), 6);
+    lesser(decimal, letters_from_10(digits))
+}
+
 /// The first digit of each pair, and the second one.
 #[inline(always)]
 fn split_pairs(digits: &[u8; BLOCK_DIGITS]) -> (u8x16, u8x16)
@@ -50,8 +75,19 @@ fn values_of_digits(digits: u8x16) -> u8x16
     ensures { result ≡ map value_or_16 digits }
 {
     let decimal = moved_down(excess(moved_down(digits, b'9' + 1), 6), 0xF0);
-    let letter = raised(moved_down(digits & u8x16::splat(0xDF), b'A'), 10);
-    lesser(lesser(decimal, letter), u8x16::splat(NO_DIGIT))
+    lesser(
+        lesser(decimal, letters_from_10(digits)),
+        u8x16::splat(NO_DIGIT),
+    )
+}
+
+/// Of sixteen bytes 10 for an `a` in either case, 11 for a `b` and so on, and 16 or more for each
+/// that is no letter from there to `f`.
+#[inline(always)]
+fn letters_from_10(digits: u8x16) -> u8x16
+    ensures { result ≡ map letter_from_10 digits }
+{
+    raised(moved_down(digits & u8x16::splat(0xDF), b'A'), 10)
 }
 
 /// Whether all of these are values of digits.

@@ -6,7 +6,7 @@ ghost use Rattle.hex.specs.Hex.{is_hex_digit};
 ghost use Rattle.text_lines.specs.Inside.Digits.{IsDigitEntry, SpellsPairs, SpellsNothing};
 ghost use Rattle.text_lines.specs.Inside.DigitBlocks.{SpellsFront};
 
-use crate::digit_block::{BLOCK_DIGITS, NO_DIGIT, spell_block};
+use crate::digit_block::{BLOCK_DIGITS, NO_DIGIT, is_digit_block, spell_block};
 
 /// Of each byte the value of the digit that it is, in either case, or [`NO_DIGIT`].
 static DIGIT_VALUES: [u8; 256] = [
@@ -52,6 +52,20 @@ pub fn append_spelled(bytes: &mut Vec<u8>, digits: &[u8]) -> bool
     ensures refused { IsFalse result → SpellsNothing digits.now }
 {
     append_blocks(bytes, digits);
+    append_pairs(bytes, digits)
+}
+
+/// Appends the bytes that the digits spell behind those that these bytes are spelled by, for which
+/// there is room, pair by pair, and says whether all of them are digits.
+#[inline(always)]
+pub(crate) fn append_pairs(bytes: &mut Vec<u8>, digits: &[u8]) -> bool
+    requires even { length digits.now % 2 ≡ 0 }
+    requires so_far { SpellsFront digits.now bytes.old.items }
+    requires within { 2 * length bytes.old.items ≤ length digits.now }
+    requires room { length digits.now / 2 ≤ vec_capacity bytes.old }
+    ensures spelled { IsTrue result → SpellsPairs digits.now bytes.new.items }
+    ensures refused { IsFalse result → SpellsNothing digits.now }
+{
     let mut greatest = 0;
     for place in bytes.len()..digits.len() / 2 {
         let high = digit_value(digits[2 * place]);
@@ -84,14 +98,13 @@ fn append_blocks(bytes: &mut Vec<u8>, digits: &[u8])
     }
 }
 
-/// Whether these are all hexadecimal digits, in either case. Of a block nothing else is asked, so
-/// that the compiler leaves out what would put the bytes together that it spells.
+/// Whether these are all hexadecimal digits, in either case.
 pub fn are_digits(digits: &[u8]) -> bool
     ensures { result ≡ list_all is_hex_digit digits.now }
 {
     let mut rest = digits;
     while let Some((block, others)) = rest.split_first_chunk::<BLOCK_DIGITS>() {
-        if spell_block(block).is_none() {
+        if !is_digit_block(block) {
             return false;
         }
         rest = others;

@@ -5,7 +5,7 @@ ghost use Rattle.text_lines.specs.Field.{SpellsBytes, IsHex};
 ghost use Rattle.text_lines.specs.Inside.LineFault.{HasHexFault};
 ghost use Rattle.text_lines.specs.Lines.{words_of};
 
-use crate::digits::{append_spelled, are_digits};
+use crate::digits::{append_pairs, append_spelled, are_digits};
 use crate::fault::{LineFault, TraceKind};
 use crate::words::only_word;
 use std::alloc::{AllocError, Global};
@@ -76,29 +76,29 @@ fn read_behind_space(alloc: Global, rest: &[u8]) -> Result<Option<Vec<u8>>, Line
     }
 }
 
-/// The only word, if it is hexadecimal: its digits are looked at and not decoded. A field that ends
-/// the line and has one space before it is looked at where it stands.
+/// What the only word is, if that is hexadecimal: all that stands behind one space, where it neither
+/// begins nor ends in a separator, so that no end of a word is looked for among digits; else the
+/// only word.
 ///
-/// `FieldCount`: there are more words or none.
-pub fn only_hex_field(rest: &[u8]) -> Result<Option<&[u8]>, LineFault>
-    ensures looked_at { IfOk result (λ known. (field : List ℕ) × (words_of rest.now ≡ field ∷ [])
-        × MatchOption known (¬ IsHex field) (λ found. (found.now ≡ field) × IsHex field)) }
-    ensures fault { IfErr result (IsLineFault
-        (λ kind. (kind ≡ TraceKind.FieldCount) × (length (words_of rest.now) ≢ 1))) }
+/// None where there are more words or none.
+pub fn likely_field(rest: &[u8]) -> Option<&[u8]>
+    ensures { MatchOption result (length (words_of rest.now) ≢ 1)
+        (λ field. IsHex field.now → words_of rest.now ≡ field.now ∷ []) }
 {
-    if let Some(field) = all_behind_space(rest) {
-        if is_hex(field) {
-            return Ok(Some(field));
-        }
-    }
-    let Some(field) = only_word(rest) else {
-        return Err(LineFault::Kind(TraceKind::FieldCount));
+    let Some(field) = all_behind_space(rest) else {
+        return only_word(rest);
     };
-    Ok(is_hex(field).then_some(field))
+    if matches!(
+        field,
+        [b' ' | b'\t' | b'\r', ..] | [.., b' ' | b'\t' | b'\r']
+    ) {
+        return only_word(rest);
+    }
+    Some(field)
 }
 
-/// Whether a field spells bytes.
-fn is_hex(field: &[u8]) -> bool
+/// Whether a field spells bytes: its digits are looked at and not decoded.
+pub fn is_hex(field: &[u8]) -> bool
     ensures { IsTrue result ↔ IsHex field.now }
 {
     field == b"-".as_slice() || (field.len() % 2 == 0 && are_digits(field))
@@ -117,19 +117,18 @@ fn all_behind_space(rest: &[u8]) -> Option<&[u8]>
     }
 }
 
-/// The first so many of the bytes that a hexadecimal field spells, and zeros in place of those
-/// behind them. It asks for the memory of all; it is an error that this failed.
+/// The first so many of the bytes that a field spells if it is hexadecimal, and zeros in place of
+/// those behind them. It asks for the memory of all; it is an error that this failed.
 pub fn read_hex_front(alloc: Global, field: &[u8], count: usize) -> Result<Vec<u8>, AllocError>
-    requires { IsHex field.now }
     ensures spelled { IfOk result (λ front. (bytes : List ℕ) → SpellsBytes field.now bytes
         → (length front.items ≡ length bytes) × (take count front.items ≡ take count bytes)) }
-    ensures zeros { IfOk result (λ front.
-        drop count front.items ≡ replicate (length front.items - count) 0) }
+    ensures zeros { IfOk result (λ front. IsHex field.now
+        → drop count front.items ≡ replicate (length front.items - count) 0) }
 {
     let length = field.len() / 2;
     let mut front = Vec::with_capacity(alloc, length)?;
-    // They are digits, so they are read; of `-` there are none.
-    append_spelled(&mut front, &field[..2 * count.min(length)]);
+    // Whether they are digits is for the whole field to say; of `-` there are none.
+    append_pairs(&mut front, &field[..2 * count.min(length)]);
     front.resize(length, 0)?;
     Ok(front)
 }

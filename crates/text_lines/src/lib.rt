@@ -18,8 +18,8 @@
 //!   split what follows the first field of a line, where it has just so many words, and
 //!   [`three_words`] where there may be more.
 //! - [`read_number`], [`read_number_in`] and [`read_hex`] read a field, and [`read_only_hex`] what
-//!   is to be the last one of a line; [`only_hex_field`] looks at its digits and decodes none, and
-//!   [`read_hex_front`] decodes the first of them. [`put_word`], [`put_number`], [`put_spaced`],
+//!   is to be the last one of a line. Of such a field [`likely_field`] says where it stands,
+//!   [`read_hex_front`] decodes the first digits, and [`is_hex`] looks at all and decodes none. [`put_word`], [`put_number`], [`put_spaced`],
 //!   [`put_seconds`] and [`put_hex`] write one to whatever takes a text, [`PutText`]:
 //!   [`TextBuffer`] keeps it.
 //! - What is wrong with a line is a [`LineFault`], its kind a [`TraceKind`]; a failed allocation,
@@ -47,7 +47,7 @@ mod words;
 
 pub use capacities::{Capacities, DEFAULT_CAPACITY};
 pub use fault::{LineFault, ParseFault, TextFault, TraceFault, TraceKind};
-pub use field::{only_hex_field, read_hex, read_hex_front, read_only_hex};
+pub use field::{is_hex, likely_field, read_hex, read_hex_front, read_only_hex};
 pub use line_input::LineInput;
 pub use line_reader::LineReader;
 pub use lines::{TakeLine, split_behind_line, split_line, take_lines};

@@ -14,7 +14,6 @@ pub mod LastElement
 pub mod TraceChecks
 pub mod TraceTags
 pub mod TraceLineFaults
-pub mod BurstFields
 pub mod TraceLines
 pub mod OneTrace
 pub mod TraceSoFar

@@ -9,7 +9,7 @@ mod setup_lines;
 mod taking;
 
 pub use input::TraceInput;
-pub use line::{LookedAtBurst, look_at_burst};
+pub use line::{PeekedBurst, peek_burst};
 pub use reading::{Reading, parse_trace};
 pub use taking::TakeEntries;
 

@@ -1,52 +1,79 @@
-//! Hexadecimal fields that are looked at and not decoded.
-use text_lines::{LineFault, only_hex_field};
-use texts::TraceKind;
+//! Hexadecimal fields that are looked at and not decoded, and the words that may be such.
+use text_lines::{is_hex, likely_field};
 
-/// What stands behind a word, and its only field, or none where it isn't hexadecimal.
-const LOOKED_AT: [(&str, Option<&str>); 12] = [
-    (" -", Some("-")),
-    (" 00", Some("00")),
-    ("\t0aF9\r", Some("0aF9")),
-    ("  Ff ", Some("Ff")),
-    (
-        " 0123456789abcdefABCDEF0123456789ff",
-        Some("0123456789abcdefABCDEF0123456789ff"),
-    ),
-    (" 0", None),
-    (" --", None),
-    (" 0g", None),
-    (" g0", None),
-    (" 0123456789abcdefABCDEF012345678g", None),
-    (" 0123456789abcdefABCDEF0123456789fg", None),
-    (" 0123456789abcdefABCDEF0123456789f", None),
+/// Fields, and whether they are hexadecimal. A block that is looked at at once has 32 digits.
+const FIELDS: [(&str, bool); 16] = [
+    ("-", true),
+    ("00", true),
+    ("0aF9", true),
+    ("0123456789abcdefABCDEF0123456789", true),
+    ("0123456789abcdefABCDEF0123456789ff", true),
+    ("", true),
+    ("0", false),
+    ("--", false),
+    ("0g", false),
+    ("g0", false),
+    ("00 00", false),
+    ("0123456789abcdefABCDEF012345678g", false),
+    ("g123456789abcdefABCDEF0123456789", false),
+    ("0123456789abcdefABCDEF012345678g0123456789abcdefABCDEF0123456789", false),
+    ("0123456789abcdefABCDEF0123456789fg", false),
+    ("0123456789abcdefABCDEF0123456789f", false),
 ];
 
-/// Whether this is the only field, or none where it isn't hexadecimal.
-fn is_found(rest: &str, wanted: Option<&str>) -> bool {
-    match (only_hex_field(rest.as_bytes()), wanted) {
-        (Ok(Some(field)), Some(wanted)) => field == wanted.as_bytes(),
-        (Ok(None), None) => true,
-        _ => false,
+#[test]
+fn looks_at_fields(rt: HostRuntime) {
+    for (field, wanted) in FIELDS {
+        assert!(rt; is_hex(field.as_bytes()) == wanted, "{field}");
+    }
+}
+
+/// The bytes that are digits, which stand next to others in their table.
+const DIGITS: &[u8; 22] = b"0123456789abcdefABCDEF";
+
+/// Whether a byte is a digit, by the list of them.
+fn is_listed(byte: u8) -> bool {
+    DIGITS.contains(&byte)
+}
+
+#[test]
+fn looks_at_each_byte_at_each_place(rt: HostRuntime) {
+    for byte in 0..=255 {
+        for place in 0..34 {
+            let mut field = [b'7'; 34];
+            field[place] = byte;
+            assert!(rt; is_hex(&field) == is_listed(byte), "{byte} at {place}");
+        }
+    }
+}
+
+/// What stands behind a word, and its only word.
+const ONLY_WORDS: [(&str, &str); 7] = [
+    (" -", "-"),
+    (" 00", "00"),
+    ("\t0aF9\r", "0aF9"),
+    (" 0aF9\r", "0aF9"),
+    ("  Ff", "Ff"),
+    (" Ff \t", "Ff"),
+    ("Ff", "Ff"),
+];
+
+#[test]
+fn finds_the_only_word(rt: HostRuntime) {
+    for (rest, wanted) in ONLY_WORDS {
+        assert!(rt; likely_field(rest.as_bytes()) == Some(wanted.as_bytes()), "{rest}");
     }
 }
 
 #[test]
-fn looks_at_the_only_field(rt: HostRuntime) {
-    for (rest, wanted) in &LOOKED_AT {
-        assert!(rt; is_found(rest, *wanted), "{rest}");
-    }
+fn takes_no_word_where_there_are_none(rt: HostRuntime) {
+    assert!(rt; likely_field(b"".as_slice()) == None);
+    assert!(rt; likely_field(b" ".as_slice()) == None);
+    assert!(rt; likely_field(b"\t-\t-".as_slice()) == None);
 }
 
-/// What has no field, or more than one.
-const OTHER_COUNTS: [&str; 5] = ["", " ", " 00 00", " 00 000", "\t-\t-"];
-
 #[test]
-fn refuses_other_counts_of_fields(rt: HostRuntime) {
-    for rest in OTHER_COUNTS {
-        let fault = only_hex_field(rest.as_bytes());
-        assert!(rt;
-            matches!(fault, Err(LineFault::Kind(TraceKind::FieldCount))),
-            "{rest}"
-        );
-    }
+fn more_words_are_no_digits(rt: HostRuntime) {
+    assert!(rt; likely_field(b" 00 000".as_slice()) == Some(b"00 000".as_slice()));
+    assert!(rt; likely_field(b" 00 00\r".as_slice()) == None);
 }

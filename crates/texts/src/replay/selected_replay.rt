@@ -1,25 +1,24 @@
 //! A replay of a trace for some flows, as its lines are read.
-ghost use Rattle.std.specs.Prelude.{◌≡◌, ◌<◌, ◌∷◌, ℕ, true, IsFalse, List, IfOk, IfErr, OnOk};
+ghost use Rattle.std.specs.Prelude.{◌≡◌, ◌<◌, ◌∷◌, true, IsFalse, IfOk, IfSome};
 ghost use Rattle.lane.specs.Limits.{channel_limit};
 ghost use Rattle.flow_selection.specs.declared.selection.Selection.{Selection};
 ghost use Rattle.flow_selection.specs.Selection.{is_selected};
-ghost use Rattle.text_lines.specs.Field.{SpellsBytes, IsHex};
-ghost use Rattle.text_lines.specs.Inside.LineFault.{IsLineFault};
 ghost use Rattle.text_lines.specs.Lines.{words_of};
 ghost use Rattle.texts.specs.Trace.Line.{word_of, burst_line};
 ghost use Rattle.texts.specs.Inside.Replayed.{is_profile, HasReplayedLines};
-ghost use Rattle.texts.specs.Inside.InPlace.{IsInPlaceOf, IsBoundElsewhere, HasReplayedInPart, IsPlayedInPart};
-ghost use Rattle.texts.specs.Inside.TraceInput.{TraceState, nothing_taken, taking_format};
+ghost use Rattle.texts.specs.Inside.InPlace.{IsBoundElsewhere, StandsInForLine};
+ghost use Rattle.texts.specs.Inside.InPlace.{HasReplayedInPart, IsPlayedInPart};
+ghost use Rattle.texts.specs.Inside.TraceInput.{TraceState, nothing_taken};
 
 use super::{ReplayInput, UnderWay};
-use crate::trace::{LookedAtBurst, look_at_burst};
+use crate::trace::{PeekedBurst, peek_burst};
 use docsis_wire::{Bytes, HEADER_BYTES};
 use flow_selection::Selection;
 use lane::Input;
 use loss_rule::LossRule;
 use receiver::{Outcome, Width};
 use std::alloc::{AllocError, Global};
-use text_lines::{LineFault, TakeLine, read_hex, read_hex_front};
+use text_lines::{LineFault, TakeLine, is_hex, read_hex_front};
 
 /// The lines so far of a trace that is replayed for some flows. In the place of a burst that would
 /// come to no selected flow it hands in one with the same header and zeros behind it: the digits
@@ -84,46 +83,26 @@ impl<'a> SelectedReplay<'a> {
         }
     }
 
-    /// What is handed in of a burst: itself if it would come to a selected flow, and else what
-    /// stands in for it.
-    fn input_for(&self, alloc: Global, burst: &LookedAtBurst) -> Result<Input, LineFault>
-        requires channel { burst.now.channel < channel_limit }
-        requires hex { IsHex burst.now.field.now }
-        ensures in_place { IfOk result (λ input. (state : TraceState (Unit {0})) (bytes : List ℕ)
-            → HasReplayedLines state self.now.input.width self.now.input.rule
-            self.now.input.setup self.now.input.taker → SpellsBytes burst.now.field.now bytes
-            → IsInPlaceOf (is_selected self.now.selected.now) state.said burst.now.channel
-            (Input.Burst burst.now.grant burst.now.hcs_ok bytes) input) }
-        ensures memory { IfErr result (λ fault. fault ≡ LineFault.OutOfMemory) }
+    /// What stands in for the burst that a line says, by what follows the first word, and its
+    /// channel: if the line has no fault, and the burst would come to no selected flow. Of its
+    /// bytes the header is decoded, and the others are only looked at.
+    fn stand_in(&self, alloc: Global, rest: &[u8]) -> Result<Option<(u8, Input)>, AllocError>
+        ensures channel { IfOk result (λ found.
+            IfSome found (λ one. one.0 < self.now.input.width.channels)) }
+        ensures in_place { IfOk result (λ found. IfSome found (λ one.
+            StandsInForLine (is_selected self.now.selected.now)
+            self.now.input.width self.now.input.rule self.now.input.setup self.now.input.taker
+            (word_of burst_line ∷ words_of rest.now) one.0 one.1)) }
     {
+        let Some(burst) = peek_burst(self.input.width(), rest) else {
+            return Ok(None);
+        };
         let front = read_hex_front(alloc, burst.field, HEADER_BYTES)?;
-        let stand_in = burst_of(burst, front);
-        if !self.is_wanted(burst.channel, &stand_in) {
-            return Ok(stand_in);
+        let input = burst_of(&burst, front);
+        if self.is_wanted(burst.channel, &input) || !is_hex(burst.field) {
+            return Ok(None);
         }
-        // Its memory is given back before as much is asked for again.
-        drop(stand_in);
-        Ok(burst_of(burst, read_hex(alloc, burst.field)?))
-    }
-
-    /// Takes the line of a burst, by what follows the first word.
-    fn take_burst(&mut self, alloc: Global, rest: &[u8]) -> Result<(), LineFault>
-        ensures taken { (before : TraceState Selection)
-            → HasReplayedInPart before self.old.selected.now
-            self.old.input.width self.old.input.rule self.old.input.setup self.old.input.taker
-            → OnOk result ((after : TraceState Selection)
-            × taking_format.Takes before (word_of burst_line ∷ words_of rest.now) after
-            × HasReplayedInPart after self.new.selected.now
-            self.new.input.width self.new.input.rule self.new.input.setup self.new.input.taker) }
-        ensures fault { (before : TraceState Selection)
-            → HasReplayedInPart before self.old.selected.now
-            self.old.input.width self.old.input.rule self.old.input.setup self.old.input.taker
-            → IfErr result (IsLineFault
-            (taking_format.HasFault before (word_of burst_line ∷ words_of rest.now))) }
-    {
-        let burst = look_at_burst(self.input.width(), rest)?;
-        let input = self.input_for(alloc, &burst)?;
-        self.input.add_input(alloc, burst.channel, input)
+        Ok(Some((burst.channel, input)))
     }
 }
 
@@ -141,14 +120,16 @@ impl<'a> TakeLine for SelectedReplay<'a> {
 
     fn take_line(&mut self, alloc: Global, field: &[u8], rest: &[u8]) -> Result<(), LineFault> {
         if field == b"burst".as_slice() {
-            return self.take_burst(alloc, rest);
+            if let Some((channel, input)) = self.stand_in(alloc, rest)? {
+                return self.input.add_input(alloc, channel, input);
+            }
         }
         self.input.take_line(alloc, field, rest)
     }
 }
 
 /// A burst of which a line says the rest, with these bytes.
-fn burst_of(burst: &LookedAtBurst, bytes: Vec<u8>) -> Input
+fn burst_of(burst: &PeekedBurst, bytes: Vec<u8>) -> Input
     ensures { result ≡ Input.Burst burst.now.grant burst.now.hcs_ok bytes.items }
 {
     Input::Burst {

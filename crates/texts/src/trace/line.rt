@@ -1,6 +1,6 @@
 //! A line of a trace, by itself.
-ghost use Rattle.std.specs.Prelude.{◌≡◌, ◌<◌, ◌↔◌, ◌⊎◌, ◌∷◌, ℕ, List, IsTrue, IfOk, IfErr};
-ghost use Rattle.text_lines.specs.Field.{SpellsBytes, IsHex};
+ghost use Rattle.std.specs.Prelude.{◌≡◌, ◌<◌, ◌↔◌, ◌⊎◌, ◌∷◌, ℕ, List, IsTrue, IfOk, IfErr, IfSome};
+ghost use Rattle.text_lines.specs.Field.{SpellsBytes};
 ghost use Rattle.text_lines.specs.Inside.LineFault.{IsLineFault};
 ghost use Rattle.text_lines.specs.Lines.{words_of};
 ghost use Rattle.texts.specs.Trace.Line.{number_in, check_word, a_number, a_check};
@@ -17,7 +17,7 @@ use lane::{Input, SidRow};
 use receiver::{Decision, Width};
 use std::alloc::Global;
 use text_lines::{
-    LineFault, TraceKind, only_four_words, only_hex_field, only_three_words, only_two_words,
+    LineFault, TraceKind, likely_field, only_four_words, only_three_words, only_two_words,
     only_word, read_number_in, read_only_hex, three_words,
 };
 
@@ -39,16 +39,16 @@ pub enum TraceLine {
     Gap(Decision),
 }
 
-/// What a line says of a burst whose bytes aren't decoded.
+/// What a line says of a burst, if the field of its bytes is hexadecimal, at which nobody looked.
 #[derive(Debug, Clone, Copy)]
-pub struct LookedAtBurst<'a> {
+pub struct PeekedBurst<'a> {
     /// Its channel, below how many the receiver has.
     pub channel: u8,
     /// The number of its grant.
     pub grant: u32,
     /// Whether the check of its segment header is right.
     pub hcs_ok: bool,
-    /// What spells its bytes: an even number of hexadecimal digits, or `-` for none.
+    /// What spells its bytes.
     pub field: &'a [u8],
 }
 
@@ -225,29 +225,24 @@ fn read_burst(alloc: Global, width: Width, rest: &[u8]) -> Result<TraceLine, Lin
     Ok(TraceLine::Input { channel, input })
 }
 
-/// What `burst <channel> <number> ok|bad <hex>` says, by what follows the first word, but for its
-/// bytes: their digits are looked at and not decoded.
-pub fn look_at_burst(width: Width, rest: &[u8]) -> Result<LookedAtBurst<'_>, LineFault>
-    ensures hex { IfOk result (λ burst. IsHex burst.field.now) }
-    ensures channel { IfOk result (λ burst. burst.channel < width.channels) }
-    ensures carried { (ring : ℕ) → IfOk result (λ burst. (bytes : List ℕ)
+/// What `burst <channel> <number> ok|bad <hex>` says, by what follows the first word, if its bytes
+/// are hexadecimal, at which it doesn't look. None where another word is faulty, or where there are
+/// more words or fewer.
+pub fn peek_burst(width: Width, rest: &[u8]) -> Option<PeekedBurst<'_>>
+    ensures channel { IfSome result (λ burst. burst.channel < width.channels) }
+    ensures carried { (ring : ℕ) → IfSome result (λ burst. (bytes : List ℕ)
         → SpellsBytes burst.field.now bytes
         → Carries (shape_of width ring) (word_of burst_line ∷ words_of rest.now)
         (line.Input burst.channel (Input.Burst burst.grant burst.hcs_ok bytes))) }
-    ensures fault { (ring : ℕ) → IfErr result (IsLineFault
-        (IsLeastFaultByItself (shape_of width ring) (word_of burst_line ∷ words_of rest.now))) }
 {
-    let Some((channel, number, check, behind)) = three_words(rest) else {
-        return Err(LineFault::Kind(TraceKind::FieldCount));
-    };
-    let looked_at = only_hex_field(behind)?;
-    let channel = channel_of(width, channel)?;
-    let grant_number = number_of(number, u32::MAX)?;
-    let hcs_ok = read_check(check)?;
-    let field = looked_at.ok_or(LineFault::Kind(TraceKind::NotHex))?;
-    Ok(LookedAtBurst {
+    let (channel, number, check, behind) = three_words(rest)?;
+    let channel = channel_of(width, channel).ok()?;
+    let grant = number_of(number, u32::MAX).ok()?;
+    let hcs_ok = read_check(check).ok()?;
+    let field = likely_field(behind)?;
+    Some(PeekedBurst {
         channel,
-        grant: grant_number,
+        grant,
         hcs_ok,
         field,
     })

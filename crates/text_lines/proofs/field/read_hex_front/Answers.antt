@@ -59,15 +59,15 @@ read_front count n counted field bytes front items all spells n_is spelled refus
 
 pub returns-clause-spelled : goal.returns-clause-spelled
 returns-clause-spelled c = λ bytes spells.
-    let front = c.append_spelled.new.bytes in
-    let read = c.append_spelled.ensures in
-    let all = read_front c.args.count c.min.result front.len c.args.field.now bytes front.items c.resize.new.self.items c.append_spelled.result spells
+    let front = c.append_pairs.new.bytes in
+    let read = c.append_pairs.ensures in
+    let all = read_front c.args.count c.min.result front.len c.args.field.now bytes front.items c.resize.new.self.items c.append_pairs.result spells
     c.min.ensures read.spelled read.refused front.ok.0 c.in_ok-resize.ensures.items in
     (all.0, all.1)
 
 pub returns-clause-zeros : goal.returns-clause-zeros
-returns-clause-zeros c =
-    let front = c.append_spelled.new.bytes in
-    let read = c.append_spelled.ensures in
-    (read_front c.args.count c.min.result front.len c.args.field.now c.requires.0 front.items c.resize.new.self.items c.append_spelled.result c.requires.1
+returns-clause-zeros c = λ hex.
+    let front = c.append_pairs.new.bytes in
+    let read = c.append_pairs.ensures in
+    (read_front c.args.count c.min.result front.len c.args.field.now hex.0 front.items c.resize.new.self.items c.append_pairs.result hex.1
     c.min.ensures read.spelled read.refused front.ok.0 c.in_ok-resize.ensures.items).2

@@ -1,5 +1,3 @@
-use Rattle.std.proofs.Common.{length, rules}
-use Rattle.std.proofs.lemmas.List.{nil_from_length}
 use Rattle.text_lines.proofs.CutAtLineFeeds.{begins_whole, none_without_last}
 use Rattle.text_lines.proofs.lines.ended_line.Goals as goal
 

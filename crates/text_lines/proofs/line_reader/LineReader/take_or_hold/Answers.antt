@@ -1,5 +1,5 @@
-use Rattle.std.proofs.Common.{◌∷◌, ◌++◌, [], sym, subst, rules}
-use Rattle.text_lines.specs.LineReading.{Progress, TakesPiece}
+use Rattle.std.proofs.Common.{rules}
+use Rattle.text_lines.specs.LineReading.{Progress}
 use Rattle.text_lines.proofs.PiecesTaken.{TakesPiece-none}
 use Rattle.text_lines.proofs.line_reader.LineReader.take_or_hold.Goals as goal
 

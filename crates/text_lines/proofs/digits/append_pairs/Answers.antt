@@ -4,7 +4,7 @@ use Rattle.std.proofs.lemmas.List.{take_all}
 use Rattle.hex.specs.Hex.{decode_pairs}
 use Rattle.hex.proofs.Pairs.{prepend, decode_done}
 use Rattle.text_lines.proofs.DigitValues.{digits-on, no_digit-on}
-use Rattle.text_lines.proofs.digits.append_spelled.Goals as goal
+use Rattle.text_lines.proofs.digits.append_pairs.Goals as goal
 
 pub loop-place-preserved : goal.loop-place-preserved
 loop-place-preserved c =
