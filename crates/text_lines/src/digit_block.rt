@@ -38,9 +38,9 @@ pub(crate) fn spell_block(digits: &[u8; BLOCK_DIGITS]) -> Option<[u8; BLOCK_BYTE
 pub(crate) fn is_digit_block(digits: &[u8; BLOCK_DIGITS]) -> bool
     ensures { result ≡ list_all is_hex_digit digits.now }
 {
-    let front = u8x16::from_slice(&digits[..BLOCK_BYTES]);
-    let back = u8x16::from_slice(&digits[BLOCK_BYTES..]);
-    are_all_values(marks_of_digits(front), marks_of_digits(back))
+    let first = u8x16::from_slice(&digits[..BLOCK_BYTES]);
+    let second = u8x16::from_slice(&digits[BLOCK_BYTES..]);
+    are_all_values(marks_of_digits(first), marks_of_digits(second))
 }
 
 /// Of each byte less than 16 exactly if it is a digit, in either case.
@@ -75,10 +75,8 @@ fn values_of_digits(digits: u8x16) -> u8x16
     ensures { result ≡ map value_or_16 digits }
 {
     let decimal = moved_down(excess(moved_down(digits, b'9' + 1), 6), 0xF0);
-    lesser(
-        lesser(decimal, letters_from_10(digits)),
-        u8x16::splat(NO_DIGIT),
-    )
+    let letter = letters_from_10(digits);
+    lesser(lesser(decimal, letter), u8x16::splat(NO_DIGIT))
 }
 
 /// Of sixteen bytes 10 for an `a` in either case, 11 for a `b` and so on, and 16 or more for each

@@ -236,9 +236,15 @@ pub fn peek_burst(width: Width, rest: &[u8]) -> Option<PeekedBurst<'_>>
         (line.Input burst.channel (Input.Burst burst.grant burst.hcs_ok bytes))) }
 {
     let (channel, number, check, behind) = three_words(rest)?;
-    let channel = channel_of(width, channel).ok()?;
-    let grant = number_of(number, u32::MAX).ok()?;
-    let hcs_ok = read_check(check).ok()?;
+    let Ok(channel) = channel_of(width, channel) else {
+        return None;
+    };
+    let Ok(grant) = number_of(number, u32::MAX) else {
+        return None;
+    };
+    let Ok(hcs_ok) = read_check(check) else {
+        return None;
+    };
     let field = likely_field(behind)?;
     Some(PeekedBurst {
         channel,
