@@ -1,5 +1,5 @@
 -- Entries that stand in for those of a trace, one after another.
-use Rattle.std.proofs.Common.{◌≡◌, ◌≢◌, ℕ, ◌<◌, ◌⊎◌, ⊎_elim, Bool, true, false, Option, Some, None, List, [], ◌∷◌, ◌++◌, length, map, filter_map, refl, sym, ap, subst, ◌∙◌, arith, append-nil}
+use Rattle.std.proofs.Common.{◌≡◌, ◌≢◌, ℕ, ◌<◌, ⊎_elim, Bool, List, [], ◌∷◌, ◌++◌, map, filter_map, refl, sym, ap, subst, ◌∙◌, append-nil}
 use Rattle.std.specs.List.{AllZip}
 use Rattle.std.proofs.lemmas.Bool.{cases_eq, false≢true}
 use Rattle.std.proofs.lemmas.List.{map-append}
@@ -8,10 +8,10 @@ use Rattle.flow_records.specs.declared.decision.Decision.{Decision}
 use Rattle.lane.specs.declared.input.Input.{Input}
 use Rattle.lane.specs.declared.input.Input.TheVariants.{Grant, Burst}
 use Rattle.lane.specs.Limits.{channel_limit}
-use Rattle.lane.specs.Inputs.{Answer, AnsweredInput, AreAnswered, IsAnswer, inputs_of}
+use Rattle.lane.specs.Inputs.{AnsweredInput, AreAnswered, IsAnswer, inputs_of}
 use Rattle.lane.proofs.LaneTaking.{answered-before, answered-last}
 use Rattle.receiver.specs.Elsewhere.{LooksLike, StandsIn}
-use Rattle.receiver.specs.Entries.{Entry, came, decided, tag_of, came_on, decision_in, incoming_in}
+use Rattle.receiver.specs.Entries.{Entry, came, decided, tag_of, came_on, decision_in}
 use Rattle.receiver.proofs.Pairs.{zip_push}
 use Rattle.texts.specs.Trace.Place.{Said}
 use Rattle.texts.specs.Inside.InPlace.{said_lane, AreAnswersOn, IsInPlaceOf, IsBoundElsewhere, AreInPlace, with_entries}

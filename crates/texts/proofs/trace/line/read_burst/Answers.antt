@@ -1,7 +1,7 @@
-use Rattle.std.proofs.Common.{◌≡◌, ◌≢◌, ℕ, List, ◌∷◌, [], length, inl, inr, refl, sym, ap, subst, ◌∙◌, arith, Option, Some, None, Result, Ok, Err}
+use Rattle.std.proofs.Common.{◌≡◌, ◌≢◌, ℕ, List, ◌∷◌, [], length, inl, inr, refl, sym, ap, subst, ◌∙◌, arith, Option, Some, None, Err}
 use Rattle.std.specs.Prelude.{MatchOption}
 use Rattle.std.specs.Option.{ok_or}
-use Rattle.std.proofs.lemmas.Result.{err_from_is_err_and, IfErr-weaker}
+use Rattle.std.proofs.lemmas.Result.{err_from_is_err_and}
 use Rattle.text_lines.specs.Field.{SpellsBytes, IsHex}
 use Rattle.text_lines.specs.Lines.{words_of}
 use Rattle.text_lines.specs.declared.fault.LineFault.{LineFault}

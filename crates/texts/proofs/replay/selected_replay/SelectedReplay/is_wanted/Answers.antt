@@ -1,5 +1,5 @@
 -- The lane says whose the burst is.
-use Rattle.std.proofs.Common.{◌≡◌, ℕ, false, Option, Some, None, sym, ap, subst, ◌∙◌}
+use Rattle.std.proofs.Common.{Option, sym, ap, subst, ◌∙◌}
 use Rattle.std.proofs.lemmas.Option.{same_Some}
 use Rattle.docsis_wire.specs.declared.header_check.NoCheck.{NoCheck}
 use Rattle.flow_selection.specs.Selection.{is_selected}
