@@ -80,7 +80,7 @@ fn read_behind_space(alloc: Global, rest: &[u8]) -> Result<Option<Vec<u8>>, Line
 /// begins nor ends in a separator, so that no end of a word is looked for among digits; else the
 /// only word.
 ///
-/// None where there are more words or none.
+/// Where there are more words or none, it is none, or what isn't hexadecimal.
 pub fn likely_field(rest: &[u8]) -> Option<&[u8]>
     ensures { MatchOption result (length (words_of rest.now) ≢ 1)
         (λ field. IsHex field.now → words_of rest.now ≡ field.now ∷ []) }

@@ -16,7 +16,10 @@ const FIELDS: [(&str, bool); 16] = [
     ("00 00", false),
     ("0123456789abcdefABCDEF012345678g", false),
     ("g123456789abcdefABCDEF0123456789", false),
-    ("0123456789abcdefABCDEF012345678g0123456789abcdefABCDEF0123456789", false),
+    (
+        "0123456789abcdefABCDEF012345678g0123456789abcdefABCDEF0123456789",
+        false,
+    ),
     ("0123456789abcdefABCDEF0123456789fg", false),
     ("0123456789abcdefABCDEF0123456789f", false),
 ];
@@ -61,7 +64,10 @@ const ONLY_WORDS: [(&str, &str); 7] = [
 #[test]
 fn finds_the_only_word(rt: HostRuntime) {
     for (rest, wanted) in ONLY_WORDS {
-        assert!(rt; likely_field(rest.as_bytes()) == Some(wanted.as_bytes()), "{rest}");
+        assert!(rt;
+            likely_field(rest.as_bytes()) == Some(wanted.as_bytes()),
+            "{rest}"
+        );
     }
 }
 
