@@ -98,7 +98,9 @@ fn append_blocks(bytes: &mut Vec<u8>, digits: &[u8])
     }
 }
 
-/// Whether these are all hexadecimal digits, in either case.
+/// Whether these are all hexadecimal digits, in either case. It stands apart, since what its caller
+/// holds in registers would be saved and loaded again for each block.
+#[inline(never)]
 pub fn are_digits(digits: &[u8]) -> bool
     ensures { result ≡ list_all is_hex_digit digits.now }
 {

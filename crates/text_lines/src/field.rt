@@ -52,7 +52,7 @@ pub fn read_only_hex(alloc: Global, rest: &[u8]) -> Result<Option<Vec<u8>>, Line
 }
 
 /// The bytes that a field spells, or `None` where it isn't hexadecimal.
-fn read_if_hex(alloc: Global, field: &[u8]) -> Result<Option<Vec<u8>>, LineFault>
+pub fn read_if_hex(alloc: Global, field: &[u8]) -> Result<Option<Vec<u8>>, LineFault>
     ensures spelled { IfOk result (λ spelled.
         MatchOption spelled (¬ IsHex field.now) (λ bytes. SpellsBytes field.now bytes.items)) }
     ensures fault { IfErr result (λ fault. fault ≡ LineFault.OutOfMemory) }

@@ -17,8 +17,8 @@
 //! - [`no_word`], [`only_word`], [`only_two_words`], [`only_three_words`] and [`only_four_words`]
 //!   split what follows the first field of a line, where it has just so many words, and
 //!   [`three_words`] where there may be more.
-//! - [`read_number`], [`read_number_in`] and [`read_hex`] read a field, and [`read_only_hex`] what
-//!   is to be the last one of a line. Of such a field [`likely_field`] says where it stands,
+//! - [`read_number`], [`read_number_in`] and [`read_hex`] read a field, [`read_if_hex`] one that
+//!   needn't be hexadecimal, and [`read_only_hex`] what is to be the last one of a line. Of such a field [`likely_field`] says where it stands,
 //!   [`read_hex_front`] decodes the first digits, and [`is_hex`] looks at all and decodes none. [`put_word`], [`put_number`], [`put_spaced`],
 //!   [`put_seconds`] and [`put_hex`] write one to whatever takes a text, [`PutText`]:
 //!   [`TextBuffer`] keeps it.
@@ -47,7 +47,7 @@ mod words;
 
 pub use capacities::{Capacities, DEFAULT_CAPACITY};
 pub use fault::{LineFault, ParseFault, TextFault, TraceFault, TraceKind};
-pub use field::{is_hex, likely_field, read_hex, read_hex_front, read_only_hex};
+pub use field::{is_hex, likely_field, read_hex, read_hex_front, read_if_hex, read_only_hex};
 pub use line_input::LineInput;
 pub use line_reader::LineReader;
 pub use lines::{TakeLine, split_behind_line, split_line, take_lines};

@@ -1,5 +1,5 @@
 //! A replay of a trace for some flows, as its lines are read.
-ghost use Rattle.std.specs.Prelude.{◌≡◌, ◌<◌, ◌∷◌, true, IsFalse, IfOk, IfSome};
+ghost use Rattle.std.specs.Prelude.{◌≡◌, ◌<◌, ◌∷◌, true, IsFalse, IfOk, IfErr, IfSome};
 ghost use Rattle.lane.specs.Limits.{channel_limit};
 ghost use Rattle.flow_selection.specs.declared.selection.Selection.{Selection};
 ghost use Rattle.flow_selection.specs.Selection.{is_selected};
@@ -18,7 +18,7 @@ use lane::Input;
 use loss_rule::LossRule;
 use receiver::{Outcome, Width};
 use std::alloc::{AllocError, Global};
-use text_lines::{LineFault, TakeLine, is_hex, read_hex_front};
+use text_lines::{LineFault, TakeLine, is_hex, read_hex_front, read_if_hex};
 
 /// The lines so far of a trace that is replayed for some flows. In the place of a burst that would
 /// come to no selected flow it hands in one with the same header and zeros behind it: the digits
@@ -83,26 +83,36 @@ impl<'a> SelectedReplay<'a> {
         }
     }
 
-    /// What stands in for the burst that a line says, by what follows the first word, and its
-    /// channel: if the line has no fault, and the burst would come to no selected flow. Of its
-    /// bytes the header is decoded, and the others are only looked at.
-    fn stand_in(&self, alloc: Global, rest: &[u8]) -> Result<Option<(u8, Input)>, AllocError>
+    /// What is handed in of the burst that a line says, by what follows the first word, and on
+    /// which channel: the burst itself, or, if it would come to no selected flow, one with zeros
+    /// behind the same header. Then the other digits are only looked at. It is none where the line
+    /// has a fault.
+    fn input_for(&self, alloc: Global, rest: &[u8]) -> Result<Option<(u8, Input)>, LineFault>
         ensures channel { IfOk result (λ found.
             IfSome found (λ one. one.0 < self.now.input.width.channels)) }
         ensures in_place { IfOk result (λ found. IfSome found (λ one.
             StandsInForLine (is_selected self.now.selected.now)
             self.now.input.width self.now.input.rule self.now.input.setup self.now.input.taker
             (word_of burst_line ∷ words_of rest.now) one.0 one.1)) }
+        ensures memory { IfErr result (λ fault. fault ≡ LineFault.OutOfMemory) }
     {
         let Some(burst) = peek_burst(self.input.width(), rest) else {
             return Ok(None);
         };
         let front = read_hex_front(alloc, burst.field, HEADER_BYTES)?;
-        let input = burst_of(&burst, front);
-        if self.is_wanted(burst.channel, &input) || !is_hex(burst.field) {
+        let zeros = burst_of(&burst, front);
+        if !self.is_wanted(burst.channel, &zeros) {
+            if is_hex(burst.field) {
+                return Ok(Some((burst.channel, zeros)));
+            }
             return Ok(None);
         }
-        Ok(Some((burst.channel, input)))
+        // Their memory is given back before as much is asked for again.
+        drop(zeros);
+        let Some(bytes) = read_if_hex(alloc, burst.field)? else {
+            return Ok(None);
+        };
+        Ok(Some((burst.channel, burst_of(&burst, bytes))))
     }
 }
 
@@ -120,7 +130,7 @@ impl<'a> TakeLine for SelectedReplay<'a> {
 
     fn take_line(&mut self, alloc: Global, field: &[u8], rest: &[u8]) -> Result<(), LineFault> {
         if field == b"burst".as_slice() {
-            if let Some((channel, input)) = self.stand_in(alloc, rest)? {
+            if let Some((channel, input)) = self.input_for(alloc, rest)? {
                 return self.input.add_input(alloc, channel, input);
             }
         }
