@@ -5,7 +5,6 @@ use Rattle.std.specs.List.{enumerate_from}
 use Rattle.consumer.specs.declared.given.Given.{Given}
 use Rattle.flow_core.specs.declared.counts.FlowCounts.{FlowCounts}
 use Rattle.flow_selection.specs.declared.selection.Selection.{Selection}
-use Rattle.flow_selection.specs.Selection.{is_selected}
 use Rattle.flow_selection.specs.Lines.{FlowLine, line_of_flow, line_of_none, is_left, text_left}
 use Rattle.flow_selection.proofs.LinesLeft.{text_left-append, text_left-none}
 use Rattle.receiver.specs.declared.closing.Closed.{Closed}
