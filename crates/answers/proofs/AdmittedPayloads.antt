@@ -61,7 +61,7 @@ payload-of channel grant bytes admitted is are short =
     }
 
 -- what an answer admits
-admitted-payload : (setup : LaneSetup) (answered : List AnsweredInput) (k : ℕ) (input : Input) (answer : Answer) (admitted : Admitted) → AreAnswered setup answered
+pub admitted-payload : (setup : LaneSetup) (answered : List AnsweredInput) (k : ℕ) (input : Input) (answer : Answer) (admitted : Admitted) → AreAnswered setup answered
     → IsAnswer setup (take k answered) input answer → HasBytes input → admitted_by answer ≡ Some admitted → IsPayload admitted.segment.payload
 admitted-payload setup answered k input (Err refusal) admitted answers is are gives = absurd cc
 admitted-payload setup answered k input (Ok None) admitted answers is are gives = absurd cc

@@ -112,7 +112,7 @@ module _ (P : List ℕ → Type 0) where
       each-carries fates 0 settled are (λ i fate there. let e : i ≡ 0 + i = omega arith in subst (λ k. map.get fates k ≡ Some fate) e (below.each i fate there))
 
 -- one index more is settled
-settled-push : (fates : Fates) (n : ℕ) (settled : List (Option Segment)) (fate : Option Segment) → IsSettledBelow fates n settled → map.get fates n ≡ Some fate
+pub settled-push : (fates : Fates) (n : ℕ) (settled : List (Option Segment)) (fate : Option Segment) → IsSettledBelow fates n settled → map.get fates n ≡ Some fate
     → IsSettledBelow fates (suc n) (settled ++ fate ∷ [])
 settled-push fates n settled fate below is = record {
   size = omega (arith, length-append settled (fate ∷ []), below.size);

@@ -20,3 +20,8 @@ pub mod PartsOfReports
 pub mod PartsOfTexts
 pub mod OtherSide
 pub mod SpelledDigits
+pub mod GrownOutcome
+pub mod GivenFlows
+pub mod SomeHappening
+pub mod HappeningOfLines
+pub mod ToldElsewhere

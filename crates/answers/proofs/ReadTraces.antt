@@ -47,7 +47,7 @@ burst-bytes shape fields channel (Burst grant hcs_ok bytes) carries = last carri
     last (a ∷ []) are = absurd are.1
     last [] are = absurd are
 
-abbrev HaveBytes : Said → Type 0
+abbrev pub HaveBytes : Said → Type 0
 HaveBytes said = AllByRecursion EntryHasBytes said.entries
 
 bytes-with : (said : Said) (fields : List (List ℕ)) (one : TraceLine) → Carries said.shape fields one → HaveBytes said → HaveBytes (with_line said one)
@@ -57,7 +57,7 @@ bytes-with said fields (line.Input channel input) carries have =
     all_append EntryHasBytes said.entries (came channel input ∷ []) have (burst-bytes said.shape fields channel input carries, tt)
 bytes-with said fields (line.Gap decision) carries have = all_append EntryHasBytes said.entries (decided decision ∷ []) have (tt, tt)
 
-line-bytes : Keeps trace_format HaveBytes
+pub line-bytes : Keeps trace_format HaveBytes
 line-bytes before fields after takes have = subst HaveBytes (sym takes.0.added) (bytes-with before fields takes.0.line takes.0.carries have)
 
 -- what came in on a channel
@@ -91,7 +91,7 @@ read-tags ring lines said read =
     }
 
 -- how much lines say
-abbrev said_count : Said → ℕ
+abbrev pub said_count : Said → ℕ
 said_count said = length said.flows + length said.sids + length said.entries
 
 -- each line says one thing more
@@ -104,7 +104,7 @@ said-with said (line.Gap decision) = omega (arith, length-append said.entries (d
 said-taken : (before : Said) (fields : List (List ℕ)) (after : Said) → trace_format.Takes before fields after → said_count after ≡ suc (said_count before)
 said-taken before fields after takes = ap said_count takes.0.added ∙ said-with before takes.0.line
 
-read-more : {before after : Said} {lines : List (List ℕ)} → IsRead trace_format before lines after → said_count after ≤ said_count before + length lines
+pub read-more : {before after : Said} {lines : List (List ℕ)} → IsRead trace_format before lines after → said_count after ≤ said_count before + length lines
 read-more no_lines = omega arith
 read-more (skipped none read) = let rest = read-more read in omega arith
 read-more (taken takes read) = let rest = read-more read in let first = said-taken _ _ _ takes in omega arith

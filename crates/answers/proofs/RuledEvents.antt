@@ -36,7 +36,7 @@ module _ (P : List ℕ → Type 0) where
   abbrev pub ComesWith : Coming → Type 0
   ComesWith coming = Brings P (own_event coming)
 
-  one-brings : (rule : LossRule) (flow : RuledFlow) (lasts noted : Lasts) (fates : Fates) (coming : Coming) (own : List FlowEvent)
+  pub one-brings : (rule : LossRule) (flow : RuledFlow) (lasts noted : Lasts) (fates : Fates) (coming : Coming) (own : List FlowEvent)
       → ComesWith coming → IsRuled rule flow lasts fates coming own noted → AllByRecursion (Brings P) own
   one-brings rule flow lasts noted fates (handed_in event) own brings ruled = subst (AllByRecursion (Brings P)) (sym ruled.0) (brings, tt)
   one-brings rule flow lasts noted fates (on_channel channel segment) own brings (x, skips, expected, notes, are, is) =

@@ -22,7 +22,7 @@ use Rattle.answers.proofs.Sizes.{joins-fit}
 use Rattle.answers.proofs.Keeping.{KeepsCarrying, none_kept, kept-leads, settled-carries, some_settled}
 
 -- the counts
-abbrev counts_of : List Applied → List (Option Segment) → List (List ℕ) → ℕ → FlowCounts
+abbrev pub counts_of : List Applied → List (Option Segment) → List (List ℕ) → ℕ → FlowCounts
 counts_of answers settled given skipped_bytes = record {
   kept = counted (count_by says_kept answers);
   late = counted (count_by says_late answers);
@@ -33,7 +33,7 @@ counts_of answers settled given skipped_bytes = record {
   skipped = counted skipped_bytes;
 }
 
-some_counts : (answers : List Applied) (settled : List (Option Segment)) (given : List (List ℕ)) (unfinished : List ℕ) (skipped_bytes : ℕ)
+pub some_counts : (answers : List Applied) (settled : List (Option Segment)) (given : List (List ℕ)) (unfinished : List ℕ) (skipped_bytes : ℕ)
     → skipped_bytes + length (concat given) + length unfinished ≡ sum_by payload_bytes settled → (counts : FlowCounts) × AreCounts answers settled given unfinished counts
 some_counts answers settled given unfinished skipped_bytes balance = (
   counts_of answers settled given skipped_bytes,

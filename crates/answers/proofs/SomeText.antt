@@ -23,7 +23,7 @@ use Rattle.answers.proofs.SomeReplay.{some_replay}
 use Rattle.answers.proofs.ReadTraces.{read-bytes, read-tags, read-few}
 
 -- a setup of what lines say, where they say little enough
-some_setup : (said : Said) → length said.flows < 2 ^ 63 → length said.sids < 2 ^ 63 → (setup : Setup) × IsSetupOf said setup
+pub some_setup : (said : Said) → length said.flows < 2 ^ 63 → length said.sids < 2 ^ 63 → (setup : Setup) × IsSetupOf said setup
 some_setup said flows sids = (
   record { flows = vec_of said.flows flows; sids = vec_of said.sids sids; mailbox = default_capacity },
   record { flows = refl; sids = refl; mailbox = refl },

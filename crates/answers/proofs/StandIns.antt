@@ -89,7 +89,7 @@ pub record AnswersFor (selected : ℕ → Bool) (one other : AnsweredInput) : Ty
   pub refused : refused_by other.answer ≡ refused_by one.answer
 
 -- an answer that fits, with what it says
-abbrev Fitting : (ℕ → Bool) → LaneSetup → List AnsweredInput → AnsweredInput → Input → Type 0
+abbrev pub Fitting : (ℕ → Bool) → LaneSetup → List AnsweredInput → AnsweredInput → Input → Type 0
 Fitting selected setup others one other =
     (answer : Answer) × IsAnswer setup others other answer × AnswersFor selected one (record { input = other; answer = answer })
 
@@ -193,7 +193,7 @@ module _ (selected : ℕ → Bool) (setup : LaneSetup) (taken others : List Answ
   burst-for (Err refusal) is same = absurd is.2
 
 -- an input that stands in has an answer
-some_answer : (selected : ℕ → Bool) (setup : LaneSetup) (taken others : List AnsweredInput) → AllZip CountsAs taken others
+pub some_answer : (selected : ℕ → Bool) (setup : LaneSetup) (taken others : List AnsweredInput) → AllZip CountsAs taken others
     → (input : Input) (answer : Answer) (other : Input) → IsAnswer setup taken input answer → StandsIn selected (record { input = input; answer = answer }) other
     → Fitting selected setup others (record { input = input; answer = answer }) other
 some_answer selected setup taken others all (Grant number sid bytes) answer other is stands =

@@ -1,2 +1,3 @@
 pub mod Bytes
 pub mod Room
+pub mod ToldAlike

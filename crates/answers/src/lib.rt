@@ -19,8 +19,8 @@
 //! Each function states a law in its contract; its body is empty or only calls another law.
 #![tactic(auto)]
 
-ghost use Rattle.std.specs.Prelude.{◌≡◌, ◌+◌, ◌*◌, ◌%◌, ◌≤◌, ◌<◌, ◌^◌, ℕ, Bool, Option, List, Ok, length, map, sum_by, take};
-ghost use Rattle.std.specs.List.{concat, AllByRecursion, AllPass};
+ghost use Rattle.std.specs.Prelude.{◌≡◌, ◌+◌, ◌*◌, ◌%◌, ◌≤◌, ◌<◌, ◌^◌, ℕ, Bool, Option, List, Ok, length, map, filter_map, sum_by, take};
+ghost use Rattle.std.specs.List.{concat, All, AllByRecursion, AllPass, AllZip};
 ghost use Rattle.hex.specs.Hex.{decode_of, is_hex_digit};
 ghost use Rattle.docsis_wire.specs.declared.segment.Segment.{Segment};
 ghost use Rattle.docsis_wire.specs.Frame.{IsFrame};
@@ -34,6 +34,7 @@ ghost use Rattle.flow_core.specs.Events.{FlowEvent};
 ghost use Rattle.flow_core.specs.Outcome.{IsFlowOutcome};
 ghost use Rattle.loss_rule.specs.declared.rule.LossRule.{LossRule};
 ghost use Rattle.receiver.specs.declared.setup.Setup.{Setup};
+ghost use Rattle.receiver.specs.declared.width.Width.{Width};
 ghost use Rattle.receiver.specs.declared.outcome.Outcome.{Outcome};
 ghost use Rattle.receiver.specs.Faults.{CanReceive};
 ghost use Rattle.receiver.specs.Items.{Incoming, AreLanesOf, items_of};
@@ -43,6 +44,11 @@ ghost use Rattle.receiver.specs.Intake.{IsIntake};
 ghost use Rattle.receiver.specs.Outcome.{GivesAtItsClose, IsOutcome};
 ghost use Rattle.receiver.specs.Ruled.{IsOutcomeBy};
 ghost use Rattle.lane.specs.Inputs.{AnsweredInput};
+ghost use Rattle.lane.specs.Rows.{CanBeOpenedWithin};
+ghost use Rattle.bonded_flows.specs.Table.{TableSetup};
+ghost use Rattle.consumer.specs.declared.given.Given.{Given};
+ghost use Rattle.receiver.specs.HandedIn.{HandedIn};
+ghost use Rattle.receiver.specs.Replaying.{entry_of};
 ghost use Rattle.text_lines.specs.Field.{SpellsBytes};
 ghost use Rattle.text_lines.specs.Capacities.{default_capacity};
 ghost use Rattle.text_lines.specs.Lines.{lines_of};
@@ -52,9 +58,13 @@ ghost use Rattle.flow_selection.specs.Selection.{is_selected};
 ghost use Rattle.receiver.specs.Entries.{tag_of, incoming_in};
 ghost use Rattle.texts.specs.Selected.{report_of, IsReplayedOf};
 ghost use Rattle.texts.specs.AnyHeader.{any_header};
-ghost use Rattle.texts.specs.Trace.Place.{Said, nothing_said, trace_format};
+ghost use Rattle.texts.specs.declared.follow.happening.Happening.{Happening};
+ghost use Rattle.texts.specs.Happened.{IsOfTrace, HasHappened, HappenedBy};
+ghost use Rattle.texts.specs.Trace.Line.{shape_of};
+ghost use Rattle.texts.specs.Trace.Place.{Said, nothing_said, nothing_said_in, trace_format};
 ghost use Rattle.texts.specs.Replay.{IsSetupOf, IsReplayed, IsReplayedBy};
 ghost use Rattle.receiver.specs.Elsewhere.{DiffersElsewhere, AgreesOn};
+ghost use Rattle.answers.specs.ToldAlike.{EntryStandsIn, HappenFor};
 ghost use Rattle.answers.specs.Room.{AreBurstsOfBytes, HasRoom};
 ghost use Rattle.answers.specs.Bytes.{AreBytes, CarryBytes, BringBytes};
 
@@ -158,6 +168,15 @@ pub fn each_trace_has_a_text()
     texts::laws::replay_by_decisions_alone_is_a_replay();
 }
 
+/// **For the lines of each trace something happens**, at a receiver of any width and by each rule,
+/// where they are read and are fewer than 2^48: each input has an answer, each flow gives what by
+/// the rule comes of all that came to it, and there is what is told of it.
+pub fn something_happens_for_each_trace()
+    ensures { (rule : LossRule) (width : Width) (lines : List (List ℕ)) (said : Said)
+        → IsRead trace_format (nothing_said_in (shape_of width default_capacity)) lines said
+        → length lines < 2 ^ 48 → (happened : List Happening) × HappenedBy rule width lines happened }
+{}
+
 /// **What the bursts of other flows carry changes nothing of those that are selected**: where they
 /// have other bytes behind the same header, as many as before, what comes in can be taken in the
 /// same orders, and outcomes by the same rule agree in requests, in reports and in what each flow
@@ -178,6 +197,22 @@ pub fn other_payloads_change_no_selected_flow()
         → IsOutcomeBy rule check setup other order another
         → AgreesOn selected outcome another }
 {}
+
+/// **What the bursts of other flows carry changes nothing that is told of the selected ones, and of
+/// none**, where each input and decision is handed in and told of by itself: entries that stand in
+/// for what was handed in bring the same requests, of each selected flow the same frames, and the
+/// same answers and standings, each in its place. The flows and channels may be any number.
+pub fn other_payloads_change_nothing_that_is_told()
+    ensures { (selected : Selection) (made : TableSetup) (handed others : List HandedIn)
+        (given also : List Given) (happened happening : List Happening)
+        → CanBeOpenedWithin made.channels made.rows (length made.records)
+        → HasHappened made handed given happened → HasHappened made others also happening
+        → All (IsOfTrace made.channels) handed → All (IsOfTrace made.channels) others
+        → AllZip (EntryStandsIn (is_selected selected)) handed (filter_map entry_of others)
+        → HappenFor selected happened happening }
+{
+    bonded_flows::laws::what_came_to_a_flow_has_one_answer();
+}
 
 /// **What stands in for a trace gives a part of its text**: where the lines of a trace are read and
 /// are fewer than 2^48, and bursts of flows that aren't selected have other bytes behind the same

@@ -177,9 +177,6 @@ module _ (rule : LossRule) (width : Width) (settings : FollowSettings) (bytes : 
                       handed = to.handed;
                       entries = to.entries;
                       given = to.given;
-                      receiver = to.receiver;
-                      stands = to.stands;
-                      settled = to.settled;
                       has_happened = to.happened;
                     });
               });

@@ -102,9 +102,6 @@ happened_for state width rule setup (Some now) has put =
       handed = followed.handed;
       entries = followed.entries_are;
       given = followed.given;
-      receiver = now.receiver;
-      stands = followed.stands;
-      settled = followed.settled;
       has_happened =
           subst (λ (happened : List Happening). HasHappened (made_of state.rule state.width.channels setup.setup) followed.handed followed.given happened)
           (ap (λ (rest : List Happening). state.state ++ rest) put.0 ∙ append-nil state.state) (followed.happened put.1);

@@ -1,5 +1,5 @@
 -- What happened as what lines say was handed in.
-use Rattle.std.proofs.Common.{◌≡◌, ℕ, ◌<◌, ◌≤◌, ◌⊎◌, inl, inr, ◌++◌, ◌∷◌, [], Bool, true, Option, Some, None, List, length, get_or, refl, sym, ap, subst, ◌∙◌, append-nil, append_assoc, arith}
+use Rattle.std.proofs.Common.{◌≡◌, ℕ, ◌<◌, ◌≤◌, ◌⊎◌, inl, inr, ◌++◌, ◌∷◌, [], Bool, true, Option, Some, None, All, List, length, get_or, refl, sym, ap, subst, ◌∙◌, append-nil, append_assoc, arith}
 use Rattle.std.specs.Prelude.{◌≢◌, ◌↔◌, ◌&&◌, nat_lt, false, Result, Ok, Err, MatchOption, IfSome, OnOk, map, flat_map, slice_get}
 use Rattle.std.proofs.lemmas.Bool.{cases_eq}
 use Rattle.std.proofs.lemmas.List.Elements.{All-push, filter_map-append}
@@ -9,7 +9,6 @@ use Rattle.bonded_flows.specs.declared.decision.FlowDecision.{FlowDecision}
 use Rattle.bonded_flows.specs.declared.flow_slot.DecideFault.{DecideFault}
 use Rattle.bonded_flows.specs.ByRule.{is_in_range}
 use Rattle.bonded_flows.specs.declared.flow_slot.FlowSlot.{FlowSlot}
-use Rattle.bonded_flows.specs.Slots.{held_in}
 use Rattle.bonded_flows.specs.declared.flow_table.FlowTable.{FlowTable}
 use Rattle.bonded_flows.specs.Table.{TableSetup, OthersStay}
 use Rattle.consumer.specs.declared.given.Given.{Given}
@@ -27,6 +26,7 @@ use Rattle.receiver.specs.declared.width.Width.{Width}
 use Rattle.docsis_wire.specs.declared.header_check.NoCheck.{NoCheck}
 use Rattle.receiver.specs.Entries.{Entry}
 use Rattle.receiver.specs.HandedIn.{HandedIn, made_of}
+use Rattle.receiver.specs.Held.{HoldsSince}
 use Rattle.receiver.specs.Received.{Closes}
 use Rattle.receiver.specs.Receiving.{StandsFor, TakesMore, IsSettledAt, FlowIsSettled, ChangesOneFlow, IsSettledIfTaken, IsNumberExpected}
 use Rattle.receiver.specs.Replaying.{entry_of}
@@ -39,6 +39,7 @@ use Rattle.text_lines.specs.Putting.{Puts}
 use Rattle.texts.specs.Follow.{lines_told}
 use Rattle.texts.specs.declared.follow.settings.FollowSettings.{FollowSettings}
 use Rattle.texts.specs.Inside.SetupLines.{SetupSoFar}
+use Rattle.texts.proofs.GivenSoFar.{given_so_far}
 use Rattle.texts.specs.Inside.Followed.{HasAdded, HasKept, TellsStandingIn, TellsStandingOf, TellsStandingIfAny, ReceiverUnderWay, IsNonePending, HasFollowed, EndsFollowing, PutsHappened}
 
 -- ---- how a flow stands
@@ -49,24 +50,31 @@ no_standing receiver flow past = subst (TellsStandingIn receiver flow []) (sym (
 
 -- there is, and this is what it expects and holds
 pub one_standing : (receiver : Receiver NoCheck) (flow expected held : ℕ) → (length receiver.flows.slots.items ≤ flow → ⊥)
-    → ((slot : FlowSlot) → slice_get receiver.flows.slots.items flow ≡ Some slot → held ≡ held_in slot)
     → ((check : List ℕ → Bool) (made : TableSetup) (handed : List HandedIn) (given : List Given) (flow_record : FlowRecord)
     → StandsFor no_check receiver check made handed given → slice_get made.records flow ≡ Some flow_record → IsSettledAt receiver flow
-    → IsNumberExpected made flow flow_record handed expected) → TellsStandingOf receiver flow (Stands flow expected held ∷ [])
-one_standing receiver flow expected held within holds number = by_cases (slice_get_cases receiver.flows.slots.items flow).1 where
+    → IsNumberExpected made flow flow_record handed expected)
+    → ((check : List ℕ → Bool) (made : TableSetup) (handed : List HandedIn) (given : List Given) (flow_record : FlowRecord)
+    → StandsFor no_check receiver check made handed given → slice_get made.records flow ≡ Some flow_record → IsSettledAt receiver flow
+    → HoldsSince made flow flow_record handed held) → TellsStandingOf receiver flow (Stands flow expected held ∷ [])
+one_standing receiver flow expected held within number holds = by_cases (slice_get_cases receiver.flows.slots.items flow).1 where
   by_cases : ((slot : FlowSlot) × (flow < length receiver.flows.slots.items) × (slice_get receiver.flows.slots.items flow ≡ Some slot)
       × (get_or receiver.flows.slots.items flow slot ≡ slot))
       ⊎ ((length receiver.flows.slots.items ≤ flow) × (slice_get receiver.flows.slots.items flow ≡ None))
       → TellsStandingOf receiver flow (Stands flow expected held ∷ [])
   by_cases (inl slot) =
-      subst (TellsStandingIn receiver flow (Stands flow expected held ∷ [])) (sym slot.2)
-      (expected, ap (λ (held : ℕ). Stands flow expected held ∷ []) (holds slot.0 slot.2), number)
+      subst (TellsStandingIn receiver flow (Stands flow expected held ∷ [])) (sym slot.2) (
+        expected,
+        held,
+        refl,
+        λ check made handed given flow_record stands of_record settled.
+            (number check made handed given flow_record stands of_record settled, holds check made handed given flow_record stands of_record settled),
+      )
   by_cases (inr past) = absurd (within past.0)
 
 module _ (receiver : Receiver NoCheck) (made : TableSetup) (handed : List HandedIn) (given : List Given)
     (stands : StandsFor no_check receiver any_header made handed given) where
   -- what is told of a receiver that stands for this
-  tells_standing : (flow : ℕ) (told : List Happening) → IsSettledAt receiver flow → TellsStandingOf receiver flow told → TellsStanding made handed given flow told
+  tells_standing : (flow : ℕ) (told : List Happening) → IsSettledAt receiver flow → TellsStandingOf receiver flow told → TellsStanding made handed flow told
   tells_standing flow told settled tells = by_cases (slice_get_cases made.records flow).1 (slice_get_cases receiver.flows.slots.items flow).1 where
     slots : List FlowSlot
     slots = receiver.flows.slots.items
@@ -74,37 +82,28 @@ module _ (receiver : Receiver NoCheck) (made : TableSetup) (handed : List Handed
     As : Option FlowRecord → Type 0
     As known =
         MatchOption known (told ≡ [])
-        (λ flow_record. (expected : ℕ) × (held : ℕ) × (told ≡ Stands flow expected held ∷ []) × IsStanding made handed given flow flow_record expected held)
+        (λ flow_record. (expected : ℕ) × (held : ℕ) × (told ≡ Stands flow expected held ∷ []) × IsStanding made handed flow flow_record expected held)
 
-    with_both : (flow_record : FlowRecord) (slot : FlowSlot) → slice_get made.records flow ≡ Some flow_record → slice_get slots flow ≡ Some slot
-        → TellsStandingIn receiver flow told (Some slot) → As (Some flow_record)
-    with_both flow_record slot is_record is_slot is = (
-      is.0,
-      held_in slot,
-      is.1,
-      record {
-        number = is.2 any_header made handed given flow_record stands is_record settled;
-        receiver = receiver;
-        stands = stands;
-        settled = settled;
-        holds = subst (λ (known : Option FlowSlot). IfSome known (λ other. held_in slot ≡ held_in other)) (sym is_slot) refl;
-      },
-    )
+    with_both : (flow_record : FlowRecord) (slot : FlowSlot) → slice_get made.records flow ≡ Some flow_record → TellsStandingIn receiver flow told (Some slot)
+        → As (Some flow_record)
+    with_both flow_record slot is_record is =
+        let both = is.3 any_header made handed given flow_record stands is_record settled in
+        (is.0, is.1, is.2, record { number = both.0; holds = both.1 })
 
     by_cases : ((flow_record : FlowRecord) × (flow < length made.records) × (slice_get made.records flow ≡ Some flow_record) × (get_or made.records flow flow_record ≡ flow_record))
         ⊎ ((length made.records ≤ flow) × (slice_get made.records flow ≡ None))
         → ((slot : FlowSlot) × (flow < length slots) × (slice_get slots flow ≡ Some slot) × (get_or slots flow slot ≡ slot))
         ⊎ ((length slots ≤ flow) × (slice_get slots flow ≡ None))
-        → TellsStanding made handed given flow told
+        → TellsStanding made handed flow told
     by_cases (inl one) (inl slot) =
-        subst As (sym one.2) (with_both one.0 slot.0 one.2 slot.2 (subst (TellsStandingIn receiver flow told) slot.2 tells))
+        subst As (sym one.2) (with_both one.0 slot.0 one.2 (subst (TellsStandingIn receiver flow told) slot.2 tells))
     by_cases (inr none) (inr past) = subst As (sym none.1) (subst (TellsStandingIn receiver flow told) past.1 tells)
     by_cases (inl one) (inr past) = absurd (omega (arith, one.1, past.0, stands.flows.flow_count))
     by_cases (inr none) (inl slot) = absurd (omega (arith, none.0, slot.1, stands.flows.flow_count))
 
   -- the same of a flow, if there is one
   pub tells_after : (flow : Option ℕ) (told : List Happening) → IfSome flow (IsSettledAt receiver) → TellsStandingIfAny receiver flow told
-      → TellsStandingAfter made handed given flow told
+      → TellsStandingAfter made handed flow told
   tells_after None told settled tells = tells
   tells_after (Some flow) told settled tells = tells_standing flow told settled tells
 
@@ -185,15 +184,15 @@ module _ (told : List Happening) (rule : LossRule) (width : Width) (setup : Setu
   pub followed_more : (receiver : Receiver NoCheck) (between : HappeningList) (one : HandedIn) (entry : Entry) (new : List Happening) (pending : HappeningList)
       → IsOfTrace width.channels one → entry_of one ≡ Some entry
       → (takes : TakesMore HasKept no_check now.receiver now.pending (one ∷ []) receiver between)
-      → ((k : ℕ) → IsSettledAt receiver k) → Tells made has.handed (has.given ++ takes.given_more) one new → HasAdded between new pending
+      → ((k : ℕ) → IsSettledAt receiver k) → Tells made has.handed one new → HasAdded between new pending
       → HasFollowed told rule width setup (entries ++ entry ∷ []) (record { receiver = receiver; pending = pending })
   followed_more receiver between one entry new pending of_trace is takes settled tells added = record {
     handed = has.handed ++ one ∷ [];
     given = has.given ++ takes.given_more;
-    stands = takes.stands any_header made has.handed has.given has.stands;
+    stands = stands;
     settled = settled;
     entries_are = record {
-      each = All-push (IsOfTrace width.channels) has.handed one has.entries_are.each of_trace;
+      each = each;
       are =
           filter_map-append entry_of has.handed (one ∷ [])
           ∙ ap (λ (e : List Entry). e ++ cons_option (entry_of one) []) has.entries_are.are
@@ -204,8 +203,14 @@ module _ (told : List Happening) (rule : LossRule) (width : Width) (setup : Setu
         let kept = kept_besides takes.given_more between takes.was_given grown.0 in
         subst (λ (happened : List Happening). HasHappened made (has.handed ++ one ∷ []) (has.given ++ takes.given_more) happened)
         (all_told told now.pending.happened.items (map Gave takes.given_more) new between.happened.items pending.happened.items kept.1 grown.1)
-        (one_more takes.given_more one new (has.happened kept.0) tells);
-  }
+        (one_more takes.given_more one new (has.happened kept.0)
+        (given_so_far receiver made width.channels (has.handed ++ one ∷ []) (has.given ++ takes.given_more) stands each settled) tells);
+  } where
+    stands : StandsFor no_check receiver any_header made (has.handed ++ one ∷ []) (has.given ++ takes.given_more)
+    stands = takes.stands any_header made has.handed has.given has.stands
+
+    each : All (IsOfTrace width.channels) (has.handed ++ one ∷ [])
+    each = All-push (IsOfTrace width.channels) has.handed one has.entries_are.each of_trace
 
   -- the receiver was closed
   pub followed_end : (closed : Closed) (pending : HappeningList) → Closes HasKept no_check now.receiver now.pending closed pending
@@ -217,9 +222,6 @@ module _ (told : List Happening) (rule : LossRule) (width : Width) (setup : Setu
         let kept = kept_besides closes.given_more pending closes.was_given whole in
         record {
           given = has.given;
-          receiver = now.receiver;
-          stands = has.stands;
-          settled = has.settled;
           last = now.pending.happened.items;
           happened = has.happened kept.0;
           rest = closes.given_more;

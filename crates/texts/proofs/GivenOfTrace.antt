@@ -38,29 +38,29 @@ none_in_standing : (flow : ℕ) (told : List Happening) (known : Option FlowReco
 none_in_standing flow told None P tells = ap (filter_map given_in) tells
 none_in_standing flow told (Some r) P tells = ap (filter_map given_in) tells.2
 
-none_after : (made : TableSetup) (handed : List HandedIn) (given : List Given) (flow : Option ℕ) (told : List Happening)
-    → TellsStandingAfter made handed given flow told → filter_map given_in told ≡ []
-none_after made handed given None told tells = ap (filter_map given_in) tells
-none_after made handed given (Some flow) told tells = none_in_standing flow told (slice_get made.records flow) _ tells
+none_after : (made : TableSetup) (handed : List HandedIn) (flow : Option ℕ) (told : List Happening)
+    → TellsStandingAfter made handed flow told → filter_map given_in told ≡ []
+none_after made handed None told tells = ap (filter_map given_in) tells
+none_after made handed (Some flow) told tells = none_in_standing flow told (slice_get made.records flow) _ tells
 
-none_told : (made : TableSetup) (handed : List HandedIn) (given : List Given) (one : HandedIn) (told : List Happening) → Tells made handed given one told
+none_told : (made : TableSetup) (handed : List HandedIn) (one : HandedIn) (told : List Happening) → Tells made handed one told
     → filter_map given_in told ≡ []
-none_told made handed given (came channel one) told tells =
-    ap (filter_map given_in) tells.are ∙ none_after made (handed ++ came channel one ∷ []) given (flow_admitted tells.reply) tells.standing tells.stands
-none_told made handed given (decided flow decision) told tells =
-    ap (filter_map given_in) tells.are ∙ none_after made (handed ++ decided flow decision ∷ []) given (flow_decided flow tells.reply) tells.standing tells.stands
-none_told made handed given (restarted flow first) told tells = absurd tells
+none_told made handed (came channel one) told tells =
+    ap (filter_map given_in) tells.are ∙ none_after made (handed ++ came channel one ∷ []) (flow_admitted tells.reply) tells.standing tells.stands
+none_told made handed (decided flow decision) told tells =
+    ap (filter_map given_in) tells.are ∙ none_after made (handed ++ decided flow decision ∷ []) (flow_decided flow tells.reply) tells.standing tells.stands
+none_told made handed (restarted flow first) told tells = absurd tells
 
 pub given_told : {made : TableSetup} {handed : List HandedIn} {given : List Given} {happened : List Happening} → HasHappened made handed given happened
     → filter_map given_in happened ≡ given
 given_told nothing = refl
-given_told {made} (one_more {handed} {given} given_more one {happened} told before tells) =
+given_told {made} (one_more {handed} {given} given_more one {happened} told before so_far tells) =
     filter_map-append given_in happened (map Gave given_more ++ told)
     ∙ ap (λ (t : List Given). t ++ filter_map given_in (map Gave given_more ++ told)) (given_told before)
     ∙ ap (λ (t : List Given). given ++ t)
     (filter_map-append given_in (map Gave given_more) told
     ∙ ap (λ (t : List Given). t ++ filter_map given_in told) (given_alone given_more)
-    ∙ ap (λ (t : List Given). given_more ++ t) (none_told made handed (given ++ given_more) one told tells) ∙ append-nil given_more)
+    ∙ ap (λ (t : List Given). given_more ++ t) (none_told made handed one told tells) ∙ append-nil given_more)
 
 -- ---- to a flow segments and decisions come, and nothing else
 
@@ -86,7 +86,7 @@ one_more_comes k (Some one) rest comings is same = own (one.flow == k) where
   own true = (is.0 ∷ comings, ap (λ (t : List FlowInput). one.input ∷ t) same ∙ ap (λ (first : FlowInput). first ∷ map comes comings) is.1)
   own false = (comings, same)
 
-all_come : (channels n k : ℕ) (handed : List HandedIn) → All (IsOfTrace channels) handed → (comings : List Coming) × (inputs_at k (flow_inputs n handed) ≡ map comes comings)
+pub all_come : (channels n k : ℕ) (handed : List HandedIn) → All (IsOfTrace channels) handed → (comings : List Coming) × (inputs_at k (flow_inputs n handed) ≡ map comes comings)
 all_come channels n k [] each = ([], refl)
 all_come channels n k (one ∷ handed) each =
     let rest = all_come channels n k handed (All-tail (IsOfTrace channels) one handed each) in

@@ -21,10 +21,11 @@ pub mod SetupKept
 pub mod HandedLines
 pub mod StandInEntries
 pub mod ReplayedInPart
+pub mod GivenOfTrace
+pub mod GivenSoFar
 pub mod FollowedTrace
 pub mod WiderRule
 pub mod WiderTrace
-pub mod GivenOfTrace
 pub mod FollowedAsReported
 pub mod Profile
 pub mod OneReport
@@ -32,3 +33,4 @@ pub mod OneReplay
 pub mod PutLines
 pub mod SelectedLines
 pub mod FollowedLinesLeft
+pub mod OneHappening

@@ -2,7 +2,6 @@
 use Rattle.std.specs.Prelude.{◌≡◌, ℕ, Bool, if◌then◌else◌, Option, Some, None, List, [], ◌∷◌, ◌++◌, codes, map, flat_map, slice_get}
 use Rattle.consumer.specs.declared.given.Given.{Given}
 use Rattle.consumer.specs.declared.given.Given.TheVariants.{Frame, Asked}
-use Rattle.docsis_wire.specs.declared.header_check.NoCheck.{NoCheck}
 use Rattle.flow_records.specs.declared.record.FlowRecord.{FlowRecord}
 use Rattle.flow_core.specs.declared.counts.FlowCounts.{FlowCounts}
 use Rattle.flow_selection.specs.declared.selection.Selection.{Selection}
@@ -11,13 +10,11 @@ use Rattle.flow_selection.specs.Selection.{is_selected}
 use Rattle.flow_selection.specs.Lines.{is_left}
 use Rattle.loss_rule.specs.declared.rule.LossRule.{LossRule}
 use Rattle.receiver.specs.declared.closing.Closed.{Closed}
-use Rattle.receiver.specs.declared.receiver.Receiver.{Receiver}
 use Rattle.receiver.specs.declared.setup.Setup.{Setup}
 use Rattle.receiver.specs.declared.tally.LaneTally.{LaneTally}
 use Rattle.receiver.specs.declared.width.Width.{Width}
 use Rattle.receiver.specs.HandedIn.{HandedIn, made_of}
 use Rattle.receiver.specs.Received.{IsReceived}
-use Rattle.receiver.specs.Receiving.{StandsFor, IsSettledAt}
 use Rattle.text_lines.specs.Capacities.{default_capacity}
 use Rattle.text_lines.specs.Format.{IsRead}
 use Rattle.text_lines.specs.Lines.{lines_of, line_feed}
@@ -25,7 +22,7 @@ use Rattle.texts.specs.declared.follow.Followed.{Followed}
 use Rattle.texts.specs.declared.follow.settings.FollowSettings.{FollowSettings}
 use Rattle.texts.specs.declared.follow.happening.Happening.{Happening}
 use Rattle.texts.specs.declared.follow.happening.Happening.TheVariants.{Gave, Took, Decided, Stands}
-use Rattle.texts.specs.AnyHeader.{any_header, no_check}
+use Rattle.texts.specs.AnyHeader.{any_header}
 use Rattle.texts.specs.Happening.{given_line, happening_lines}
 use Rattle.texts.specs.Happened.{AreHandedIn, HasHappened, HappenedBy, HappenedAt, happening_of, AreNumbered, flow_admitted}
 use Rattle.texts.specs.Replay.{IsSetupOf}
@@ -102,9 +99,6 @@ pub record IsFollowedTo (rule : LossRule) (width : Width) (said : Said) (told : 
   pub handed : List HandedIn
   pub entries : AreHandedIn width.channels said.entries handed
   pub given : List Given
-  pub receiver : Receiver NoCheck
-  pub stands : StandsFor no_check receiver any_header (made_of rule width.channels end.setup) handed given
-  pub settled : (k : ℕ) → IsSettledAt receiver k
   pub last : List Happening
   pub happened : HasHappened (made_of rule width.channels end.setup) handed given (told ++ last)
   pub rest : List Given

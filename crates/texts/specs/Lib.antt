@@ -8,6 +8,7 @@ pub mod Selected
 pub mod Run
 pub mod Happening
 pub mod Happened
+pub mod HappenAlike
 pub mod Follow
 pub mod FollowedReport
 pub mod Inside

@@ -2,7 +2,7 @@
 //! has at most one text, or is at most one trace, has at most one first fault, and never both. So
 //! do those of `run`, but for the text, which may be one of several. A trace passes the checks of a
 //! receiver. Where decisions alone decide, the texts by the loss rule are those without one. What
-//! is given of a trace that is followed is what its report says.
+//! happens as a trace is followed is one thing, and what is given then is what its report says.
 //!
 //! Each function states a law in its contract; its body is empty or only calls other laws.
 ghost use Rattle.std.specs.Prelude.{◌≡◌, ◌≢◌, ◌≤◌, ◌++◌, ℕ, Bool, Some, List};
@@ -36,7 +36,9 @@ ghost use Rattle.texts.specs.Follow.{of_all_flows, IsFollowed};
 ghost use Rattle.texts.specs.declared.follow.settings.FollowSettings.{FollowSettings};
 ghost use Rattle.texts.specs.FollowedReport.{given_in, followed_flow, came_of_trace};
 ghost use Rattle.texts.specs.FollowedReport.{IsGivenAsReported};
-ghost use Rattle.texts.specs.Happened.{happening_of};
+ghost use Rattle.texts.specs.declared.follow.happening.Happening.{Happening};
+ghost use Rattle.texts.specs.HappenAlike.{HappenAlike};
+ghost use Rattle.texts.specs.Happened.{happening_of, HappenedBy};
 ghost use Rattle.texts.specs.Report.{report_text};
 ghost use Rattle.texts.specs.Selected.{IsReplayedOf};
 ghost use Rattle.texts.specs.Selected.{report_of, report_lines};
@@ -195,6 +197,18 @@ pub fn followed_trace_gives_its_report()
     receiver::laws::lists_have_one_merge::<bool>();
     receiver::laws::order_has_one_intake();
     receiver::laws::segments_come_on_channels_of_their_flow();
+    bonded_flows::laws::what_came_to_a_flow_has_one_answer();
+}
+
+/// **What happens for the lines of a trace is one thing**: what is told of each input and of each
+/// decision, in order, and before that the frames of each flow and the requests on each channel.
+/// Since it holds of the first lines, however many, what happens by each line is one thing too.
+pub fn lines_happen_in_one_way()
+    ensures { (rule : LossRule) (width : Width) (lines : List (List ℕ))
+        (happened others : List Happening)
+        → HappenedBy rule width lines happened → HappenedBy rule width lines others
+        → HappenAlike happened others }
+{
     bonded_flows::laws::what_came_to_a_flow_has_one_answer();
 }
 

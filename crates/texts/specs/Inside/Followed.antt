@@ -1,7 +1,6 @@
 -- What was followed so far of a trace.
 use Rattle.std.specs.Prelude.{◌≡◌, ℕ, Bool, Option, Some, None, true, MatchOption, List, [], ◌∷◌, ◌++◌, map, flat_map, slice_get}
 use Rattle.bonded_flows.specs.declared.flow_slot.FlowSlot.{FlowSlot}
-use Rattle.bonded_flows.specs.Slots.{held_in}
 use Rattle.bonded_flows.specs.Table.{TableSetup}
 use Rattle.consumer.specs.declared.given.Given.{Given}
 use Rattle.docsis_wire.specs.declared.header_check.NoCheck.{NoCheck}
@@ -13,6 +12,7 @@ use Rattle.receiver.specs.declared.setup.Setup.{Setup}
 use Rattle.receiver.specs.declared.width.Width.{Width}
 use Rattle.receiver.specs.Entries.{Entry}
 use Rattle.receiver.specs.HandedIn.{HandedIn, made_of}
+use Rattle.receiver.specs.Held.{HoldsSince}
 use Rattle.receiver.specs.Received.{IsReceived}
 use Rattle.receiver.specs.Receiving.{StandsFor, IsSettledAt, IsNumberExpected}
 use Rattle.text_lines.specs.Putting.{Puts}
@@ -38,10 +38,10 @@ HasKept start given end = HasAdded start (map Gave given) end
 abbrev pub TellsStandingIn : Receiver NoCheck → ℕ → List Happening → Option FlowSlot → Type 0
 TellsStandingIn receiver flow told known =
     MatchOption known (told ≡ [])
-    (λ slot. (expected : ℕ) × (told ≡ Stands flow expected (held_in slot) ∷ [])
+    (λ slot. (expected held : ℕ) × (told ≡ Stands flow expected held ∷ [])
     × ((check : List ℕ → Bool) (made : TableSetup) (handed : List HandedIn) (given : List Given) (flow_record : FlowRecord)
     → StandsFor no_check receiver check made handed given → slice_get made.records flow ≡ Some flow_record → IsSettledAt receiver flow
-    → IsNumberExpected made flow flow_record handed expected))
+    → IsNumberExpected made flow flow_record handed expected × HoldsSince made flow flow_record handed held))
 
 abbrev pub TellsStandingOf : Receiver NoCheck → ℕ → List Happening → Type 0
 TellsStandingOf receiver flow told = TellsStandingIn receiver flow told (slice_get receiver.flows.slots.items flow)
@@ -72,9 +72,6 @@ IsNonePending now = (now.pending.happened.items ≡ []) × (now.pending.whole �
 -- happened before, and then what it gave as it was closed
 pub record IsClosedAfter (told : List Happening) (rule : LossRule) (width : Width) (setup : Setup) (handed : List HandedIn) (pending : List Happening) (closed : Closed) : Type 0 where
   pub given : List Given
-  pub receiver : Receiver NoCheck
-  pub stands : StandsFor no_check receiver any_header (made_of rule width.channels setup) handed given
-  pub settled : (k : ℕ) → IsSettledAt receiver k
   pub last : List Happening
   pub happened : HasHappened (made_of rule width.channels setup) handed given (told ++ last)
   pub rest : List Given

@@ -16,6 +16,6 @@ pub returns : goal.returns
 returns c = (
   Stands c.args.flow c.in-Some.expected c.in-Some-held.held ∷ [],
   one_standing c.args.receiver.now c.args.flow c.in-Some.expected c.in-Some-held.held
-      (λ past. none-some c.in-Some.expected (sym (c.expected.ensures.none.1 past) ∙ c.in-Some.is)) c.in-Some-held.ensures.held c.in-Some.ensures.number,
+      (λ past. none-some c.in-Some.expected (sym (c.expected.ensures.none.1 past) ∙ c.in-Some.is)) c.in-Some.ensures.number c.in-Some-held.ensures.count,
   c.add.ensures,
 )
