@@ -51,3 +51,14 @@ def sources(names, ending=".rt"):
 
 def has_tests(crate):
     return any(re.search(r"#\s*\[[^]]*\btest\b", read(file)) for file in sources([crate]))
+
+
+@functools.cache
+def tested_by(crate):
+    """The crates that a crate of worked examples, `worked_..`, has the tests of: those that its row
+    of docs/ARCHITECTURE.md says it tests. Of any other crate there are none."""
+    row = re.search(rf"^\| `{crate}` \|([^|]*)\|", read(path("docs", "ARCHITECTURE.md")), re.M)
+    if row is None or not crate.startswith("worked_"):
+        return []
+    named = re.findall(r"`([a-z_]+)`", row[1])
+    return [other for other in below(crate) if other in named and not other.startswith("worked_")]

@@ -1,5 +1,6 @@
-pub mod Elements
+mod TextsFrom
+pub mod BufferFinished
 pub mod ElementLists
+pub mod Elements
 pub mod FrameParts
 pub mod PlainRows
-pub mod BufferFinished

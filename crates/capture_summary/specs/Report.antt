@@ -45,10 +45,13 @@ refused_text refused =
     if list_all (λ count. count == 0) refused.counts then codes " -"
     else flat_map (λ refusal. counted_refusal (refusal_number refusal) (count_of_refusal refused refusal)) all_refusals
 
--- `lane <channel> admitted <n> refused <list>`
+-- `lane <channel> admitted <n> refused`
+abbrev pub admitted_text : ℕ → ℕ → List ℕ
+admitted_text channel admitted = named (codes "lane") channel ++ named (codes " admitted") admitted ++ codes " refused"
+
+-- and behind it the list of what was refused
 abbrev pub lane_line : ChannelSummary → List ℕ
-lane_line channel =
-    named (codes "lane") channel.channel ++ named (codes " admitted") channel.admitted ++ codes " refused" ++ refused_text channel.refused ++ line_feed ∷ []
+lane_line channel = admitted_text channel.channel channel.admitted ++ refused_text channel.refused ++ line_feed ∷ []
 
 -- `bursts <channel> <id> <n> above <n>`
 abbrev pub bursts_line : ChannelSummary → List ℕ

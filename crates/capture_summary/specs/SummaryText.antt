@@ -55,11 +55,17 @@ abbrev pub all_records_line : CaptureSummary → List ℕ
 all_records_line summary =
     named (codes "records") summary.records ++ named (codes ", earlier than the record before") summary.earlier ++ line_feed ∷ []
 
+-- how often clocks were set back, if one was
+abbrev pub set_back_told : ℕ → List ℕ
+set_back_told count = counted_line (codes "  bursts earlier than their flow's clock by more than --reorder, which set it back:") count
+
+-- how many bursts were handed on early, if some were
+abbrev pub crowded_told : ℕ → List ℕ
+crowded_told count = counted_line (codes "  bursts handed on early, as 2048 of their flow waited (times stand still, or --reorder is long):") count
+
 -- how often times couldn't be gone by
 abbrev pub times_told : CaptureSummary → List ℕ
-times_told summary =
-    counted_line (codes "  bursts earlier than their flow's clock by more than --reorder, which set it back:") summary.set_back
-    ++ counted_line (codes "  bursts handed on early, as 2048 of their flow waited (times stand still, or --reorder is long):") summary.crowded
+times_told summary = set_back_told summary.set_back ++ crowded_told summary.crowded
 
 -- how many of them were passed over for a reason, if some were
 abbrev pub reason_line : PassedReason → ℕ → List ℕ

@@ -1,5 +1,5 @@
 -- The words of lines.
-use Rattle.std.specs.Prelude.{ℕ, List, ◌++◌, codes}
+use Rattle.std.specs.Prelude.{ℕ, List, [], ◌∷◌, ◌++◌, codes}
 use Rattle.text_lines.specs.Putting.{spaced}
 use Rattle.capture.specs.declared.burst.Passed.TheVariants.{CutShort, OtherType, Malformed, NoSegmentHeader, NoChannelOrSid}
 use Rattle.lane.specs.declared.refusal.Refusal.{Refusal}
@@ -10,6 +10,12 @@ use Rattle.capture_summary.specs.declared.passed.PassedReason.TheVariants as rea
 -- a word, a space and a number
 abbrev pub named : List ℕ → ℕ → List ℕ
 named word number = word ++ spaced number
+
+module _ {T : Type 0} (text : T → List ℕ) where
+  -- a text, and behind it that of each part
+  abbrev pub texts_from : List ℕ → List T → List ℕ
+  texts_from front [] = front
+  texts_from front (part ∷ parts) = texts_from (front ++ text part) parts
 
 -- the words for why a record is passed over
 abbrev pub reason_text : PassedReason → List ℕ

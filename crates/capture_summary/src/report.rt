@@ -4,14 +4,14 @@ ghost use Rattle.text_lines.specs.Putting.{Puts, numbered_texts};
 ghost use Rattle.capture_summary.specs.ReplayLines.{flow_line};
 ghost use Rattle.lane.specs.Report.{refusal_number};
 ghost use Rattle.capture_summary.specs.Counting.{count_of_refusal, count_of_reason};
-ghost use Rattle.capture_summary.specs.Report.{joined_line, flow_lines, counted_refusal, refused_text, lane_line, bursts_line, channel_lines, passed_line, records_line, clock_line, report_text};
+ghost use Rattle.capture_summary.specs.Report.{joined_line, flow_lines, counted_refusal, refused_text, admitted_text, lane_line, bursts_line, channel_lines, passed_line, records_line, clock_line, report_text};
 
 use crate::channel_summary::ChannelSummary;
 use crate::flow_summary::FlowSummary;
 use crate::passed::{ALL_REASONS, PassedCounts, PassedReason};
 use crate::refusals::{ALL_REFUSALS, RefusalCounts};
 use crate::summary::CaptureSummary;
-use crate::words::put_named;
+use crate::words::{put_named, put_named_line};
 use flow_core::FlowCounts;
 use lane::Refusal;
 use text_lines::{PutText, put_number, put_spaced, put_word};
@@ -20,30 +20,34 @@ use text_lines::{PutText, put_number, put_spaced, put_word};
 fn put_flow_line<O: PutText>(out: &mut O, k: usize, sfid: u32, counts: &FlowCounts)
     ensures { Puts O.after out.old (flow_line k sfid counts.now) out.new }
 {
-    put_named(out, "flow", k as u64);
-    put_spaced(out, u64::from(sfid));
-    put_named(out, " kept", counts.kept);
-    put_named(out, " late", counts.late);
-    put_named(out, " repeat", counts.repeat);
-    put_named(out, " beyond", counts.beyond);
-    put_named(out, " lost", counts.lost);
-    put_named(out, " frames", counts.frames);
-    put_named(out, " skipped", counts.skipped);
-    put_word(out, "\n");
+    let parts = [
+        ("flow", k as u64),
+        ("", u64::from(sfid)),
+        (" kept", counts.kept),
+        (" late", counts.late),
+        (" repeat", counts.repeat),
+        (" beyond", counts.beyond),
+        (" lost", counts.lost),
+        (" frames", counts.frames),
+        (" skipped", counts.skipped),
+    ];
+    put_named_line(out, &parts);
 }
 
 /// Puts how the frames and requests of the flow with this index are.
 fn put_joined_line<O: PutText>(out: &mut O, k: usize, flow: &FlowSummary)
     ensures { Puts O.after out.old (joined_line k flow.now) out.new }
 {
-    put_named(out, "joined", k as u64);
-    put_named(out, " right", flow.right);
-    put_named(out, " wrong", flow.wrong);
-    put_named(out, " encrypted", flow.encrypted);
-    put_named(out, " restarts", flow.restarts);
-    put_named(out, " requests", flow.requests);
-    put_named(out, " units", flow.units);
-    put_word(out, "\n");
+    let parts = [
+        ("joined", k as u64),
+        (" right", flow.right),
+        (" wrong", flow.wrong),
+        (" encrypted", flow.encrypted),
+        (" restarts", flow.restarts),
+        (" requests", flow.requests),
+        (" units", flow.units),
+    ];
+    put_named_line(out, &parts);
 }
 
 /// Puts the lines of the flow with this index, if it is selected.
@@ -98,13 +102,20 @@ fn put_refused<O: PutText>(out: &mut O, refused: &RefusalCounts)
     put_all_refusals(out, refused, &ALL_REFUSALS);
 }
 
+/// Puts how many segments the lane of a channel admitted, and the word before what it refused.
+fn put_admitted<O: PutText>(out: &mut O, channel: u64, admitted: u64)
+    ensures { Puts O.after out.old (admitted_text channel admitted) out.new }
+{
+    put_named(out, "lane", channel);
+    put_named(out, " admitted", admitted);
+    put_word(out, " refused");
+}
+
 /// Puts what the lane of a channel did.
 fn put_lane_line<O: PutText>(out: &mut O, channel: &ChannelSummary)
     ensures { Puts O.after out.old (lane_line channel.now) out.new }
 {
-    put_named(out, "lane", u64::from(channel.channel));
-    put_named(out, " admitted", channel.admitted);
-    put_word(out, " refused");
+    put_admitted(out, u64::from(channel.channel), channel.admitted);
     put_refused(out, &channel.refused);
     put_word(out, "\n");
 }
@@ -113,11 +124,15 @@ fn put_lane_line<O: PutText>(out: &mut O, channel: &ChannelSummary)
 fn put_bursts_line<O: PutText>(out: &mut O, channel: &ChannelSummary)
     ensures { Puts O.after out.old (bursts_line channel.now) out.new }
 {
-    put_named(out, "bursts", u64::from(channel.channel));
-    put_spaced(out, u64::from(channel.id));
-    put_spaced(out, channel.bursts);
-    put_named(out, " above", channel.above);
-    put_word(out, "\n");
+    let number = u64::from(channel.channel);
+    let id = u64::from(channel.id);
+    let parts = [
+        ("bursts", number),
+        ("", id),
+        ("", channel.bursts),
+        (" above", channel.above),
+    ];
+    put_named_line(out, &parts);
 }
 
 /// Puts the lines of a channel.
@@ -164,18 +179,21 @@ fn put_passed<O: PutText>(out: &mut O, passed: &PassedCounts, reasons: &[PassedR
 fn put_records_line<O: PutText>(out: &mut O, summary: &CaptureSummary)
     ensures { Puts O.after out.old (records_line summary.now) out.new }
 {
-    put_named(out, "records", summary.records);
-    put_named(out, " earlier", summary.earlier);
-    put_word(out, "\n");
+    put_named_line(
+        out,
+        &[("records", summary.records), (" earlier", summary.earlier)],
+    );
 }
 
 /// Puts how often times couldn't be gone by.
 fn put_clock_line<O: PutText>(out: &mut O, summary: &CaptureSummary)
     ensures { Puts O.after out.old (clock_line summary.now) out.new }
 {
-    put_named(out, "clock set_back", summary.set_back);
-    put_named(out, " crowded", summary.crowded);
-    put_word(out, "\n");
+    let parts = [
+        ("clock set_back", summary.set_back),
+        (" crowded", summary.crowded),
+    ];
+    put_named_line(out, &parts);
 }
 
 /// Puts the report of a capture: two lines for each flow that is selected, in order; two for each
@@ -184,8 +202,10 @@ fn put_clock_line<O: PutText>(out: &mut O, summary: &CaptureSummary)
 pub fn put_report<O: PutText>(out: &mut O, summary: &CaptureSummary)
     ensures { Puts O.after out.old (report_text summary.now) out.new }
 {
-    put_all_flows(out, &summary.flows);
-    put_all_channels(out, &summary.channels);
+    let flows = summary.flows.as_slice();
+    let channels = summary.channels.as_slice();
+    put_all_flows(out, flows);
+    put_all_channels(out, channels);
     put_passed(out, &summary.passed, &ALL_REASONS);
     put_records_line(out, summary);
     put_clock_line(out, summary);

@@ -73,13 +73,17 @@ impl RequestLines {
             self.whole = false;
             return;
         };
+        let channel = u64::from(request.channel);
+        let sid = u64::from(sid);
+        let cluster = u64::from(request.cluster);
+        let units = u64::from(request.units);
         self.put_fields(&[
             time.as_slice(),
-            digits_in(&mut Buffer::new(), u64::from(request.channel)),
-            digits_in(&mut Buffer::new(), u64::from(sid)),
+            digits_in(&mut Buffer::new(), channel),
+            digits_in(&mut Buffer::new(), sid),
             digits_in(&mut Buffer::new(), request.flow as u64),
-            digits_in(&mut Buffer::new(), u64::from(request.cluster)),
-            digits_in(&mut Buffer::new(), u64::from(request.units)),
+            digits_in(&mut Buffer::new(), cluster),
+            digits_in(&mut Buffer::new(), units),
         ]);
     }
 

@@ -2,14 +2,14 @@
 ghost use Rattle.std.specs.Prelude.{◌≡◌, flat_map, count_by};
 ghost use Rattle.text_lines.specs.Putting.{Puts};
 ghost use Rattle.capture_summary.specs.Counting.{is_selected_quiet, count_of_refusal, count_of_reason};
-ghost use Rattle.capture_summary.specs.SummaryText.{segments_line, frames_line, requests_line, flow_text, counted_line, refusal_line, channel_line, channel_text, all_records_line, times_told, reason_line, summary_text};
+ghost use Rattle.capture_summary.specs.SummaryText.{segments_line, frames_line, requests_line, flow_text, counted_line, refusal_line, channel_line, channel_text, all_records_line, set_back_told, crowded_told, times_told, reason_line, summary_text};
 
 use crate::channel_summary::ChannelSummary;
 use crate::flow_summary::FlowSummary;
 use crate::passed::{ALL_REASONS, PassedCounts, PassedReason};
 use crate::refusals::{ALL_REFUSALS, RefusalCounts, refusal_text};
 use crate::summary::CaptureSummary;
-use crate::words::put_named;
+use crate::words::{put_named, put_named_line};
 use lane::Refusal;
 use text_lines::{PutText, put_word};
 
@@ -17,35 +17,41 @@ use text_lines::{PutText, put_word};
 fn put_segments_line<O: PutText>(out: &mut O, flow: &FlowSummary)
     ensures { Puts O.after out.old (segments_line flow.now) out.new }
 {
-    put_named(out, "flow", u64::from(flow.sfid));
-    put_named(out, ": segments kept", flow.counts.kept);
-    put_named(out, ", late", flow.counts.late);
-    put_named(out, ", repeated", flow.counts.repeat);
-    put_named(out, ", beyond the window", flow.counts.beyond);
-    put_named(out, ", lost", flow.counts.lost);
-    put_word(out, "\n");
+    let parts = [
+        ("flow", u64::from(flow.sfid)),
+        (": segments kept", flow.counts.kept),
+        (", late", flow.counts.late),
+        (", repeated", flow.counts.repeat),
+        (", beyond the window", flow.counts.beyond),
+        (", lost", flow.counts.lost),
+    ];
+    put_named_line(out, &parts);
 }
 
 /// Puts how the frames of a flow are.
 fn put_frames_line<O: PutText>(out: &mut O, flow: &FlowSummary)
     ensures { Puts O.after out.old (frames_line flow.now) out.new }
 {
-    put_named(out, "  frames", flow.counts.frames);
-    put_named(out, ": FCS right", flow.right);
-    put_named(out, ", wrong", flow.wrong);
-    put_named(out, ", encrypted", flow.encrypted);
-    put_named(out, "; bytes skipped", flow.counts.skipped);
-    put_word(out, "\n");
+    let parts = [
+        ("  frames", flow.counts.frames),
+        (": FCS right", flow.right),
+        (", wrong", flow.wrong),
+        (", encrypted", flow.encrypted),
+        ("; bytes skipped", flow.counts.skipped),
+    ];
+    put_named_line(out, &parts);
 }
 
 /// Puts how often a flow began anew, and what it asked for.
 fn put_requests_line<O: PutText>(out: &mut O, flow: &FlowSummary)
     ensures { Puts O.after out.old (requests_line flow.now) out.new }
 {
-    put_named(out, "  restarts", flow.restarts);
-    put_named(out, "; requests", flow.requests);
-    put_named(out, ", units", flow.units);
-    put_word(out, "\n");
+    let parts = [
+        ("  restarts", flow.restarts),
+        ("; requests", flow.requests),
+        (", units", flow.units),
+    ];
+    put_named_line(out, &parts);
 }
 
 /// Puts what came of a flow, if it is selected and something did.
@@ -89,8 +95,7 @@ fn put_counted_line<O: PutText>(out: &mut O, what: &str, count: u64)
     if count == 0 {
         return;
     }
-    put_named(out, what, count);
-    put_word(out, "\n");
+    put_named_line(out, &[(what, count)]);
 }
 
 /// Puts how often a refusal came, if it did.
@@ -120,12 +125,16 @@ fn put_all_refusals<O: PutText>(out: &mut O, refused: &RefusalCounts, refusals: 
 fn put_channel_line<O: PutText>(out: &mut O, channel: &ChannelSummary)
     ensures { Puts O.after out.old (channel_line channel.now) out.new }
 {
-    put_named(out, "channel", u64::from(channel.channel));
-    put_named(out, ", upstream channel id", u64::from(channel.id));
-    put_named(out, ": bursts", channel.bursts);
-    put_named(out, ", above their grant", channel.above);
-    put_named(out, ", admitted", channel.admitted);
-    put_word(out, "\n");
+    let number = u64::from(channel.channel);
+    let id = u64::from(channel.id);
+    let parts = [
+        ("channel", number),
+        (", upstream channel id", id),
+        (": bursts", channel.bursts),
+        (", above their grant", channel.above),
+        (", admitted", channel.admitted),
+    ];
+    put_named_line(out, &parts);
 }
 
 /// Puts what came on a channel.
@@ -149,25 +158,41 @@ fn put_all_channels<O: PutText>(out: &mut O, channels: &[ChannelSummary])
 fn put_records_line<O: PutText>(out: &mut O, summary: &CaptureSummary)
     ensures { Puts O.after out.old (all_records_line summary.now) out.new }
 {
-    put_named(out, "records", summary.records);
-    put_named(out, ", earlier than the record before", summary.earlier);
-    put_word(out, "\n");
+    let parts = [
+        ("records", summary.records),
+        (", earlier than the record before", summary.earlier),
+    ];
+    put_named_line(out, &parts);
+}
+
+/// Puts how often clocks were set back, if one was.
+fn put_set_back<O: PutText>(out: &mut O, count: u64)
+    ensures { Puts O.after out.old (set_back_told count) out.new }
+{
+    put_counted_line(
+        out,
+        "  bursts earlier than their flow's clock by more than --reorder, which set it back:",
+        count,
+    );
+}
+
+/// Puts how many bursts were handed on early, if some were.
+fn put_crowded<O: PutText>(out: &mut O, count: u64)
+    ensures { Puts O.after out.old (crowded_told count) out.new }
+{
+    put_counted_line(
+        out,
+        "  bursts handed on early, as 2048 of their flow waited (times stand still, or --reorder is long):",
+        count,
+    );
 }
 
 /// Puts how often times couldn't be gone by, where they couldn't.
 fn put_times_told<O: PutText>(out: &mut O, summary: &CaptureSummary)
     ensures { Puts O.after out.old (times_told summary.now) out.new }
 {
-    put_counted_line(
-        out,
-        "  bursts earlier than their flow's clock by more than --reorder, which set it back:",
-        summary.set_back,
-    );
-    put_counted_line(
-        out,
-        "  bursts handed on early, as 2048 of their flow waited (times stand still, or --reorder is long):",
-        summary.crowded,
-    );
+    put_set_back(out, summary.set_back);
+    put_crowded(out, summary.crowded);
 }
 
 /// Puts how many records were passed over for a reason, if some were.
@@ -178,8 +203,7 @@ fn put_reason_line<O: PutText>(out: &mut O, why: PassedReason, count: u64)
         return;
     }
     put_word(out, "  passed over: ");
-    put_named(out, why.text(), count);
-    put_word(out, "\n");
+    put_named_line(out, &[(why.text(), count)]);
 }
 
 /// Puts how many records were passed over for each of these reasons.
@@ -199,10 +223,12 @@ fn put_all_reasons<O: PutText>(out: &mut O, passed: &PassedCounts, reasons: &[Pa
 pub fn put_summary<O: PutText>(out: &mut O, summary: &CaptureSummary)
     ensures { Puts O.after out.old (summary_text summary.now) out.new }
 {
-    put_all_flows(out, &summary.flows);
-    let quiet = quiet_count(&summary.flows) as u64;
+    let flows = summary.flows.as_slice();
+    let channels = summary.channels.as_slice();
+    put_all_flows(out, flows);
+    let quiet = quiet_count(flows) as u64;
     put_counted_line(out, "flows of which nothing came:", quiet);
-    put_all_channels(out, &summary.channels);
+    put_all_channels(out, channels);
     put_records_line(out, summary);
     put_times_told(out, summary);
     put_all_reasons(out, &summary.passed, &ALL_REASONS);

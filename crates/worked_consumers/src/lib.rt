@@ -5,4 +5,4 @@
 #![tactic(auto)]
 
 #[cfg(test)]
-mod consumers;
+mod given_in_order;

@@ -7,5 +7,3 @@
 
 #[cfg(test)]
 mod cuts;
-#[cfg(test)]
-mod expect;

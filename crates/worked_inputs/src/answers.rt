@@ -1,7 +1,6 @@
 //! What is answered to each input and to each decision, and how the receiver then stands.
 ghost use Rattle.receiver.specs.Receiving.{IsReceiving};
 
-use crate::expect::{expect_same, expect_same_at};
 use crate::handing_in::{State, hand_in, hand_in_all, input, made, state};
 use consumer::Collected;
 use docsis_wire::HeaderCheck;
@@ -37,12 +36,9 @@ fn expect_states<C: HeaderCheck + Drop>(
 {
     for (place, line) in SECOND_FIRST.iter().enumerate() {
         hand_in(alloc, receiver, line, out)?;
-        expect_same_at(
-            rt,
-            "state",
-            place,
-            Some(state(receiver)),
-            STATES.get(place).copied(),
+        assert!(rt;
+            Some(state(receiver)) == STATES.get(place).copied(),
+            "{place}"
         );
     }
     Ok(())
@@ -108,9 +104,9 @@ fn expect_replies<C: HeaderCheck + Drop>(
 {
     for (line, wanted) in &ANSWERED {
         if let Some((channel, input)) = input(alloc, line)? {
-            expect_same(rt, "look", receiver.look(channel, &input), flow_of(wanted));
+            assert!(rt; receiver.look(channel, &input) == flow_of(wanted));
             let reply = receiver.take(alloc, channel, input, out)?;
-            expect_same(rt, "reply", reply, *wanted);
+            assert!(rt; reply == *wanted);
         }
     }
     Ok(())
@@ -124,8 +120,8 @@ fn each_input_has_its_answer(rt: HostRuntime) -> Result<(), Fail> {
         admitted: 1,
         refused: 3,
     };
-    expect_same(&rt, "tally", receiver.tally(0), Some(tally));
-    expect_same(&rt, "no channel", receiver.tally(4), None);
+    assert!(rt; receiver.tally(0) == Some(tally));
+    assert!(rt; receiver.tally(4).is_none());
     Ok(())
 }
 
@@ -141,7 +137,7 @@ fn a_channel_that_isnt_gives_the_input_back(rt: HostRuntime) -> Result<(), Fail>
         return Err(Fail::new(format_args!("channel 4 was taken")));
     };
     let reply = receiver.take(rt.alloc(), 0, back, &mut out)?;
-    expect_same(&rt, "the same on channel 0", reply, Reply::Granted);
+    assert!(rt; reply == Reply::Granted);
     Ok(())
 }
 
@@ -172,7 +168,7 @@ fn expect_decisions<C: HeaderCheck + Drop>(
 {
     for ((flow, decision), wanted) in &DECIDED {
         let reply = receiver.decide(alloc, *flow, *decision, out)?;
-        expect_same(rt, "reply", reply, *wanted);
+        assert!(rt; reply == *wanted);
     }
     Ok(())
 }
@@ -182,6 +178,6 @@ fn each_decision_has_its_answer(rt: HostRuntime) -> Result<(), Fail> {
     let (mut receiver, mut out) = made(rt.alloc())?;
     hand_in_all(rt.alloc(), &mut receiver, &FIRST_LOST, &mut out)?;
     expect_decisions(&rt, rt.alloc(), &mut receiver, &mut out)?;
-    expect_same(&rt, "expected", receiver.expected(0), Some(5));
+    assert!(rt; receiver.expected(0) == Some(5));
     Ok(())
 }

@@ -2,7 +2,6 @@
 ghost use Rattle.std.specs.Prelude.{IfOk};
 ghost use Rattle.receiver.specs.Receiving.{IsReceiving};
 
-use crate::expect::expect_same;
 use crate::handing_in::{input, made};
 use consumer::Collected;
 use docsis_wire::{HeaderCheck, NoCheck};
@@ -61,12 +60,7 @@ fn take_again<C: HeaderCheck + Drop>(
         }
         Err(TakeError::NotTaken(back, _)) => {
             say_refused(rt)?;
-            expect_same(
-                rt,
-                "outstanding",
-                receiver.outstanding(channel),
-                outstanding,
-            );
+            assert!(rt; receiver.outstanding(channel) == outstanding);
             receiver.take(alloc, channel, back, out)?;
         }
         Err(TakeError::Unfinished { flow }) => {
@@ -125,12 +119,12 @@ fn receiver_refused(rt: HostRuntime) -> Result<(), Fail> {
         .flows
         .first()
         .map(|counts| (counts.kept, counts.frames));
-    expect_same(&rt, "kept and frames", counts, Some((3, 2)));
+    assert!(rt; counts == Some((3, 2)));
     if !out.whole {
         return say_refused(&rt);
     }
     let frames = out.frames.first().map(|frames| frames.len());
-    expect_same(&rt, "frames that were kept", frames, Some(2));
+    assert!(rt; frames == Some(2));
     Ok(())
 }
 
@@ -155,7 +149,7 @@ fn expect_only_a_grant<C: HeaderCheck + Drop>(
         Err(TakeError::NotTaken(_, NotReady::Closing)) => false,
         Err(_) => return Err(Fail::new(format_args!("another fault"))),
     };
-    expect_same(rt, "only the grant is taken", taken, is_grant);
+    assert!(rt; taken == is_grant);
     Ok(())
 }
 
@@ -188,12 +182,12 @@ fn expect_closing<C: HeaderCheck + Drop>(
     ensures { IsReceiving C.accepts receiver.new }
 {
     let gone_on = receiver.go_on(alloc, 0, out);
-    expect_same(rt, "going on", gone_on, Err(NotReady::Closing));
+    assert!(rt; gone_on == Err(NotReady::Closing));
     let decided = receiver.decide(alloc, 0, FlowDecision::Gap, out);
     let closing = Err(DecideFault::NotTaken(NotReady::Closing));
-    expect_same(rt, "a decision", decided.map(|_| ()), closing);
+    assert!(rt; decided.map(|_| ()) == closing);
     hand_in_to_closing(rt, alloc, receiver, out)?;
-    expect_same(rt, "outstanding", receiver.outstanding(0), Some(1));
+    assert!(rt; receiver.outstanding(0) == Some(1));
     Ok(())
 }
 
@@ -221,11 +215,11 @@ fn restart_again<C: HeaderCheck + Drop>(
 fn restart_refused(rt: HostRuntime) -> Result<(), Fail> {
     let (mut receiver, mut out) = made_again(&rt, rt.alloc())?;
     take_all_again(&rt, rt.alloc(), &mut receiver, &FIRST_LOST, &mut out)?;
-    expect_same(&rt, "held", receiver.held(0), Some(2));
+    assert!(rt; receiver.held(0) == Some(2));
     let counts = restart_again(&rt, rt.alloc(), &mut receiver, &mut out)?;
-    expect_same(&rt, "kept", counts.kept, 2);
-    expect_same(&rt, "lost", counts.lost, 1);
-    expect_same(&rt, "expected", receiver.expected(0), Some(5));
-    expect_same(&rt, "held", receiver.held(0), Some(0));
+    assert!(rt; counts.kept == 2);
+    assert!(rt; counts.lost == 1);
+    assert!(rt; receiver.expected(0) == Some(5));
+    assert!(rt; receiver.held(0) == Some(0));
     Ok(())
 }

@@ -8,8 +8,6 @@
 #[cfg(test)]
 mod answers;
 #[cfg(test)]
-mod expect;
-#[cfg(test)]
 mod failed_allocations;
 #[cfg(test)]
 mod handing_in;

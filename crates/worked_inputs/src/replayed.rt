@@ -1,5 +1,4 @@
 //! Traces that are replayed besides, with the same answer.
-use crate::expect::{expect_same_at, expect_true};
 use crate::handing_in::{close, hand_in_all, receiver_of};
 use consumer::Collected;
 use docsis_wire::{Bytes, NoCheck};
@@ -20,22 +19,25 @@ fn expect_replayed(
     out: &Collected,
     outcome: &Outcome,
 ) {
-    expect_true(rt, name, out.whole);
+    assert!(rt; out.whole, "{name}");
     for (flow, (counts, frames)) in outcome
         .flows
         .iter()
         .zip(closed.flows.iter().zip(&out.frames))
     {
-        expect_same_at(rt, name, place, *counts, flow.counts);
-        expect_true(rt, name, same_frames(frames, &flow.frames));
+        assert!(rt; *counts == flow.counts, "{name}, {place}");
+        assert!(rt; same_frames(frames, &flow.frames), "{name}");
     }
     for (wanted, found) in outcome.requests.iter().zip(&out.requests) {
-        expect_true(rt, name, found.as_slice() == wanted.as_slice());
+        assert!(rt; found.as_slice() == wanted.as_slice(), "{name}");
     }
     for (report, tally) in outcome.lanes.iter().zip(&closed.lanes) {
         let refused = report.refused.len() as u64;
         let admitted = report.admitted;
-        expect_same_at(rt, name, place, *tally, LaneTally { admitted, refused });
+        assert!(rt;
+            *tally == LaneTally { admitted, refused },
+            "{name}, {place}"
+        );
     }
 }
 

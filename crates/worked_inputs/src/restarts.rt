@@ -1,5 +1,4 @@
 //! Flows that begin anew.
-use crate::expect::expect_same;
 use crate::handing_in::{close, hand_in, hand_in_all, made};
 use receiver::RestartError;
 use std::test::Fail;
@@ -20,18 +19,18 @@ fn a_flow_begins_anew(rt: HostRuntime) -> Result<(), Fail> {
     let (mut receiver, mut out) = made(rt.alloc())?;
     hand_in_all(rt.alloc(), &mut receiver, &BEFORE, &mut out)?;
     let counts = receiver.restart(rt.alloc(), 0, 2, &mut out)?;
-    expect_same(&rt, "kept before", counts.kept, 1);
-    expect_same(&rt, "expected", receiver.expected(0), Some(2));
+    assert!(rt; counts.kept == 1);
+    assert!(rt; receiver.expected(0) == Some(2));
     hand_in(
         rt.alloc(),
         &mut receiver,
         &Line::Burst(1, 1, THIRD),
         &mut out,
     )?;
-    expect_same(&rt, "expected", receiver.expected(0), Some(3));
+    assert!(rt; receiver.expected(0) == Some(3));
     let closed = close(rt.alloc(), receiver, &mut out)?;
     let kept = closed.flows.first().map(|counts| counts.kept);
-    expect_same(&rt, "kept after", kept, Some(1));
+    assert!(rt; kept == Some(1));
     Ok(())
 }
 
@@ -39,9 +38,9 @@ fn a_flow_begins_anew(rt: HostRuntime) -> Result<(), Fail> {
 fn a_restart_is_refused_by_name(rt: HostRuntime) -> Result<(), Fail> {
     let (mut receiver, mut out) = made(rt.alloc())?;
     let no_flow = receiver.restart(rt.alloc(), 1, 0, &mut out);
-    expect_same(&rt, "flow 1", no_flow, Err(RestartError::NoFlow));
+    assert!(rt; no_flow == Err(RestartError::NoFlow));
     let range = receiver.restart(rt.alloc(), 0, 8192, &mut out);
-    expect_same(&rt, "number 8192", range, Err(RestartError::NumberRange));
-    expect_same(&rt, "no flow", receiver.expected(1), None);
+    assert!(rt; range == Err(RestartError::NumberRange));
+    assert!(rt; receiver.expected(1).is_none());
     Ok(())
 }

@@ -2,7 +2,6 @@
 ghost use Rattle.std.specs.Prelude.{IfOk};
 ghost use Rattle.receiver.specs.Receiving.{IsReceiving};
 
-use crate::expect::expect_same;
 use crate::handing_in::{hand_in, made, state};
 use consumer::Collected;
 use docsis_wire::{HeaderCheck, NoCheck};
@@ -39,10 +38,10 @@ fn feed_in_turn<C: HeaderCheck + Drop>(
     for line in &SECOND_FIRST {
         let before = state(&second.receiver);
         hand_in(alloc, &mut first.receiver, line, &mut first.out)?;
-        expect_same(rt, "the other", state(&second.receiver), before);
+        assert!(rt; state(&second.receiver) == before);
         let before = state(&first.receiver);
         hand_in(alloc, &mut second.receiver, line, &mut second.out)?;
-        expect_same(rt, "the one", state(&first.receiver), before);
+        assert!(rt; state(&first.receiver) == before);
     }
     Ok(())
 }
@@ -53,6 +52,6 @@ fn receivers_in_turn_dont_touch_one_another(rt: HostRuntime) -> Result<(), Fail>
     let mut second = begun(rt.alloc())?;
     feed_in_turn(&rt, rt.alloc(), &mut first, &mut second)?;
     let frames = second.out.frames.first().map(|frames| frames.len());
-    expect_same(&rt, "frames", frames, Some(2));
+    assert!(rt; frames == Some(2));
     Ok(())
 }

@@ -7,8 +7,6 @@
 
 pub mod cases;
 #[cfg(test)]
-mod expect;
-#[cfg(test)]
 mod orders;
 pub mod outcomes;
 #[cfg(test)]

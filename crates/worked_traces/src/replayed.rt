@@ -2,7 +2,6 @@
 mod failed_allocations;
 
 use crate::cases::{CASES, Case};
-use crate::expect::expect_same;
 use crate::outcomes::*;
 use crate::traces::*;
 use docsis_wire::NoCheck;
@@ -18,10 +17,10 @@ fn expect_case(rt: &impl Abort, alloc: Global, case: &Case) -> Result<(), Replay
     let Trace { setup, lists } = trace_of(alloc, &[FLOW], &ROWS, case.lines)?;
     let tags = tags_of(alloc, case.lines)?;
     let order = admitted_order(alloc, &setup, &lists, &tags)?;
-    expect_same(rt, case.name, order.as_slice(), case.expected.order);
+    assert!(rt; order.as_slice() == case.expected.order, "{}", case.name);
     let outcome = replay(alloc, &setup, &lists, &order, NoCheck)?;
     let amiss = part_amiss(&outcome, &case.expected, case.expected.order);
-    expect_same(rt, case.name, amiss, None);
+    assert!(rt; amiss.is_none(), "{}: {amiss:?}", case.name);
     Ok(())
 }
 

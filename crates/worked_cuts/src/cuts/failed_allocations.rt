@@ -3,7 +3,6 @@
 use super::faults::{FAULTS, Fault, long_and_plain};
 use super::worked::{INSIDE_PIECES, INSIDE_SEGMENTS};
 use super::{expect_segment, expect_segments, named, owned};
-use crate::expect::{expect_same, expect_true};
 use docsis_wire::{Bytes, CutFault, Cutter, FillByte, NoCheck, Piece, Segment, SegmentParts, cut};
 use std::alloc::{AllocError, Global};
 use std::process::Abort;
@@ -105,9 +104,9 @@ fn faulty_cuts(alloc: Global) -> Result<Vec<Faulty>, AllocError> {
 fn expect_fault(rt: &impl Abort, alloc: Global, faulty: &Faulty) {
     let Faulty { frames, pieces, .. } = faulty;
     let answer = cut(alloc, frames, pieces, 0, FillByte::Zero, &NoCheck);
-    expect_same(rt, faulty.name, answer.err(), Some(faulty.fault));
+    assert!(rt; answer.err() == Some(faulty.fault), "{}", faulty.name);
     let cutter = Cutter::new(frames, pieces, 0, FillByte::Zero, &NoCheck);
-    expect_same(rt, faulty.name, cutter.err(), Some(faulty.fault));
+    assert!(rt; cutter.err() == Some(faulty.fault), "{}", faulty.name);
 }
 
 /// How many bytes of a segment's payload come in its first eight parts.
@@ -149,6 +148,6 @@ fn faults_without_memory(rt: HostRuntime) -> Result<(), Fail> {
         expect_fault(&rt, rt.alloc(), faulty);
     }
     let bytes = payload_bytes(&frames, &pieces);
-    expect_same(&rt, "bytes of payload", bytes, Ok(17));
+    assert!(rt; bytes == Ok(17));
     say_whether_refused(&rt, rt.alloc())
 }

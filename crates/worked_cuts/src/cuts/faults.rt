@@ -1,6 +1,5 @@
 //! What can be at fault with frames and pieces.
 use super::{named, owned};
-use crate::expect::expect_same;
 use docsis_wire::{Bytes, CutFault, FillByte, NoCheck, cut};
 use std::alloc::{AllocError, Global};
 use std::process::Abort;
@@ -72,7 +71,7 @@ fn reports_faults(rt: HostRuntime) -> Result<(), Fail> {
     for case in &FAULTS {
         let frames = owned(rt.alloc(), case.frames)?;
         let found = fault_of(rt.alloc(), &frames, case.pieces)?;
-        expect_same(&rt, case.name, found, Some(case.fault));
+        assert!(rt; found == Some(case.fault), "{}", case.name);
     }
     Ok(())
 }
@@ -91,9 +90,9 @@ pub(super) fn long_and_plain(alloc: Global, len: u16) -> Result<Vec<Bytes>, Allo
 fn points_too_far(rt: &impl Abort, alloc: Global) -> Result<(), AllocError> {
     let frames = long_and_plain(alloc, 0x3ffb)?;
     let fault = fault_of(alloc, &frames, &[(1, 0), (16_392, 0)])?;
-    expect_same(rt, "too far", fault, Some(CutFault::PointerTooFar(1)));
+    assert!(rt; fault == Some(CutFault::PointerTooFar(1)));
     let fault = fault_of(alloc, &frames, &[(1, 0), (16_391, 1)])?;
-    expect_same(rt, "fill first", fault, Some(CutFault::FillInsideFrame(1)));
+    assert!(rt; fault == Some(CutFault::FillInsideFrame(1)));
     Ok(())
 }
 
@@ -104,7 +103,7 @@ fn points_as_far_as_it_can(rt: &impl Abort, alloc: Global) -> Result<(), Fail> {
     let segments = cut(alloc, &frames, &pieces, 0, FillByte::Zero, &NoCheck)?;
     let second = segments.get(1).ok_or("one segment")?;
     let found = (second.head.pfi, second.head.pointer, second.payload.len());
-    expect_same(rt, "the second segment", found, (true, 16_383, 16_391));
+    assert!(rt; found == (true, 16_383, 16_391));
     Ok(())
 }
 
@@ -130,7 +129,7 @@ fn says_what_is_at_fault(rt: HostRuntime) -> Result<(), Fail> {
     ];
     for (fault, text) in &texts {
         let said = fault.to_string(rt.alloc())?;
-        expect_same(&rt, text, said.as_str(), text);
+        assert!(rt; said.as_str() == *text, "{text}");
     }
     Ok(())
 }
@@ -146,9 +145,9 @@ fn expect_checked(
     let frames = owned(alloc, &[frame])?;
     let pieces = named(alloc, &[(bytes, 0)])?;
     let checked = cut(alloc, &frames, &pieces, 0, FillByte::Zero, &NotEndingIn12);
-    expect_same(rt, name, checked.err(), fault);
+    assert!(rt; checked.err() == fault, "{name}");
     let unchecked = cut(alloc, &frames, &pieces, 0, FillByte::Zero, &NoCheck)?;
-    expect_same(rt, name, unchecked.len(), 1);
+    assert!(rt; unchecked.len() == 1, "{name}");
     Ok(())
 }
 

@@ -1,7 +1,6 @@
 //! The definition of a lawful cut, decided by trying each length of each chunk.
 use super::worked::{CUTTINGS, Cutting};
 use super::{named, owned};
-use crate::expect::expect_same;
 use docsis_wire::{Bytes, CutFault, FillByte, NoCheck, Segment, cut, well_formed};
 use std::alloc::{AllocError, Global};
 use std::process::Abort;
@@ -108,7 +107,7 @@ fn expect_lawful(rt: &impl Abort, alloc: Global, cutting: &Cutting) -> Result<()
     let lawful = is_lawful_cut(alloc, &frames, cutting.first, fill, &segments)?;
     let later = is_lawful_cut(alloc, &frames, cutting.first ^ 1, fill, &segments)?;
     let found = (lawful, later);
-    expect_same(rt, cutting.name, found, (true, segments.is_empty()));
+    assert!(rt; found == (true, segments.is_empty()), "{}", cutting.name);
     Ok(())
 }
 
@@ -146,7 +145,7 @@ fn expect_lawful_or_fault(
     let pieces = named(alloc, &[(bytes, fills % 2), (more, fills / 2), (20, 1)])?;
     let answer = cut(alloc, frames, &pieces, 0, FillByte::Ones, &NoCheck);
     if let Some(fault) = fault_of(bytes, more, fills) {
-        expect_same(rt, "a fault", answer.err(), Some(fault));
+        assert!(rt; answer.err() == Some(fault));
         return Ok(());
     }
     let segments = answer?;

@@ -1,6 +1,5 @@
 //! Cuts of great sizes.
 use super::{named, owned};
-use crate::expect::{expect_same, expect_same_at, expect_true};
 use docsis_wire::{Bytes, Cutter, FillByte, NoCheck, Piece, Segment, cut};
 use std::alloc::{AllocError, Global};
 use std::process::Abort;
@@ -30,16 +29,16 @@ fn expect_third_of_a_frame(rt: &impl Abort, place: usize, segment: &Segment) {
     let head = segment.head;
     let found = (head.pfi, head.pointer, usize::from(head.sequence));
     let number = (8000 + place % 8192) % 8192;
-    expect_same_at(rt, "the head", place, found, (starts, 0, number));
+    assert!(rt; found == (starts, 0, number), "{place}");
     let has_payload = segment.payload.as_slice() == [0, mark].as_slice();
-    expect_same_at(rt, "the payload", place, has_payload, true);
+    assert!(rt; has_payload, "{place}");
 }
 
 /// Ends the test if these are two segments.
 fn expect_same_segment(rt: &impl Abort, place: usize, made: &Segment, wanted: &Segment) {
     let is_payload = made.payload.as_slice() == wanted.payload.as_slice();
-    expect_same_at(rt, "the head", place, made.head, wanted.head);
-    expect_same_at(rt, "the payload", place, is_payload, true);
+    assert!(rt; made.head == wanted.head, "{place}");
+    assert!(rt; is_payload, "{place}");
 }
 
 /// Ends the test if the frames are cut into other segments one by one.
@@ -54,7 +53,7 @@ fn expect_one_by_one(
         let made = parts.to_segment(alloc)?;
         expect_same_segment(rt, place, &made, segment);
     }
-    expect_true(rt, "no more", cutter.next().is_none());
+    assert!(rt; cutter.next().is_none());
     Ok(())
 }
 
@@ -65,7 +64,7 @@ fn cuts_into_many_pieces(rt: HostRuntime) -> Result<(), Fail> {
     let frames = many_frames(rt.alloc())?;
     let pieces = vec![in rt.alloc(); Piece { bytes: 2, fill: 0 }; 70_200]?;
     let segments = cut(rt.alloc(), &frames, &pieces, 8000, FillByte::Ones, &NoCheck)?;
-    expect_same(&rt, "segments", segments.len(), 70_200);
+    assert!(rt; segments.len() == 70_200);
     for (place, segment) in segments.iter().enumerate() {
         expect_third_of_a_frame(&rt, place, segment);
     }
@@ -80,14 +79,14 @@ fn fill_comes_in_parts(rt: HostRuntime) -> Result<(), Fail> {
     let pieces = named(rt.alloc(), &[(8, 150)])?;
     let mut cutter = Cutter::new(&frames, &pieces, 0, FillByte::Ones, &NoCheck)?;
     let mut parts = cutter.next().ok_or("too few")?;
-    expect_same(&rt, "the frame", parts.next_part(), Some(PLAIN));
+    assert!(rt; parts.next_part() == Some(PLAIN));
     for (place, length) in [64, 64, 22].iter().enumerate() {
         let part = parts.next_part().ok_or("too few parts")?;
-        expect_same_at(&rt, "length", place, part.len(), *length);
+        assert!(rt; part.len() == *length, "{place}");
         let is_fill = part.iter().all(|byte| *byte == 0xFF);
-        expect_same_at(&rt, "fill", place, is_fill, true);
+        assert!(rt; is_fill, "{place}");
     }
-    expect_same(&rt, "no more", parts.next_part(), None);
-    expect_same(&rt, "no more again", parts.next_part(), None);
+    assert!(rt; parts.next_part().is_none());
+    assert!(rt; parts.next_part().is_none());
     Ok(())
 }

@@ -1,6 +1,5 @@
 //! Worked examples, at once and a segment at a time.
 use super::{expect_segment, expect_segments, named, owned};
-use crate::expect::{expect_same, expect_true};
 use docsis_wire::{Bytes, CutFault, Cutter, FillByte, NoCheck, Segment, cut};
 use std::alloc::Global;
 use std::process::Abort;
@@ -148,7 +147,7 @@ impl Cutting {
     pub fn cut(&self, rt: &impl Abort, alloc: Global) -> Result<(Vec<Bytes>, Vec<Segment>), Fail> {
         let frames = owned(alloc, self.frames)?;
         let pieces = named(alloc, self.pieces)?;
-        expect_true(rt, self.name, self.first < 8192);
+        assert!(rt; self.first < 8192, "{}", self.name);
         let segments = cut(alloc, &frames, &pieces, self.first, self.fill, &NoCheck)?;
         Ok((frames, segments))
     }
@@ -174,8 +173,8 @@ fn cuts_one_by_one(rt: HostRuntime) -> Result<(), Fail> {
         let segment = parts.to_segment(rt.alloc())?;
         expect_segment(&rt, &segment, wanted);
     }
-    expect_true(&rt, "no more", cutter.next().is_none());
-    expect_true(&rt, "no more again", cutter.next().is_none());
+    assert!(rt; cutter.next().is_none());
+    assert!(rt; cutter.next().is_none());
     Ok(())
 }
 
@@ -184,6 +183,6 @@ fn makes_no_cutter_for_fill_inside_a_frame(rt: HostRuntime) -> Result<(), Fail> 
     let frames = owned(rt.alloc(), &[PLAIN, EXTENDED])?;
     let inside = named(rt.alloc(), &[(5, 1)])?;
     let fault = Cutter::new(&frames, &inside, 0, FillByte::Zero, &NoCheck).err();
-    expect_same(&rt, "fault", fault, Some(CutFault::FillInsideFrame(0)));
+    assert!(rt; fault == Some(CutFault::FillInsideFrame(0)));
     Ok(())
 }

@@ -1,5 +1,4 @@
-use Rattle.text_lines.proofs.PutTexts.{puts-then}
 use Rattle.capture_summary.proofs.report.put_flow_line.Goals as goal
 
 pub returns : goal.returns
-returns g c = rw c.from.ensures at (puts-then g.O.PutText.after (puts-then g.O.PutText.after (puts-then g.O.PutText.after (puts-then g.O.PutText.after (puts-then g.O.PutText.after (puts-then g.O.PutText.after (puts-then g.O.PutText.after (puts-then g.O.PutText.after (puts-then g.O.PutText.after c.put_named.ensures c.put_spaced.ensures) c.put_named-2.ensures) c.put_named-3.ensures) c.put_named-4.ensures) c.put_named-5.ensures) c.put_named-6.ensures) c.put_named-7.ensures) c.put_named-8.ensures) c.put_word.ensures)
+returns g c = rw c.from.ensures at c.put_named_line.ensures
