@@ -11,7 +11,8 @@
 //! 2. [`Receiver::take`] takes a grant or a burst of a channel, and gives each frame and each
 //!    request that comes of it to a consumer; its [`Reply`] says what became of the input.
 //!    [`Receiver::look`] says before to which flow it would come. [`Receiver::decide`] takes a
-//!    decision that segments are lost, [`Receiver::restart`] has a flow begin anew. [`Receiver::go_on`] does what a failed allocation left to be done of a flow.
+//!    decision that segments are lost, [`Receiver::restart`] has a flow begin anew.
+//!    [`Receiver::go_on`] does what a failed allocation left to be done of a flow.
 //! 3. [`Receiver::expected`], `held`, `counts`, `outstanding` and `tally` say at any time how far
 //!    it has come.
 //! 4. [`Receiver::close`] closes each flow; [`Closing`] goes on where memory was refused.

@@ -55,8 +55,9 @@ pub fn append_spelled(bytes: &mut Vec<u8>, digits: &[u8]) -> bool
     append_pairs(bytes, digits)
 }
 
-/// Appends the bytes that the digits spell behind those that these bytes are spelled by, for which
-/// there is room, pair by pair, and says whether all of them are digits.
+/// Appends the bytes that these digits spell, pair by pair, behind the first of them, which are
+/// there already, and says whether all are digits. There is room. Where one is no digit, what the
+/// vector then has means nothing.
 #[inline(always)]
 pub(crate) fn append_pairs(bytes: &mut Vec<u8>, digits: &[u8]) -> bool
     requires even { length digits.now % 2 ≡ 0 }

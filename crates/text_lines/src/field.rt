@@ -76,9 +76,9 @@ fn read_behind_space(alloc: Global, rest: &[u8]) -> Result<Option<Vec<u8>>, Line
     }
 }
 
-/// What the only word is, if that is hexadecimal: all that stands behind one space, where it neither
-/// begins nor ends in a separator, so that no end of a word is looked for among digits; else the
-/// only word.
+/// What the only word is, if that is hexadecimal: all that stands behind one space, where it
+/// neither begins nor ends in a separator, so that no end of a word is looked for among digits;
+/// else the only word.
 ///
 /// Where there are more words or none, it is none, or what isn't hexadecimal.
 pub fn likely_field(rest: &[u8]) -> Option<&[u8]>

@@ -18,8 +18,9 @@
 //!   split what follows the first field of a line, where it has just so many words, and
 //!   [`three_words`] where there may be more.
 //! - [`read_number`], [`read_number_in`] and [`read_hex`] read a field, [`read_if_hex`] one that
-//!   needn't be hexadecimal, and [`read_only_hex`] what is to be the last one of a line. Of such a field [`likely_field`] says where it stands,
-//!   [`read_hex_front`] decodes the first digits, and [`is_hex`] looks at all and decodes none. [`put_word`], [`put_number`], [`put_spaced`],
+//!   needn't be hexadecimal, and [`read_only_hex`] what is to be the last one of a line. Of such a
+//!   field [`likely_field`] says where it stands, [`read_hex_front`] decodes the first digits, and
+//!   [`is_hex`] looks at all and decodes none. [`put_word`], [`put_number`], [`put_spaced`],
 //!   [`put_seconds`] and [`put_hex`] write one to whatever takes a text, [`PutText`]:
 //!   [`TextBuffer`] keeps it.
 //! - What is wrong with a line is a [`LineFault`], its kind a [`TraceKind`]; a failed allocation,

@@ -87,8 +87,8 @@ pub record IsPlayedInPart (selected : Selection) (rule : LossRule) (said : Said)
   pub admitted : IsAdmittedOrder setup other (map tag_of said.entries) order
   pub answered : IsOutcomeBy rule any_header setup other order outcome
 
--- Behind lines that were replayed so, this may be handed in, on this channel, in the place of what a
--- line with these fields says that came.
+-- Behind lines that were replayed so, this may be handed in, on this channel, in the place of what
+-- a line with these fields says that came.
 pub record StandsInForLine (selected : ℕ → Bool) (width : Width) (rule : LossRule) (so_far : SetupSoFar) (taker : Option (Replaying NoCheck)) (fields : List (List ℕ)) (channel : ℕ) (input : Input) : Type 0 where
   pub came : Input
   pub carries : (ring : ℕ) → Carries (shape_of width ring) fields (line.Input channel came)
