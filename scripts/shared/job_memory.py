@@ -16,11 +16,13 @@ SMALL, TIMES = 8 * MIB, 4
 # Of so many turns the least counts: where the system puts things makes some of them larger.
 TURNS = 3
 MAP = "one_flow.map"
+# Replays for some flows: for the one that sends, so that all is told, and for another.
+SHARDS = {"shard_that_tells": ["replay", "--flows", "0"], "shard_that_tells_none": ["replay", "--flows", "1"]}
 # The commands whose memory may not grow with their input, and those that hold it and may take so
 # much for each frame.
-FLAT, HOLDING = ("capture", "follow"), ("replay", "join")
+FLAT, HOLDING = ("capture", "follow", "shard_that_tells_none"), ("replay", "join", "shard_that_tells")
 # How the line of a frame begins.
-FRAME_LINES = {"replay": b"frame ", "join": b""}
+FRAME_LINES = {"replay": b"frame ", "join": b"", "shard_that_tells": b"frame "}
 SHORT = 200  # bytes of the frames that have fill behind them
 
 
@@ -48,12 +50,12 @@ def trace_text(sent):
         yield grant(number % CHANNELS, number, 0, segment) + burst(number % CHANNELS, number, segment)
 
 
-INPUTS = {"capture": packed, "follow": trace_text, "replay": trace_text, "join": join_text}
+INPUTS = {"capture": packed, "join": join_text, **dict.fromkeys(("follow", "replay", *SHARDS), trace_text)}
 
 
 def words_of(command, room):
     """The words of a command; `capture` has the map beside its input."""
-    return [command, os.path.join(room, MAP)] if command == "capture" else [command]
+    return [command, os.path.join(room, MAP)] if command == "capture" else SHARDS.get(command, [command])
 
 
 def write_input(command, shape, size, file):

@@ -1,23 +1,27 @@
-"""What a burst costs a replay for some flows: less where it is of another flow, since its digits
-are looked at and not decoded, and nothing of it is joined.
+"""What a burst costs a replay: of all flows, and for some flows, by whose it is. Of a flow that is left
+out its digits are looked at and not decoded, and nothing of it is joined.
 """
+
+import functools
+import itertools
 
 from shared.marginal_cost import of_one_more
 
-# The bursts are all of flow 1. These words ask for its report, and for that of the other flow.
-WORDS = {"a flow that is told": ["replay", "--flows", "1"], "another": ["replay", "--flows", "0"]}
+# The bursts are all of flow 1. These words ask for all flows, for its report, and for that of the
+# other flow.
+WORDS = {"of all flows": ["replay"], "of one that tells it": ["replay", "--flows", "1"], "of one that leaves it out": ["replay", "--flows", "0"]}
 FEW, MANY = 100, 300
 # How many bytes of a frame follow its header.
-BYTES = 1484
+SIZES = (8, 1484)
 
 
-def trace(bursts):
+def trace(size, bursts):
     """A trace of two flows, each burst a frame of the second, and a segment with a grant."""
     yield "flow 1 0 16 1\nflow 2 0 16 1\nsid 0 1 1\n"
-    frame = f"0000{BYTES:04x}1111{'ab' * BYTES}"
+    frame = f"0000{size:04x}1111{'ab' * size}"
     for number in range(bursts):
         header = f"8000{number % 8192 << 3:04x}00000000"
-        yield f"grant 0 {number} 1 {BYTES + 14}\nburst 0 {number} ok {header}{frame}\n"
+        yield f"grant 0 {number} 1 {size + 14}\nburst 0 {number} ok {header}{frame}\n"
 
 
 def has_admitted(text, bursts):
@@ -25,5 +29,9 @@ def has_admitted(text, bursts):
 
 
 def measured_shards(segrx, room):
-    """How many instructions a burst of 1,498 bytes takes, by whose it is."""
-    return {name: of_one_more(segrx, words, FEW, MANY, trace, has_admitted, room) for name, words in WORDS.items()}
+    """How many instructions a burst takes more, by the replay and the bytes of its frame."""
+    costs = {}
+    for size, (name, words) in itertools.product(SIZES, WORDS.items()):
+        made = functools.partial(trace, size)
+        costs[f"a burst of {size + 14} bytes, in a replay {name}"] = of_one_more(segrx, words, FEW, MANY, made, has_admitted, room)
+    return costs

@@ -44,6 +44,15 @@ is_replayed Has start known lines outcome none read played =
       printed = refl;
     }
 
+-- so where some flows are asked for
+pub is_replayed_of : {Lines : Type 0} (selected : Selection) (Has : TraceState (Unit {0}) → Lines → Type 0) (start : TraceState (Unit {0})) (known : Option (List ℕ))
+    (lines : Lines) (outcome : Outcome) → start.said ≡ nothing_said default_capacity → (read : HasReadLines taking_format start Has known lines)
+    → ((given : TraceState (Unit {0})) → Has given lines → IsPlayedBy given.rule given.said outcome)
+    → IsReplayedOf selected start.rule read.input (report_of selected outcome)
+unfolding is_replayed
+is_replayed_of selected Has start known lines outcome none read played =
+    record { whole = report_text outcome; replayed = is_replayed Has start known lines outcome none read played; printed = refl }
+
 -- there are few lines in an input that an engine reads
 few_lines : (input : List ℕ) → length input ≤ input_limit → length (lines_of input) < 2 ^ 48
 few_lines input few =

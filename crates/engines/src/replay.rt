@@ -1,5 +1,6 @@
 //! The command `replay`: a trace becomes the report of what a receiver gives for it.
-ghost use Rattle.std.specs.Prelude.{◌≡◌, []};
+ghost use Rattle.std.specs.Prelude.{◌≡◌, ◌<◌, [], ℕ, true, false, IsTrue, IsFalse};
+ghost use Rattle.flow_selection.specs.Selection.{is_selected};
 ghost use Rattle.engines.specs.Device.{IsFresh};
 ghost use Rattle.engines.specs.Engine.{RunsEngine};
 ghost use Rattle.engines.specs.Writing.{IsWritten};
@@ -85,12 +86,8 @@ pub fn replay_text_by<R: Read, W: Write>(
     ensures { RunsEngine R.remaining W.contents (IsReplayedBy rule) IsReplayFault
         reader.old reader.new writer.old writer.new result }
 {
-    let input = ReplayInput::new(alloc, Width::PROFILE, rule)?;
-    let lines = read_lines(alloc, input, reader)?;
-    let outcome = finish_replay(alloc, lines)?;
-    let mut room = held_room(alloc)?;
-    write_report(&outcome, &mut room, writer)?;
-    Ok(())
+    laws::report_of_all_flows_is_the_report();
+    replay_text_of(&Selection::All, rule, alloc, reader, writer)
 }
 
 /// Replays as [`replay_text_by`] does, and writes the report of the flows that are selected: the
@@ -109,11 +106,44 @@ pub fn replay_text_of<R: Read, W: Write>(
     ensures { RunsEngine R.remaining W.contents (IsReplayedOf selected.now rule) IsReplayFault
         reader.old reader.new writer.old writer.new result }
 {
-    if let Selection::All = selected {
-        laws::report_of_all_flows_is_the_report();
-        return replay_text_by(rule, alloc, reader, writer);
+    if leaves_none_out(selected) {
+        return replay_whole(selected, rule, alloc, reader, writer);
     }
     replay_in_part(selected, rule, alloc, reader, writer)
+}
+
+/// Whether each flow is selected that a trace may set up.
+fn leaves_none_out(selected: &Selection) -> bool
+    ensures all { IsTrue result → (k : ℕ) → k < 64 → is_selected selected.now k ≡ true }
+    ensures some { IsFalse result → (k : ℕ) × (k < 64) × (is_selected selected.now k ≡ false) }
+{
+    for flow in 0..64 {
+        if !selected.has(flow) {
+            return false;
+        }
+    }
+    true
+}
+
+/// Replays all that comes in, and writes the report of the flows that are selected.
+fn replay_whole<R: Read, W: Write>(
+    selected: &Selection,
+    rule: LossRule,
+    alloc: Global,
+    reader: &mut Device<R>,
+    writer: &mut Device<W>,
+) -> Result<(), EngineFault>
+    requires reader { IsFresh reader.old }
+    requires writer { IsFresh writer.old }
+    ensures { RunsEngine R.remaining W.contents (IsReplayedOf selected.now rule) IsReplayFault
+        reader.old reader.new writer.old writer.new result }
+{
+    let input = ReplayInput::new(alloc, Width::PROFILE, rule)?;
+    let lines = read_lines(alloc, input, reader)?;
+    let outcome = finish_replay(alloc, lines)?;
+    let mut room = held_room(alloc)?;
+    write_report_of(&outcome, selected, &mut room, writer)?;
+    Ok(())
 }
 
 /// Replays what comes in but for what the bursts of flows that aren't selected carry, and writes

@@ -39,7 +39,7 @@ pub enum TraceLine {
     Gap(Decision),
 }
 
-/// What a line says of a burst, if the field of its bytes is hexadecimal, at which nobody looked.
+/// What a line says of a burst if the field of its bytes is hexadecimal, which wasn't looked at yet.
 #[derive(Debug, Clone, Copy)]
 pub struct PeekedBurst<'a> {
     /// Its channel, below how many the receiver has.
@@ -225,9 +225,9 @@ fn read_burst(alloc: Global, width: Width, rest: &[u8]) -> Result<TraceLine, Lin
     Ok(TraceLine::Input { channel, input })
 }
 
-/// What `burst <channel> <number> ok|bad <hex>` says, by what follows the first word, if its bytes
-/// are hexadecimal, at which it doesn't look. None where another word is faulty, or where there are
-/// more words or fewer.
+/// What `burst <channel> <number> ok|bad <hex>` says, by what follows the first word, if the last
+/// one is hexadecimal, at which it doesn't look. None where another word is faulty, or where there
+/// are fewer words; where there are more, it is none, or its last field isn't hexadecimal.
 pub fn peek_burst(width: Width, rest: &[u8]) -> Option<PeekedBurst<'_>>
     ensures channel { IfSome result (λ burst. burst.channel < width.channels) }
     ensures carried { (ring : ℕ) → IfSome result (λ burst. (bytes : List ℕ)
