@@ -23,7 +23,8 @@ use Rattle.texts.specs.Trace.Place.{Said, nothing_said_in, with_line, trace_form
 use Rattle.texts.proofs.OneTraceLine.{channel_in_range}
 use Rattle.texts.proofs.TraceChecks.{read_passes_in, read_keeps_shape}
 use Rattle.answers.proofs.Everywhere.{all_append}
-use Rattle.answers.proofs.ReadTraces.{EntryHasBytes, HaveBytes, line-bytes, read-more}
+use Rattle.answers.specs.Room.{EntryHasBytes}
+use Rattle.answers.proofs.ReadTraces.{HaveBytes, line-bytes, read-more}
 use Rattle.answers.proofs.SomeText.{some_setup}
 use Rattle.answers.proofs.SomeHappening.{IsSound, entries_happen}
 

@@ -25,3 +25,4 @@ pub mod GivenFlows
 pub mod SomeHappening
 pub mod HappeningOfLines
 pub mod ToldElsewhere
+pub mod ToldOfWhole

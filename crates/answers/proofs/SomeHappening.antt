@@ -227,46 +227,61 @@ module _ (made : TableSetup) (can : CanBeOpenedWithin made.channels made.rows (l
 
     -- ---- one more
 
-    module _ (one : HandedIn) (of_trace : IsOfTrace made.channels one) (request : Option Request) (gives : GivesFor handed given one request) where
-      abbrev given_more : List Given
-      given_more = asked_in request ++ gives.gives
+    -- What one thing more brings: what is given for it, and what is told of it.
+    pub record OneMore (one : HandedIn) : Type 0 where
+      pub of_trace : IsOfTrace made.channels one
+      pub more : List Given
+      pub told : List Happening
+      pub tells : Tells made handed one told
+      pub answered : (channel : ℕ) → channel < made.channels → AreAnswered (lane_of made channel) (answered_on channel (handed ++ one ∷ []))
+      pub requests : (channel : ℕ) → requests_given channel (given ++ more) ≡ requests_of (answered_on channel (handed ++ one ∷ []))
+      pub flows : (k : ℕ) (flow_record : FlowRecord) → slice_get made.records k ≡ Some flow_record
+          → GivesBytes any_header (flow_setup made k flow_record) (came_to made (handed ++ one ∷ []) k flow_record) (frames_of k (given ++ more))
+      pub others : (k : ℕ) → length made.records ≤ k → frames_of k (given ++ more) ≡ []
 
-      module _ (answered : (channel : ℕ) → channel < made.channels → AreAnswered (lane_of made channel) (answered_on channel (handed ++ one ∷ [])))
-          (asks : (channel : ℕ) → requests_of (answered_on channel (handed ++ one ∷ [])) ≡ requests_of (answered_on channel handed) ++ requests_given channel (asked_in request)) where
-        requests_then : (channel : ℕ) → requests_given channel (given ++ given_more) ≡ requests_of (answered_on channel (handed ++ one ∷ []))
-        requests_then channel =
-            filter_map-append (request_on channel) given given_more
-            ∙ ap (λ (t : List Request). t ++ requests_given channel given_more) (was.requests channel)
-            ∙ ap (λ (t : List Request). requests_of (answered_on channel handed) ++ t)
-            (filter_map-append (request_on channel) (asked_in request) gives.gives
-            ∙ ap (λ (t : List Request). requests_given channel (asked_in request) ++ t) (gives.no_requests channel)
-            ∙ append-nil (requests_given channel (asked_in request)))
-            ∙ sym (asks channel)
+    -- with it all is given that comes of what was handed in
+    pub so_far_with : (one : HandedIn) → (it : OneMore one) → IsGivenSoFar made (handed ++ one ∷ []) (given ++ it.more)
+    so_far_with one it = record {
+      answered = it.answered;
+      requests = it.requests;
+      flows = λ k flow_record there. let gives = it.flows k flow_record there in (gives.counts, gives.given);
+      others = it.others;
+    }
 
-        so_far : IsGivenSoFar made (handed ++ one ∷ []) (given ++ given_more)
-        so_far = record {
-          answered = answered;
-          requests = requests_then;
-          flows = λ k flow_record there. let it = gives.flows k flow_record there in (it.counts, it.given);
-          others = gives.others;
-        }
+    pub happened_with : (one : HandedIn) → (it : OneMore one) → HappenedSoFar (handed ++ one ∷ []) (given ++ it.more) (happened ++ (map Gave it.more ++ it.told))
+    happened_with one it = record {
+      has_happened = one_more it.more one it.told was.has_happened (so_far_with one it) it.tells;
+      each = All-push (IsOfTrace made.channels) handed one was.each it.of_trace;
+      answered = it.answered;
+      requests = it.requests;
+      flows = it.flows;
+      others = it.others;
+    }
 
-        happened_more : (told : List Happening) → Tells made handed one told
-            → HappenedSoFar (handed ++ one ∷ []) (given ++ given_more) (happened ++ (map Gave given_more ++ told))
-        happened_more told tells = record {
-          has_happened = one_more given_more one told was.has_happened so_far tells;
-          each = All-push (IsOfTrace made.channels) handed one was.each of_trace;
-          answered = answered;
-          requests = requests_then;
-          flows = gives.flows;
-          others = gives.others;
-        }
+    module _ (one : HandedIn) (of_trace : IsOfTrace made.channels one) (request : Option Request) (gives : GivesFor handed given one request)
+        (answered : (channel : ℕ) → channel < made.channels → AreAnswered (lane_of made channel) (answered_on channel (handed ++ one ∷ [])))
+        (asks : (channel : ℕ) → requests_of (answered_on channel (handed ++ one ∷ [])) ≡ requests_of (answered_on channel handed) ++ requests_given channel (asked_in request)) where
+      requests_then : (channel : ℕ) → requests_given channel (given ++ (asked_in request ++ gives.gives)) ≡ requests_of (answered_on channel (handed ++ one ∷ []))
+      requests_then channel =
+          filter_map-append (request_on channel) given (asked_in request ++ gives.gives)
+          ∙ ap (λ (t : List Request). t ++ requests_given channel (asked_in request ++ gives.gives)) (was.requests channel)
+          ∙ ap (λ (t : List Request). requests_of (answered_on channel handed) ++ t)
+          (filter_map-append (request_on channel) (asked_in request) gives.gives
+          ∙ ap (λ (t : List Request). requests_given channel (asked_in request) ++ t) (gives.no_requests channel)
+          ∙ append-nil (requests_given channel (asked_in request)))
+          ∙ sym (asks channel)
 
-    -- what happens with one thing more
-    record MoreHappens (one : HandedIn) : Type 0 where
-      then_given : List Given
-      then_happened : List Happening
-      then_so_far : HappenedSoFar (handed ++ one ∷ []) then_given then_happened
+      with_told : (told : List Happening) → Tells made handed one told → OneMore one
+      with_told told tells = record {
+        of_trace = of_trace;
+        more = asked_in request ++ gives.gives;
+        told = told;
+        tells = tells;
+        answered = answered;
+        requests = requests_then;
+        flows = gives.flows;
+        others = gives.others;
+      }
 
     -- ---- an input
 
@@ -312,17 +327,12 @@ module _ (made : TableSetup) (can : CanBeOpenedWithin made.channels made.rows (l
       -- ---- of which nothing is admitted
 
       tells_none : (answer_reply : Reply) → TellsInput made handed channel one (Took (name_of_input channel one.input) answer_reply ∷ []) → admitted_by one.answer ≡ None
-          → MoreHappens (came channel one)
+          → OneMore (came channel one)
       tells_none answer_reply tells none =
           let gives = gives_none (came channel one) (ap (option_map (arrives_on channel)) none) in
-          record {
-            then_given = given ++ given_more (came channel one) within None gives;
-            then_happened = happened ++ (map Gave (given_more (came channel one) within None gives) ++ Took (name_of_input channel one.input) answer_reply ∷ []);
-            then_so_far =
-                happened_more (came channel one) within None gives answered_then
-                (asks_then None (λ admitted gives. let wrong = sym none ∙ gives in absurd cc) (λ _. refl) (λ r asked. absurd cc))
-                (Took (name_of_input channel one.input) answer_reply ∷ []) tells;
-          }
+          with_told (came channel one) within None gives answered_then
+          (asks_then None (λ admitted gives. let wrong = sym none ∙ gives in absurd cc) (λ _. refl) (λ r asked. absurd cc))
+          (Took (name_of_input channel one.input) answer_reply ∷ []) tells
 
       -- ---- of which a segment is admitted
 
@@ -364,7 +374,7 @@ module _ (made : TableSetup) (can : CanBeOpenedWithin made.channels made.rows (l
               (subst (λ (a : Admitted). IsTold (begun_with made admitted.flow flow_record (flow_inputs (length made.records) handed)) its_comings channel a.segment telling.0) also
               (subst (λ (s : FlowSetup). IsTold s its_comings channel admitted.segment telling.0) (sym (begun_once made made.channels handed was.each admitted.flow flow_record)) telling.1))
 
-          takes_segment : MoreHappens (came channel one)
+          takes_segment : OneMore (came channel one)
           takes_segment =
               let it = came channel one in
               let gives = gives_some it admitted.request admitted.flow flow_record here (on_channel channel admitted.segment) (ap (option_map (arrives_on channel)) by) carried in
@@ -381,18 +391,13 @@ module _ (made : TableSetup) (can : CanBeOpenedWithin made.channels made.rows (l
                 stands = stands.1;
                 are = refl;
               } in
-              record {
-                then_given = given ++ given_more it within admitted.request gives;
-                then_happened = happened ++ (map Gave (given_more it within admitted.request gives) ++ told);
-                then_so_far =
-                    happened_more it within admitted.request gives answered_then
-                    (asks_then admitted.request (λ other gives. ap (λ (a : Admitted). a.request) (same_Some admitted other (sym by ∙ gives)))
-                    (λ none. let wrong = sym by ∙ none in absurd cc) of_channel) told tells;
-              }
+              with_told it within admitted.request gives answered_then
+              (asks_then admitted.request (λ other gives. ap (λ (a : Admitted). a.request) (same_Some admitted other (sym by ∙ gives)))
+              (λ none. let wrong = sym by ∙ none in absurd cc) of_channel) told tells
 
-      takes_one : MoreHappens (came channel one)
+      pub takes_one : OneMore (came channel one)
       takes_one = by_answer one.answer refl where
-        by_answer : (answer : Answer) → one.answer ≡ answer → MoreHappens (came channel one)
+        by_answer : (answer : Answer) → one.answer ≡ answer → OneMore (came channel one)
         by_answer (Ok None) answers =
             tells_none reply.Granted
             (record { reply = reply.Granted; says = answers; rightly = tt; standing = []; stands = refl; are = refl }) (ap (λ (a : Answer). admitted_by a) answers)
@@ -404,7 +409,7 @@ module _ (made : TableSetup) (can : CanBeOpenedWithin made.channels made.rows (l
             takes_segment admitted answers found.0 found.1
 
     takes_input : (channel : ℕ) (input : Input) → channel < made.channels → HasBytes input
-        → (one : HandedIn) × (entry_of one ≡ Some (entry.came channel input)) × MoreHappens one
+        → (one : HandedIn) × (entry_of one ≡ Some (entry.came channel input)) × OneMore one
     takes_input channel input within bytes =
         let answer = answer-to made.channels (lane_of made channel) can (answered_on channel handed) (was.answered channel within) input bytes in
         let one : AnsweredInput = record { input = input; answer = answer.0 } in
@@ -427,15 +432,11 @@ module _ (made : TableSetup) (can : CanBeOpenedWithin made.channels made.rows (l
       names_one = nat_lt flow (length made.records) && is_in_range decision
 
       decides_with : (gives : GivesFor handed given (decided flow decision) None) (told : List Happening) → TellsDecision made handed flow decision told
-          → MoreHappens (decided flow decision)
-      decides_with gives told tells = record {
-        then_given = given ++ given_more (decided flow decision) of_trace None gives;
-        then_happened = happened ++ (map Gave (given_more (decided flow decision) of_trace None gives) ++ told);
-        then_so_far = happened_more (decided flow decision) of_trace None gives answered_still asks_nothing told tells;
-      }
+          → OneMore (decided flow decision)
+      decides_with gives told tells = with_told (decided flow decision) of_trace None gives answered_still asks_nothing told tells
 
       -- one that is passed over
-      passes_over : names_one ≡ false → MoreHappens (decided flow decision)
+      passes_over : names_one ≡ false → OneMore (decided flow decision)
       passes_over out =
           decides_with (gives_none (decided flow decision) (ap (λ (b : Bool). if b then Some (decides_of flow decision) else None) out)) (Decided flow decision_reply.PassedOver ∷ [])
           (record { reply = decision_reply.PassedOver; passed_over = (λ _. out, λ _. refl); rightly = tt; standing = []; stands = refl; are = refl })
@@ -461,7 +462,7 @@ module _ (made : TableSetup) (can : CanBeOpenedWithin made.channels made.rows (l
             (subst (λ (s : FlowSetup). IsToldLost s (came_to made handed flow flow_record) (decision_event decision) loss.0)
             (sym (begun_once made made.channels handed was.each flow flow_record)) loss.1)
 
-        decides : MoreHappens (decided flow decision)
+        decides : OneMore (decided flow decision)
         decides =
             let it = decided flow decision in
             let gives = gives_some it None flow flow_record here (handed_in (decision_event decision))
@@ -478,13 +479,13 @@ module _ (made : TableSetup) (can : CanBeOpenedWithin made.channels made.rows (l
               are = refl;
             })
 
-      takes_decision : MoreHappens (decided flow decision)
+      pub takes_decision : OneMore (decided flow decision)
       takes_decision = by_flag names_one refl where
         within_of : (a b : Bool) → (a && b) ≡ true → a ≡ true
         within_of true b is = refl
         within_of false b is = is
 
-        by_flag : (names : Bool) → names_one ≡ names → MoreHappens (decided flow decision)
+        by_flag : (names : Bool) → names_one ≡ names → OneMore (decided flow decision)
         by_flag false is = passes_over is
         by_flag true is =
             let found = element_at made.records flow (ltb-true flow (length made.records) (within_of (nat_lt flow (length made.records)) (is_in_range decision) is)) in
@@ -505,10 +506,10 @@ module _ (made : TableSetup) (can : CanBeOpenedWithin made.channels made.rows (l
     pub are : filter_map entry_of handed ≡ entries
 
   one_entry : (handed : List HandedIn) (given : List Given) (happened : List Happening) (was : HappenedSoFar handed given happened) (e : Entry) → IsSound e
-      → (one : HandedIn) × (entry_of one ≡ Some e) × MoreHappens handed given happened was one
+      → (one : HandedIn) × (entry_of one ≡ Some e) × OneMore handed given happened was one
   one_entry handed given happened was (entry.came channel input) sound = takes_input handed given happened was channel input sound.0 sound.1
   one_entry handed given happened was (entry.decided decision) sound = by_upto decision.upto refl where
-    by_upto : (upto : Option ℕ) → decision.upto ≡ upto → (one : HandedIn) × (entry_of one ≡ Some (entry.decided decision)) × MoreHappens handed given happened was one
+    by_upto : (upto : Option ℕ) → decision.upto ≡ upto → (one : HandedIn) × (entry_of one ≡ Some (entry.decided decision)) × OneMore handed given happened was one
     by_upto None is = (
       decided decision.flow Gap,
       ap (λ (o : Option ℕ). Some (entry.decided (record { flow = decision.flow; upto = o }))) (sym is),
@@ -526,9 +527,9 @@ module _ (made : TableSetup) (can : CanBeOpenedWithin made.channels made.rows (l
       let next = one_entry so.handed so.given so.happened so.so_far e sound.0 in
       let then_so : EntriesHappen (before ++ e ∷ []) = record {
         handed = so.handed ++ next.0 ∷ [];
-        given = next.2.then_given;
-        happened = next.2.then_happened;
-        so_far = next.2.then_so_far;
+        given = so.given ++ next.2.more;
+        happened = so.happened ++ (map Gave next.2.more ++ next.2.told);
+        so_far = happened_with so.handed so.given so.happened so.so_far next.0 next.2;
         are =
             filter_map-append entry_of so.handed (next.0 ∷ []) ∙ ap (λ (t : List Entry). t ++ cons_option (entry_of next.0) []) so.are
             ∙ ap (λ (o : Option Entry). before ++ cons_option o []) next.1;

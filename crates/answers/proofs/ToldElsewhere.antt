@@ -109,7 +109,7 @@ same_refusal why other same =
 
 -- ---- names
 
-same_name : (channel : ℕ) (input other : Input) → LooksLike input other → name_of_input channel other ≡ name_of_input channel input
+pub same_name : (channel : ℕ) (input other : Input) → LooksLike input other → name_of_input channel other ≡ name_of_input channel input
 same_name channel (Grant number sid bytes) other looks = ap (name_of_input channel) looks
 same_name channel (Burst number hcs_ok bytes) (Grant n sid size) looks = absurd looks
 same_name channel (Burst number hcs_ok bytes) (Burst n also more) looks = ap (λ (m : ℕ). name_of_input channel (Burst m hcs_ok bytes)) looks.0
@@ -174,7 +174,7 @@ module _ (chosen : ℕ → Bool) where
   zip_if false one other ones others here rest = rest
 
   -- on each channel came inputs in place of others
-  answers_for : (handed others : List HandedIn) → AllZip InPlace handed others → (on : ℕ) → AllZip (AnswersFor chosen) (answered_on on handed) (answered_on on others)
+  pub answers_for : (handed others : List HandedIn) → AllZip InPlace handed others → (on : ℕ) → AllZip (AnswersFor chosen) (answered_on on handed) (answered_on on others)
   answers_for [] [] all on = tt
   answers_for [] (other ∷ others) all on = absurd all
   answers_for (one ∷ handed) [] all on = absurd all
@@ -216,7 +216,7 @@ module _ (chosen : ℕ → Bool) where
     same_behind (Some one) xs ys same = ap (λ (t : List FlowInput). cons_option (if one.flow == k then Some one.input else None) t) same
 
     -- and so is all that comes to it
-    inputs_for : (n : ℕ) (handed others : List HandedIn) → AllZip InPlace handed others → inputs_at k (flow_inputs n others) ≡ inputs_at k (flow_inputs n handed)
+    pub inputs_for : (n : ℕ) (handed others : List HandedIn) → AllZip InPlace handed others → inputs_at k (flow_inputs n others) ≡ inputs_at k (flow_inputs n handed)
     inputs_for n [] [] all = refl
     inputs_for n [] (other ∷ others) all = absurd all
     inputs_for n (one ∷ handed) [] all = absurd all
@@ -237,7 +237,7 @@ module _ (selected : Selection) (made : TableSetup) (can : CanBeOpenedWithin mad
 
   -- ---- what is given
 
-  given_for : (handed others : List HandedIn) (given also : List Given) → AllZip (InPlace chosen) handed others → IsGivenSoFar made handed given
+  pub given_for : (handed others : List HandedIn) (given also : List Given) → AllZip (InPlace chosen) handed others → IsGivenSoFar made handed given
       → IsGivenSoFar made others also → AreGivenFor selected given also
   given_for handed others given also all is are = record {
     frames = λ k of_selected. of_flow k of_selected (slice_get_cases made.records k).1;
@@ -484,7 +484,7 @@ module _ (selected : Selection) (made : TableSetup) (can : CanBeOpenedWithin mad
   one_in_place handed others all (decided flow decision) (restarted another first) e given also within is stands so_far so_too = absurd cc
   one_in_place handed others all (restarted flow first) other e given also within is stands so_far so_too = absurd within
 
-  one_alike : (handed others : List HandedIn) → AllZip (InPlace chosen) handed others → (one other : HandedIn) (told telling : List Happening) (given : List Given)
+  pub one_alike : (handed others : List HandedIn) → AllZip (InPlace chosen) handed others → (one other : HandedIn) (told telling : List Happening) (given : List Given)
       → IsOfTrace made.channels one → InPlace chosen one other → IsGivenSoFar made (handed ++ one ∷ []) given → Tells made handed one told → Tells made others other telling
       → filter (is_told_for selected) told ≡ filter (is_told_for selected) telling
   one_alike handed others all (came channel one) (came place other) told telling given within here so_far is are =
