@@ -1,7 +1,6 @@
 -- Something happens as what lines say is handed in, whether or not a receiver made it.
-use Rattle.std.proofs.Common.{◌≡◌, ◌≢◌, ℕ, ◌<◌, ◌≤◌, ◌==◌, inl, inr, Bool, true, false, Option, Some, None, Ok, Err, All, List, [], ◌∷◌, ◌++◌, length, map, filter_map, refl, sym, ap, subst, ◌∙◌, arith, append-nil, append_assoc, eq-eqb, ne_eqb, ltb-true}
+use Rattle.std.proofs.Common.{◌≡◌, ◌≢◌, ℕ, ◌<◌, ◌≤◌, ◌==◌, inl, inr, Bool, true, false, Option, Some, None, Ok, Err, All, List, [], ◌∷◌, ◌++◌, length, map, refl, sym, ap, subst, ◌∙◌, arith, append-nil, append_assoc, eq-eqb, ne_eqb, ltb-true}
 use Rattle.std.specs.Prelude.{◌&&◌, nat_lt, if◌then◌else◌, MatchOption, slice_get}
-use Rattle.std.specs.List.{AllByRecursion, cons_option}
 use Rattle.std.specs.Option.{option_map}
 use Rattle.std.proofs.lemmas.Bool.{cases_eq, false≢true}
 use Rattle.std.proofs.lemmas.List.Elements.{All-nil, All-push, filter_map-append}
@@ -28,10 +27,9 @@ use Rattle.bonded_flows.specs.declared.decision.FlowDecision.TheVariants.{Gap, G
 use Rattle.bonded_flows.specs.declared.told.Told.{Told}
 use Rattle.bonded_flows.specs.ByRule.{decision_event, is_in_range, IsTold, IsToldLost}
 use Rattle.bonded_flows.specs.FlowSetup.{FlowSetup, ruled_flow}
-use Rattle.bonded_flows.specs.Parts.{FlowInput, comes, Part, last_part, begun_at}
-use Rattle.bonded_flows.specs.Table.{TableSetup, TableInput, flow_setup, inputs_at}
-use Rattle.bonded_flows.proofs.PartTurns.{last-comes}
-use Rattle.bonded_flows.proofs.TableTurns.{of_flow, inputs-own, inputs-others, frames-own, frames-others, no-request}
+use Rattle.bonded_flows.specs.Parts.{comes}
+use Rattle.bonded_flows.specs.Table.{TableSetup, flow_setup}
+use Rattle.bonded_flows.proofs.TableTurns.{of_flow, frames-own, frames-others, no-request}
 use Rattle.receiver.specs.declared.reply.Reply.{Reply}
 use Rattle.receiver.specs.declared.reply.Reply.TheVariants as reply
 use Rattle.receiver.specs.declared.reply.DecisionReply.TheVariants as decision_reply
@@ -43,61 +41,16 @@ use Rattle.receiver.specs.Receiving.{IsToldRightly, IsLossToldRightly}
 use Rattle.receiver.specs.Replaying.{entry_of, IsGapDecision}
 use Rattle.receiver.proofs.AnsweredInputs.{admitted-flow, admitted-channel, one_if, came-on, request_in, asked-on, requests-one}
 use Rattle.receiver.proofs.AskedRequests.{frames-asked}
-use Rattle.receiver.proofs.TakenInOrder.{one-part_last}
 use Rattle.texts.specs.declared.follow.happening.Happening.{Happening}
 use Rattle.texts.specs.declared.follow.happening.Happening.TheVariants.{Gave, Took, Decided, Stands}
 use Rattle.texts.specs.AnyHeader.{any_header}
 use Rattle.texts.specs.FollowedReport.{came_to}
 use Rattle.texts.specs.Happening.{name_of_input}
 use Rattle.texts.specs.Happened.{IsOfTrace, IsGivenSoFar, IsStanding, TellsStanding, TellsInput, TellsDecision, Tells, HasHappened, nothing, one_more}
-use Rattle.texts.proofs.GivenOfTrace.{all_come}
 use Rattle.answers.specs.Bytes.{AreBytes, Brings}
 use Rattle.answers.proofs.AdmittedPayloads.{admitted-payload}
 use Rattle.answers.proofs.GivenFlows.{GivesBytes, gives_nothing, expects, expects_so, holds_so, gives_more, gives_then, some_told, some_loss}
-
--- ---- one thing more that is handed in
-
-module _ (made : TableSetup) (handed : List HandedIn) (one : HandedIn) where
-  abbrev flow_count : ℕ
-  flow_count = length made.records
-
-  -- to no flow, or to one
-  inputs_stay : flow_input_of flow_count one ≡ None → flow_inputs flow_count (handed ++ one ∷ []) ≡ flow_inputs flow_count handed
-  inputs_stay none =
-      filter_map-append (flow_input_of flow_count) handed (one ∷ [])
-      ∙ ap (λ (o : Option TableInput). flow_inputs flow_count handed ++ cons_option o []) none ∙ append-nil (flow_inputs flow_count handed)
-
-  inputs_more : (k : ℕ) (coming : Coming) → flow_input_of flow_count one ≡ Some (of_flow k (comes coming))
-      → flow_inputs flow_count (handed ++ one ∷ []) ≡ flow_inputs flow_count handed ++ map (of_flow k) (comes coming ∷ [])
-  inputs_more k coming is =
-      filter_map-append (flow_input_of flow_count) handed (one ∷ []) ∙ ap (λ (o : Option TableInput). flow_inputs flow_count handed ++ cons_option o []) is
-
-  came_stays : (k : ℕ) (flow_record : FlowRecord) → flow_input_of flow_count one ≡ None → came_to made (handed ++ one ∷ []) k flow_record ≡ came_to made handed k flow_record
-  came_stays k flow_record none =
-      ap (λ (history : List TableInput). (last_part (flow_setup made k flow_record) (inputs_at k history)).comings) (inputs_stay none)
-
-  module _ (k : ℕ) (coming : Coming) (is : flow_input_of flow_count one ≡ Some (of_flow k (comes coming))) where
-    came_elsewhere : (other : ℕ) (flow_record : FlowRecord) → k ≢ other → came_to made (handed ++ one ∷ []) other flow_record ≡ came_to made handed other flow_record
-    came_elsewhere other flow_record apart =
-        let setup = flow_setup made other flow_record in
-        ap (λ (history : List TableInput). (last_part setup (inputs_at other history)).comings) (inputs_more k coming is)
-        ∙ ap (λ (inputs : List FlowInput). (last_part setup inputs).comings) (inputs-others k (flow_inputs flow_count handed) (comes coming ∷ []) [] [] other apart)
-
-    came_here : (flow_record : FlowRecord) → came_to made (handed ++ one ∷ []) k flow_record ≡ came_to made handed k flow_record ++ coming ∷ []
-    came_here flow_record =
-        let setup = flow_setup made k flow_record in
-        let history = flow_inputs flow_count handed in
-        ap (λ (history : List TableInput). (last_part setup (inputs_at k history)).comings) (inputs_more k coming is)
-        ∙ ap (λ (inputs : List FlowInput). (last_part setup inputs).comings) (inputs-own k history (comes coming ∷ []) [] [])
-        ∙ ap (λ (part : Part). part.comings) (last-comes setup.flow_record.first [] (inputs_at k history) (coming ∷ []))
-
--- a flow of a trace never began anew
-begun_once : (made : TableSetup) (channels : ℕ) (handed : List HandedIn) → All (IsOfTrace channels) handed → (k : ℕ) (flow_record : FlowRecord)
-    → begun_with made k flow_record (flow_inputs (length made.records) handed) ≡ flow_setup made k flow_record
-begun_once made channels handed each k flow_record =
-    let setup = flow_setup made k flow_record in
-    let found = all_come channels (length made.records) k handed each in
-    ap (λ (part : Part). begun_at setup part.first) (ap (last_part setup) found.1 ∙ one-part_last setup found.0)
+use Rattle.answers.proofs.MoreComings.{came_stays, came_elsewhere, came_here, begun_once}
 
 module _ (made : TableSetup) (can : CanBeOpenedWithin made.channels made.rows (length made.records)) where
   -- What happened so far. What flows keep is of bytes.
@@ -110,6 +63,7 @@ module _ (made : TableSetup) (can : CanBeOpenedWithin made.channels made.rows (l
         → GivesBytes any_header (flow_setup made k flow_record) (came_to made handed k flow_record) (frames_of k given)
     pub others : (k : ℕ) → length made.records ≤ k → frames_of k given ≡ []
 
+  -- nothing, where nothing was handed in
   pub nothing_so_far : HappenedSoFar [] [] []
   nothing_so_far = record {
     has_happened = nothing;
@@ -248,6 +202,7 @@ module _ (made : TableSetup) (can : CanBeOpenedWithin made.channels made.rows (l
       others = it.others;
     }
 
+    -- and it happened besides
     pub happened_with : (one : HandedIn) → (it : OneMore one) → HappenedSoFar (handed ++ one ∷ []) (given ++ it.more) (happened ++ (map Gave it.more ++ it.told))
     happened_with one it = record {
       has_happened = one_more it.more one it.told was.has_happened (so_far_with one it) it.tells;
@@ -408,7 +363,8 @@ module _ (made : TableSetup) (can : CanBeOpenedWithin made.channels made.rows (l
             let found = element_at made.records admitted.flow (exists admitted answers) in
             takes_segment admitted answers found.0 found.1
 
-    takes_input : (channel : ℕ) (input : Input) → channel < made.channels → HasBytes input
+    -- whatever input comes, it has an answer, and something happens
+    pub takes_input : (channel : ℕ) (input : Input) → channel < made.channels → HasBytes input
         → (one : HandedIn) × (entry_of one ≡ Some (entry.came channel input)) × OneMore one
     takes_input channel input within bytes =
         let answer = answer-to made.channels (lane_of made channel) can (answered_on channel handed) (was.answered channel within) input bytes in
@@ -490,53 +446,3 @@ module _ (made : TableSetup) (can : CanBeOpenedWithin made.channels made.rows (l
         by_flag true is =
             let found = element_at made.records flow (ltb-true flow (length made.records) (within_of (nat_lt flow (length made.records)) (is_in_range decision) is)) in
             decides is found.0 found.1
-
-  -- ---- entries one after another
-
-  abbrev pub IsSound : Entry → Type 0
-  IsSound (entry.came channel input) = (channel < made.channels) × HasBytes input
-  IsSound (entry.decided decision) = Unit {0}
-
-  -- What happens up to here.
-  pub record EntriesHappen (entries : List Entry) : Type 0 where
-    pub handed : List HandedIn
-    pub given : List Given
-    pub happened : List Happening
-    pub so_far : HappenedSoFar handed given happened
-    pub are : filter_map entry_of handed ≡ entries
-
-  one_entry : (handed : List HandedIn) (given : List Given) (happened : List Happening) (was : HappenedSoFar handed given happened) (e : Entry) → IsSound e
-      → (one : HandedIn) × (entry_of one ≡ Some e) × OneMore handed given happened was one
-  one_entry handed given happened was (entry.came channel input) sound = takes_input handed given happened was channel input sound.0 sound.1
-  one_entry handed given happened was (entry.decided decision) sound = by_upto decision.upto refl where
-    by_upto : (upto : Option ℕ) → decision.upto ≡ upto → (one : HandedIn) × (entry_of one ≡ Some (entry.decided decision)) × OneMore handed given happened was one
-    by_upto None is = (
-      decided decision.flow Gap,
-      ap (λ (o : Option ℕ). Some (entry.decided (record { flow = decision.flow; upto = o }))) (sym is),
-      takes_decision handed given happened was decision.flow Gap tt,
-    )
-    by_upto (Some number) is = (
-      decided decision.flow (GapTo number),
-      ap (λ (o : Option ℕ). Some (entry.decided (record { flow = decision.flow; upto = o }))) (sym is),
-      takes_decision handed given happened was decision.flow (GapTo number) tt,
-    )
-
-  entries_after : (before rest : List Entry) → EntriesHappen before → AllByRecursion IsSound rest → EntriesHappen (before ++ rest)
-  entries_after before [] so sound = subst EntriesHappen (sym (append-nil before)) so
-  entries_after before (e ∷ rest) so sound =
-      let next = one_entry so.handed so.given so.happened so.so_far e sound.0 in
-      let then_so : EntriesHappen (before ++ e ∷ []) = record {
-        handed = so.handed ++ next.0 ∷ [];
-        given = so.given ++ next.2.more;
-        happened = so.happened ++ (map Gave next.2.more ++ next.2.told);
-        so_far = happened_with so.handed so.given so.happened so.so_far next.0 next.2;
-        are =
-            filter_map-append entry_of so.handed (next.0 ∷ []) ∙ ap (λ (t : List Entry). t ++ cons_option (entry_of next.0) []) so.are
-            ∙ ap (λ (o : Option Entry). before ++ cons_option o []) next.1;
-      } in
-      subst EntriesHappen (append_assoc before (e ∷ []) rest) (entries_after (before ++ e ∷ []) rest then_so sound.1)
-
-  -- whatever comes in, something happens
-  pub entries_happen : (entries : List Entry) → AllByRecursion IsSound entries → EntriesHappen entries
-  entries_happen entries sound =
-      entries_after [] entries (record { handed = []; given = []; happened = []; so_far = nothing_so_far; are = refl }) sound

@@ -39,7 +39,8 @@ use Rattle.answers.proofs.GivenFlows.{GivesBytes}
 use Rattle.answers.proofs.OtherItems.{requests-same}
 use Rattle.answers.proofs.SomeHappening.{HappenedSoFar, nothing_so_far, OneMore, happened_with, takes_one, takes_decision}
 use Rattle.answers.proofs.StandIns.{CountsAs, AnswersFor, some_answer}
-use Rattle.answers.proofs.ToldElsewhere.{InPlace, answers_for, inputs_for, one_alike, same_name}
+use Rattle.answers.proofs.HandedInPlace.{InPlace, answers_for, inputs_for, same_name}
+use Rattle.answers.proofs.ToldElsewhere.{one_alike}
 
 -- ---- what a test keeps
 
@@ -118,6 +119,7 @@ module _ (selected : Selection) where
   other_flow flow k frame apart = ap (λ (b : Bool). if b then Some frame else None) (ne_eqb flow k apart)
 
   module _ (k : ℕ) (is : is_selected selected k ≡ true) where
+    -- a frame that is left out is of another flow
     not_of : (given : Given) → is_kept given ≡ false → frame_of k given ≡ None
     not_of (Frame flow frame) out = other_flow flow k frame (λ same. false≢true (sym out ∙ ap (is_selected selected) same ∙ is))
     not_of (Asked request) out = refl
@@ -129,6 +131,7 @@ module _ (selected : Selection) where
     no_rest_frames = none_of_kept (left_out is_kept) (frame_of k) (λ given out. not_of given (not_true (is_kept given) out))
 
   module _ (k : ℕ) (is : is_selected selected k ≡ false) where
+    -- a frame that is kept is of another flow
     not_kept : (given : Given) → is_kept given ≡ true → frame_of k given ≡ None
     not_kept (Frame flow frame) kept = other_flow flow k frame (λ same. false≢true (sym is ∙ ap (is_selected selected) (sym same) ∙ kept))
     not_kept (Asked request) kept = refl
@@ -140,6 +143,7 @@ module _ (selected : Selection) where
     rest_frames = picked_of_kept (left_out is_kept) (frame_of k) (λ given out. not_kept given (not_false (is_kept given) out))
 
   module _ (channel : ℕ) where
+    -- no request is left out
     no_request_out : (given : Given) → is_kept given ≡ false → request_on channel given ≡ None
     no_request_out (Frame flow frame) out = refl
     no_request_out (Asked request) out = absurd cc
@@ -248,6 +252,7 @@ module _ (selected : Selection) (made : TableSetup) (can : CanBeOpenedWithin mad
       by_flag true is = frames_selected k is ∙ so_too.others k past
       by_flag false is = frames_unselected k is ∙ it.others k past
 
+    -- this happens with it
     it_beside : OneMore made can handed given happened was other
     it_beside = record {
       of_trace = it.of_trace;
@@ -290,6 +295,7 @@ module _ (selected : Selection) (made : TableSetup) (can : CanBeOpenedWithin mad
     here : InPlace chosen one other
     it : OneMore made can handed given happened was other
 
+  -- there is something
   in_its_place : (others handed : List HandedIn) (given : List Given) (happened : List Happening) (was : HappenedSoFar made can handed given happened)
       → AllZip (InPlace chosen) others handed → (one : HandedIn) (e : Entry) (also : List Given) → IsOfTrace made.channels one → IsGivenSoFar made (others ++ one ∷ []) also
       → EntryStandsIn chosen one e → EntryHasBytes e → InItsPlace handed given happened was one e
@@ -346,6 +352,7 @@ module _ (selected : Selection) (made : TableSetup) (can : CanBeOpenedWithin mad
             all_told others also so.handed so.given so.happened so.so_far so.given_same one its.other both its.it also_more so_too happening telling so.told_same (sym told);
       }
 
+  -- whatever happened for stand-ins
   pub happens_beside : {others : List HandedIn} {also : List Given} {happening : List Happening} → HasHappened made others also happening
       → All (IsOfTrace made.channels) others → (entries : List Entry) → AllZip (EntryStandsIn chosen) others entries → AllByRecursion EntryHasBytes entries
       → HappensBeside others also happening entries
