@@ -42,6 +42,7 @@ last_sliding flow x number before skips o last (inl is) =
 last_sliding flow x number before skips o last (inr is) =
     (o, subst (λ (t : List FlowEvent). IsLastSkip o t) (sym (ap (λ (t : List FlowEvent). before ++ t) is.1 ∙ append-nil before)) last)
 
+-- by each rule
 last_skip : (rule : LossRule) (flow : RuledFlow) (noted : Lasts) (fates : Fates) (number : ℕ) (skips : List FlowEvent) → AreSkips rule flow noted fates number skips
     → (o : Option ℕ) × IsLastSkip o skips
 last_skip Decided flow noted fates number skips are = (None, are)
@@ -60,11 +61,13 @@ verdict_in first width x segment (Decision declared) fates after changes = absur
 verdict_in first width x segment (DecisionTo declared) fates after changes = absurd changes
 verdict_in first width x segment (DecisionSkip skipped) fates after changes = absurd changes
 
+-- one event has one answer
 one_answer : (first width : ℕ) (event : FlowEvent) (answers : List Applied) (fates after : Fates) → Leads first width fates (event ∷ []) answers after
     → (x : ℕ) × (answer : Applied) × (between : Fates) × Changes first width x event answer fates between × (answers ≡ answer ∷ [])
 one_answer first width event answers fates after (x, answer, rest, between, expected, changes, leads, are) =
     (x, answer, between, changes, are ∙ ap (λ (t : List Applied). answer ∷ t) leads.0)
 
+-- no event stands in an empty list
 none_before : (before behind : List FlowEvent) (event : FlowEvent) → [] ≡ before ++ event ∷ behind → ⊥
 none_before [] behind event is = absurd cc
 none_before (first ∷ before) behind event is = absurd cc
@@ -97,9 +100,11 @@ module _ (check : List ℕ → Bool) (setup : FlowSetup) where
     pub expects : ℕ
     expects = number_of setup.flow_record.first was.given.outcome.x
 
+    -- its events led to its fates
     led_before : (answers : List Applied) × IsAfter setup.flow_record.first setup.flow_record.window was.given.events answers was.given.fates
     led_before = rules-lead setup.rule flow (no_lasts flow) no_fates comings was.given.events was.given.lasts was.given.fates was.given.ruled
 
+    -- which are those of what it gave
     same_fates : was.given.outcome.fates ≡ was.given.fates
     same_fates =
         (after-once setup.flow_record.first setup.flow_record.window was.given.events was.given.outcome.answers led_before.0 was.given.outcome.fates was.given.fates
@@ -108,6 +113,7 @@ module _ (check : List ℕ → Bool) (setup : FlowSetup) where
     expected_here : IsExpected was.given.fates was.given.outcome.x
     expected_here = subst (λ (f : Fates). IsExpected f was.given.outcome.x) same_fates was.given.outcome.expected
 
+    -- it is that of the index which is expected, however the rule is followed
     pub expects_so : (events : List FlowEvent) (lasts : Lasts) (fates : Fates) (x : ℕ) → AreRuled setup.rule flow comings events lasts fates → IsExpected fates x
         → expects ≡ number_of setup.flow_record.first x
     unfolding expects

@@ -64,6 +64,7 @@ module _ (check : List ℕ → Bool) (flow_record : FlowRecord) (events own : Li
     pub outcome : IsFlowOutcome check flow_record (events ++ own) (frames ++ more) grown
     pub same : outcome.fates ≡ after
 
+  -- its events lead to its fates
   reached : IsReached flow_record.first flow_record.window was.fates
   reached = (events, was.answers, was.after)
 
@@ -75,6 +76,7 @@ module _ (check : List ℕ → Bool) (flow_record : FlowRecord) (events own : Li
         fate-stays flow_record.first flow_record.window i fate own answers was.fates after reached leads (was.below.each i fate there);
   }
 
+  -- there is such an outcome
   pub grown_outcome : GrownOutcome
   grown_outcome =
       let expects = reached-expected flow_record.first flow_record.window after

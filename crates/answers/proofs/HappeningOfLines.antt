@@ -23,9 +23,10 @@ use Rattle.texts.specs.Trace.Place.{Said, nothing_said_in, with_line, trace_form
 use Rattle.texts.proofs.OneTraceLine.{channel_in_range}
 use Rattle.texts.proofs.TraceChecks.{read_passes_in, read_keeps_shape}
 use Rattle.answers.proofs.Everywhere.{all_append}
-use Rattle.answers.proofs.ReadTraces.{EntryHasBytes, HaveBytes, line-bytes, read-more}
+use Rattle.answers.specs.Room.{EntryHasBytes}
+use Rattle.answers.proofs.ReadTraces.{HaveBytes, line-bytes, read-more}
 use Rattle.answers.proofs.SomeText.{some_setup}
-use Rattle.answers.proofs.SomeHappening.{IsSound, entries_happen}
+use Rattle.answers.proofs.EntriesHappen.{IsSound, entries_happen}
 
 -- ---- each input came on a channel that there is
 
@@ -36,6 +37,7 @@ IsOnChannel channels (decided decision) = Unit {0}
 abbrev AreOnChannels : Said → Type 0
 AreOnChannels said = (0 < said.shape.channels) × AllByRecursion (IsOnChannel said.shape.channels) said.entries
 
+-- one line more
 channels_with : (said : Said) (fields : List (List ℕ)) (one : TraceLine) → Carries said.shape fields one → AreOnChannels said → AreOnChannels (with_line said one)
 channels_with said fields (line.Flow flow_record) carries are = are
 channels_with said fields (line.Sid row) carries are = are
@@ -88,6 +90,7 @@ module _ (rule : LossRule) (width : Width) (lines : List (List ℕ)) (said : Sai
         },
       )
 
+  -- there is such a setup, where the lines are few enough
   pub lines_happen : length lines < 2 ^ 48 → (happened : List Happening) × HappenedBy rule width lines happened
   lines_happen few =
       let count = read-more read in

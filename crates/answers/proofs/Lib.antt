@@ -22,6 +22,10 @@ pub mod OtherSide
 pub mod SpelledDigits
 pub mod GrownOutcome
 pub mod GivenFlows
+pub mod MoreComings
 pub mod SomeHappening
+pub mod EntriesHappen
 pub mod HappeningOfLines
+pub mod HandedInPlace
 pub mod ToldElsewhere
+pub mod ToldOfWhole

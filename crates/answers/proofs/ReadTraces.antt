@@ -21,7 +21,7 @@ use Rattle.texts.specs.Trace.Line.{TraceShape, AreFields, Carries, burst_line, f
 use Rattle.texts.specs.Trace.Place.{Said, nothing_said, with_line, trace_format}
 use Rattle.texts.proofs.TraceTags.{read_of_channels, times_of-channel, times_of-decisions, tags_name_senders}
 use Rattle.answers.specs.Bytes.{AreBytes}
-use Rattle.answers.specs.Room.{AreBurstsOfBytes}
+use Rattle.answers.specs.Room.{AreBurstsOfBytes, EntryHasBytes}
 use Rattle.answers.proofs.Everywhere.{all_append, all_given, all_at}
 use Rattle.answers.proofs.SomeWalk.{no_bytes}
 
@@ -30,11 +30,6 @@ pub spelled-bytes : (field bytes : List ℕ) → SpellsBytes field bytes → Are
 spelled-bytes field bytes (inl none) = subst AreBytes (sym none.1) no_bytes
 spelled-bytes field bytes (inr decoded) =
     λ k d within. let small = (decode_of-ok field bytes decoded).3 k in let same = get_or_default_zero bytes k d within in omega arith
-
--- an entry that is a burst is of bytes
-abbrev pub EntryHasBytes : Entry → Type 0
-EntryHasBytes (came channel input) = HasBytes input
-EntryHasBytes (decided decision) = Unit {0}
 
 burst-bytes : (shape : TraceShape) (fields : List (List ℕ)) (channel : ℕ) (input : Input) → Carries shape fields (line.Input channel input) → HasBytes input
 burst-bytes shape fields channel (Grant number sid bytes) carries = tt

@@ -1,7 +1,6 @@
 -- Something happens as what lines say is handed in, whether or not a receiver made it.
-use Rattle.std.proofs.Common.{◌≡◌, ◌≢◌, ℕ, ◌<◌, ◌≤◌, ◌==◌, inl, inr, Bool, true, false, Option, Some, None, Ok, Err, All, List, [], ◌∷◌, ◌++◌, length, map, filter_map, refl, sym, ap, subst, ◌∙◌, arith, append-nil, append_assoc, eq-eqb, ne_eqb, ltb-true}
+use Rattle.std.proofs.Common.{◌≡◌, ◌≢◌, ℕ, ◌<◌, ◌≤◌, ◌==◌, inl, inr, Bool, true, false, Option, Some, None, Ok, Err, All, List, [], ◌∷◌, ◌++◌, length, map, refl, sym, ap, subst, ◌∙◌, arith, append-nil, append_assoc, eq-eqb, ne_eqb, ltb-true}
 use Rattle.std.specs.Prelude.{◌&&◌, nat_lt, if◌then◌else◌, MatchOption, slice_get}
-use Rattle.std.specs.List.{AllByRecursion, cons_option}
 use Rattle.std.specs.Option.{option_map}
 use Rattle.std.proofs.lemmas.Bool.{cases_eq, false≢true}
 use Rattle.std.proofs.lemmas.List.Elements.{All-nil, All-push, filter_map-append}
@@ -28,10 +27,9 @@ use Rattle.bonded_flows.specs.declared.decision.FlowDecision.TheVariants.{Gap, G
 use Rattle.bonded_flows.specs.declared.told.Told.{Told}
 use Rattle.bonded_flows.specs.ByRule.{decision_event, is_in_range, IsTold, IsToldLost}
 use Rattle.bonded_flows.specs.FlowSetup.{FlowSetup, ruled_flow}
-use Rattle.bonded_flows.specs.Parts.{FlowInput, comes, Part, last_part, begun_at}
-use Rattle.bonded_flows.specs.Table.{TableSetup, TableInput, flow_setup, inputs_at}
-use Rattle.bonded_flows.proofs.PartTurns.{last-comes}
-use Rattle.bonded_flows.proofs.TableTurns.{of_flow, inputs-own, inputs-others, frames-own, frames-others, no-request}
+use Rattle.bonded_flows.specs.Parts.{comes}
+use Rattle.bonded_flows.specs.Table.{TableSetup, flow_setup}
+use Rattle.bonded_flows.proofs.TableTurns.{of_flow, frames-own, frames-others, no-request}
 use Rattle.receiver.specs.declared.reply.Reply.{Reply}
 use Rattle.receiver.specs.declared.reply.Reply.TheVariants as reply
 use Rattle.receiver.specs.declared.reply.DecisionReply.TheVariants as decision_reply
@@ -43,61 +41,16 @@ use Rattle.receiver.specs.Receiving.{IsToldRightly, IsLossToldRightly}
 use Rattle.receiver.specs.Replaying.{entry_of, IsGapDecision}
 use Rattle.receiver.proofs.AnsweredInputs.{admitted-flow, admitted-channel, one_if, came-on, request_in, asked-on, requests-one}
 use Rattle.receiver.proofs.AskedRequests.{frames-asked}
-use Rattle.receiver.proofs.TakenInOrder.{one-part_last}
 use Rattle.texts.specs.declared.follow.happening.Happening.{Happening}
 use Rattle.texts.specs.declared.follow.happening.Happening.TheVariants.{Gave, Took, Decided, Stands}
 use Rattle.texts.specs.AnyHeader.{any_header}
 use Rattle.texts.specs.FollowedReport.{came_to}
 use Rattle.texts.specs.Happening.{name_of_input}
 use Rattle.texts.specs.Happened.{IsOfTrace, IsGivenSoFar, IsStanding, TellsStanding, TellsInput, TellsDecision, Tells, HasHappened, nothing, one_more}
-use Rattle.texts.proofs.GivenOfTrace.{all_come}
 use Rattle.answers.specs.Bytes.{AreBytes, Brings}
 use Rattle.answers.proofs.AdmittedPayloads.{admitted-payload}
 use Rattle.answers.proofs.GivenFlows.{GivesBytes, gives_nothing, expects, expects_so, holds_so, gives_more, gives_then, some_told, some_loss}
-
--- ---- one thing more that is handed in
-
-module _ (made : TableSetup) (handed : List HandedIn) (one : HandedIn) where
-  abbrev flow_count : ℕ
-  flow_count = length made.records
-
-  -- to no flow, or to one
-  inputs_stay : flow_input_of flow_count one ≡ None → flow_inputs flow_count (handed ++ one ∷ []) ≡ flow_inputs flow_count handed
-  inputs_stay none =
-      filter_map-append (flow_input_of flow_count) handed (one ∷ [])
-      ∙ ap (λ (o : Option TableInput). flow_inputs flow_count handed ++ cons_option o []) none ∙ append-nil (flow_inputs flow_count handed)
-
-  inputs_more : (k : ℕ) (coming : Coming) → flow_input_of flow_count one ≡ Some (of_flow k (comes coming))
-      → flow_inputs flow_count (handed ++ one ∷ []) ≡ flow_inputs flow_count handed ++ map (of_flow k) (comes coming ∷ [])
-  inputs_more k coming is =
-      filter_map-append (flow_input_of flow_count) handed (one ∷ []) ∙ ap (λ (o : Option TableInput). flow_inputs flow_count handed ++ cons_option o []) is
-
-  came_stays : (k : ℕ) (flow_record : FlowRecord) → flow_input_of flow_count one ≡ None → came_to made (handed ++ one ∷ []) k flow_record ≡ came_to made handed k flow_record
-  came_stays k flow_record none =
-      ap (λ (history : List TableInput). (last_part (flow_setup made k flow_record) (inputs_at k history)).comings) (inputs_stay none)
-
-  module _ (k : ℕ) (coming : Coming) (is : flow_input_of flow_count one ≡ Some (of_flow k (comes coming))) where
-    came_elsewhere : (other : ℕ) (flow_record : FlowRecord) → k ≢ other → came_to made (handed ++ one ∷ []) other flow_record ≡ came_to made handed other flow_record
-    came_elsewhere other flow_record apart =
-        let setup = flow_setup made other flow_record in
-        ap (λ (history : List TableInput). (last_part setup (inputs_at other history)).comings) (inputs_more k coming is)
-        ∙ ap (λ (inputs : List FlowInput). (last_part setup inputs).comings) (inputs-others k (flow_inputs flow_count handed) (comes coming ∷ []) [] [] other apart)
-
-    came_here : (flow_record : FlowRecord) → came_to made (handed ++ one ∷ []) k flow_record ≡ came_to made handed k flow_record ++ coming ∷ []
-    came_here flow_record =
-        let setup = flow_setup made k flow_record in
-        let history = flow_inputs flow_count handed in
-        ap (λ (history : List TableInput). (last_part setup (inputs_at k history)).comings) (inputs_more k coming is)
-        ∙ ap (λ (inputs : List FlowInput). (last_part setup inputs).comings) (inputs-own k history (comes coming ∷ []) [] [])
-        ∙ ap (λ (part : Part). part.comings) (last-comes setup.flow_record.first [] (inputs_at k history) (coming ∷ []))
-
--- a flow of a trace never began anew
-begun_once : (made : TableSetup) (channels : ℕ) (handed : List HandedIn) → All (IsOfTrace channels) handed → (k : ℕ) (flow_record : FlowRecord)
-    → begun_with made k flow_record (flow_inputs (length made.records) handed) ≡ flow_setup made k flow_record
-begun_once made channels handed each k flow_record =
-    let setup = flow_setup made k flow_record in
-    let found = all_come channels (length made.records) k handed each in
-    ap (λ (part : Part). begun_at setup part.first) (ap (last_part setup) found.1 ∙ one-part_last setup found.0)
+use Rattle.answers.proofs.MoreComings.{came_stays, came_elsewhere, came_here, begun_once}
 
 module _ (made : TableSetup) (can : CanBeOpenedWithin made.channels made.rows (length made.records)) where
   -- What happened so far. What flows keep is of bytes.
@@ -110,6 +63,7 @@ module _ (made : TableSetup) (can : CanBeOpenedWithin made.channels made.rows (l
         → GivesBytes any_header (flow_setup made k flow_record) (came_to made handed k flow_record) (frames_of k given)
     pub others : (k : ℕ) → length made.records ≤ k → frames_of k given ≡ []
 
+  -- nothing, where nothing was handed in
   pub nothing_so_far : HappenedSoFar [] [] []
   nothing_so_far = record {
     has_happened = nothing;
@@ -227,46 +181,62 @@ module _ (made : TableSetup) (can : CanBeOpenedWithin made.channels made.rows (l
 
     -- ---- one more
 
-    module _ (one : HandedIn) (of_trace : IsOfTrace made.channels one) (request : Option Request) (gives : GivesFor handed given one request) where
-      abbrev given_more : List Given
-      given_more = asked_in request ++ gives.gives
+    -- What one thing more brings: what is given for it, and what is told of it.
+    pub record OneMore (one : HandedIn) : Type 0 where
+      pub of_trace : IsOfTrace made.channels one
+      pub more : List Given
+      pub told : List Happening
+      pub tells : Tells made handed one told
+      pub answered : (channel : ℕ) → channel < made.channels → AreAnswered (lane_of made channel) (answered_on channel (handed ++ one ∷ []))
+      pub requests : (channel : ℕ) → requests_given channel (given ++ more) ≡ requests_of (answered_on channel (handed ++ one ∷ []))
+      pub flows : (k : ℕ) (flow_record : FlowRecord) → slice_get made.records k ≡ Some flow_record
+          → GivesBytes any_header (flow_setup made k flow_record) (came_to made (handed ++ one ∷ []) k flow_record) (frames_of k (given ++ more))
+      pub others : (k : ℕ) → length made.records ≤ k → frames_of k (given ++ more) ≡ []
 
-      module _ (answered : (channel : ℕ) → channel < made.channels → AreAnswered (lane_of made channel) (answered_on channel (handed ++ one ∷ [])))
-          (asks : (channel : ℕ) → requests_of (answered_on channel (handed ++ one ∷ [])) ≡ requests_of (answered_on channel handed) ++ requests_given channel (asked_in request)) where
-        requests_then : (channel : ℕ) → requests_given channel (given ++ given_more) ≡ requests_of (answered_on channel (handed ++ one ∷ []))
-        requests_then channel =
-            filter_map-append (request_on channel) given given_more
-            ∙ ap (λ (t : List Request). t ++ requests_given channel given_more) (was.requests channel)
-            ∙ ap (λ (t : List Request). requests_of (answered_on channel handed) ++ t)
-            (filter_map-append (request_on channel) (asked_in request) gives.gives
-            ∙ ap (λ (t : List Request). requests_given channel (asked_in request) ++ t) (gives.no_requests channel)
-            ∙ append-nil (requests_given channel (asked_in request)))
-            ∙ sym (asks channel)
+    -- with it all is given that comes of what was handed in
+    pub so_far_with : (one : HandedIn) → (it : OneMore one) → IsGivenSoFar made (handed ++ one ∷ []) (given ++ it.more)
+    so_far_with one it = record {
+      answered = it.answered;
+      requests = it.requests;
+      flows = λ k flow_record there. let gives = it.flows k flow_record there in (gives.counts, gives.given);
+      others = it.others;
+    }
 
-        so_far : IsGivenSoFar made (handed ++ one ∷ []) (given ++ given_more)
-        so_far = record {
-          answered = answered;
-          requests = requests_then;
-          flows = λ k flow_record there. let it = gives.flows k flow_record there in (it.counts, it.given);
-          others = gives.others;
-        }
+    -- and it happened besides
+    pub happened_with : (one : HandedIn) → (it : OneMore one) → HappenedSoFar (handed ++ one ∷ []) (given ++ it.more) (happened ++ (map Gave it.more ++ it.told))
+    happened_with one it = record {
+      has_happened = one_more it.more one it.told was.has_happened (so_far_with one it) it.tells;
+      each = All-push (IsOfTrace made.channels) handed one was.each it.of_trace;
+      answered = it.answered;
+      requests = it.requests;
+      flows = it.flows;
+      others = it.others;
+    }
 
-        happened_more : (told : List Happening) → Tells made handed one told
-            → HappenedSoFar (handed ++ one ∷ []) (given ++ given_more) (happened ++ (map Gave given_more ++ told))
-        happened_more told tells = record {
-          has_happened = one_more given_more one told was.has_happened so_far tells;
-          each = All-push (IsOfTrace made.channels) handed one was.each of_trace;
-          answered = answered;
-          requests = requests_then;
-          flows = gives.flows;
-          others = gives.others;
-        }
+    module _ (one : HandedIn) (of_trace : IsOfTrace made.channels one) (request : Option Request) (gives : GivesFor handed given one request)
+        (answered : (channel : ℕ) → channel < made.channels → AreAnswered (lane_of made channel) (answered_on channel (handed ++ one ∷ [])))
+        (asks : (channel : ℕ) → requests_of (answered_on channel (handed ++ one ∷ [])) ≡ requests_of (answered_on channel handed) ++ requests_given channel (asked_in request)) where
+      requests_then : (channel : ℕ) → requests_given channel (given ++ (asked_in request ++ gives.gives)) ≡ requests_of (answered_on channel (handed ++ one ∷ []))
+      requests_then channel =
+          filter_map-append (request_on channel) given (asked_in request ++ gives.gives)
+          ∙ ap (λ (t : List Request). t ++ requests_given channel (asked_in request ++ gives.gives)) (was.requests channel)
+          ∙ ap (λ (t : List Request). requests_of (answered_on channel handed) ++ t)
+          (filter_map-append (request_on channel) (asked_in request) gives.gives
+          ∙ ap (λ (t : List Request). requests_given channel (asked_in request) ++ t) (gives.no_requests channel)
+          ∙ append-nil (requests_given channel (asked_in request)))
+          ∙ sym (asks channel)
 
-    -- what happens with one thing more
-    record MoreHappens (one : HandedIn) : Type 0 where
-      then_given : List Given
-      then_happened : List Happening
-      then_so_far : HappenedSoFar (handed ++ one ∷ []) then_given then_happened
+      with_told : (told : List Happening) → Tells made handed one told → OneMore one
+      with_told told tells = record {
+        of_trace = of_trace;
+        more = asked_in request ++ gives.gives;
+        told = told;
+        tells = tells;
+        answered = answered;
+        requests = requests_then;
+        flows = gives.flows;
+        others = gives.others;
+      }
 
     -- ---- an input
 
@@ -312,17 +282,12 @@ module _ (made : TableSetup) (can : CanBeOpenedWithin made.channels made.rows (l
       -- ---- of which nothing is admitted
 
       tells_none : (answer_reply : Reply) → TellsInput made handed channel one (Took (name_of_input channel one.input) answer_reply ∷ []) → admitted_by one.answer ≡ None
-          → MoreHappens (came channel one)
+          → OneMore (came channel one)
       tells_none answer_reply tells none =
           let gives = gives_none (came channel one) (ap (option_map (arrives_on channel)) none) in
-          record {
-            then_given = given ++ given_more (came channel one) within None gives;
-            then_happened = happened ++ (map Gave (given_more (came channel one) within None gives) ++ Took (name_of_input channel one.input) answer_reply ∷ []);
-            then_so_far =
-                happened_more (came channel one) within None gives answered_then
-                (asks_then None (λ admitted gives. let wrong = sym none ∙ gives in absurd cc) (λ _. refl) (λ r asked. absurd cc))
-                (Took (name_of_input channel one.input) answer_reply ∷ []) tells;
-          }
+          with_told (came channel one) within None gives answered_then
+          (asks_then None (λ admitted gives. let wrong = sym none ∙ gives in absurd cc) (λ _. refl) (λ r asked. absurd cc))
+          (Took (name_of_input channel one.input) answer_reply ∷ []) tells
 
       -- ---- of which a segment is admitted
 
@@ -364,7 +329,7 @@ module _ (made : TableSetup) (can : CanBeOpenedWithin made.channels made.rows (l
               (subst (λ (a : Admitted). IsTold (begun_with made admitted.flow flow_record (flow_inputs (length made.records) handed)) its_comings channel a.segment telling.0) also
               (subst (λ (s : FlowSetup). IsTold s its_comings channel admitted.segment telling.0) (sym (begun_once made made.channels handed was.each admitted.flow flow_record)) telling.1))
 
-          takes_segment : MoreHappens (came channel one)
+          takes_segment : OneMore (came channel one)
           takes_segment =
               let it = came channel one in
               let gives = gives_some it admitted.request admitted.flow flow_record here (on_channel channel admitted.segment) (ap (option_map (arrives_on channel)) by) carried in
@@ -381,18 +346,13 @@ module _ (made : TableSetup) (can : CanBeOpenedWithin made.channels made.rows (l
                 stands = stands.1;
                 are = refl;
               } in
-              record {
-                then_given = given ++ given_more it within admitted.request gives;
-                then_happened = happened ++ (map Gave (given_more it within admitted.request gives) ++ told);
-                then_so_far =
-                    happened_more it within admitted.request gives answered_then
-                    (asks_then admitted.request (λ other gives. ap (λ (a : Admitted). a.request) (same_Some admitted other (sym by ∙ gives)))
-                    (λ none. let wrong = sym by ∙ none in absurd cc) of_channel) told tells;
-              }
+              with_told it within admitted.request gives answered_then
+              (asks_then admitted.request (λ other gives. ap (λ (a : Admitted). a.request) (same_Some admitted other (sym by ∙ gives)))
+              (λ none. let wrong = sym by ∙ none in absurd cc) of_channel) told tells
 
-      takes_one : MoreHappens (came channel one)
+      pub takes_one : OneMore (came channel one)
       takes_one = by_answer one.answer refl where
-        by_answer : (answer : Answer) → one.answer ≡ answer → MoreHappens (came channel one)
+        by_answer : (answer : Answer) → one.answer ≡ answer → OneMore (came channel one)
         by_answer (Ok None) answers =
             tells_none reply.Granted
             (record { reply = reply.Granted; says = answers; rightly = tt; standing = []; stands = refl; are = refl }) (ap (λ (a : Answer). admitted_by a) answers)
@@ -403,8 +363,9 @@ module _ (made : TableSetup) (can : CanBeOpenedWithin made.channels made.rows (l
             let found = element_at made.records admitted.flow (exists admitted answers) in
             takes_segment admitted answers found.0 found.1
 
-    takes_input : (channel : ℕ) (input : Input) → channel < made.channels → HasBytes input
-        → (one : HandedIn) × (entry_of one ≡ Some (entry.came channel input)) × MoreHappens one
+    -- whatever input comes, it has an answer, and something happens
+    pub takes_input : (channel : ℕ) (input : Input) → channel < made.channels → HasBytes input
+        → (one : HandedIn) × (entry_of one ≡ Some (entry.came channel input)) × OneMore one
     takes_input channel input within bytes =
         let answer = answer-to made.channels (lane_of made channel) can (answered_on channel handed) (was.answered channel within) input bytes in
         let one : AnsweredInput = record { input = input; answer = answer.0 } in
@@ -427,15 +388,11 @@ module _ (made : TableSetup) (can : CanBeOpenedWithin made.channels made.rows (l
       names_one = nat_lt flow (length made.records) && is_in_range decision
 
       decides_with : (gives : GivesFor handed given (decided flow decision) None) (told : List Happening) → TellsDecision made handed flow decision told
-          → MoreHappens (decided flow decision)
-      decides_with gives told tells = record {
-        then_given = given ++ given_more (decided flow decision) of_trace None gives;
-        then_happened = happened ++ (map Gave (given_more (decided flow decision) of_trace None gives) ++ told);
-        then_so_far = happened_more (decided flow decision) of_trace None gives answered_still asks_nothing told tells;
-      }
+          → OneMore (decided flow decision)
+      decides_with gives told tells = with_told (decided flow decision) of_trace None gives answered_still asks_nothing told tells
 
       -- one that is passed over
-      passes_over : names_one ≡ false → MoreHappens (decided flow decision)
+      passes_over : names_one ≡ false → OneMore (decided flow decision)
       passes_over out =
           decides_with (gives_none (decided flow decision) (ap (λ (b : Bool). if b then Some (decides_of flow decision) else None) out)) (Decided flow decision_reply.PassedOver ∷ [])
           (record { reply = decision_reply.PassedOver; passed_over = (λ _. out, λ _. refl); rightly = tt; standing = []; stands = refl; are = refl })
@@ -461,7 +418,7 @@ module _ (made : TableSetup) (can : CanBeOpenedWithin made.channels made.rows (l
             (subst (λ (s : FlowSetup). IsToldLost s (came_to made handed flow flow_record) (decision_event decision) loss.0)
             (sym (begun_once made made.channels handed was.each flow flow_record)) loss.1)
 
-        decides : MoreHappens (decided flow decision)
+        decides : OneMore (decided flow decision)
         decides =
             let it = decided flow decision in
             let gives = gives_some it None flow flow_record here (handed_in (decision_event decision))
@@ -478,64 +435,14 @@ module _ (made : TableSetup) (can : CanBeOpenedWithin made.channels made.rows (l
               are = refl;
             })
 
-      takes_decision : MoreHappens (decided flow decision)
+      pub takes_decision : OneMore (decided flow decision)
       takes_decision = by_flag names_one refl where
         within_of : (a b : Bool) → (a && b) ≡ true → a ≡ true
         within_of true b is = refl
         within_of false b is = is
 
-        by_flag : (names : Bool) → names_one ≡ names → MoreHappens (decided flow decision)
+        by_flag : (names : Bool) → names_one ≡ names → OneMore (decided flow decision)
         by_flag false is = passes_over is
         by_flag true is =
             let found = element_at made.records flow (ltb-true flow (length made.records) (within_of (nat_lt flow (length made.records)) (is_in_range decision) is)) in
             decides is found.0 found.1
-
-  -- ---- entries one after another
-
-  abbrev pub IsSound : Entry → Type 0
-  IsSound (entry.came channel input) = (channel < made.channels) × HasBytes input
-  IsSound (entry.decided decision) = Unit {0}
-
-  -- What happens up to here.
-  pub record EntriesHappen (entries : List Entry) : Type 0 where
-    pub handed : List HandedIn
-    pub given : List Given
-    pub happened : List Happening
-    pub so_far : HappenedSoFar handed given happened
-    pub are : filter_map entry_of handed ≡ entries
-
-  one_entry : (handed : List HandedIn) (given : List Given) (happened : List Happening) (was : HappenedSoFar handed given happened) (e : Entry) → IsSound e
-      → (one : HandedIn) × (entry_of one ≡ Some e) × MoreHappens handed given happened was one
-  one_entry handed given happened was (entry.came channel input) sound = takes_input handed given happened was channel input sound.0 sound.1
-  one_entry handed given happened was (entry.decided decision) sound = by_upto decision.upto refl where
-    by_upto : (upto : Option ℕ) → decision.upto ≡ upto → (one : HandedIn) × (entry_of one ≡ Some (entry.decided decision)) × MoreHappens handed given happened was one
-    by_upto None is = (
-      decided decision.flow Gap,
-      ap (λ (o : Option ℕ). Some (entry.decided (record { flow = decision.flow; upto = o }))) (sym is),
-      takes_decision handed given happened was decision.flow Gap tt,
-    )
-    by_upto (Some number) is = (
-      decided decision.flow (GapTo number),
-      ap (λ (o : Option ℕ). Some (entry.decided (record { flow = decision.flow; upto = o }))) (sym is),
-      takes_decision handed given happened was decision.flow (GapTo number) tt,
-    )
-
-  entries_after : (before rest : List Entry) → EntriesHappen before → AllByRecursion IsSound rest → EntriesHappen (before ++ rest)
-  entries_after before [] so sound = subst EntriesHappen (sym (append-nil before)) so
-  entries_after before (e ∷ rest) so sound =
-      let next = one_entry so.handed so.given so.happened so.so_far e sound.0 in
-      let then_so : EntriesHappen (before ++ e ∷ []) = record {
-        handed = so.handed ++ next.0 ∷ [];
-        given = next.2.then_given;
-        happened = next.2.then_happened;
-        so_far = next.2.then_so_far;
-        are =
-            filter_map-append entry_of so.handed (next.0 ∷ []) ∙ ap (λ (t : List Entry). t ++ cons_option (entry_of next.0) []) so.are
-            ∙ ap (λ (o : Option Entry). before ++ cons_option o []) next.1;
-      } in
-      subst EntriesHappen (append_assoc before (e ∷ []) rest) (entries_after (before ++ e ∷ []) rest then_so sound.1)
-
-  -- whatever comes in, something happens
-  pub entries_happen : (entries : List Entry) → AllByRecursion IsSound entries → EntriesHappen entries
-  entries_happen entries sound =
-      entries_after [] entries (record { handed = []; given = []; happened = []; so_far = nothing_so_far; are = refl }) sound

@@ -1,9 +1,7 @@
 -- What is told of the selected flows doesn't depend on what other flows' bursts carry.
-use Rattle.std.proofs.Common.{◌≡◌, ◌≢◌, ℕ, ◌<◌, ◌≤◌, ◌==◌, ◌⊎◌, inl, inr, Bool, true, false, Option, Some, None, Ok, Err, All, List, [], ◌∷◌, ◌++◌, length, map, filter, filter_map, get_or, refl, sym, ap, subst, ◌∙◌, ne_eqb}
+use Rattle.std.proofs.Common.{◌≡◌, ℕ, ◌<◌, ◌≤◌, ◌⊎◌, inl, inr, Bool, true, false, Option, Some, None, All, List, [], ◌∷◌, ◌++◌, length, map, filter, filter_map, get_or, refl, sym, ap, subst, ◌∙◌}
 use Rattle.std.specs.Prelude.{if◌then◌else◌, MatchOption, slice_get}
-use Rattle.std.specs.List.{AllZip, cons_option}
-use Rattle.std.specs.Option.{option_map}
-use Rattle.std.proofs.lemmas.Bool.{cases_eq}
+use Rattle.std.specs.List.{AllZip}
 use Rattle.std.proofs.lemmas.List.{append_cancel_left}
 use Rattle.std.proofs.lemmas.List.Elements.{All-pop, filter_map-append}
 use Rattle.std.proofs.lemmas.Option.{same_Some, slice_get_cases}
@@ -15,32 +13,28 @@ use Rattle.flow_selection.specs.declared.selection.Selection.{Selection}
 use Rattle.flow_selection.specs.Selection.{is_selected}
 use Rattle.flow_selection.specs.Lines.{is_left}
 use Rattle.lane.specs.declared.admitted.Admitted.{Admitted}
-use Rattle.lane.specs.declared.input.Input.{Input}
-use Rattle.lane.specs.declared.input.Input.TheVariants.{Grant, Burst}
-use Rattle.lane.specs.declared.refusal.Refusal.{Refusal}
-use Rattle.lane.specs.declared.refusal.Refusal.TheVariants as refusal
 use Rattle.lane.specs.Rows.{CanBeOpenedWithin}
 use Rattle.lane.specs.Inputs.{Answer, AnsweredInput}
-use Rattle.lane.specs.Report.{admitted_by, refused_by, refusal_number}
+use Rattle.lane.specs.Report.{admitted_by, refused_by}
 use Rattle.lane.proofs.LaneTaking.{answered-before}
 use Rattle.lane.proofs.OneLaneAnswer.{one-answer}
-use Rattle.loss_rule.specs.Rule.{Coming, on_channel, Lasts, AreRuled}
+use Rattle.loss_rule.specs.Rule.{Coming, Lasts, AreRuled}
 use Rattle.consumer.specs.declared.given.Given.{Given}
 use Rattle.consumer.specs.Given.{frame_of, frames_of, request_on, requests_given}
 use Rattle.bonded_flows.specs.declared.decision.FlowDecision.{FlowDecision}
 use Rattle.bonded_flows.specs.declared.told.Told.{Told}
 use Rattle.bonded_flows.specs.ByRule.{decision_event, HasGivenByRule, IsTold, IsToldLost}
 use Rattle.bonded_flows.specs.FlowSetup.{ruled_flow}
-use Rattle.bonded_flows.specs.Parts.{FlowInput, comes, last_part, begun_at}
-use Rattle.bonded_flows.specs.Table.{TableSetup, TableInput, flow_setup, inputs_at}
+use Rattle.bonded_flows.specs.Parts.{FlowInput, last_part, begun_at}
+use Rattle.bonded_flows.specs.Table.{TableSetup, flow_setup, inputs_at}
 use Rattle.receiver.specs.declared.reply.Reply.{Reply}
 use Rattle.receiver.specs.declared.reply.Reply.TheVariants as reply
 use Rattle.receiver.specs.declared.reply.DecisionReply.{DecisionReply}
 use Rattle.receiver.specs.declared.reply.DecisionReply.TheVariants as decision_reply
-use Rattle.receiver.specs.Elsewhere.{LooksLike, StandsIn}
+use Rattle.receiver.specs.Elsewhere.{StandsIn}
 use Rattle.receiver.specs.Entries as entry
 use Rattle.receiver.specs.Entries.{Entry}
-use Rattle.receiver.specs.HandedIn.{HandedIn, came, decided, restarted, answered_on, arrives_on, flow_input_of, flow_inputs, lane_of}
+use Rattle.receiver.specs.HandedIn.{HandedIn, came, decided, restarted, answered_on, flow_inputs, lane_of}
 use Rattle.receiver.specs.Held.{HoldsByRule}
 use Rattle.receiver.specs.Receiving.{Says, IsToldRightly, IsLossToldRightly}
 use Rattle.receiver.specs.Replaying.{entry_of}
@@ -56,180 +50,7 @@ use Rattle.texts.proofs.OneHappening.{entry_there, same_decision, no_decision, e
 use Rattle.answers.specs.ToldAlike.{EntryStandsIn, is_told_for, AreGivenFor, HappenFor, for_nothing, for_more}
 use Rattle.answers.proofs.OtherItems.{requests-same}
 use Rattle.answers.proofs.StandIns.{CountsAs, AreAdmittedFor, AnswersFor, some_answer}
-
--- ---- pairs
-
--- the last of each of two lists
-zip_pop : {X Y : Type 0} (R : X → Y → Type 0) (xs : List X) (ys : List Y) (x : X) (y : Y) → AllZip R (xs ++ x ∷ []) (ys ++ y ∷ []) → AllZip R xs ys × R x y
-zip_pop R [] [] x y all = (tt, all.0)
-zip_pop R [] (b ∷ []) x y all = absurd all.1
-zip_pop R [] (b ∷ c ∷ ys) x y all = absurd all.1
-zip_pop R (a ∷ []) [] x y all = absurd all.1
-zip_pop R (a ∷ b ∷ xs) [] x y all = absurd all.1
-zip_pop R (a ∷ xs) (b ∷ ys) x y all = let rest = zip_pop R xs ys x y all.1 in ((all.0, rest.0), rest.1)
-
--- no list ends with another where one is empty
-none_zipped : {X Y : Type 0} (R : X → Y → Type 0) (ys : List Y) (y : Y) → AllZip R [] (ys ++ y ∷ []) → ⊥
-none_zipped R [] y all = all
-none_zipped R (b ∷ ys) y all = all
-
-some_zipped : {X Y : Type 0} (R : X → Y → Type 0) (xs : List X) (x : X) → AllZip R (xs ++ x ∷ []) [] → ⊥
-some_zipped R [] x all = all
-some_zipped R (a ∷ xs) x all = all
-
--- ---- refusals
-
--- the refusal of this number
-abbrev refusal_at : ℕ → Refusal
-refusal_at number =
-    get_or
-    (
-    refusal.GrantRange ∷ refusal.GrantRange ∷ refusal.GrantKnown ∷ refusal.UnknownSid ∷ refusal.TooManyGrants ∷ refusal.GrantOutOfMemory ∷ refusal.NoGrant
-    ∷ refusal.TooLong ∷ refusal.BadCheck ∷ refusal.TooShort ∷ refusal.PointerPast ∷ refusal.BurstOutOfMemory ∷ []
-    )
-    number refusal.GrantRange
-
-refusal_at-number : (why : Refusal) → refusal_at (refusal_number why) ≡ why
-refusal_at-number refusal.GrantRange = refl
-refusal_at-number refusal.GrantKnown = refl
-refusal_at-number refusal.UnknownSid = refl
-refusal_at-number refusal.TooManyGrants = refl
-refusal_at-number refusal.GrantOutOfMemory = refl
-refusal_at-number refusal.NoGrant = refl
-refusal_at-number refusal.TooLong = refl
-refusal_at-number refusal.BadCheck = refl
-refusal_at-number refusal.TooShort = refl
-refusal_at-number refusal.PointerPast = refl
-refusal_at-number refusal.BurstOutOfMemory = refl
-
-same_refusal : (why other : Refusal) → Some (refusal_number why) ≡ Some (refusal_number other) → why ≡ other
-same_refusal why other same =
-    let numbers : refusal_number why ≡ refusal_number other = cc in
-    sym (refusal_at-number why) ∙ ap refusal_at numbers ∙ refusal_at-number other
-
--- ---- names
-
-same_name : (channel : ℕ) (input other : Input) → LooksLike input other → name_of_input channel other ≡ name_of_input channel input
-same_name channel (Grant number sid bytes) other looks = ap (name_of_input channel) looks
-same_name channel (Burst number hcs_ok bytes) (Grant n sid size) looks = absurd looks
-same_name channel (Burst number hcs_ok bytes) (Burst n also more) looks = ap (λ (m : ℕ). name_of_input channel (Burst m hcs_ok bytes)) looks.0
-
-module _ (chosen : ℕ → Bool) where
-  -- ---- answers in place of others
-
-  -- what is told of one answer is of the same flow as what is told of the other
-  says_flow : (one : Reply) (answer : Answer) → Says one answer → flow_admitted one ≡ option_map (λ (a : Admitted). a.flow) (admitted_by answer)
-  says_flow reply.Granted answer says = ap (λ (a : Answer). option_map (λ (x : Admitted). x.flow) (admitted_by a)) (sym says)
-  says_flow (reply.Refused why) answer says = ap (λ (a : Answer). option_map (λ (x : Admitted). x.flow) (admitted_by a)) (sym says)
-  says_flow (reply.Admitted flow sequence told) answer says =
-      ap Some says.2 ∙ ap (λ (a : Answer). option_map (λ (x : Admitted). x.flow) (admitted_by a)) (sym says.1)
-
-  flow_same : (one other : Option Admitted) → AreAdmittedFor chosen one other
-      → option_map (λ (a : Admitted). a.flow) other ≡ option_map (λ (a : Admitted). a.flow) one
-  flow_same None None are = refl
-  flow_same None (Some other) are = absurd are
-  flow_same (Some one) None are = absurd are
-  flow_same (Some one) (Some other) are = ap Some are.flow
-
-  replies_same : (one other : AnsweredInput) (first second : Reply) → AnswersFor chosen one other → Says first one.answer → Says second other.answer
-      → flow_admitted second ≡ flow_admitted first
-  replies_same one other first second answers says also =
-      says_flow second other.answer also ∙ flow_same (admitted_by one.answer) (admitted_by other.answer) answers.admitted ∙ sym (says_flow first one.answer says)
-
-  -- an answer that admits nothing is the same
-  granted_too : (answer : Answer) → AreAdmittedFor chosen (admitted_by answer) None → None ≡ refused_by answer → answer ≡ Ok None
-  granted_too (Ok None) are refused = refl
-  granted_too (Ok (Some admitted)) are refused = absurd are
-  granted_too (Err why) are refused = absurd cc
-
-  refused_too : (answer : Answer) (why : Refusal) → AreAdmittedFor chosen (admitted_by answer) None → Some (refusal_number why) ≡ refused_by answer → answer ≡ Err why
-  refused_too (Ok None) why are refused = absurd cc
-  refused_too (Ok (Some admitted)) why are refused = absurd are
-  refused_too (Err other) why are refused = ap (λ (r : Refusal). Err r) (same_refusal other why (sym refused))
-
-  admitted_too : (answer : Answer) (other : Admitted) → AreAdmittedFor chosen (admitted_by answer) (Some other)
-      → (admitted : Admitted) × (answer ≡ Ok (Some admitted)) × (other.flow ≡ admitted.flow) × (chosen admitted.flow ≡ true → other.segment ≡ admitted.segment)
-  admitted_too (Ok None) other are = absurd are
-  admitted_too (Ok (Some admitted)) other are = (admitted, refl, are.flow, are.segment)
-  admitted_too (Err why) other are = absurd are
-
-  -- ---- one thing in place of another
-
-  -- an input in place of another, or the same decision
-  pub record InputsFor (channel : ℕ) (one : AnsweredInput) (place : ℕ) (other : AnsweredInput) : Type 0 where
-    pub channel_is : place ≡ channel
-    pub answers : AnswersFor chosen one other
-    pub name : name_of_input channel other.input ≡ name_of_input channel one.input
-
-  abbrev pub InPlace : HandedIn → HandedIn → Type 0
-  InPlace (came channel one) (came place other) = InputsFor channel one place other
-  InPlace (came channel one) (decided flow decision) = ⊥
-  InPlace (came channel one) (restarted flow first) = ⊥
-  InPlace (decided flow decision) other = other ≡ decided flow decision
-  InPlace (restarted flow first) other = ⊥
-
-  zip_if : (own : Bool) (one other : AnsweredInput) (ones others : List AnsweredInput) → AnswersFor chosen one other → AllZip (AnswersFor chosen) ones others
-      → AllZip (AnswersFor chosen) (cons_option (if own then Some one else None) ones) (cons_option (if own then Some other else None) others)
-  zip_if true one other ones others here rest = (here, rest)
-  zip_if false one other ones others here rest = rest
-
-  -- on each channel came inputs in place of others
-  answers_for : (handed others : List HandedIn) → AllZip InPlace handed others → (on : ℕ) → AllZip (AnswersFor chosen) (answered_on on handed) (answered_on on others)
-  answers_for [] [] all on = tt
-  answers_for [] (other ∷ others) all on = absurd all
-  answers_for (one ∷ handed) [] all on = absurd all
-  answers_for (came channel one ∷ handed) (came place other ∷ others) all on =
-      subst (λ (n : ℕ). AllZip (AnswersFor chosen) (answered_on on (came channel one ∷ handed)) (answered_on on (came n other ∷ others))) (sym all.0.channel_is)
-      (zip_if (channel == on) one other (answered_on on handed) (answered_on on others) all.0.answers (answers_for handed others all.1 on))
-  answers_for (came channel one ∷ handed) (decided flow decision ∷ others) all on = absurd all.0
-  answers_for (came channel one ∷ handed) (restarted flow first ∷ others) all on = absurd all.0
-  answers_for (decided flow decision ∷ handed) (other ∷ others) all on =
-      subst (λ (o : HandedIn). AllZip (AnswersFor chosen) (answered_on on handed) (answered_on on (o ∷ others))) (sym all.0) (answers_for handed others all.1 on)
-  answers_for (restarted flow first ∷ handed) (other ∷ others) all on = absurd all.0
-
-  module _ (k : ℕ) (is : chosen k ≡ true) where
-    -- what is admitted of a selected flow is the same
-    abbrev segment_to : ℕ → ℕ → Segment → Option FlowInput
-    segment_to channel flow segment = if flow == k then Some (comes (on_channel channel segment)) else None
-
-    arrives_same : (channel : ℕ) (one other : Admitted) → other.flow ≡ one.flow → (chosen one.flow ≡ true → other.segment ≡ one.segment)
-        → segment_to channel other.flow other.segment ≡ segment_to channel one.flow one.segment
-    arrives_same channel one other flow segment = ap (λ (f : ℕ). segment_to channel f other.segment) flow ∙ of_one (cases_eq one.flow k) where
-      of_one : (one.flow ≡ k) ⊎ (one.flow ≢ k) → segment_to channel one.flow other.segment ≡ segment_to channel one.flow one.segment
-      of_one (inl here) = ap (λ (s : Segment). segment_to channel one.flow s) (segment (ap chosen here ∙ is))
-      of_one (inr apart) =
-          ap (λ (b : Bool). if b then Some (comes (on_channel channel other.segment)) else None) (ne_eqb one.flow k apart)
-          ∙ sym (ap (λ (b : Bool). if b then Some (comes (on_channel channel one.segment)) else None) (ne_eqb one.flow k apart))
-
-    admitted_same_input : (channel : ℕ) (one other : Option Admitted) → AreAdmittedFor chosen one other → (xs ys : List TableInput) → inputs_at k ys ≡ inputs_at k xs
-        → inputs_at k (cons_option (option_map (arrives_on channel) other) ys) ≡ inputs_at k (cons_option (option_map (arrives_on channel) one) xs)
-    admitted_same_input channel None None are xs ys same = same
-    admitted_same_input channel None (Some other) are xs ys same = absurd are
-    admitted_same_input channel (Some one) None are xs ys same = absurd are
-    admitted_same_input channel (Some one) (Some other) are xs ys same =
-        ap (λ (o : Option FlowInput). cons_option o (inputs_at k ys)) (arrives_same channel one other are.flow are.segment)
-        ∙ ap (λ (t : List FlowInput). cons_option (segment_to channel one.flow one.segment) t) same
-
-    -- the same comes behind the same
-    same_behind : (one : Option TableInput) (xs ys : List TableInput) → inputs_at k ys ≡ inputs_at k xs → inputs_at k (cons_option one ys) ≡ inputs_at k (cons_option one xs)
-    same_behind None xs ys same = same
-    same_behind (Some one) xs ys same = ap (λ (t : List FlowInput). cons_option (if one.flow == k then Some one.input else None) t) same
-
-    -- and so is all that comes to it
-    inputs_for : (n : ℕ) (handed others : List HandedIn) → AllZip InPlace handed others → inputs_at k (flow_inputs n others) ≡ inputs_at k (flow_inputs n handed)
-    inputs_for n [] [] all = refl
-    inputs_for n [] (other ∷ others) all = absurd all
-    inputs_for n (one ∷ handed) [] all = absurd all
-    inputs_for n (came channel one ∷ handed) (came place other ∷ others) all =
-        ap (λ (c : ℕ). inputs_at k (flow_inputs n (came c other ∷ others))) all.0.channel_is
-        ∙ admitted_same_input channel (admitted_by one.answer) (admitted_by other.answer) all.0.answers.admitted (flow_inputs n handed) (flow_inputs n others)
-        (inputs_for n handed others all.1)
-    inputs_for n (came channel one ∷ handed) (decided flow decision ∷ others) all = absurd all.0
-    inputs_for n (came channel one ∷ handed) (restarted flow first ∷ others) all = absurd all.0
-    inputs_for n (decided flow decision ∷ handed) (other ∷ others) all =
-        ap (λ (o : HandedIn). inputs_at k (flow_inputs n (o ∷ others))) all.0
-        ∙ same_behind (flow_input_of n (decided flow decision)) (flow_inputs n handed) (flow_inputs n others) (inputs_for n handed others all.1)
-    inputs_for n (restarted flow first ∷ handed) (other ∷ others) all = absurd all.0
+use Rattle.answers.proofs.HandedInPlace.{zip_pop, none_zipped, some_zipped, same_name, replies_same, granted_too, refused_too, admitted_too, InputsFor, InPlace, answers_for, inputs_for}
 
 module _ (selected : Selection) (made : TableSetup) (can : CanBeOpenedWithin made.channels made.rows (length made.records)) (gives : GivesOneSoFar) where
   abbrev chosen : ℕ → Bool
@@ -237,7 +58,7 @@ module _ (selected : Selection) (made : TableSetup) (can : CanBeOpenedWithin mad
 
   -- ---- what is given
 
-  given_for : (handed others : List HandedIn) (given also : List Given) → AllZip (InPlace chosen) handed others → IsGivenSoFar made handed given
+  pub given_for : (handed others : List HandedIn) (given also : List Given) → AllZip (InPlace chosen) handed others → IsGivenSoFar made handed given
       → IsGivenSoFar made others also → AreGivenFor selected given also
   given_for handed others given also all is are = record {
     frames = λ k of_selected. of_flow k of_selected (slice_get_cases made.records k).1;
@@ -258,6 +79,7 @@ module _ (selected : Selection) (made : TableSetup) (can : CanBeOpenedWithin mad
         (subst (λ (comings : List Coming). HasGivenByRule any_header setup comings (frames_of k also) second.0) same second.1)).0
     of_flow k of_selected (inr past) = is.others k past.0 ∙ sym (are.others k past.0)
 
+  -- where the same was given before, what is given more is the same
   more_for : (given others more also : List Given) → AreGivenFor selected given others → AreGivenFor selected (given ++ more) (others ++ also) → AreGivenFor selected more also
   more_for given others more also before after = record {
     frames = λ k of_selected.
@@ -276,6 +98,7 @@ module _ (selected : Selection) (made : TableSetup) (can : CanBeOpenedWithin mad
     inputs_same : inputs_at k (flow_inputs (length made.records) others) ≡ inputs_at k (flow_inputs (length made.records) handed)
     inputs_same = inputs_for chosen k of_selected (length made.records) handed others all
 
+    -- how it stands
     standing_for : (flow_record : FlowRecord) (expected held : ℕ) → IsStanding made others k flow_record expected held → IsStanding made handed k flow_record expected held
     standing_for flow_record expected held is =
         let setup = flow_setup made k flow_record in
@@ -288,6 +111,7 @@ module _ (selected : Selection) (made : TableSetup) (can : CanBeOpenedWithin mad
               subst (λ (inputs : List FlowInput). HoldsByRule (begun_at setup (last_part setup inputs).first) (last_part setup inputs).comings held) inputs_same is.holds;
         }
 
+    -- and what is told of that
     tells_for : (told : List Happening) → TellsStanding made others k told → TellsStanding made handed k told
     tells_for told is = of_record (slice_get made.records k) is where
       As : List HandedIn → Option FlowRecord → Type 0
@@ -299,6 +123,7 @@ module _ (selected : Selection) (made : TableSetup) (can : CanBeOpenedWithin mad
       of_record None is = is
       of_record (Some flow_record) is = (is.0, is.1, is.2, standing_for flow_record is.0 is.1 is.3)
 
+    -- the verdict on a segment
     told_for : (flow_record : FlowRecord) (channel : ℕ) (segment : Segment) (told : Told)
         → (λ (inputs : List FlowInput). IsTold (begun_at (flow_setup made k flow_record) (last_part (flow_setup made k flow_record) inputs).first)
         (last_part (flow_setup made k flow_record) inputs).comings channel segment told) (inputs_at k (flow_inputs (length made.records) others))
@@ -308,6 +133,7 @@ module _ (selected : Selection) (made : TableSetup) (can : CanBeOpenedWithin mad
         let setup = flow_setup made k flow_record in
         subst (λ (inputs : List FlowInput). IsTold (begun_at setup (last_part setup inputs).first) (last_part setup inputs).comings channel segment told) inputs_same is
 
+    -- whether a decision lost anything
     loss_for : (decision : FlowDecision) (one : DecisionReply) → IsLossToldRightly made others k decision one → IsLossToldRightly made handed k decision one
     loss_for decision decision_reply.PassedOver is = tt
     loss_for decision (decision_reply.Taken lost) is = λ flow_record there.
@@ -360,6 +186,7 @@ module _ (selected : Selection) (made : TableSetup) (can : CanBeOpenedWithin mad
         let segment = found.3 (ap chosen (sym flows) ∙ left) in
         (found.0, found.1, flows, says.3 ∙ ap (λ (s : Segment). s.head.sequence) segment)
 
+    -- and it is told rightly
     rightly_for : (second : Reply) → Says second other.answer → is_left selected (flow_admitted second) ≡ true → IsToldRightly made others channel other.answer second
         → IsToldRightly made handed channel one.answer second
     rightly_for reply.Granted says left right = tt
@@ -390,10 +217,12 @@ module _ (selected : Selection) (made : TableSetup) (can : CanBeOpenedWithin mad
       are = tells.are ∙ ap (λ (n : InputName). Took n tells.reply ∷ tells.standing) name;
     }
 
+    -- what is told of another flow is left out
     input_out : (after : List HandedIn) (n : InputName) (second : Reply) (standing : List Happening) → is_left selected (flow_admitted second) ≡ false
         → TellsStandingAfter made after (flow_admitted second) standing → filter (is_told_for selected) (Took n second ∷ standing) ≡ []
     input_out after n second standing out stands = out_of (Took n second) standing out (out_standing after (flow_admitted second) standing out stands)
 
+    -- so the same is told of both inputs
     input_alike : (told telling : List Happening) (given : List Given) → channel < made.channels → IsGivenSoFar made (handed ++ came channel one ∷ []) given
         → TellsInput made handed channel one told → TellsInput made others channel other telling
         → filter (is_told_for selected) told ≡ filter (is_told_for selected) telling
@@ -428,6 +257,7 @@ module _ (selected : Selection) (made : TableSetup) (can : CanBeOpenedWithin mad
       are = tells.are;
     }
 
+    -- and what is told of another flow's is left out
     decision_out : (after : List HandedIn) (one : DecisionReply) (standing : List Happening) → chosen flow ≡ false
         → TellsStandingAfter made after (flow_decided flow one) standing → filter (is_told_for selected) (Decided flow one ∷ standing) ≡ []
     decision_out after decision_reply.PassedOver standing out stands =
@@ -435,6 +265,7 @@ module _ (selected : Selection) (made : TableSetup) (can : CanBeOpenedWithin mad
     decision_out after (decision_reply.Taken lost) standing out stands =
         out_of (Decided flow (decision_reply.Taken lost)) standing out (out_standing after (Some flow) standing out stands)
 
+    -- so the same is told of both decisions
     decision_alike : (told telling : List Happening) → TellsDecision made handed flow decision told → TellsDecision made others flow decision telling
         → filter (is_told_for selected) told ≡ filter (is_told_for selected) telling
     decision_alike told telling is are = by_flag (chosen flow) refl where
@@ -465,6 +296,7 @@ module _ (selected : Selection) (made : TableSetup) (can : CanBeOpenedWithin mad
         name = same_name channel one.input other.input stands.looks_like;
       }
 
+  -- so is whatever stands in
   one_in_place : (handed others : List HandedIn) → AllZip (InPlace chosen) handed others → (one other : HandedIn) (e : Entry) (given also : List Given)
       → IsOfTrace made.channels one → entry_of other ≡ Some e → EntryStandsIn chosen one e → IsGivenSoFar made (handed ++ one ∷ []) given
       → IsGivenSoFar made (others ++ other ∷ []) also → InPlace chosen one other
@@ -484,7 +316,7 @@ module _ (selected : Selection) (made : TableSetup) (can : CanBeOpenedWithin mad
   one_in_place handed others all (decided flow decision) (restarted another first) e given also within is stands so_far so_too = absurd cc
   one_in_place handed others all (restarted flow first) other e given also within is stands so_far so_too = absurd within
 
-  one_alike : (handed others : List HandedIn) → AllZip (InPlace chosen) handed others → (one other : HandedIn) (told telling : List Happening) (given : List Given)
+  pub one_alike : (handed others : List HandedIn) → AllZip (InPlace chosen) handed others → (one other : HandedIn) (told telling : List Happening) (given : List Given)
       → IsOfTrace made.channels one → InPlace chosen one other → IsGivenSoFar made (handed ++ one ∷ []) given → Tells made handed one told → Tells made others other telling
       → filter (is_told_for selected) told ≡ filter (is_told_for selected) telling
   one_alike handed others all (came channel one) (came place other) told telling given within here so_far is are =
@@ -507,6 +339,7 @@ module _ (selected : Selection) (made : TableSetup) (can : CanBeOpenedWithin mad
     given_same : AreGivenFor selected given also
     happened_same : HappenFor selected happened happening
 
+  -- one thing more
   more_alike_for : (handed others : List HandedIn) (given also given_more also_more : List Given) (happened happening told telling : List Happening) (one other : HandedIn) (e : Entry)
       → AreFor handed others given also happened happening → IsOfTrace made.channels one → entry_of other ≡ Some e → EntryStandsIn chosen one e
       → IsGivenSoFar made (handed ++ one ∷ []) (given ++ given_more) → IsGivenSoFar made (others ++ other ∷ []) (also ++ also_more)

@@ -4,7 +4,13 @@ use Rattle.std.specs.Prelude.{ℕ, ◌<◌, ◌^◌, List, length}
 use Rattle.std.specs.List.{All}
 use Rattle.lane.specs.Limits.{channel_limit}
 use Rattle.lane.specs.Inputs.{HasBytes}
+use Rattle.receiver.specs.Entries.{Entry, came, decided}
 use Rattle.receiver.specs.Items.{Incoming}
+
+-- an entry that is a burst is of bytes
+abbrev pub EntryHasBytes : Entry → Type 0
+EntryHasBytes (came channel input) = HasBytes input
+EntryHasBytes (decided decision) = Unit {0}
 
 -- the bursts of each channel are of bytes
 abbrev pub AreBurstsOfBytes : Incoming → Type 0

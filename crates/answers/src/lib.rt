@@ -19,7 +19,7 @@
 //! Each function states a law in its contract; its body is empty or only calls another law.
 #![tactic(auto)]
 
-ghost use Rattle.std.specs.Prelude.{◌≡◌, ◌+◌, ◌*◌, ◌%◌, ◌≤◌, ◌<◌, ◌^◌, ℕ, Bool, Option, List, Ok, length, map, filter_map, sum_by, take};
+ghost use Rattle.std.specs.Prelude.{◌≡◌, ◌+◌, ◌*◌, ◌%◌, ◌≤◌, ◌<◌, ◌^◌, ℕ, Bool, Option, List, Ok, length, map, filter, filter_map, sum_by, take};
 ghost use Rattle.std.specs.List.{concat, All, AllByRecursion, AllPass, AllZip};
 ghost use Rattle.hex.specs.Hex.{decode_of, is_hex_digit};
 ghost use Rattle.docsis_wire.specs.declared.segment.Segment.{Segment};
@@ -55,17 +55,17 @@ ghost use Rattle.text_lines.specs.Lines.{lines_of};
 ghost use Rattle.text_lines.specs.Format.{IsRead};
 ghost use Rattle.flow_selection.specs.declared.selection.Selection.{Selection};
 ghost use Rattle.flow_selection.specs.Selection.{is_selected};
-ghost use Rattle.receiver.specs.Entries.{tag_of, incoming_in};
+ghost use Rattle.receiver.specs.Entries.{Entry, tag_of, incoming_in};
 ghost use Rattle.texts.specs.Selected.{report_of, IsReplayedOf};
 ghost use Rattle.texts.specs.AnyHeader.{any_header};
 ghost use Rattle.texts.specs.declared.follow.happening.Happening.{Happening};
-ghost use Rattle.texts.specs.Happened.{IsOfTrace, HasHappened, HappenedBy};
+ghost use Rattle.texts.specs.Happened.{IsOfTrace, AreHandedIn, HasHappened, HappenedBy};
 ghost use Rattle.texts.specs.Trace.Line.{shape_of};
 ghost use Rattle.texts.specs.Trace.Place.{Said, nothing_said, nothing_said_in, trace_format};
 ghost use Rattle.texts.specs.Replay.{IsSetupOf, IsReplayed, IsReplayedBy};
 ghost use Rattle.receiver.specs.Elsewhere.{DiffersElsewhere, AgreesOn};
-ghost use Rattle.answers.specs.ToldAlike.{EntryStandsIn, HappenFor};
-ghost use Rattle.answers.specs.Room.{AreBurstsOfBytes, HasRoom};
+ghost use Rattle.answers.specs.ToldAlike.{EntryStandsIn, is_told_for, HappenFor};
+ghost use Rattle.answers.specs.Room.{EntryHasBytes, AreBurstsOfBytes, HasRoom};
 ghost use Rattle.answers.specs.Bytes.{AreBytes, CarryBytes, BringBytes};
 
 /// **Each settled list joins to some frames**: whatever bytes were unfinished, whatever the check
@@ -210,6 +210,23 @@ pub fn other_payloads_change_nothing_that_is_told()
         → All (IsOfTrace made.channels) handed → All (IsOfTrace made.channels) others
         → AllZip (EntryStandsIn (is_selected selected)) handed (filter_map entry_of others)
         → HappenFor selected happened happening }
+{
+    bonded_flows::laws::what_came_to_a_flow_has_one_answer();
+}
+
+/// **What is told of stand-ins is told of the whole**, of the selected flows and of none, in the same
+/// order: whatever happened for stand-ins, something happens for the entries for which they stand
+/// in, of which that is told, whether or not a receiver made it.
+pub fn what_is_told_of_stand_ins_is_told_of_the_whole()
+    ensures { (selected : Selection) (made : TableSetup) (others : List HandedIn)
+        (also : List Given) (happening : List Happening) (entries : List Entry)
+        → CanBeOpenedWithin made.channels made.rows (length made.records)
+        → HasHappened made others also happening → All (IsOfTrace made.channels) others
+        → AllZip (EntryStandsIn (is_selected selected)) others entries
+        → AllByRecursion EntryHasBytes entries
+        → (handed : List HandedIn) × (given : List Given) × (happened : List Happening)
+        × HasHappened made handed given happened × AreHandedIn made.channels entries handed
+        × (filter (is_told_for selected) happened ≡ filter (is_told_for selected) happening) }
 {
     bonded_flows::laws::what_came_to_a_flow_has_one_answer();
 }
