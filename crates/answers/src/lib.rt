@@ -201,7 +201,8 @@ pub fn other_payloads_change_no_selected_flow()
 /// **What the bursts of other flows carry changes nothing that is told of the selected ones, and of
 /// none**, where each input and decision is handed in and told of by itself: entries that stand in
 /// for what was handed in bring the same requests, of each selected flow the same frames, and the
-/// same answers and standings, each in its place. The flows and channels may be any number.
+/// same answers and standings, in the same order. Between which of these a frame is given isn't
+/// said here. The flows and channels may be any number.
 pub fn other_payloads_change_nothing_that_is_told()
     ensures { (selected : Selection) (made : TableSetup) (handed others : List HandedIn)
         (given also : List Given) (happened happening : List Happening)
