@@ -6,8 +6,6 @@
 #![tactic(auto)]
 
 #[cfg(test)]
-mod expect;
-#[cfg(test)]
 mod run;
 #[cfg(test)]
 mod sources;

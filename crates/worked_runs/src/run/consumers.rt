@@ -8,7 +8,6 @@ use super::held_up::{Calls, Counting};
 use super::meeting::{Attending, Meeting};
 use super::receivers::{no_decisions, no_inputs, sources_of};
 use super::{TWO_FRAMES, eight_requests, numbered};
-use crate::expect::expect_same;
 use docsis_wire::{Bytes, NoCheck};
 use flow_core::FlowCounts;
 use std::alloc::{AllocError, Global};
@@ -153,7 +152,7 @@ fn gives_while_a_source_still_gives(rt: HostRuntime) -> Result<(), Fail> {
     let meeting = Meeting::of(rt.alloc(), 3)?;
     let answer = receive_two_frames(rt.alloc(), rt, &meeting)?;
     let wanted = Some((TWO_FRAMES_COUNTED, ONE_REQUEST, TWO_KEPT));
-    expect_same(&rt, "two frames", counted(answer), wanted);
+    assert!(rt; counted(answer) == wanted);
     meeting.expect_met(&rt);
     Ok(())
 }
@@ -186,7 +185,7 @@ fn frames_collected(answer: Answer<Collected, Forgets>) -> Option<usize> {
 #[test]
 fn receives_with_little_room(rt: HostRuntime) -> Result<(), Fail> {
     let answer = collect(rt.alloc(), rt, 1024)?;
-    expect_same(&rt, "frames", frames_collected(answer), Some(1024));
+    assert!(rt; frames_collected(answer) == Some(1024));
     Ok(())
 }
 
@@ -207,7 +206,7 @@ fn requests_counted(answer: Answer<Forgets, Counts>) -> Option<u64> {
 #[test]
 fn goes_on_with_what_it_is_handed(rt: HostRuntime) -> Result<(), Fail> {
     let answer = count_on(rt.alloc(), rt)?;
-    expect_same(&rt, "requests", requests_counted(answer), Some(9));
+    assert!(rt; requests_counted(answer) == Some(9));
     Ok(())
 }
 
@@ -220,7 +219,8 @@ fn unusable_setup_asks_no_source(rt: HostRuntime) -> Result<(), Fail> {
     setup.mailbox = 0;
     let answer = receive_on_channel_0(rt.alloc(), rt, setup, source, Forgets, Forgets);
     let error = answer.err().ok_or("no fault")?;
-    assert!(rt; error.fault == RunFault::NoCapacity && !error.began);
+    assert!(rt; error.fault == RunFault::NoCapacity);
+    assert!(rt; !error.began);
     assert!(rt; calls.made() == 0);
     Ok(())
 }

@@ -5,7 +5,6 @@ use super::meeting::Meeting;
 use super::numbered::{expect_all, segment_of};
 use super::receive_in_company;
 use super::receivers::{Four, no_decisions, receive};
-use crate::expect::expect_same;
 use docsis_wire::{Bytes, NoCheck};
 use flow_core::{FlowRecord, SetupFault};
 use std::alloc::{AllocError, Global};
@@ -60,7 +59,7 @@ fn run_without_the_first_refused(rt: HostRuntime) -> Result<(), Fail> {
         }
     };
     let amiss = part_amiss_in_any_order(&outcome, &SECOND_FRAME);
-    expect_same(&rt, "the first lost", amiss, None);
+    assert!(rt; amiss.is_none(), "{amiss:?}");
     Ok(())
 }
 

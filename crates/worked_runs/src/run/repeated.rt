@@ -1,6 +1,5 @@
 //! Traces that are run a hundred times, and each time compared with the one-thread answer.
 use super::receivers::receive;
-use crate::expect::expect_same;
 use docsis_wire::NoCheck;
 use flow_core::FlowRecord;
 use std::alloc::{AllocError, Global};
@@ -79,11 +78,11 @@ where
 {
     let outcome = receive(alloc, rt, trace(alloc, case)?)?;
     let amiss = part_amiss_in_any_order(&outcome, &case.expected);
-    expect_same(&rt, case.name, amiss, None);
+    assert!(rt; amiss.is_none(), "{}: {amiss:?}", case.name);
     let order = outcome.order.as_slice();
     let replayed = replay_case(alloc, case, order)?;
     let amiss = part_amiss(&replayed, &case.expected, order);
-    expect_same(&rt, case.replayed, amiss, None);
+    assert!(rt; amiss.is_none(), "{}: {amiss:?}", case.replayed);
     Ok(())
 }
 

@@ -1,7 +1,6 @@
 //! Receivers of endless sources that are told to stop.
 use super::count::Count;
 use super::numbered::segment_of;
-use crate::expect::expect_same;
 use docsis_wire::{Bytes, NoCheck};
 use flow_core::{FlowCounts, FlowRecord};
 use std::alloc::{AllocError, Global};
@@ -255,7 +254,7 @@ fn expect_nothing_lost(rt: &impl Abort, answer: Answer, given: &Given) {
     assert!(rt; received.lanes.len() == 4, "lanes");
     assert!(rt; received.lanes.iter().zip(&came).all(admitted), "admitted");
     assert!(rt; are_counted(&received.flows, &came), "counts");
-    expect_same(rt, "frames", received.consumer.came, came);
+    assert!(rt; received.consumer.came == came, "frames");
     assert!(rt; received.consumer.are_in_order, "order");
 }
 
@@ -322,16 +321,16 @@ fn stopped_source_is_asked_no_more(rt: HostRuntime) -> Result<(), Fail> {
         gives(&mut source),
         decides(&mut decisions),
     ];
-    expect_same(&rt, "before", before, [true; 3]);
-    expect_same(&rt, "not stopped", stopper.is_stopped(), false);
+    assert!(rt; before == [true; 3]);
+    assert!(rt; !stopper.is_stopped());
     stopper.stop();
     let after = [
         gives(&mut source),
         gives(&mut source),
         decides(&mut decisions),
     ];
-    expect_same(&rt, "after", after, [false; 3]);
-    expect_same(&rt, "stopped", stopper.is_stopped(), true);
-    expect_same(&rt, "given", given.value(), 1);
+    assert!(rt; after == [false; 3]);
+    assert!(rt; stopper.is_stopped());
+    assert!(rt; given.value() == 1);
     Ok(())
 }

@@ -1,6 +1,5 @@
 //! Receivers of more than four channels and of many flows.
 use super::numbered::segment_of;
-use crate::expect::expect_same;
 use docsis_wire::{Bytes, NoCheck};
 use flow_core::FlowRecord;
 use std::alloc::{AllocError, Global};
@@ -184,9 +183,9 @@ fn expect_ten(rt: &impl Abort, answer: Answer, strays: [Strays; 4]) {
         admitted: u64::from(EACH),
         refused: 0,
     };
-    expect_same(rt, "lanes", received.lanes.len(), usize::from(CHANNELS));
+    assert!(rt; received.lanes.len() == usize::from(CHANNELS), "lanes");
     assert!(rt; received.lanes.iter().all(|tally| *tally == lane), "lanes");
-    expect_same(rt, "strays", received.strays, strays);
+    assert!(rt; received.strays == strays, "strays");
     let frames = received.consumer.frames.first();
     let all = EACH * u16::from(CHANNELS);
     assert!(rt;
@@ -271,7 +270,7 @@ fn receives_many_flows(rt: HostRuntime) -> Result<(), Fail> {
         lists,
     )?;
     let received = answer.ok().ok_or("received")?;
-    expect_same(&rt, "flows", received.flows.len(), usize::from(FLOWS));
+    assert!(rt; received.flows.len() == usize::from(FLOWS), "flows");
     let are_two = |frames: &Vec<Bytes>| are_in_order(frames, 2);
     assert!(rt; received.consumer.frames.iter().all(are_two), "frames");
     Ok(())
