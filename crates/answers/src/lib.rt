@@ -215,9 +215,9 @@ pub fn other_payloads_change_nothing_that_is_told()
     bonded_flows::laws::what_came_to_a_flow_has_one_answer();
 }
 
-/// **What is told of stand-ins is told of the whole**, of the selected flows and of none, in the same
-/// order: whatever happened for stand-ins, something happens for the entries for which they stand
-/// in, of which that is told, whether or not a receiver made it.
+/// **What is told of stand-ins is told of the whole**, of the selected flows and of none, in the
+/// same order: whatever happened for stand-ins, something happens for the entries for which they
+/// stand in, of which that is told, whether or not a receiver made it.
 pub fn what_is_told_of_stand_ins_is_told_of_the_whole()
     ensures { (selected : Selection) (made : TableSetup) (others : List HandedIn)
         (also : List Given) (happening : List Happening) (entries : List Entry)

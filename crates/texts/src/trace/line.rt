@@ -39,7 +39,8 @@ pub enum TraceLine {
     Gap(Decision),
 }
 
-/// What a line says of a burst if the field of its bytes is hexadecimal, which wasn't looked at yet.
+/// What a line says of a burst if the field of its bytes is hexadecimal, which wasn't looked at
+/// yet.
 #[derive(Debug, Clone, Copy)]
 pub struct PeekedBurst<'a> {
     /// Its channel, below how many the receiver has.
