@@ -35,7 +35,7 @@ lines_same lines n (item ∷ items) (other ∷ others) same each =
     subst (λ m. lines m one ≡ lines m another) place (each (suc k) one another there also)) in
     ap (λ front. front ++ flat_map (λ one. lines one.0 one.1) (enumerate_from (n + 1) items)) here ∙ ap (λ more. lines n other ++ more) rest
 
-numbered_same : {T : Type 0} (lines : ℕ → T → List ℕ) (items others : List T) → length items ≡ length others
+pub numbered_same : {T : Type 0} (lines : ℕ → T → List ℕ) (items others : List T) → length items ≡ length others
     → ((k : ℕ) (item other : T) → slice_get items k ≡ Some item → slice_get others k ≡ Some other → lines k item ≡ lines k other)
     → numbered_texts lines items ≡ numbered_texts lines others
 numbered_same lines items others same each =

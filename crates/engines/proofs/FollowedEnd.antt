@@ -6,6 +6,7 @@ use Rattle.std.specs.declared.alloc.AllocError.{AllocError}
 use Rattle.std.proofs.KnownBytes.{Appends-trans}
 use Rattle.std.proofs.lemmas.Grind.{flat_map-append}
 use Rattle.loss_rule.specs.declared.rule.LossRule.{LossRule}
+use Rattle.receiver.specs.declared.closing.Closed.{Closed}
 use Rattle.receiver.specs.declared.width.Width.{Width}
 use Rattle.receiver.specs.HandedIn.{made_of}
 use Rattle.text_lines.specs.Capacities.{default_capacity}
@@ -14,15 +15,16 @@ use Rattle.text_lines.specs.Lines.{lines_of}
 use Rattle.text_lines.specs.Putting.{Puts}
 use Rattle.consumer.specs.declared.given.Given.{Given}
 use Rattle.texts.specs.declared.follow.settings.FollowSettings.{FollowSettings}
-use Rattle.texts.specs.declared.follow.Followed.{Followed}
+use Rattle.followed_traces.specs.declared.input.Followed.{Followed}
+use Rattle.followed_traces.specs.Followed.{end_text, IsFollowedTo}
 use Rattle.texts.specs.declared.follow.happening.Happening.{Happening}
 use Rattle.texts.specs.declared.follow.happening.Happening.TheVariants.{Gave}
 use Rattle.texts.specs.Happened.{HasHappened, HappenedBy, HappenedAt, happening_of, AreNumbered}
-use Rattle.texts.specs.Follow.{given_told, lines_told, told_lines, closed_lines, end_text, IsFollowed, IsFollowedTo, IsFollowedSoFar}
+use Rattle.texts.specs.Follow.{given_told, lines_told, told_lines, closed_lines, IsFollowed, IsFollowedSoFar}
 use Rattle.texts.specs.Trace.Line.{shape_of}
 use Rattle.texts.specs.Trace.Place.{nothing_said_in, trace_format}
-use Rattle.texts.specs.Inside.Followed.{HasFollowedLines, IsAllPut, PutsHappened, with_told}
-use Rattle.texts.specs.Inside.TraceInput.{taking_format, nothing_taken}
+use Rattle.followed_traces.specs.Inside.Followed.{Watched, nothing_followed, HasFollowedLines, IsAllPut, PutsHappened, with_told}
+use Rattle.texts.specs.Inside.TraceInput.{taking_format}
 use Rattle.texts.proofs.HandedLines.{read_alone}
 use Rattle.engines.specs.declared.device.Device.{Device}
 use Rattle.engines.specs.declared.fault.EngineFault.{EngineFault}
@@ -37,7 +39,7 @@ use Rattle.engines.specs.Inside.Following.{HasFollowedBytes, IsLastLine, IsEndFa
 use Rattle.engines.proofs.NumberedHappenings.{all_of, both_at, lines_at, lines_given, numbered_more}
 use Rattle.engines.proofs.FollowedDevices.{flushed_then}
 use Rattle.engines.proofs.WrittenText.{AppendsFront-behind}
-use Rattle.engines.proofs.FollowedLines.{happened_by, read_told, lines_with_last}
+use Rattle.engines.proofs.FollowedLines.{happened_by, read_bytes, read_told, lines_with_last}
 use Rattle.text_lines.proofs.PutTexts.{puts-nothing}
 
 -- ---- all lines were taken
@@ -66,11 +68,10 @@ module _ (rule : LossRule) (width : Width) (settings : FollowSettings) (bytes : 
 
   module _ (told : List HappenedAt) (ended : EndedTrace) (has : HasEnded rule width settings bytes told ended) where
     -- of a trace of which nothing is pending the text of all lines was told
-    pub text_of_lines : IsAllPut ended.input.taker → IsFollowedSoFar rule width settings (lines_of bytes) (flat_map (told_lines settings) told)
+    pub text_of_lines : IsAllPut ended.input.input.taker → IsFollowedSoFar rule width settings (lines_of bytes) (flat_map (told_lines settings) told)
     text_of_lines put =
         let by =
-        happened_by rule width (map happening_of told) (lines_of bytes) has.state ended.input.width ended.input.rule ended.input.setup ended.input.taker has.read
-        has.stands put in
+        happened_by settings rule width (map happening_of told) (lines_of bytes) has.state ended.input has.read has.stands put in
         let numbered = has.numbered [] (subst (λ (all : List Happening). HappenedBy rule width (lines_of bytes) all) (sym (append-nil (map happening_of told))) by) in
         record {
           told = told;
@@ -80,14 +81,14 @@ module _ (rule : LossRule) (width : Width) (settings : FollowSettings) (bytes : 
         }
 
     -- what was pending was told besides
-    pub ended_told : (ended' : EndedTrace) (happened : List Happening) → ended'.settings ≡ ended.settings → ended'.line ≡ ended.line
-        → HasFollowedLines (with_told has.state happened) ended'.input.width ended'.input.rule ended'.input.setup ended'.input.taker
+    pub ended_told : (ended' : EndedTrace) (happened : List Happening) → ended'.input.settings ≡ ended.input.settings → ended'.line ≡ ended.line
+        → HasFollowedLines (with_told has.state happened) ended'.input
         → HasEnded rule width settings bytes (told ++ all_at ended.line happened) ended'
     ended_told ended' happened same_settings same_line stands = record {
       settings_are = same_settings ∙ has.settings_are;
       state = with_told has.state happened;
       read =
-          subst (λ (all : List Happening). IsRead taking_format (nothing_taken all rule width) (lines_of bytes) (with_told has.state happened))
+          subst (λ (all : List Happening). IsRead taking_format (nothing_followed settings all rule width) (lines_of bytes) (with_told has.state happened))
           (sym (all_of told ended.line happened)) (read_told happened has.read);
       stands = stands;
       numbered = λ more by.
@@ -102,60 +103,65 @@ module _ (rule : LossRule) (width : Width) (settings : FollowSettings) (bytes : 
 
     -- so where it was put
     pub pending_told : {T : Type 0} (after : T → List ℕ → T → Type 0) (out out' : T) (ended' : EndedTrace) (put : Result (Unit {0}) AllocError)
-        → OnOk put (PutsHappened after ended.line ended.settings ended.input.width ended.input.rule ended.input.setup ended.input.taker out
-        ended'.input.width ended'.input.rule ended'.input.setup ended'.input.taker out') → OnErr put (out' ≡ out)
-        → ended'.settings ≡ ended.settings → ended'.line ≡ ended.line
+        → OnOk put (PutsHappened after ended.line ended.input out ended'.input out') → OnErr put (out' ≡ out) → ended'.line ≡ ended.line
         → (more : List HappenedAt) × Puts after out (flat_map (told_lines settings) more) out'
-        × MatchResult put (λ _. HasEnded rule width settings bytes (told ++ more) ended' × IsAllPut ended'.input.taker) (λ _. more ≡ [])
-    pending_told after out out' ended' (Ok done) put same same_settings same_line = (
-      all_at ended.line put.happened,
-      subst (λ (text : List ℕ). Puts after out text out') (sym (lines_at settings ended.line put.happened))
-          (subst (λ (told_of : FollowSettings). Puts after out (flat_map (lines_told told_of ended.line) put.happened) out') has.settings_are put.put),
-      (ended_told ended' put.happened same_settings same_line (put.told has.state has.stands), put.none),
-    )
-    pending_told {T} after out out' ended' (Err none) put same same_settings same_line =
+        × MatchResult put (λ _. HasEnded rule width settings bytes (told ++ more) ended' × IsAllPut ended'.input.input.taker) (λ _. more ≡ [])
+    pending_told after out out' ended' (Ok done) put same same_line =
+        let tells = put.told has.state has.stands (read_bytes settings rule width (map happening_of told) has.read) in
+        let happened = tells.0 in (
+          all_at ended.line happened,
+          subst (λ (text : List ℕ). Puts after out text out')
+              (tells.1 ∙ ap (λ (told_of : FollowSettings). flat_map (lines_told told_of ended.line) happened) has.settings_are ∙ sym (lines_at settings ended.line happened))
+              put.put,
+          (ended_told ended' happened put.settings same_line tells.2, put.none),
+        )
+    pending_told {T} after out out' ended' (Err none) put same same_line =
         ([], subst (λ (now : T). Puts after out [] now) (sym same) (puts-nothing after out), refl)
 
     -- the receiver was closed
-    followed_to : (end : Followed) → IsFollowedTo has.state.rule has.state.width has.state.said has.state.state end
+    followed_to : (end : Followed) → IsFollowedTo has.state.rule has.state.width has.state.said has.state.state.told end
         → IsRead trace_format (nothing_said_in (shape_of width default_capacity)) (lines_of bytes) has.state.said
         × IsFollowedTo rule width has.state.said (map happening_of told) end
     followed_to end to =
         let alone = read_alone has.read in (
           alone.3,
-          subst (λ (told : List Happening). IsFollowedTo rule width has.state.said told end) alone.0
-              (subst (λ (by : LossRule). IsFollowedTo by width has.state.said has.state.state end) alone.1
-              (subst (λ (wide : Width). IsFollowedTo has.state.rule wide has.state.said has.state.state end) alone.2 to)),
+          subst (λ (watched : Watched). IsFollowedTo rule width has.state.said watched.told end) alone.0
+              (subst (λ (by : LossRule). IsFollowedTo by width has.state.said has.state.state.told end) alone.1
+              (subst (λ (wide : Width). IsFollowedTo has.state.rule wide has.state.said has.state.state.told end) alone.2 to)),
         )
 
-    printed_as : (line : ℕ) (last : List Happening) (rest : List Given) (end : Followed) → end.happened.items ≡ last ++ map Gave rest
-        → flat_map (told_lines settings) told ++ end_text settings line end
-        ≡ flat_map (told_lines settings) (told ++ all_at line last) ++ flat_map (given_told settings.selected) rest ++ closed_lines settings.selected end.setup end.closed
-    printed_as line last rest end are =
-        let closed = closed_lines settings.selected end.setup end.closed in
+    printed_as : (line : ℕ) (last : List Happening) (rest : List Given) (end : Followed) (counted : Closed) → end.settings ≡ settings
+        → flat_map (lines_told end.settings line) end.happened.items ≡ flat_map (lines_told end.settings line) (last ++ map Gave rest)
+        → closed_lines end.settings.selected end.setup end.closed ≡ closed_lines end.settings.selected end.setup counted
+        → flat_map (told_lines settings) told ++ end_text line end
+        ≡ flat_map (told_lines settings) (told ++ all_at line last) ++ flat_map (given_told settings.selected) rest ++ closed_lines settings.selected end.setup counted
+    printed_as line last rest end counted same are counts =
+        let closed = closed_lines settings.selected end.setup counted in
         let before = flat_map (told_lines settings) told in
         let lasts = flat_map (lines_told settings line) last in
-        let left : flat_map (lines_told settings line) end.happened.items ≡ lasts ++ flat_map (given_told settings.selected) rest =
-        ap (flat_map (lines_told settings line)) are ∙ flat_map-append (lines_told settings line) last (map Gave rest)
+        let left : flat_map (lines_told end.settings line) end.happened.items ≡ lasts ++ flat_map (given_told settings.selected) rest =
+        are ∙ ap (λ (s : FollowSettings). flat_map (lines_told s line) (last ++ map Gave rest)) same ∙ flat_map-append (lines_told settings line) last (map Gave rest)
         ∙ ap (λ text. lasts ++ text) (lines_given settings line rest) in
+        let ends : closed_lines end.settings.selected end.setup end.closed ≡ closed =
+        counts ∙ ap (λ (s : FollowSettings). closed_lines s.selected end.setup counted) same in
         let all : flat_map (told_lines settings) (told ++ all_at line last) ≡ before ++ lasts =
         flat_map-append (told_lines settings) told (all_at line last) ∙ ap (λ text. before ++ text) (lines_at settings line last) in
-        ap (λ text. before ++ (text ++ closed)) left
+        ap (λ text. before ++ (text ++ closed_lines end.settings.selected end.setup end.closed)) left
+        ∙ ap (λ text. before ++ ((lasts ++ flat_map (given_told settings.selected) rest) ++ text)) ends
         ∙ sym (append_assoc before (lasts ++ flat_map (given_told settings.selected) rest) closed)
         ∙ ap (λ text. text ++ closed) (sym (append_assoc before lasts (flat_map (given_told settings.selected) rest)))
         ∙ ap (λ text. (text ++ flat_map (given_told settings.selected) rest) ++ closed) (sym all)
 
     -- the text of all that was followed
-    pub followed_text : (end : Followed) → IsFollowedTo has.state.rule has.state.width has.state.said has.state.state end
-        → IsFollowed rule width settings bytes (flat_map (told_lines settings) told ++ end_text ended.settings ended.line end)
-    followed_text end to_end =
+    pub followed_text : (end : Followed) → end.settings ≡ ended.input.settings → IsFollowedTo has.state.rule has.state.width has.state.said has.state.state.told end
+        → IsFollowed rule width settings bytes (flat_map (told_lines settings) told ++ end_text ended.line end)
+    followed_text end same to_end =
         let closed = followed_to end to_end in
         let to = closed.1 in
         let told_now = told ++ all_at ended.line to.last in
         let happened =
         subst (λ (all : List Happening). HasHappened (made_of rule width.channels end.setup) to.handed to.given all) (sym (all_of told ended.line to.last)) to.happened in
-        subst (λ (by : FollowSettings). IsFollowed rule width settings bytes (flat_map (told_lines settings) told ++ end_text by ended.line end)) (sym has.settings_are)
-        (record {
+        record {
           said = has.state.said;
           read = closed.0;
           setup = end.setup;
@@ -181,10 +187,10 @@ module _ (rule : LossRule) (width : Width) (settings : FollowSettings) (bytes : 
                     });
               });
           rest = to.rest;
-          closed = end.closed;
+          closed = to.counted;
           received = to.received;
-          printed = printed_as ended.line to.last to.rest end to.are;
-        })
+          printed = printed_as ended.line to.last to.rest end to.counted (same ∙ has.settings_are) to.are to.counts;
+        }
 
 -- ---- what was pending, and the rest
 
@@ -196,7 +202,7 @@ module _ {W : Type 0} (contents : W → Option (List ℕ)) (writer writer' : Dev
   -- the writer failed at what was pending
   pub pending_unwritten : (more : List HappenedAt) (ended' : EndedTrace) (fault : WriteFault) (put : Result (Unit {0}) AllocError)
       → IsWritten contents (flat_map (told_lines settings) more) writer writer' (Err fault)
-      → MatchResult put (λ _. HasEnded rule width settings bytes (told ++ more) ended' × IsAllPut ended'.input.taker) (λ _. more ≡ [])
+      → MatchResult put (λ _. HasEnded rule width settings bytes (told ++ more) ended' × IsAllPut ended'.input.input.taker) (λ _. more ≡ [])
       → PendsBy contents rule width settings bytes told writer writer' Write
   pending_unwritten more ended' fault (Ok done) wrote has = (
     flat_map (told_lines settings) more,
@@ -227,7 +233,7 @@ module _ {W : Type 0} (contents : W → Option (List ℕ)) (writer writer' : Dev
   ends_pending Usage by = absurd by
   ends_pending (Capture fault) by = absurd by
 
-  module _ (more : List HappenedAt) (ended : EndedTrace) (has : HasEnded rule width settings bytes (told ++ more) ended) (put : IsAllPut ended.input.taker)
+  module _ (more : List HappenedAt) (ended : EndedTrace) (has : HasEnded rule width settings bytes (told ++ more) ended) (put : IsAllPut ended.input.input.taker)
       (wrote : Appends (contents (inner_of writer)) (contents (inner_of writer')) (flat_map (told_lines settings) more)) (flushed : IsLeftFlushed writer writer')
       (sound : has_failed writer' ≡ has_failed writer) (writer'' : Device W) where
     -- what was pending, and then the rest

@@ -15,12 +15,13 @@ use crate::flushed_reads::ReadBehind;
 use crate::text_writer::{TextWriter, held_room};
 use crate::transfer::{read_behind, zeros};
 use ended::EndedTrace;
+use followed_traces::FollowInput;
 use loss_rule::LossRule;
 use receiver::Width;
 use std::alloc::{AllocError, Global};
 use std::io::Write;
 use text_lines::{LineReader, PutText, split_behind_line};
-use texts::{FollowInput, FollowSettings};
+use texts::FollowSettings;
 
 mod ended;
 
@@ -32,8 +33,6 @@ const PIECE_BYTES: usize = 262_144;
 struct Follower {
     lines: LineReader,
     input: FollowInput,
-    /// What is told.
-    settings: FollowSettings,
 }
 
 impl Follower {
@@ -48,8 +47,7 @@ impl Follower {
     {
         Ok(Follower {
             lines: LineReader::new(alloc),
-            input: FollowInput::new(alloc, width, rule)?,
-            settings,
+            input: FollowInput::new(alloc, width, rule, settings)?,
         })
     }
 
@@ -84,7 +82,7 @@ impl Follower {
     {
         self.lines.take_one_line(alloc, piece, &mut self.input)?;
         let line = self.lines.line_count();
-        self.input.put_happened(line, &self.settings, out)?;
+        self.input.put_happened(line, out)?;
         Ok(())
     }
 
@@ -140,17 +138,9 @@ impl Follower {
         ensures fault { IfErr result (CannotEnd self) }
     {
         let line = self.last_line();
-        let Follower {
-            lines,
-            mut input,
-            settings,
-        } = self;
+        let Follower { lines, mut input } = self;
         lines.finish(alloc, &mut input)?;
-        Ok(EndedTrace {
-            input,
-            line,
-            settings,
-        })
+        Ok(EndedTrace { input, line })
     }
 
     /// Takes the last line, and writes what happens by it; then it closes the receiver, and writes

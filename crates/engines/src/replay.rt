@@ -1,6 +1,5 @@
 //! The command `replay`: a trace becomes the report of what a receiver gives for it.
-ghost use Rattle.std.specs.Prelude.{◌≡◌, ◌<◌, [], ℕ, true, false, IsTrue, IsFalse};
-ghost use Rattle.flow_selection.specs.Selection.{is_selected};
+ghost use Rattle.std.specs.Prelude.{◌≡◌, []};
 ghost use Rattle.engines.specs.Device.{IsFresh};
 ghost use Rattle.engines.specs.Engine.{RunsEngine};
 ghost use Rattle.engines.specs.Writing.{IsWritten};
@@ -18,7 +17,8 @@ use loss_rule::LossRule;
 use receiver::{Outcome, Width};
 use std::alloc::Global;
 use std::io::{Read, Write};
-use texts::{ReplayInput, SelectedReplay, finish_replay, laws, put_report, put_report_of};
+use texts::{ReplayInput, SelectedReplay, finish_replay, laws, leaves_none_out};
+use texts::{put_report, put_report_of};
 
 /// Writes the report of an outcome as it makes it. The room is empty, and no other memory is taken.
 /// What it held last is left in it.
@@ -106,23 +106,10 @@ pub fn replay_text_of<R: Read, W: Write>(
     ensures { RunsEngine R.remaining W.contents (IsReplayedOf selected.now rule) IsReplayFault
         reader.old reader.new writer.old writer.new result }
 {
-    if leaves_none_out(selected) {
+    if leaves_none_out(selected, usize::from(Width::PROFILE.flows)) {
         return replay_whole(selected, rule, alloc, reader, writer);
     }
     replay_in_part(selected, rule, alloc, reader, writer)
-}
-
-/// Whether each flow is selected that a trace may set up.
-fn leaves_none_out(selected: &Selection) -> bool
-    ensures all { IsTrue result → (k : ℕ) → k < 64 → is_selected selected.now k ≡ true }
-    ensures some { IsFalse result → (k : ℕ) × (k < 64) × (is_selected selected.now k ≡ false) }
-{
-    for flow in 0..64 {
-        if !selected.has(flow) {
-            return false;
-        }
-    }
-    true
 }
 
 /// Replays all that comes in, and writes the report of the flows that are selected.

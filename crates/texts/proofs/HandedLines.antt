@@ -73,10 +73,10 @@ setup_of said so_far setup mailbox has is = (
   ap (λ (s : Setup). s.mailbox) is,
 )
 
-module _ {State P : Type 0} (start : State) (has_taken : State → LossRule → Width → Setup → List Entry → P → Type 0) where
+module _ {State P : Type 0} (starts : State → Type 0) (has_taken : State → LossRule → Width → Setup → List Entry → P → Type 0) where
   -- where nothing was handed in it doesn't matter to which setup
   none_taken : (state : State) (rule : LossRule) (width : Width) (setup other : Setup) (taker : Option P) (entries : List Entry) → taker ≡ None
-      → WereTaken start has_taken state rule width setup taker entries → WereTaken start has_taken state rule width other taker entries
+      → WereTaken starts has_taken state rule width setup taker entries → WereTaken starts has_taken state rule width other taker entries
   none_taken state rule width setup other None entries none has = has
   none_taken state rule width setup other (Some taker) entries none has = absurd cc
 
@@ -84,12 +84,12 @@ module _ {State P : Type 0} (start : State) (has_taken : State → LossRule → 
   pub setup_handed : (state : TraceState State) (line given : TraceLine) (width : Width) (rule rule' : LossRule) (before after : SetupSoFar)
       (taker taker' : Option P) (result : Result (Unit {0}) LineFault) → line ≡ given → SetsUp given → taker ≡ None → rule' ≡ rule
       → after.setup.mailbox ≡ before.setup.mailbox → taker' ≡ taker → AddsTo HasSetup before given result after
-      → (said : Said) → HasTakenLines start has_taken (record state { said = said }) width rule before taker
-      → MatchResult result (λ _. HasMore (λ more. HasTakenLines start has_taken (record state { said = more }) width rule' after taker') said line)
+      → (said : Said) → HasTakenLines starts has_taken (record state { said = said }) width rule before taker
+      → MatchResult result (λ _. HasMore (λ more. HasTakenLines starts has_taken (record state { said = more }) width rule' after taker') said line)
       (IsLineFault (IsLeastFault (HasFaultAmong said line)))
   setup_handed state line given width rule rule' before after taker taker' result is sets none rule_is mailbox same adds =
-      subst (λ (line : TraceLine). (said : Said) → HasTakenLines start has_taken (record state { said = said }) width rule before taker
-      → MatchResult result (λ _. HasMore (λ more. HasTakenLines start has_taken (record state { said = more }) width rule' after taker') said line)
+      subst (λ (line : TraceLine). (said : Said) → HasTakenLines starts has_taken (record state { said = said }) width rule before taker
+      → MatchResult result (λ _. HasMore (λ more. HasTakenLines starts has_taken (record state { said = more }) width rule' after taker') said line)
       (IsLineFault (IsLeastFault (HasFaultAmong said line)))) (sym is)
       (λ said has. on_taken _ result
       (λ more. record {
@@ -100,8 +100,8 @@ module _ {State P : Type 0} (start : State) (has_taken : State → LossRule → 
           setup = more.has;
           mailbox = mailbox ∙ has.mailbox;
           taken =
-              subst (λ (entries : List Entry). WereTaken start has_taken state.state state.rule state.width after.setup taker' entries) (sym (no_entry said given sets))
-              (subst (λ (taker : Option P). WereTaken start has_taken state.state state.rule state.width after.setup taker said.entries) (sym same)
+              subst (λ (entries : List Entry). WereTaken starts has_taken state.state state.rule state.width after.setup taker' entries) (sym (no_entry said given sets))
+              (subst (λ (taker : Option P). WereTaken starts has_taken state.state state.rule state.width after.setup taker said.entries) (sym same)
               (none_taken state.state state.rule state.width before.setup after.setup taker said.entries none has.taken));
         };
       })
@@ -109,17 +109,17 @@ module _ {State P : Type 0} (start : State) (has_taken : State → LossRule → 
 
   -- something takes the entries exactly if there are some
   taken_some : (state : State) (rule : LossRule) (width : Width) (setup : Setup) (taker : Option P) (entries : List Entry)
-      → WereTaken start has_taken state rule width setup taker entries → taker ≢ None → 0 < length entries
+      → WereTaken starts has_taken state rule width setup taker entries → taker ≢ None → 0 < length entries
   taken_some state rule width setup None entries has some = absurd (some refl)
   taken_some state rule width setup (Some taker) entries has some = has.0
 
   some_taken : (state : State) (rule : LossRule) (width : Width) (setup : Setup) (taker : Option P) (entries : List Entry)
-      → WereTaken start has_taken state rule width setup taker entries → 0 < length entries → taker ≢ None
+      → WereTaken starts has_taken state rule width setup taker entries → 0 < length entries → taker ≢ None
   some_taken state rule width setup None entries has some none = omega (arith, ap length has.1, some)
   some_taken state rule width setup (Some taker) entries has some none = absurd cc
 
   module _ (state : TraceState State) (width : Width) (rule : LossRule) (so_far : SetupSoFar) (taker : Option P)
-      (has : HasTakenLines start has_taken state width rule so_far taker) where
+      (has : HasTakenLines starts has_taken state width rule so_far taker) where
     -- something takes the entries, so a line that sets something up is late
     pub late_after_input : (word : List ℕ) (words : List (List ℕ)) → ((word ≡ word_of flow_line) ⊎ (word ≡ word_of sid_line)) × (taker ≢ None)
         → IsLate state.said (word ∷ words)
@@ -137,7 +137,7 @@ module _ {State P : Type 0} (start : State) (has_taken : State → LossRule → 
     pub entry_handed : (width' : Width) (rule' : LossRule) (after : SetupSoFar) (taker' : Option P) (next : P) (entry : Entry) → width' ≡ width → rule' ≡ rule
         → after ≡ so_far → taker' ≡ Some next
         → has_taken state.state state.rule state.width so_far.setup (state.said.entries ++ entry ∷ []) next
-        → HasTakenLines start has_taken (record state { said = record state.said { entries = state.said.entries ++ entry ∷ [] } }) width' rule' after taker'
+        → HasTakenLines starts has_taken (record state { said = record state.said { entries = state.said.entries ++ entry ∷ [] } }) width' rule' after taker'
     entry_handed width' rule' after taker' next entry width_same rule_same same is took = record {
       width_is = width_same ∙ has.width_is;
       rule_is = rule_same ∙ has.rule_is;
@@ -148,8 +148,8 @@ module _ {State P : Type 0} (start : State) (has_taken : State → LossRule → 
       };
       mailbox = ap (λ (s : SetupSoFar). s.setup.mailbox) same ∙ has.mailbox;
       taken =
-          subst (λ (s : SetupSoFar). WereTaken start has_taken state.state state.rule state.width s.setup taker' (state.said.entries ++ entry ∷ [])) (sym same)
-          (subst (λ (taker : Option P). WereTaken start has_taken state.state state.rule state.width so_far.setup taker (state.said.entries ++ entry ∷ [])) (sym is)
+          subst (λ (s : SetupSoFar). WereTaken starts has_taken state.state state.rule state.width s.setup taker' (state.said.entries ++ entry ∷ [])) (sym same)
+          (subst (λ (taker : Option P). WereTaken starts has_taken state.state state.rule state.width so_far.setup taker (state.said.entries ++ entry ∷ [])) (sym is)
           (omega (arith, length-append state.said.entries (entry ∷ [])), took));
     }
 

@@ -23,7 +23,6 @@ pub mod StandInEntries
 pub mod ReplayedInPart
 pub mod GivenOfTrace
 pub mod GivenSoFar
-pub mod FollowedTrace
 pub mod WiderRule
 pub mod WiderTrace
 pub mod FollowedAsReported

@@ -1,6 +1,6 @@
 -- What was replayed for some flows of the lines of a trace, with one line more.
 use Rattle.std.proofs.Common.{◌≡◌, ℕ, ◌<◌, ◌⊎◌, inl, inr, Bool, false, Option, Some, List, [], ◌∷◌, ◌++◌, length, map, get_or, refl, sym, ap, subst, ◌∙◌, arith}
-use Rattle.std.specs.Prelude.{Result, Ok, Err, OnOk, IfErr, MatchResult}
+use Rattle.std.specs.Prelude.{None, Result, Ok, Err, OnOk, IfErr, IfSome, MatchResult}
 use Rattle.std.specs.Option.{option_map}
 use Rattle.std.proofs.lemmas.List.{length-map, nil_from_length}
 use Rattle.docsis_wire.specs.declared.header_check.NoCheck.{NoCheck}
@@ -34,12 +34,13 @@ use Rattle.texts.specs.Trace.Place.{Said, HasFaultAmong, SaysFaulty, HasLineFaul
 use Rattle.texts.specs.AnyHeader.{any_header}
 use Rattle.texts.specs.Replay.{IsSetupOf}
 use Rattle.texts.specs.Inside.InPlace.{said_lane, IsInPlaceOf, IsBoundElsewhere, AreInPlace, with_entries, other_lines, HasReplayedInPart, IsPlayedInPart}
-use Rattle.texts.specs.Inside.Replayed.{HasReplayedLines}
+use Rattle.texts.specs.Inside.Replayed.{HasReplayedLines, would_be_replayed}
 use Rattle.texts.specs.Inside.SetupLines.{SetupSoFar, HasSetup, HasMore}
+use Rattle.texts.specs.Inside.StandIn.{IsForAnotherAt, MayStandForAt}
 use Rattle.texts.specs.Inside.TraceInput.{TraceState, taking_format}
 use Rattle.texts.proofs.TraceLines.{IsLate, word_of_late, faultless_in_place}
 use Rattle.texts.proofs.TraceSoFar.{input_without_fault}
-use Rattle.texts.proofs.StandInEntries.{itself, nothing_in_place, input_in_place, decision_in_place}
+use Rattle.texts.proofs.StandInEntries.{itself, of_another, nothing_in_place, input_in_place, decision_in_place}
 
 -- ---- faults don't depend on what entries say
 
@@ -182,6 +183,22 @@ bound_elsewhere selected said so_far channel input looked has bound other answer
     let flow = bound answered answer (record { answers = subst (λ (l : LaneSetup). AreAnswered l answered) lane are.answers; inputs = are.inputs })
     (subst (λ (l : LaneSetup). IsAnswer l answered input answer) lane is) in
     other admitted.flow (sym flow ∙ ap (option_map (λ (a : Admitted). a.flow)) gives)
+
+-- what may stand in for a burst where lines were replayed stands in its place
+pub in_its_place : (selected : ℕ → Bool) (state : TraceState (Unit {0})) (width : Width) (rule : LossRule) (so_far : SetupSoFar) (taker : Option (Replaying NoCheck))
+    → HasReplayedLines state width rule so_far taker → (channel : ℕ) (came_in input : Input) → MayStandForAt would_be_replayed selected taker channel came_in input
+    → IsInPlaceOf selected state.said channel came_in input
+in_its_place selected state width rule so_far taker has channel came_in input (inl same) =
+    subst (λ (other : Input). IsInPlaceOf selected state.said channel came_in other) (sym same) (itself selected state.said channel came_in)
+in_its_place selected state width rule so_far taker has channel came_in input (inr another) =
+    of_another selected state.said channel came_in input another.0 (away taker has another.1)
+  where
+    away : (taker : Option (Replaying NoCheck)) → HasReplayedLines state width rule so_far taker → IsForAnotherAt would_be_replayed selected taker channel input
+        → IsBoundElsewhere selected state.said channel input
+    away None has is = absurd is
+    away (Some replaying) has is =
+        bound_elsewhere selected state.said so_far channel input is.0 has.setup (is.1 state.rule so_far.setup state.said.entries has.taken.1)
+        (λ flow looked. subst (λ (found : Option ℕ). IfSome found (λ k. selected k ≡ false)) looked is.2)
 
 -- what lines give, where the receiver gave this
 pub played_in_part : (given : TraceState Selection) (selected : Selection) (width : Width) (rule : LossRule) (so_far : SetupSoFar) (taker : Option (Replaying NoCheck))

@@ -19,7 +19,7 @@ use Rattle.texts.proofs.TraceSoFar.{came_on-same, came_on-other}
 
 -- ---- what stands in for an input
 
-looks_same : (input : Input) → LooksLike input input
+pub looks_same : (input : Input) → LooksLike input input
 looks_same (Grant number sid bytes) = refl
 looks_same (Burst number hcs_ok bytes) = (refl, refl, refl, refl)
 

@@ -18,7 +18,6 @@ use Rattle.receiver.specs.Received.{IsReceived}
 use Rattle.text_lines.specs.Capacities.{default_capacity}
 use Rattle.text_lines.specs.Format.{IsRead}
 use Rattle.text_lines.specs.Lines.{lines_of, line_feed}
-use Rattle.texts.specs.declared.follow.Followed.{Followed}
 use Rattle.texts.specs.declared.follow.settings.FollowSettings.{FollowSettings}
 use Rattle.texts.specs.declared.follow.happening.Happening.{Happening}
 use Rattle.texts.specs.declared.follow.happening.Happening.TheVariants.{Gave, Took, Decided, Stands}
@@ -90,24 +89,6 @@ pub record IsFollowedSoFar (rule : LossRule) (width : Width) (settings : FollowS
   pub happened : HappenedBy rule width lines (map happening_of told)
   pub numbered : AreNumbered rule width lines told
   pub printed : text ≡ flat_map (told_lines settings) told
-
--- What is known of the end of a trace whose lines say this, of which this was told: all was handed
--- in, and what is left to be told is what happened by its last line, and what the receiver gave as
--- it was closed.
-pub record IsFollowedTo (rule : LossRule) (width : Width) (said : Said) (told : List Happening) (end : Followed) : Type 0 where
-  pub setup : IsSetupOf said end.setup
-  pub handed : List HandedIn
-  pub entries : AreHandedIn width.channels said.entries handed
-  pub given : List Given
-  pub last : List Happening
-  pub happened : HasHappened (made_of rule width.channels end.setup) handed given (told ++ last)
-  pub rest : List Given
-  pub received : IsReceived any_header (made_of rule width.channels end.setup) handed (given ++ rest) end.closed
-  pub are : end.happened.items ≡ last ++ map Gave rest
-
--- the text of what is left to tell, where this is the last line's number, and of what was counted
-abbrev pub end_text : FollowSettings → ℕ → Followed → List ℕ
-end_text settings line end = flat_map (lines_told settings line) end.happened.items ++ closed_lines settings.selected end.setup end.closed
 
 -- **The text of a trace that is followed**: the lines of all that happens by its lines, in order,
 -- at a receiver of this width by this rule; then those of what it gives as it is closed, and of

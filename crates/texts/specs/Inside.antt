@@ -5,7 +5,8 @@ pub mod Cut
 pub mod SetupLines
 pub mod Reading
 pub mod TraceInput
+pub mod StandIn
 pub mod Replayed
 pub mod InPlace
 pub mod Selected
-pub mod Followed
+pub mod Added

@@ -18,11 +18,11 @@
 //!   trace on threads. [`ReplayInput`] replays a trace as its lines are taken, and
 //!   [`SelectedReplay`] for some flows, whose other bursts it doesn't decode. [`put_cut`] puts the
 //!   lines of a cut, [`put_report`] a report, and [`put_report_of`] that of some flows alone.
-//! - [`FollowInput`] follows a trace of up to 16 channels and 16,384 flows: what a receiver gives
-//!   for its lines is put as they are taken, and with events also what became of each input and
-//!   each decision, of all flows or of some ([`FollowSettings`]); [`put_end`] puts what is left at
-//!   its end. It and `ReplayInput` are each a
-//!   [`TraceInput`].
+//! - A trace that is followed has the lines of what happens ([`Happening`]) as its lines are taken,
+//!   and with events also what became of each input and each decision, of all flows or of some
+//!   ([`FollowSettings`]): [`put_happened`] puts them, and [`put_closed`] what was counted at the
+//!   end. The crate `followed_traces` has the receiver of which they are told. What takes its
+//!   entries, and what replays them, is handed them by a [`TraceInput`].
 //!
 //! The lines and fields of all these formats, and the faults of a line, are those of `text_lines`;
 //! those of its names that a caller needs are exported here too.
@@ -45,12 +45,13 @@ mod trace;
 
 pub use cut::{CutInput, cut_lines, put_cut};
 pub use follow::{
-    FollowInput, FollowSettings, Followed, Following, Happening, HappeningList, InputKind,
-    InputName, finish_follow, put_end,
+    FollowSettings, Happening, HappeningList, InputKind, InputName, flow_admitted, put_closed,
+    put_happened,
 };
 pub use join::{JoinInput, join_lines};
 pub use replay::{
-    ReplayInput, SelectedReplay, UnderWay, finish_replay, replay_lines, replay_lines_by,
+    ReplayInput, SelectedReplay, UnderWay, finish_replay, leaves_none_out, replay_lines,
+    replay_lines_by,
 };
 pub use report_lines::{put_flow_line, put_frame_line, put_lane_line, put_request_line};
 pub use report_text::{put_report, put_report_of, report};

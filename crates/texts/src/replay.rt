@@ -14,7 +14,7 @@ use text_lines::{TextFault, take_lines};
 mod selected_replay;
 mod under_way;
 
-pub use selected_replay::SelectedReplay;
+pub use selected_replay::{SelectedReplay, leaves_none_out};
 pub use under_way::UnderWay;
 
 /// The lines so far of a trace that is replayed as they are read. It is for the profile's width.

@@ -9,7 +9,6 @@ mod setup_lines;
 mod taking;
 
 pub use input::TraceInput;
-pub use line::{PeekedBurst, peek_burst};
 pub use reading::{Reading, parse_trace};
 pub use taking::TakeEntries;
 

@@ -15,10 +15,10 @@ use Rattle.texts.specs.declared.follow.settings.FollowSettings.{FollowSettings}
 use Rattle.texts.specs.declared.follow.happening.Happening.{Happening}
 use Rattle.texts.specs.Follow.{told_lines, IsFollowed, IsFollowedSoFar}
 use Rattle.texts.specs.Happened.{HappenedBy, HappenedAt, happening_of, AreNumbered}
-use Rattle.texts.specs.Inside.Followed.{HasFollowedLines, IsAllPut}
+use Rattle.followed_traces.specs.Inside.Followed.{Watched, nothing_followed, HasFollowedLines, IsAllPut}
 use Rattle.texts.specs.Trace.Line.{shape_of}
 use Rattle.texts.specs.Trace.Place.{nothing_said_in, trace_format}
-use Rattle.texts.specs.Inside.TraceInput.{TraceState, taking_format, nothing_taken}
+use Rattle.texts.specs.Inside.TraceInput.{TraceState, taking_format}
 use Rattle.engines.specs.declared.device.Device.{Device}
 use Rattle.engines.specs.declared.fault.EngineFault.{EngineFault}
 use Rattle.engines.specs.declared.follow.Follower.{Follower}
@@ -31,8 +31,8 @@ use Rattle.engines.specs.Transfer.{AppendsFront, IsLeftFlushed}
 use Rattle.engines.specs.Writing.{IsWritten}
 
 -- what is known of the lines so far, of which some was told
-abbrev pub HasFollowedSoFar : TraceState (List Happening) → Follower → Type 0
-HasFollowedSoFar state follower = HasFollowedLines state follower.input.width follower.input.rule follower.input.setup follower.input.taker
+abbrev pub HasFollowedSoFar : TraceState Watched → Follower → Type 0
+HasFollowedSoFar state follower = HasFollowedLines state follower.input
 
 -- none of this has a greater number than so many lines
 abbrev pub AreWithin : ℕ → List HappenedAt → Type 0
@@ -42,11 +42,11 @@ AreWithin lines (one ∷ told) = (one.line ≤ lines) × AreWithin lines told
 -- These bytes were followed by this rule for this width: the lines that line feeds end were read,
 -- and all that happened by them was told, each thing by the number of its line.
 pub record HasFollowedBytes (rule : LossRule) (width : Width) (settings : FollowSettings) (bytes : List ℕ) (told : List HappenedAt) (follower : Follower) : Type 0 where
-  pub settings_are : follower.settings ≡ settings
-  pub taken : HasTaken taking_format (nothing_taken (map happening_of told) rule width) HasFollowedSoFar follower follower.lines bytes
+  pub settings_are : follower.input.settings ≡ settings
+  pub taken : HasTaken taking_format (nothing_followed settings (map happening_of told) rule width) HasFollowedSoFar follower follower.lines bytes
   pub within : AreWithin follower.lines.count told
   pub numbered : (lines : List (List ℕ)) (rest : List ℕ) → slice_split is_line_feed bytes ≡ lines ++ rest ∷ [] → AreNumbered rule width lines told
-  pub put : IsAllPut follower.input.taker
+  pub put : IsAllPut follower.input.input.taker
 
 -- why no more of these bytes was followed, whatever comes behind them
 abbrev pub IsFollowFault : Width → List ℕ → EngineFault → Type 0
@@ -83,10 +83,10 @@ all_at line happened = map (λ one. record { line = line; happening = one }) hap
 -- feed ends, and this was told of what happened by them: each thing by the number of its line, and
 -- what is told besides happens by the last one.
 pub record HasEnded (rule : LossRule) (width : Width) (settings : FollowSettings) (bytes : List ℕ) (told : List HappenedAt) (ended : EndedTrace) : Type 0 where
-  pub settings_are : ended.settings ≡ settings
-  pub state : TraceState (List Happening)
-  pub read : IsRead taking_format (nothing_taken (map happening_of told) rule width) (lines_of bytes) state
-  pub stands : HasFollowedLines state ended.input.width ended.input.rule ended.input.setup ended.input.taker
+  pub settings_are : ended.input.settings ≡ settings
+  pub state : TraceState Watched
+  pub read : IsRead taking_format (nothing_followed settings (map happening_of told) rule width) (lines_of bytes) state
+  pub stands : HasFollowedLines state ended.input
   pub numbered : (happened : List Happening) → HappenedBy rule width (lines_of bytes) (map happening_of told ++ happened)
       → AreNumbered rule width (lines_of bytes) (told ++ all_at ended.line happened)
 
@@ -142,7 +142,7 @@ module _ {W : Type 0} (contents : W → Option (List ℕ)) where
   PutsPending ended writer ended' writer' written put =
       (rule : LossRule) (width : Width) (settings : FollowSettings) (bytes : List ℕ) (told : List HappenedAt) → HasEnded rule width settings bytes told ended
       → (more : List HappenedAt) × IsWritten contents (flat_map (told_lines settings) more) writer writer' written
-      × MatchResult put (λ _. HasEnded rule width settings bytes (told ++ more) ended' × IsAllPut ended'.input.taker) (λ _. more ≡ [])
+      × MatchResult put (λ _. HasEnded rule width settings bytes (told ++ more) ended' × IsAllPut ended'.input.input.taker) (λ _. more ≡ [])
 
   -- why what was pending was not written: an allocation had failed for it, and nothing was; or the
   -- writer failed, and a front went out
@@ -158,7 +158,7 @@ module _ {W : Type 0} (contents : W → Option (List ℕ)) where
   WritesPending ended writer ended' writer' result =
       (rule : LossRule) (width : Width) (settings : FollowSettings) (bytes : List ℕ) (told : List HappenedAt) → HasEnded rule width settings bytes told ended
       → MatchResult result
-      (λ _. (more : List HappenedAt) × HasEnded rule width settings bytes (told ++ more) ended' × IsAllPut ended'.input.taker
+      (λ _. (more : List HappenedAt) × HasEnded rule width settings bytes (told ++ more) ended' × IsAllPut ended'.input.input.taker
       × Appends (contents (inner_of writer)) (contents (inner_of writer')) (flat_map (told_lines settings) more) × IsLeftFlushed writer writer'
       × (has_failed writer' ≡ has_failed writer))
       (λ fault. PendsBy rule width settings bytes told writer writer' fault)

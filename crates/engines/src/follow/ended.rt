@@ -2,14 +2,14 @@
 ghost use Rattle.std.specs.Prelude.{◌≡◌, []};
 ghost use Rattle.engines.specs.Inside.Following.{PutsPending, WritesPending, ClosesFollowed};
 ghost use Rattle.engines.specs.Writing.{IsWritten};
-ghost use Rattle.texts.specs.Follow.{end_text};
+ghost use Rattle.followed_traces.specs.Followed.{end_text};
 
 use crate::device::Device;
 use crate::fault::{EngineFault, WriteFault};
 use crate::text_writer::TextWriter;
+use followed_traces::{FollowInput, Followed, finish_follow, put_end};
 use std::alloc::{AllocError, Global};
 use std::io::Write;
-use texts::{FollowInput, FollowSettings, Followed, finish_follow, put_end};
 
 /// A trace that is followed, of which all lines were taken.
 #[derive(Drop)]
@@ -17,8 +17,6 @@ pub(super) struct EndedTrace {
     pub(super) input: FollowInput,
     /// The number of the last line.
     pub(super) line: u64,
-    /// What is told.
-    pub(super) settings: FollowSettings,
 }
 
 impl EndedTrace {
@@ -34,9 +32,7 @@ impl EndedTrace {
             self.new writer.new result.0 result.1 }
     {
         let mut text = TextWriter::new(writer, room);
-        let put = self
-            .input
-            .put_happened(self.line, &self.settings, &mut text);
+        let put = self.input.put_happened(self.line, &mut text);
         (text.finish(), put)
     }
 
@@ -64,14 +60,10 @@ impl EndedTrace {
     ) -> Result<(), EngineFault>
         ensures { ClosesFollowed W.contents self writer.old writer.new result }
     {
-        let EndedTrace {
-            input,
-            line,
-            settings,
-        } = self;
+        let EndedTrace { input, line } = self;
         let end = finish_follow(alloc, input)?;
         room.clear();
-        write_end(line, &settings, &end, room, writer)?;
+        write_end(line, &end, room, writer)?;
         Ok(())
     }
 }
@@ -80,16 +72,15 @@ impl EndedTrace {
 /// this number. The room is empty.
 fn write_end<W: Write>(
     line: u64,
-    settings: &FollowSettings,
     end: &Followed,
     room: &mut Vec<u8>,
     writer: &mut Device<W>,
 ) -> Result<(), WriteFault>
     requires { room.old.items ≡ [] }
-    ensures { IsWritten W.contents (end_text settings.now line end.now)
+    ensures { IsWritten W.contents (end_text line end.now)
         writer.old writer.new result }
 {
     let mut text = TextWriter::new(writer, room);
-    put_end(&mut text, line, settings, end);
+    put_end(&mut text, line, end);
     text.finish()
 }

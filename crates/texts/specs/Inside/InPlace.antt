@@ -21,8 +21,6 @@ use Rattle.receiver.specs.Items.{Incoming}
 use Rattle.receiver.specs.Ruled.{IsOutcomeBy}
 use Rattle.texts.specs.AnyHeader.{any_header}
 use Rattle.texts.specs.Replay.{IsSetupOf}
-use Rattle.texts.specs.declared.trace.line.TraceLine.TheVariants as line
-use Rattle.texts.specs.Trace.Line.{shape_of, Carries}
 use Rattle.texts.specs.Trace.Place.{Said}
 use Rattle.texts.specs.Inside.Replayed.{HasReplayedLines}
 use Rattle.texts.specs.Inside.SetupLines.{SetupSoFar}
@@ -86,10 +84,3 @@ pub record IsPlayedInPart (selected : Selection) (rule : LossRule) (said : Said)
   pub order : List ℕ
   pub admitted : IsAdmittedOrder setup other (map tag_of said.entries) order
   pub answered : IsOutcomeBy rule any_header setup other order outcome
-
--- Behind lines that were replayed so, this may be handed in, on this channel, in the place of what
--- a line with these fields says that came.
-pub record StandsInForLine (selected : ℕ → Bool) (width : Width) (rule : LossRule) (so_far : SetupSoFar) (taker : Option (Replaying NoCheck)) (fields : List (List ℕ)) (channel : ℕ) (input : Input) : Type 0 where
-  pub came : Input
-  pub carries : (ring : ℕ) → Carries (shape_of width ring) fields (line.Input channel came)
-  pub in_place : (state : TraceState (Unit {0})) → HasReplayedLines state width rule so_far taker → IsInPlaceOf selected state.said channel came input

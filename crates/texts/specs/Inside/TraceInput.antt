@@ -30,10 +30,10 @@ taking_format = record {
   HasFault = λ above. trace_format.HasFault above.said;
 }
 
-module _ {State P : Type 0} (start : State) (has_taken : State → LossRule → Width → Setup → List Entry → P → Type 0) where
+module _ {State P : Type 0} (starts : State → Type 0) (has_taken : State → LossRule → Width → Setup → List Entry → P → Type 0) where
   -- These entries were handed in, to what begins with the first of them.
   abbrev pub WereTaken : State → LossRule → Width → Setup → Option P → List Entry → Type 0
-  WereTaken state rule width setup None entries = (state ≡ start) × (entries ≡ [])
+  WereTaken state rule width setup None entries = starts state × (entries ≡ [])
   WereTaken state rule width setup (Some taker) entries = (0 < length entries) × has_taken state rule width setup entries taker
 
   -- What the lines say was set up, and handed in by this rule for this width.

@@ -1,6 +1,7 @@
 //! What happens as a trace is followed.
 ghost use Rattle.std.specs.Prelude.{◌≡◌};
 ghost use Rattle.texts.specs.Happening.{name_of_input};
+ghost use Rattle.texts.specs.Happened.{flow_admitted};
 
 use consumer::Given;
 use lane::Input;
@@ -75,4 +76,15 @@ pub enum Happening {
         /// How many segments it holds that were kept and are not joined yet.
         held: usize,
     },
+}
+
+/// The flow to which a segment was admitted, if one was.
+pub fn flow_admitted(reply: &Reply) -> Option<usize>
+    ensures { result ≡ flow_admitted reply.now }
+{
+    match reply {
+        Reply::Granted => None,
+        Reply::Refused(_) => None,
+        Reply::Admitted { flow, .. } => Some(*flow),
+    }
 }

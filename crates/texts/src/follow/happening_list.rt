@@ -2,7 +2,7 @@
 ghost use Rattle.std.specs.Prelude.{◌≡◌, [], ◌∷◌, ◌++◌, flat_map, true, IfOk, OnOk, OnErr};
 ghost use Rattle.text_lines.specs.Putting.{Puts};
 ghost use Rattle.texts.specs.Follow.{lines_told};
-ghost use Rattle.texts.specs.Inside.Followed.{HasAdded};
+ghost use Rattle.texts.specs.Inside.Added.{HasAdded};
 
 use super::happening::Happening;
 use super::lines::put_happened;
@@ -79,7 +79,7 @@ impl HappeningList {
 }
 
 impl Consumer for HappeningList {
-    ghost use Rattle.texts.specs.Inside.Followed.{HasKept};
+    ghost use Rattle.texts.specs.Inside.Added.{HasKept};
 
     ghost after = { HasKept };
 

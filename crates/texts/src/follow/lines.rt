@@ -6,8 +6,7 @@ ghost use Rattle.texts.specs.Follow.{flow_of_happening, lines_told};
 ghost use Rattle.texts.specs.Happening.{given_line, happening_lines};
 
 use super::event_lines::put_event;
-use super::following::flow_admitted;
-use super::happening::Happening;
+use super::happening::{Happening, flow_admitted};
 use super::settings::FollowSettings;
 use crate::report_lines::{put_flow_line, put_frame_line, put_named, put_request_line};
 use consumer::Given;

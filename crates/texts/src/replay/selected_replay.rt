@@ -1,24 +1,17 @@
 //! A replay of a trace for some flows, as its lines are read.
-ghost use Rattle.std.specs.Prelude.{◌≡◌, ◌<◌, ◌∷◌, true, IsFalse, IfOk, IfErr, IfSome};
-ghost use Rattle.lane.specs.Limits.{channel_limit};
+ghost use Rattle.std.specs.Prelude.{◌≡◌, ◌<◌, ℕ, true, false, IsTrue, IsFalse, IfOk};
 ghost use Rattle.flow_selection.specs.declared.selection.Selection.{Selection};
 ghost use Rattle.flow_selection.specs.Selection.{is_selected};
-ghost use Rattle.text_lines.specs.Lines.{words_of};
-ghost use Rattle.texts.specs.Trace.Line.{word_of, burst_line};
-ghost use Rattle.texts.specs.Inside.Replayed.{is_profile, HasReplayedLines};
-ghost use Rattle.texts.specs.Inside.InPlace.{IsBoundElsewhere, StandsInForLine};
+ghost use Rattle.texts.specs.Inside.Replayed.{is_profile};
 ghost use Rattle.texts.specs.Inside.InPlace.{HasReplayedInPart, IsPlayedInPart};
 ghost use Rattle.texts.specs.Inside.TraceInput.{TraceState, nothing_taken};
 
-use super::{ReplayInput, UnderWay};
-use crate::trace::{PeekedBurst, peek_burst};
-use docsis_wire::{Bytes, HEADER_BYTES};
+use super::ReplayInput;
 use flow_selection::Selection;
-use lane::Input;
 use loss_rule::LossRule;
 use receiver::{Outcome, Width};
 use std::alloc::{AllocError, Global};
-use text_lines::{LineFault, TakeLine, is_hex, read_hex_front, read_if_hex};
+use text_lines::{LineFault, TakeLine};
 
 /// The lines so far of a trace that is replayed for some flows. In the place of a burst that would
 /// come to no selected flow it hands in one with the same header and zeros behind it: the digits
@@ -64,56 +57,6 @@ impl<'a> SelectedReplay<'a> {
         let (setup, replay) = self.input.finish(alloc)?;
         replay.finish(alloc, &setup)
     }
-
-    /// Whether a burst like this one has to be handed in as it came: it would come to a selected
-    /// flow, or nothing was handed in that says to which.
-    fn is_wanted(&self, channel: u8, input: &Input) -> bool
-        requires { channel < channel_limit }
-        ensures { IsFalse result → (state : TraceState (Unit {0}))
-            → HasReplayedLines state self.now.input.width self.now.input.rule
-            self.now.input.setup self.now.input.taker
-            → IsBoundElsewhere (is_selected self.now.selected.now) state.said channel input.now }
-    {
-        let Some(under_way) = &self.input.taker else {
-            return true;
-        };
-        match under_way.look(channel, input) {
-            Some(flow) => self.selected.has(flow),
-            None => false,
-        }
-    }
-
-    /// What is handed in of the burst that a line says, by what follows the first word, and on
-    /// which channel: the burst itself, or, if it would come to no selected flow, one with zeros
-    /// behind the same header. Then the other digits are only looked at. It is none where the line
-    /// has a fault.
-    fn input_for(&self, alloc: Global, rest: &[u8]) -> Result<Option<(u8, Input)>, LineFault>
-        ensures channel { IfOk result (λ found.
-            IfSome found (λ one. one.0 < self.now.input.width.channels)) }
-        ensures in_place { IfOk result (λ found. IfSome found (λ one.
-            StandsInForLine (is_selected self.now.selected.now)
-            self.now.input.width self.now.input.rule self.now.input.setup self.now.input.taker
-            (word_of burst_line ∷ words_of rest.now) one.0 one.1)) }
-        ensures memory { IfErr result (λ fault. fault ≡ LineFault.OutOfMemory) }
-    {
-        let Some(burst) = peek_burst(self.input.width(), rest) else {
-            return Ok(None);
-        };
-        let front = read_hex_front(alloc, burst.field, HEADER_BYTES)?;
-        let zeros = burst_of(&burst, front);
-        if !self.is_wanted(burst.channel, &zeros) {
-            if is_hex(burst.field) {
-                return Ok(Some((burst.channel, zeros)));
-            }
-            return Ok(None);
-        }
-        // Their memory is given back before as much is asked for again.
-        drop(zeros);
-        let Some(bytes) = read_if_hex(alloc, burst.field)? else {
-            return Ok(None);
-        };
-        Ok(Some((burst.channel, burst_of(&burst, bytes))))
-    }
 }
 
 impl<'a> TakeLine for SelectedReplay<'a> {
@@ -130,7 +73,7 @@ impl<'a> TakeLine for SelectedReplay<'a> {
 
     fn take_line(&mut self, alloc: Global, field: &[u8], rest: &[u8]) -> Result<(), LineFault> {
         if field == b"burst".as_slice() {
-            if let Some((channel, input)) = self.input_for(alloc, rest)? {
+            if let Some((channel, input)) = self.input.input_for(alloc, self.selected, rest)? {
                 return self.input.add_input(alloc, channel, input);
             }
         }
@@ -138,13 +81,16 @@ impl<'a> TakeLine for SelectedReplay<'a> {
     }
 }
 
-/// A burst of which a line says the rest, with these bytes.
-fn burst_of(burst: &PeekedBurst, bytes: Vec<u8>) -> Input
-    ensures { result ≡ Input.Burst burst.now.grant burst.now.hcs_ok bytes.items }
+/// Whether each of so many flows is selected.
+pub fn leaves_none_out(selected: &Selection, flows: usize) -> bool
+    ensures all { IsTrue result → (k : ℕ) → k < flows → is_selected selected.now k ≡ true }
+    ensures some { IsFalse result
+        → (k : ℕ) × (k < flows) × (is_selected selected.now k ≡ false) }
 {
-    Input::Burst {
-        grant: burst.grant,
-        hcs_ok: burst.hcs_ok,
-        bytes: Bytes::from(bytes),
+    for flow in 0..flows {
+        if !selected.has(flow) {
+            return false;
+        }
     }
+    true
 }

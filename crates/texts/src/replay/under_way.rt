@@ -1,10 +1,9 @@
 //! A replay under way of what the lines of a trace say.
-ghost use Rattle.std.specs.Prelude.{◌<◌, List, IfOk, map};
-ghost use Rattle.lane.specs.Limits.{channel_limit};
+ghost use Rattle.std.specs.Prelude.{List, IfOk, map};
 ghost use Rattle.loss_rule.specs.declared.rule.LossRule.{LossRule};
 ghost use Rattle.receiver.specs.AdmittedOrder.{IsAdmittedOrder};
 ghost use Rattle.receiver.specs.Entries.{Entry, tag_of, incoming_in};
-ghost use Rattle.receiver.specs.Replaying.{HasReplayed, IsBoundFor};
+ghost use Rattle.receiver.specs.Replaying.{HasReplayed};
 ghost use Rattle.receiver.specs.declared.setup.Setup.{Setup};
 ghost use Rattle.receiver.specs.Ruled.{IsOutcomeBy};
 ghost use Rattle.texts.specs.AnyHeader.{any_header};
@@ -45,18 +44,6 @@ impl Model for UnderWay {
 }
 
 impl UnderWay {
-    /// The flow of which a segment would be admitted of this input, if it came on this channel, 0
-    /// to 3, now; none if nothing would be. Of a burst's bytes it looks at the header, and at how
-    /// many there are. It takes no memory.
-    pub fn look(&self, channel: u8, input: &Input) -> Option<usize>
-        requires { channel < channel_limit }
-        ensures { (rule : LossRule) (setup : Setup) (entries : List Entry)
-            → HasReplayed no_check rule any_header setup self.now entries
-            → IsBoundFor setup entries channel input.now result }
-    {
-        self.replaying.look(channel, input)
-    }
-
     /// Closes the receiver: what it gave.
     pub fn finish(self, alloc: Global, setup: &Setup) -> Result<Outcome, AllocError>
         requires { (rule : LossRule) × (entries : List Entry)
@@ -76,14 +63,17 @@ impl UnderWay {
 
 impl TakeEntries for UnderWay {
     ghost use Rattle.texts.specs.Inside.Replayed.{is_profile, WasReplayed};
+    ghost use Rattle.texts.specs.Inside.Replayed.{starts_replay, would_be_replayed};
 
     ghost State = { Unit {0} };
 
-    ghost start = { tt };
+    ghost starts = { starts_replay };
 
     ghost fits = { is_profile };
 
     ghost has_taken = { WasReplayed };
+
+    ghost would_come = { would_be_replayed };
 
     fn begin(
         alloc: Global,
@@ -107,6 +97,10 @@ impl TakeEntries for UnderWay {
         let UnderWay { mut replaying } = self;
         replaying.take(alloc, channel, input)?;
         Ok(UnderWay { replaying })
+    }
+
+    fn look(&self, _width: Width, channel: u8, input: &Input) -> Option<usize> {
+        self.replaying.look(channel, input)
     }
 
     fn decide(

@@ -1,5 +1,5 @@
 -- A piece was followed, or none of it was told of.
-use Rattle.std.proofs.Common.{ℕ, Bool, [], List, refl, sym, subst}
+use Rattle.std.proofs.Common.{ℕ, Bool, [], List, refl, sym, ap, subst, ◌∙◌}
 use Rattle.std.specs.Prelude.{map, flat_map}
 use Rattle.text_lines.specs.Putting.{Puts}
 use Rattle.texts.specs.declared.follow.settings.FollowSettings.{FollowSettings}
@@ -9,7 +9,7 @@ use Rattle.std.proofs.lemmas.Result.{err_from_is_err_and}
 use Rattle.engines.specs.declared.fault.EngineFault.TheVariants.{OutOfMemory}
 use Rattle.engines.specs.Inside.Following.{HasFollowedSoFar, all_at}
 use Rattle.engines.proofs.NumberedHappenings.{lines_at}
-use Rattle.engines.proofs.FollowedLines.{retaken, taken_told, told_above, fault_of_piece, followed_line}
+use Rattle.engines.proofs.FollowedLines.{retaken, taken_told, settings_of, read_bytes, told_above, fault_of_piece, followed_line}
 use Rattle.text_lines.proofs.PutTexts.{puts-nothing}
 use Rattle.engines.proofs.follow.Follower.take_line.Goals as goal
 
@@ -17,7 +17,7 @@ pub returns-in_err-take_one_line : goal.returns-in_err-take_one_line
 returns-in_err-take_one_line g c = λ rule width settings bytes told has.
     let p = err_from_is_err_and c.from_residual.result c.from_residual.ensures.1 in
     let fault =
-    fault_of_piece _ c.args.self.now.input rule width bytes c.args.piece.now (map happening_of told) c.args.self.now.lines _
+    fault_of_piece _ c.args.self.now.input settings rule width bytes c.args.piece.now (map happening_of told) c.args.self.now.lines _
     (retaken _ _ HasFollowedSoFar _ c.args.self.now c.args.self.now.input (λ state stands. stands) _ bytes has.taken) c.in_err-take_one_line.ensures.fault in
     rw (p.1, p.2) (
       [],
@@ -42,10 +42,13 @@ returns g c = λ rule width settings bytes told has.
     let put = c.in_ok-put_happened.ensures.put in
     let line = c.line_count-line.result in
     let was = retaken _ _ HasFollowedSoFar _ c.args.self.now c.args.self.now.input (λ state stands. stands) c.args.self.now.lines bytes has.taken in
-    let taken = c.in_ok-take_one_line.ensures.taken _ bytes was in (
-      all_at line put.happened,
-      subst (λ (text : List ℕ). Puts g.O.PutText.after c.args.out.now text c.put_happened.new.out) (sym (lines_at settings line put.happened))
-          (subst (λ (told_of : FollowSettings). Puts g.O.PutText.after c.args.out.now (flat_map (lines_told told_of line) put.happened) c.put_happened.new.out) has.settings_are put.put),
-      followed_line rule width settings bytes c.args.piece.now told c.args.self.now _ put.happened line has c.requires refl c.line_count-line.ensures
-          (taken_told rule width (map happening_of told) put.happened _ _ _ _ (λ state stands. put.told state stands) _ _ taken) put.none,
+    let taken = c.in_ok-take_one_line.ensures.taken _ bytes was in
+    let tells = put.told taken.1.state taken.1.stands (read_bytes settings rule width (map happening_of told) taken.1.read) in
+    let happened = tells.0 in
+    let same = settings_of settings rule width (map happening_of told) _ taken.1.read taken.1.stands in (
+      all_at line happened,
+      subst (λ (text : List ℕ). Puts g.O.PutText.after c.args.out.now text c.put_happened.new.out)
+          (tells.1 ∙ ap (λ (told_of : FollowSettings). flat_map (lines_told told_of line) happened) same ∙ sym (lines_at settings line happened)) put.put,
+      followed_line rule width settings bytes c.args.piece.now told c.args.self.now _ happened line has c.requires c.line_count-line.ensures
+          (taken_told settings rule width (map happening_of told) happened _ _ _ _ _ _ taken tells.2) put.none,
     )

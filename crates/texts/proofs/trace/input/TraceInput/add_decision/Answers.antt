@@ -14,7 +14,7 @@ returns g c = λ given said has.
     record {
       faultless = decision_without_fault said c.args.decision known;
       has =
-          entry_handed g.P.TakeEntries.start g.P.TakeEntries.has_taken state _ _ _ _ has _ _ _ _ c.in_ok-decide.field-0 (decided c.args.decision)
+          entry_handed g.P.TakeEntries.starts g.P.TakeEntries.has_taken state _ _ _ _ has _ _ _ _ c.in_ok-decide.field-0 (decided c.args.decision)
           c.take_taker.ensures.width c.take_taker.ensures.rule c.take_taker.ensures.setup refl
           (subst (λ (width : Width). g.P.TakeEntries.has_taken given.state given.rule width c.args.self.now.setup.setup (said.entries ++ decided c.args.decision ∷ []) c.in_ok-decide.field-0)
           (c.take_taker.ensures.width ∙ has.width_is)

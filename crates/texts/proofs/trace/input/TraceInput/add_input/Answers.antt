@@ -13,7 +13,7 @@ returns g c = λ given said has.
     record {
       faultless = input_without_fault said c.args.channel c.args.input;
       has =
-          entry_handed g.P.TakeEntries.start g.P.TakeEntries.has_taken state _ _ _ _ has _ _ _ _ c.in_ok-take.field-0 (came c.args.channel c.args.input)
+          entry_handed g.P.TakeEntries.starts g.P.TakeEntries.has_taken state _ _ _ _ has _ _ _ _ c.in_ok-take.field-0 (came c.args.channel c.args.input)
           c.take_taker.ensures.width c.take_taker.ensures.rule c.take_taker.ensures.setup refl
           (subst (λ (width : Width). g.P.TakeEntries.has_taken given.state given.rule width c.args.self.now.setup.setup (said.entries ++ came c.args.channel c.args.input ∷ []) c.in_ok-take.field-0)
           (c.take_taker.ensures.width ∙ has.width_is)

@@ -12,7 +12,7 @@ returns-then-is_late-clause-fault g c = λ before has.
     let word = c.args.field.now in
     let words = words_of c.args.rest.now in
     late_is_least before.said (word ∷ words)
-    (late_after_input g.P.TakeEntries.start g.P.TakeEntries.has_taken before _ _ _ _ has word words (c.is_late.ensures.0 c.if-is_late.true))
+    (late_after_input g.P.TakeEntries.starts g.P.TakeEntries.has_taken before _ _ _ _ has word words (c.is_late.ensures.0 c.if-is_late.true))
 
 pub add-requires : goal.add-requires
 add-requires g c =
@@ -29,7 +29,7 @@ pub returns-clause-taken : goal.returns-clause-taken
 returns-clause-taken g c = λ before has.
     let word = c.args.field.now in
     let words = words_of c.args.rest.now in
-    let early = not_late g.P.TakeEntries.start g.P.TakeEntries.has_taken before _ _ _ _ has word words c.is_late.result
+    let early = not_late g.P.TakeEntries.starts g.P.TakeEntries.has_taken before _ _ _ _ has word words c.is_late.result
     c.is_late.ensures.1 c.if-is_late.false in
     let carries = subst (λ (shape : TraceShape). Carries shape (word ∷ words) c.in_ok-line.line) has.setup.shape c.in_ok-line.ensures.carried in
     taken_with before _ _ c.add.result
@@ -39,7 +39,7 @@ pub returns-clause-fault : goal.returns-clause-fault
 returns-clause-fault g c = λ before has.
     let word = c.args.field.now in
     let words = words_of c.args.rest.now in
-    let early = not_late g.P.TakeEntries.start g.P.TakeEntries.has_taken before _ _ _ _ has word words c.is_late.result
+    let early = not_late g.P.TakeEntries.starts g.P.TakeEntries.has_taken before _ _ _ _ has word words c.is_late.result
     c.is_late.ensures.1 c.if-is_late.false in
     let carries = subst (λ (shape : TraceShape). Carries shape (word ∷ words) c.in_ok-line.line) has.setup.shape c.in_ok-line.ensures.carried in
     refused_in_place before.said (word ∷ words) early c.in_ok-line.line carries _ c.add.result (c.add.ensures before before.said has)

@@ -1,0 +1,3 @@
+pub mod FollowedTrace
+pub mod EndOfTrace
+pub mod LinesOfWhole

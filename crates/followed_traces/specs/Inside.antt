@@ -1,0 +1,2 @@
+-- What only the contracts of functions inside this crate, and of those above it, cite.
+pub mod Followed
