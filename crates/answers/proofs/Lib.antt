@@ -28,4 +28,6 @@ pub mod EntriesHappen
 pub mod HappeningOfLines
 pub mod HandedInPlace
 pub mod ToldElsewhere
+pub mod GivenBeside
 pub mod ToldOfWhole
+pub mod ClosedBeside

@@ -80,7 +80,7 @@ impl FollowInput {
     {
         let taker = self.input.take_taker(alloc)?;
         self.input
-            .put_taker(taker.take_in_place(alloc, usize::from(channel), input)?);
+            .put_taker(taker.take_in_place(alloc, channel, input)?);
         Ok(())
     }
 }
