@@ -23,7 +23,8 @@ use Rattle.texts.specs.Happened.{HasHappened, HappenedBy, HappenedAt, happening_
 use Rattle.texts.specs.Follow.{given_told, lines_told, told_lines, closed_lines, IsFollowed, IsFollowedSoFar}
 use Rattle.texts.specs.Trace.Line.{shape_of}
 use Rattle.texts.specs.Trace.Place.{nothing_said_in, trace_format}
-use Rattle.followed_traces.specs.Inside.Followed.{Watched, nothing_followed, HasFollowedLines, IsAllPut, PutsHappened, with_told}
+use Rattle.followed_traces.specs.Inside.Watched.{Watched}
+use Rattle.followed_traces.specs.Inside.Followed.{nothing_followed, HasFollowedLines, IsAllPut, PutsHappened, with_told}
 use Rattle.texts.specs.Inside.TraceInput.{taking_format}
 use Rattle.texts.proofs.HandedLines.{read_alone}
 use Rattle.engines.specs.declared.device.Device.{Device}

@@ -29,7 +29,8 @@ use Rattle.texts.specs.Trace.Place.{Said, nothing_said_in, trace_format}
 use Rattle.answers.specs.Room.{EntryHasBytes}
 use Rattle.answers.proofs.ReadTraces.{line-bytes}
 use Rattle.followed_traces.specs.declared.input.FollowInput.{FollowInput}
-use Rattle.followed_traces.specs.Inside.Followed.{HaveBytes, ReceiverUnderWay, Watched, starts_watched, HasFollowed, HasFollowedLines, nothing_followed, IsAllPut, with_told}
+use Rattle.followed_traces.specs.Inside.Watched.{HaveBytes, ReceiverUnderWay, Watched, starts_watched, HasFollowed}
+use Rattle.followed_traces.specs.Inside.Followed.{HasFollowedLines, nothing_followed, IsAllPut, with_told}
 use Rattle.texts.specs.Inside.TraceInput.{TraceState, taking_format, WereTaken}
 use Rattle.texts.proofs.HandedLines.{read_alone, faulty_alone}
 use Rattle.engines.specs.declared.follow.Follower.{Follower}

@@ -106,7 +106,7 @@ pub fn replay_text_of<R: Read, W: Write>(
     ensures { RunsEngine R.remaining W.contents (IsReplayedOf selected.now rule) IsReplayFault
         reader.old reader.new writer.old writer.new result }
 {
-    if leaves_none_out(selected, usize::from(Width::PROFILE.flows)) {
+    if leaves_none_out(selected, usize::from(Width::PROFILE.flows())) {
         return replay_whole(selected, rule, alloc, reader, writer);
     }
     replay_in_part(selected, rule, alloc, reader, writer)

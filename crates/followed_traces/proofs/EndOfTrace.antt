@@ -25,7 +25,7 @@ use Rattle.texts.specs.Replay.{IsSetupOf}
 use Rattle.texts.specs.Trace.Place.{Said}
 use Rattle.followed_traces.specs.declared.input.Followed.{Followed}
 use Rattle.followed_traces.specs.Followed.{IsFollowedTo}
-use Rattle.followed_traces.specs.Inside.Followed.{Watched, EndsWhole}
+use Rattle.followed_traces.specs.Inside.Watched.{Watched, EndsWhole}
 use Rattle.followed_traces.proofs.FollowedTrace.{same_lines}
 
 module _ (selected : Selection) (records : List FlowRecord) where

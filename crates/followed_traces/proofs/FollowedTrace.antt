@@ -35,7 +35,7 @@ use Rattle.receiver.specs.Entries.{Entry}
 use Rattle.receiver.specs.HandedIn.{HandedIn, came, decided, restarted, made_of}
 use Rattle.receiver.specs.Held.{HoldsSince}
 use Rattle.receiver.specs.Received.{Closes}
-use Rattle.receiver.specs.Receiving.{StandsFor, TakesMore, IsSettledAt, FlowIsSettled, ChangesOneFlow, IsSettledIfTaken, IsNumberExpected}
+use Rattle.receiver.specs.Receiving.{StandsFor, TakesMore, IsSettledAt, FlowIsSettled, ChangesOneFlow, IsSettledIfTaken, IsNumberExpected, WouldCome}
 use Rattle.texts.specs.declared.follow.happening.Happening.{Happening}
 use Rattle.texts.specs.declared.follow.happening.Happening.TheVariants.{Gave, Stands}
 use Rattle.texts.specs.declared.follow.happening_list.HappeningList.{HappeningList}
@@ -58,7 +58,8 @@ use Rattle.answers.specs.ToldAlike.{EntryStandsIn, is_told_for}
 use Rattle.answers.proofs.ToldOfWhole.{nothing_beside, one_more_beside, told_given}
 use Rattle.answers.proofs.ClosedBeside.{closes_beside}
 use Rattle.followed_traces.specs.declared.input.FollowInput.{FollowInput}
-use Rattle.followed_traces.specs.Inside.Followed.{HaveBytes, TellsStandingIn, TellsStandingOf, TellsStandingIfAny, ReceiverUnderWay, would_be_followed, Watched, starts_watched, HappensForWhole, HasFollowed, IsNonePending, EndsWhole, EndsFollowing, HasFollowedLines, with_told, IsAllPut, PutsHappened}
+use Rattle.followed_traces.specs.Inside.Watched.{HaveBytes, TellsStandingIn, TellsStandingOf, TellsStandingIfAny, ReceiverUnderWay, would_be_followed, Watched, starts_watched, HappensForWhole, HasFollowed, IsNonePending, EndsWhole, EndsFollowing}
+use Rattle.followed_traces.specs.Inside.Followed.{HasFollowedLines, with_told, IsAllPut, PutsHappened}
 
 -- ---- how a flow stands
 
@@ -308,6 +309,11 @@ module _ (state : Watched) (rule : LossRule) (width : Width) (setup : Setup) (en
       },
     )
 
+-- what is looked at on one channel is looked at on the same one
+pub looked : (receiver : Receiver NoCheck) (place channel : ℕ) (input : Input) (flow : Option ℕ) → place ≡ channel → WouldCome no_check receiver place input flow
+    → WouldCome no_check receiver channel input flow
+looked receiver place channel input flow same would = subst (λ (c : ℕ). WouldCome no_check receiver c input flow) same would
+
 -- nothing was handed in
 pub followed_nothing : (state : Watched) (rule : LossRule) (width : Width) (setup : Setup) (receiver : Receiver NoCheck) (pending : HappeningList)
     → state.told ≡ [] → StandsFor no_check receiver any_header (made_of rule width.channels setup) [] [] → ((k : ℕ) → IsSettledAt receiver k) → pending.happened.items ≡ []
@@ -336,18 +342,18 @@ followed_nothing state rule width setup receiver pending none stands settled emp
 pub lines_of_told : (settings : FollowSettings) (line : ℕ) (happened : List Happening)
     → flat_map (lines_told settings line) (filter (is_told_for settings.selected) happened) ≡ flat_map (lines_told settings line) happened
 lines_of_told settings line [] = refl
-lines_of_told settings line (one ∷ more) = by_flag (is_told_for settings.selected one) refl where
+lines_of_told settings line (one ∷ more) = by_flag (is_told_for settings.selected one) refl (lines_of_told settings line more) where
   p : Happening → Bool
   p = is_told_for settings.selected
 
   f : Happening → List ℕ
   f = lines_told settings line
 
-  by_flag : (b : Bool) → is_told_for settings.selected one ≡ b → flat_map f (if b then one ∷ filter p more else filter p more) ≡ f one ++ flat_map f more
-  by_flag true is = ap (λ (t : List ℕ). f one ++ t) (lines_of_told settings line more)
-  by_flag false is =
-      lines_of_told settings line more
-      ∙ ap (λ (b : Bool). (if b then happening_lines settings.events line one else []) ++ flat_map f more) (sym is)
+  by_flag : (b : Bool) → is_told_for settings.selected one ≡ b → flat_map f (filter p more) ≡ flat_map f more
+      → flat_map f (if b then one ∷ filter p more else filter p more) ≡ f one ++ flat_map f more
+  by_flag true is rest = ap (λ (t : List ℕ). f one ++ t) rest
+  by_flag false is rest =
+      rest ∙ ap (λ (b : Bool). (if b then happening_lines settings.events line one else []) ++ flat_map f more) (sym is)
 
 -- the same lines where the same is told
 pub same_lines : (settings : FollowSettings) (line : ℕ) (happened others : List Happening)

@@ -6,7 +6,8 @@ use Rattle.text_lines.specs.declared.fault.LineFault.{LineFault}
 use Rattle.texts.specs.Inside.StandIn.{IsForAnotherAt, MayStandFor, MayStandForAt}
 use Rattle.texts.specs.Inside.TraceInput.{TraceState, taking_format, HasTakenLines}
 use Rattle.followed_traces.specs.declared.input.FollowInput.{FollowInput}
-use Rattle.followed_traces.specs.Inside.Followed.{ReceiverUnderWay, would_be_followed, Watched, starts_watched, HasFollowed, HasFollowedLines}
+use Rattle.followed_traces.specs.Inside.Watched.{ReceiverUnderWay, would_be_followed, Watched, starts_watched, HasFollowed}
+use Rattle.followed_traces.specs.Inside.Followed.{HasFollowedLines}
 
 -- What may stand in for an input by what takes the entries, if there is something that does, may do
 -- so by what was taken out.

@@ -1,5 +1,5 @@
 //! A receiver under way to which what the lines of a trace say is handed in, and what happens.
-ghost use Rattle.std.specs.Prelude.{◌≡◌, ◌<◌, ◌∷◌, ◌++◌, flat_map, true, List, IfOk, OnOk, OnErr};
+ghost use Rattle.std.specs.Prelude.{◌≡◌, ◌<◌, [], ◌∷◌, ◌++◌, flat_map, true, List, IfOk, OnOk, OnErr};
 ghost use Rattle.flow_selection.specs.Selection.{is_selected};
 ghost use Rattle.lane.specs.declared.input.Input.{Input};
 ghost use Rattle.loss_rule.specs.declared.rule.LossRule.{LossRule};
@@ -14,10 +14,10 @@ ghost use Rattle.texts.specs.Follow.{lines_told};
 ghost use Rattle.texts.specs.Happened.{flow_decided};
 ghost use Rattle.texts.specs.Inside.Added.{HasAdded};
 ghost use Rattle.texts.specs.Inside.StandIn.{MayStandFor};
-ghost use Rattle.followed_traces.specs.Inside.Followed.{Watched, HasFollowed, HaveBytes};
-ghost use Rattle.followed_traces.specs.Inside.Followed.{EndsFollowing, IsNonePending};
-ghost use Rattle.followed_traces.specs.Inside.Followed.{TellsStandingOf, TellsStandingIfAny};
-ghost use Rattle.followed_traces.specs.Inside.Followed.{would_be_followed};
+ghost use Rattle.followed_traces.specs.Inside.Watched.{Watched, HasFollowed, HaveBytes};
+ghost use Rattle.followed_traces.specs.Inside.Watched.{EndsFollowing, IsNonePending};
+ghost use Rattle.followed_traces.specs.Inside.Watched.{TellsStandingOf, TellsStandingIfAny};
+ghost use Rattle.followed_traces.specs.Inside.Watched.{would_be_followed};
 ghost use Rattle.texts.specs.declared.follow.happening.Happening.{Happening};
 
 use bonded_flows::FlowDecision;
@@ -49,7 +49,7 @@ impl Model for Following {
     ghost use Rattle.receiver.specs.Receiving.{IsReceiving};
     ghost use Rattle.texts.specs.contracts.follow.happening_list.HappeningList as happening_list_type;
     ghost use Rattle.texts.specs.declared.follow.happening_list.HappeningList.{HappeningList};
-    ghost use Rattle.followed_traces.specs.Inside.Followed.{ReceiverUnderWay};
+    ghost use Rattle.followed_traces.specs.Inside.Watched.{ReceiverUnderWay};
     ghost use Rattle.texts.specs.AnyHeader.{no_check};
 
     ghost Value = { ReceiverUnderWay };
@@ -196,8 +196,8 @@ fn decided_by(upto: Option<u16>) -> FlowDecision
 
 impl TakeEntries for Following {
     ghost use Rattle.std.specs.Prelude.{true};
-    ghost use Rattle.followed_traces.specs.Inside.Followed.{Watched, HasFollowed};
-    ghost use Rattle.followed_traces.specs.Inside.Followed.{starts_watched, would_be_followed};
+    ghost use Rattle.followed_traces.specs.Inside.Watched.{Watched, HasFollowed};
+    ghost use Rattle.followed_traces.specs.Inside.Watched.{starts_watched, would_be_followed};
 
     ghost State = { Watched };
 

@@ -1,5 +1,5 @@
 //! The lines of a trace that is followed as they are read.
-ghost use Rattle.std.specs.Prelude.{◌≡◌, ◌<◌, List, OnOk, OnErr, IfOk};
+ghost use Rattle.std.specs.Prelude.{◌≡◌, ◌<◌, [], None, OnOk, OnErr, IfOk};
 ghost use Rattle.flow_selection.specs.Selection.{is_selected};
 ghost use Rattle.lane.specs.declared.input.Input.{Input};
 ghost use Rattle.text_lines.specs.Putting.{Puts};
@@ -8,9 +8,11 @@ ghost use Rattle.texts.specs.Inside.StandIn.{MayStandForAt};
 ghost use Rattle.texts.specs.Inside.TraceInput.{TraceState};
 ghost use Rattle.texts.specs.declared.trace.line.TraceLine.TheVariants as line;
 ghost use Rattle.followed_traces.specs.Followed.{IsFollowedTo, end_text};
-ghost use Rattle.followed_traces.specs.Inside.Followed.{Watched, HasFollowedLines, PutsHappened};
-ghost use Rattle.followed_traces.specs.Inside.Followed.{nothing_followed, would_be_followed};
-ghost use Rattle.followed_traces.specs.Inside.Followed.{HaveBytes};
+ghost use Rattle.followed_traces.specs.Inside.Watched.{Watched};
+ghost use Rattle.followed_traces.specs.Inside.Followed.{HasFollowedLines, PutsHappened};
+ghost use Rattle.followed_traces.specs.Inside.Watched.{would_be_followed};
+ghost use Rattle.followed_traces.specs.Inside.Followed.{nothing_followed};
+ghost use Rattle.followed_traces.specs.Inside.Watched.{HaveBytes};
 
 use super::following::Following;
 use lane::Input;
@@ -46,7 +48,7 @@ impl FollowInput {
             HasFollowedLines (nothing_followed settings [] rule width) follow) }
         ensures put { IfOk result (λ follow. follow.input.taker ≡ None) }
     {
-        let in_part = !leaves_none_out(&settings.selected, usize::from(width.flows));
+        let in_part = !leaves_none_out(&settings.selected, usize::from(width.flows()));
         Ok(FollowInput {
             input: TraceInput::new(alloc, width, rule)?,
             settings,
@@ -87,7 +89,8 @@ impl FollowInput {
 
 impl TakeLine for FollowInput {
     ghost use Rattle.texts.specs.Inside.TraceInput.{TraceState, taking_format};
-    ghost use Rattle.followed_traces.specs.Inside.Followed.{Watched, HasFollowedLines};
+    ghost use Rattle.followed_traces.specs.Inside.Watched.{Watched};
+    ghost use Rattle.followed_traces.specs.Inside.Followed.{HasFollowedLines};
 
     ghost State = { TraceState Watched };
 

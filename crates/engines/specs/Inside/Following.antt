@@ -15,7 +15,8 @@ use Rattle.texts.specs.declared.follow.settings.FollowSettings.{FollowSettings}
 use Rattle.texts.specs.declared.follow.happening.Happening.{Happening}
 use Rattle.texts.specs.Follow.{told_lines, IsFollowed, IsFollowedSoFar}
 use Rattle.texts.specs.Happened.{HappenedBy, HappenedAt, happening_of, AreNumbered}
-use Rattle.followed_traces.specs.Inside.Followed.{Watched, nothing_followed, HasFollowedLines, IsAllPut}
+use Rattle.followed_traces.specs.Inside.Watched.{Watched}
+use Rattle.followed_traces.specs.Inside.Followed.{nothing_followed, HasFollowedLines, IsAllPut}
 use Rattle.texts.specs.Trace.Line.{shape_of}
 use Rattle.texts.specs.Trace.Place.{nothing_said_in, trace_format}
 use Rattle.texts.specs.Inside.TraceInput.{TraceState, taking_format}

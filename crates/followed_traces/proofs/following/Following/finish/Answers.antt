@@ -1,6 +1,6 @@
 -- The receiver was closed.
 use Rattle.std.proofs.Common.{sym, subst}
-use Rattle.followed_traces.specs.Inside.Followed.{ReceiverUnderWay, HasFollowed}
+use Rattle.followed_traces.specs.Inside.Watched.{ReceiverUnderWay, HasFollowed}
 use Rattle.followed_traces.proofs.FollowedTrace.{followed_end}
 use Rattle.followed_traces.proofs.following.Following.finish.Goals as goal
 

@@ -11,7 +11,7 @@ use Rattle.texts.specs.AnyHeader.{any_header}
 use Rattle.texts.specs.Happening.{name_of_input}
 use Rattle.texts.specs.Happened.{flow_admitted}
 use Rattle.texts.specs.Inside.StandIn.{MayStandFor}
-use Rattle.followed_traces.specs.Inside.Followed.{TellsStandingIfAny, ReceiverUnderWay, HasFollowed, would_be_followed}
+use Rattle.followed_traces.specs.Inside.Watched.{TellsStandingIfAny, ReceiverUnderWay, HasFollowed, would_be_followed}
 use Rattle.followed_traces.proofs.FollowedTrace.{followed_more, settled_by_input, stands_in_for, tells_after, settled_after}
 use Rattle.followed_traces.proofs.following.Following.take_in_place.Goals as goal
 

@@ -9,7 +9,7 @@ use Rattle.receiver.specs.Replaying.{entry_of, IsGapDecision}
 use Rattle.receiver.proofs.ReplayedEntries.{decision-recorded, decision-entry}
 use Rattle.texts.specs.AnyHeader.{any_header}
 use Rattle.texts.specs.Happened.{flow_decided}
-use Rattle.followed_traces.specs.Inside.Followed.{TellsStandingIfAny, ReceiverUnderWay, HasFollowed}
+use Rattle.followed_traces.specs.Inside.Watched.{TellsStandingIfAny, ReceiverUnderWay, HasFollowed}
 use Rattle.followed_traces.proofs.FollowedTrace.{followed_more, all_settled_decided, tells_after, settled_decided, passed_over}
 use Rattle.followed_traces.proofs.following.FollowingTakeEntries.decide.Goals as goal
 

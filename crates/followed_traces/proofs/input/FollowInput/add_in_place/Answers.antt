@@ -5,7 +5,7 @@ use Rattle.receiver.specs.Entries.{came}
 use Rattle.receiver.specs.declared.width.Width.{Width}
 use Rattle.texts.proofs.HandedLines.{entry_handed}
 use Rattle.texts.proofs.TraceSoFar.{input_without_fault}
-use Rattle.followed_traces.specs.Inside.Followed.{starts_watched, HasFollowed}
+use Rattle.followed_traces.specs.Inside.Watched.{starts_watched, HasFollowed}
 use Rattle.followed_traces.proofs.LinesOfWhole.{may_stand}
 use Rattle.followed_traces.proofs.input.FollowInput.add_in_place.Goals as goal
 

@@ -12,7 +12,7 @@ use Rattle.texts.specs.Inside.StandIn.{StandsInForLine, MayStandForAt}
 use Rattle.texts.proofs.HandedLines.{taken_with}
 use Rattle.texts.proofs.ReplayedInPart.{burst_early}
 use Rattle.texts.proofs.TraceSoFar.{taken_in_place, refused_in_place}
-use Rattle.followed_traces.specs.Inside.Followed.{would_be_followed}
+use Rattle.followed_traces.specs.Inside.Watched.{would_be_followed}
 use Rattle.followed_traces.proofs.LinesOfWhole.{line_taken}
 use Rattle.followed_traces.proofs.input.FollowInputTakeLine.take_line.Goals as goal
 
