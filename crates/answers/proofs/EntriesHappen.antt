@@ -13,7 +13,8 @@ use Rattle.receiver.specs.HandedIn.{HandedIn, decided}
 use Rattle.receiver.specs.Replaying.{entry_of}
 use Rattle.texts.specs.declared.follow.happening.Happening.{Happening}
 use Rattle.texts.specs.declared.follow.happening.Happening.TheVariants.{Gave}
-use Rattle.answers.proofs.SomeHappening.{HappenedSoFar, nothing_so_far, OneMore, happened_with, takes_input, takes_decision}
+use Rattle.answers.specs.Beside.{HappenedSoFar}
+use Rattle.answers.proofs.SomeHappening.{nothing_so_far, OneMore, happened_with, takes_input, takes_decision}
 
 module _ (made : TableSetup) (can : CanBeOpenedWithin made.channels made.rows (length made.records)) where
   -- an input came on a channel that there is, and is of bytes
@@ -26,11 +27,11 @@ module _ (made : TableSetup) (can : CanBeOpenedWithin made.channels made.rows (l
     pub handed : List HandedIn
     pub given : List Given
     pub happened : List Happening
-    pub so_far : HappenedSoFar made can handed given happened
+    pub so_far : HappenedSoFar made handed given happened
     pub are : filter_map entry_of handed ≡ entries
 
   -- something is handed in that is the entry
-  one_entry : (handed : List HandedIn) (given : List Given) (happened : List Happening) (was : HappenedSoFar made can handed given happened) (e : Entry) → IsSound e
+  one_entry : (handed : List HandedIn) (given : List Given) (happened : List Happening) (was : HappenedSoFar made handed given happened) (e : Entry) → IsSound e
       → (one : HandedIn) × (entry_of one ≡ Some e) × OneMore made can handed given happened was one
   one_entry handed given happened was (entry.came channel input) sound = takes_input made can handed given happened was channel input sound.0 sound.1
   one_entry handed given happened was (entry.decided decision) sound = by_upto decision.upto refl where
@@ -65,4 +66,4 @@ module _ (made : TableSetup) (can : CanBeOpenedWithin made.channels made.rows (l
   -- whatever comes in, something happens
   pub entries_happen : (entries : List Entry) → AllByRecursion IsSound entries → EntriesHappen entries
   entries_happen entries sound =
-      entries_after [] entries (record { handed = []; given = []; happened = []; so_far = nothing_so_far made can; are = refl }) sound
+      entries_after [] entries (record { handed = []; given = []; happened = []; so_far = nothing_so_far made; are = refl }) sound

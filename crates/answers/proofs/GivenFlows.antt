@@ -2,7 +2,6 @@
 use Rattle.std.proofs.Common.{◌≡◌, ℕ, ◌+◌, ◌-◌, inl, inr, Bool, Option, Some, None, List, [], ◌∷◌, ◌++◌, refl, sym, ap, subst, ◌∙◌, append-nil, append_assoc}
 use Rattle.docsis_wire.specs.declared.segment.Segment.{Segment}
 use Rattle.reorder.specs.declared.verdict.Verdict.{Verdict}
-use Rattle.flow_core.specs.declared.counts.FlowCounts.{FlowCounts}
 use Rattle.flow_core.specs.declared.event.Applied.{Applied}
 use Rattle.flow_core.specs.declared.event.Applied.TheVariants.{Arrival, Decision, DecisionTo, DecisionSkip}
 use Rattle.flow_core.specs.Counts.{no_counts}
@@ -21,12 +20,13 @@ use Rattle.loss_rule.proofs.Rulings.{ruled-some, rules-once}
 use Rattle.loss_rule.proofs.RuledTurns.{rules-lead, ruled-reached, ruled-append}
 use Rattle.bonded_flows.specs.declared.told.Told.{Told}
 use Rattle.bonded_flows.specs.Answers.{verdict_of, says_any_lost}
-use Rattle.bonded_flows.specs.ByRule.{EndInVerdict, IsLastSkip, IsTold, IsToldLost, HasGivenByRule}
+use Rattle.bonded_flows.specs.ByRule.{EndInVerdict, IsLastSkip, IsTold, IsToldLost}
 use Rattle.bonded_flows.specs.FlowSetup.{FlowSetup, ruled_flow}
 use Rattle.receiver.specs.Held.{held_from, HoldsByRule}
 use Rattle.answers.specs.Bytes.{AreBytes, Brings}
+use Rattle.answers.specs.Beside.{GivesBytes, KeepsCarrying}
 use Rattle.answers.proofs.GrownOutcome.{GrownOutcome, grown_outcome}
-use Rattle.answers.proofs.Keeping.{KeepsCarrying, none_kept, kept-leads}
+use Rattle.answers.proofs.Keeping.{none_kept, kept-leads}
 use Rattle.answers.proofs.RuledEvents.{one-brings}
 
 -- ---- what is skipped before a segment
@@ -76,14 +76,8 @@ module _ (check : List ℕ → Bool) (setup : FlowSetup) where
   abbrev flow : RuledFlow
   flow = ruled_flow setup
 
-  -- What a flow has given to which all this came, where what it keeps is of bytes.
-  pub record GivesBytes (comings : List Coming) (frames : List (List ℕ)) : Type 0 where
-    pub counts : FlowCounts
-    pub given : HasGivenByRule check setup comings frames counts
-    pub kept : KeepsCarrying AreBytes given.fates
-
   -- nothing, where nothing came
-  pub gives_nothing : GivesBytes [] []
+  pub gives_nothing : GivesBytes check setup [] []
   gives_nothing =
       let out = outcome-empty check setup.flow_record [] 0 (λ before behind segment. none_before before behind (arrives segment))
       (λ before behind number. none_before before behind (skip_to number)) in
@@ -93,7 +87,7 @@ module _ (check : List ℕ → Bool) (setup : FlowSetup) where
         kept = none_kept AreBytes;
       }
 
-  module _ (comings : List Coming) (frames : List (List ℕ)) (was : GivesBytes comings frames) where
+  module _ (comings : List Coming) (frames : List (List ℕ)) (was : GivesBytes check setup comings frames) where
     -- ---- how it stands
 
     -- the number that it expects
@@ -105,7 +99,7 @@ module _ (check : List ℕ → Bool) (setup : FlowSetup) where
     led_before = rules-lead setup.rule flow (no_lasts flow) no_fates comings was.given.events was.given.lasts was.given.fates was.given.ruled
 
     -- which are those of what it gave
-    same_fates : was.given.outcome.fates ≡ was.given.fates
+    pub same_fates : was.given.outcome.fates ≡ was.given.fates
     same_fates =
         (after-once setup.flow_record.first setup.flow_record.window was.given.events was.given.outcome.answers led_before.0 was.given.outcome.fates was.given.fates
         was.given.outcome.after led_before.1).1
@@ -165,7 +159,7 @@ module _ (check : List ℕ → Bool) (setup : FlowSetup) where
       pub gives_more : List (List ℕ)
       gives_more = grown.more
 
-      pub gives_then : GivesBytes (comings ++ coming ∷ []) (frames ++ gives_more)
+      pub gives_then : GivesBytes check setup (comings ++ coming ∷ []) (frames ++ gives_more)
       unfolding gives_more grown
       gives_then = record {
         counts = grown.grown;

@@ -19,11 +19,12 @@ use Rattle.flow_core.proofs.Turns.{leads-in_turn}
 use Rattle.loss_rule.specs.Inside.Reached.{IsReached}
 use Rattle.loss_rule.proofs.Reaching.{reached-leads, reached-expected, expected-onward, fate-stays}
 use Rattle.answers.specs.Bytes.{AreBytes, IsLostOrCarries, CarryBytes}
+use Rattle.answers.specs.Beside.{KeepsCarrying}
 use Rattle.answers.proofs.SomeWalk.{no_bytes}
 use Rattle.answers.proofs.SomeJoining.{some_feed, some_joining}
 use Rattle.answers.proofs.SomeOutcome.{some_counts}
 use Rattle.answers.proofs.Sizes.{joins-fit}
-use Rattle.answers.proofs.Keeping.{KeepsCarrying, settled-carries, settled-push}
+use Rattle.answers.proofs.Keeping.{settled-carries, settled-push}
 
 -- what a settled list of bytes leaves unfinished is of bytes
 joined_bytes : (check : List ℕ → Bool) (before : List ℕ) (settled : List (Option Segment)) (frames : List (List ℕ)) (after : List ℕ) → AreBytes before

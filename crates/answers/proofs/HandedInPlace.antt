@@ -22,7 +22,7 @@ use Rattle.receiver.specs.HandedIn.{HandedIn, came, decided, restarted, answered
 use Rattle.receiver.specs.Receiving.{Says}
 use Rattle.texts.specs.Happening.{name_of_input}
 use Rattle.texts.specs.Happened.{flow_admitted}
-use Rattle.answers.proofs.StandIns.{AreAdmittedFor, AnswersFor}
+use Rattle.answers.specs.Beside.{AreAdmittedFor, AnswersFor, InPlace}
 
 -- ---- pairs
 
@@ -127,19 +127,6 @@ module _ (chosen : ℕ → Bool) where
 
   -- ---- one thing in place of another
 
-  -- an input in place of another, or the same decision
-  pub record InputsFor (channel : ℕ) (one : AnsweredInput) (place : ℕ) (other : AnsweredInput) : Type 0 where
-    pub channel_is : place ≡ channel
-    pub answers : AnswersFor chosen one other
-    pub name : name_of_input channel other.input ≡ name_of_input channel one.input
-
-  abbrev pub InPlace : HandedIn → HandedIn → Type 0
-  InPlace (came channel one) (came place other) = InputsFor channel one place other
-  InPlace (came channel one) (decided flow decision) = ⊥
-  InPlace (came channel one) (restarted flow first) = ⊥
-  InPlace (decided flow decision) other = other ≡ decided flow decision
-  InPlace (restarted flow first) other = ⊥
-
   -- one input more, on this channel or on another
   zip_if : (own : Bool) (one other : AnsweredInput) (ones others : List AnsweredInput) → AnswersFor chosen one other → AllZip (AnswersFor chosen) ones others
       → AllZip (AnswersFor chosen) (cons_option (if own then Some one else None) ones) (cons_option (if own then Some other else None) others)
@@ -147,7 +134,7 @@ module _ (chosen : ℕ → Bool) where
   zip_if false one other ones others here rest = rest
 
   -- on each channel came inputs in place of others
-  pub answers_for : (handed others : List HandedIn) → AllZip InPlace handed others → (on : ℕ) → AllZip (AnswersFor chosen) (answered_on on handed) (answered_on on others)
+  pub answers_for : (handed others : List HandedIn) → AllZip (InPlace chosen) handed others → (on : ℕ) → AllZip (AnswersFor chosen) (answered_on on handed) (answered_on on others)
   answers_for [] [] all on = tt
   answers_for [] (other ∷ others) all on = absurd all
   answers_for (one ∷ handed) [] all on = absurd all
@@ -189,7 +176,7 @@ module _ (chosen : ℕ → Bool) where
     same_behind (Some one) xs ys same = ap (λ (t : List FlowInput). cons_option (if one.flow == k then Some one.input else None) t) same
 
     -- and so is all that comes to it
-    pub inputs_for : (n : ℕ) (handed others : List HandedIn) → AllZip InPlace handed others → inputs_at k (flow_inputs n others) ≡ inputs_at k (flow_inputs n handed)
+    pub inputs_for : (n : ℕ) (handed others : List HandedIn) → AllZip (InPlace chosen) handed others → inputs_at k (flow_inputs n others) ≡ inputs_at k (flow_inputs n handed)
     inputs_for n [] [] all = refl
     inputs_for n [] (other ∷ others) all = absurd all
     inputs_for n (one ∷ handed) [] all = absurd all

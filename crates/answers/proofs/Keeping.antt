@@ -14,14 +14,11 @@ use Rattle.reorder.specs.declared.verdict.Declared.TheVariants.{NextIsHere, Noth
 use Rattle.reorder.proofs.Items.{get-insert_same, get-insert_other}
 use Rattle.flow_core.specs.declared.event.Applied.{Applied}
 use Rattle.flow_core.specs.declared.event.Applied.TheVariants.{Arrival, Decision, DecisionTo, DecisionSkip}
-use Rattle.flow_core.specs.Fates.{Fates, no_fates, IsKeptAs, IsSettledBelow}
+use Rattle.flow_core.specs.Fates.{Fates, no_fates, IsSettledBelow}
 use Rattle.flow_core.specs.Events.{FlowEvent, arrives, gap, gap_to, skip_to, LosesJust, IsDeclaredTo, IsSkippedTo, IsVerdictOn, Keeps, Changes, Leads}
 use Rattle.flow_core.proofs.Deciding.{open_or_settled}
 use Rattle.answers.specs.Bytes.{IsLostOrCarries, Brings}
-
--- the payload of each kept segment is such
-abbrev pub KeepsCarrying : (List ℕ → Type 0) → Fates → Type 0
-KeepsCarrying P fates = (i : ℕ) (segment : Segment) → IsKeptAs fates i segment → P segment.payload
+use Rattle.answers.specs.Beside.{KeepsCarrying}
 
 module _ (P : List ℕ → Type 0) where
   -- nothing was kept yet

@@ -28,4 +28,5 @@ pub mod EntriesHappen
 pub mod HappeningOfLines
 pub mod HandedInPlace
 pub mod ToldElsewhere
+pub mod GivenBeside
 pub mod ToldOfWhole

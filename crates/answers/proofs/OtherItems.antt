@@ -16,8 +16,8 @@ use Rattle.loss_rule.specs.Rule.{Coming}
 use Rattle.receiver.specs.Order.{picked, IsMergeOf}
 use Rattle.receiver.specs.Ruled.{coming_of, comings_at}
 use Rattle.receiver.proofs.Pairs.{zip_weaker, zip_map, zip_length}
+use Rattle.answers.specs.Beside.{IsAdmittedFor, AreAdmittedFor, AnswersFor}
 use Rattle.answers.proofs.SomeIntake.{left, picked-first}
-use Rattle.answers.proofs.StandIns.{IsAdmittedFor, AreAdmittedFor, AnswersFor}
 
 -- An item in place of another: of the same flow, and the same if that is selected.
 pub record IsItemFor (selected : ℕ → Bool) (one other : Event) : Type 0 where

@@ -34,8 +34,9 @@ use Rattle.receiver.proofs.MergedLists.{one-lane}
 use Rattle.receiver.proofs.Senders.{four, five}
 use Rattle.receiver.specs.Elsewhere.{StandsIn, DiffersElsewhere, AgreesOn}
 use Rattle.receiver.proofs.Pairs.{zip_same}
+use Rattle.answers.specs.Beside.{AnswersFor}
 use Rattle.answers.proofs.SomeIntake.{of_four}
-use Rattle.answers.proofs.StandIns.{AnswersFor, some_answers}
+use Rattle.answers.proofs.StandIns.{some_answers}
 use Rattle.answers.proofs.OtherItems.{IsItemFor, item_same, items-for, requests-same, count-same, refused-same, merged-for, comings-same}
 
 -- the answers of a channel

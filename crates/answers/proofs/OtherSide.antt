@@ -9,7 +9,7 @@ use Rattle.lane.specs.Report.{admitted_by}
 use Rattle.receiver.specs.declared.setup.Setup.{Setup}
 use Rattle.receiver.specs.Items.{Incoming}
 use Rattle.receiver.specs.Elsewhere.{LooksLike, StandsIn, DiffersElsewhere}
-use Rattle.answers.proofs.StandIns.{AreAdmittedFor, AnswersFor}
+use Rattle.answers.specs.Beside.{AreAdmittedFor, AnswersFor}
 use Rattle.answers.proofs.OtherOutcomes.{other_lanes}
 
 looks_back : (one other : Input) → LooksLike one other → LooksLike other one

@@ -37,7 +37,7 @@ use Rattle.answers.proofs.SomeIntake.{some_intake, few_kept}
 use Rattle.answers.proofs.SomeReplay.{some_replay}
 use Rattle.answers.proofs.SomeText.{replayed_of}
 use Rattle.answers.proofs.ReadTraces.{read-bytes, read-few}
-use Rattle.answers.proofs.StandIns.{AreAdmittedFor, AnswersFor}
+use Rattle.answers.specs.Beside.{AreAdmittedFor, AnswersFor}
 use Rattle.answers.proofs.OtherOutcomes.{other_lanes, outcomes-agree}
 use Rattle.answers.proofs.PartsOfReports.{part_same}
 

@@ -46,34 +46,25 @@ use Rattle.texts.specs.declared.follow.happening.Happening.TheVariants.{Gave, To
 use Rattle.texts.specs.AnyHeader.{any_header}
 use Rattle.texts.specs.FollowedReport.{came_to}
 use Rattle.texts.specs.Happening.{name_of_input}
-use Rattle.texts.specs.Happened.{IsOfTrace, IsGivenSoFar, IsStanding, TellsStanding, TellsInput, TellsDecision, Tells, HasHappened, nothing, one_more}
+use Rattle.texts.specs.Happened.{IsOfTrace, IsGivenSoFar, IsStanding, TellsStanding, TellsInput, TellsDecision, Tells, nothing, one_more}
 use Rattle.answers.specs.Bytes.{AreBytes, Brings}
+use Rattle.answers.specs.Beside.{GivesBytes, HappenedSoFar}
 use Rattle.answers.proofs.AdmittedPayloads.{admitted-payload}
-use Rattle.answers.proofs.GivenFlows.{GivesBytes, gives_nothing, expects, expects_so, holds_so, gives_more, gives_then, some_told, some_loss}
+use Rattle.answers.proofs.GivenFlows.{gives_nothing, expects, expects_so, holds_so, gives_more, gives_then, some_told, some_loss}
 use Rattle.answers.proofs.MoreComings.{came_stays, came_elsewhere, came_here, begun_once}
 
+-- nothing happened, where nothing was handed in
+pub nothing_so_far : (made : TableSetup) → HappenedSoFar made [] [] []
+nothing_so_far made = record {
+  has_happened = nothing;
+  each = All-nil (IsOfTrace made.channels);
+  answered = λ channel within k one there. absurd cc;
+  requests = λ channel. refl;
+  flows = λ k flow_record there. gives_nothing any_header (flow_setup made k flow_record);
+  others = λ k past. refl;
+}
+
 module _ (made : TableSetup) (can : CanBeOpenedWithin made.channels made.rows (length made.records)) where
-  -- What happened so far. What flows keep is of bytes.
-  pub record HappenedSoFar (handed : List HandedIn) (given : List Given) (happened : List Happening) : Type 0 where
-    pub has_happened : HasHappened made handed given happened
-    pub each : All (IsOfTrace made.channels) handed
-    pub answered : (channel : ℕ) → channel < made.channels → AreAnswered (lane_of made channel) (answered_on channel handed)
-    pub requests : (channel : ℕ) → requests_given channel given ≡ requests_of (answered_on channel handed)
-    pub flows : (k : ℕ) (flow_record : FlowRecord) → slice_get made.records k ≡ Some flow_record
-        → GivesBytes any_header (flow_setup made k flow_record) (came_to made handed k flow_record) (frames_of k given)
-    pub others : (k : ℕ) → length made.records ≤ k → frames_of k given ≡ []
-
-  -- nothing, where nothing was handed in
-  pub nothing_so_far : HappenedSoFar [] [] []
-  nothing_so_far = record {
-    has_happened = nothing;
-    each = All-nil (IsOfTrace made.channels);
-    answered = λ channel within k one there. absurd cc;
-    requests = λ channel. refl;
-    flows = λ k flow_record there. gives_nothing any_header (flow_setup made k flow_record);
-    others = λ k past. refl;
-  }
-
   -- What is given for one thing more, besides a request: frames of the flow to which it comes.
   record GivesFor (handed : List HandedIn) (given : List Given) (one : HandedIn) (request : Option Request) : Type 0 where
     gives : List Given
@@ -82,7 +73,7 @@ module _ (made : TableSetup) (can : CanBeOpenedWithin made.channels made.rows (l
         → GivesBytes any_header (flow_setup made k flow_record) (came_to made (handed ++ one ∷ []) k flow_record) (frames_of k (given ++ (asked_in request ++ gives)))
     others : (k : ℕ) → length made.records ≤ k → frames_of k (given ++ (asked_in request ++ gives)) ≡ []
 
-  module _ (handed : List HandedIn) (given : List Given) (happened : List Happening) (was : HappenedSoFar handed given happened) where
+  module _ (handed : List HandedIn) (given : List Given) (happened : List Happening) (was : HappenedSoFar made handed given happened) where
     -- to no flow, and without a request
     gives_none : (one : HandedIn) → flow_input_of (length made.records) one ≡ None → GivesFor handed given one None
     gives_none one none = record {
@@ -203,7 +194,7 @@ module _ (made : TableSetup) (can : CanBeOpenedWithin made.channels made.rows (l
     }
 
     -- and it happened besides
-    pub happened_with : (one : HandedIn) → (it : OneMore one) → HappenedSoFar (handed ++ one ∷ []) (given ++ it.more) (happened ++ (map Gave it.more ++ it.told))
+    pub happened_with : (one : HandedIn) → (it : OneMore one) → HappenedSoFar made (handed ++ one ∷ []) (given ++ it.more) (happened ++ (map Gave it.more ++ it.told))
     happened_with one it = record {
       has_happened = one_more it.more one it.told was.has_happened (so_far_with one it) it.tells;
       each = All-push (IsOfTrace made.channels) handed one was.each it.of_trace;

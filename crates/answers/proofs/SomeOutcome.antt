@@ -16,10 +16,11 @@ use Rattle.flow_core.proofs.Closing.{some-close}
 use Rattle.flow_core.proofs.Turns.{leads-in_turn}
 use Rattle.receiver.specs.Outcome.{GivesAtItsClose}
 use Rattle.answers.specs.Bytes.{AreBytes, BringBytes}
+use Rattle.answers.specs.Beside.{KeepsCarrying}
 use Rattle.answers.proofs.SomeWalk.{no_bytes}
 use Rattle.answers.proofs.SomeJoining.{some_joining}
 use Rattle.answers.proofs.Sizes.{joins-fit}
-use Rattle.answers.proofs.Keeping.{KeepsCarrying, none_kept, kept-leads, settled-carries, some_settled}
+use Rattle.answers.proofs.Keeping.{none_kept, kept-leads, settled-carries, some_settled}
 
 -- the counts
 abbrev pub counts_of : List Applied → List (Option Segment) → List (List ℕ) → ℕ → FlowCounts
@@ -88,7 +89,7 @@ some_outcome check flow_record events are =
     (gave.frames, gave.counts, gave.outcome)
 
 -- gaps carry no bytes
-gaps-of_bytes : (n : ℕ) → BringBytes (replicate n gap)
+pub gaps-of_bytes : (n : ℕ) → BringBytes (replicate n gap)
 gaps-of_bytes zero = tt
 gaps-of_bytes (suc n) = (tt, gaps-of_bytes n)
 

@@ -13,19 +13,12 @@ use Rattle.lane.specs.declared.refusal.Refusal.{Refusal}
 use Rattle.lane.specs.declared.refusal.Refusal.TheVariants.{GrantRange, GrantKnown, UnknownSid, TooManyGrants, NoGrant, TooLong, BadCheck, TooShort, PointerPast}
 use Rattle.lane.specs.declared.grant.OutstandingGrant.{OutstandingGrant}
 use Rattle.lane.specs.Admission.{IsMadeOf}
-use Rattle.lane.specs.Inputs.{LaneSetup, Answer, AnsweredInput, number_of, spends_its_grant, is_accepted, IsOutstanding, IsKnown, outstanding_count, IsGrant, IsAnswerToGrant, IsAnswerToBurst, IsAnswer, AreAnswered, inputs_of}
-use Rattle.lane.specs.Report.{admitted_by, refused_by}
+use Rattle.lane.specs.Inputs.{LaneSetup, Answer, AnsweredInput, spends_its_grant, is_accepted, IsOutstanding, IsKnown, outstanding_count, IsGrant, IsAnswerToGrant, IsAnswerToBurst, IsAnswer, AreAnswered, inputs_of}
+use Rattle.lane.specs.Report.{admitted_by}
 use Rattle.lane.proofs.LaneTaking.{granted, answered-more}
 use Rattle.receiver.specs.Elsewhere.{StandsIn}
 use Rattle.receiver.proofs.Pairs.{zip_at, zip_flip, zip_weaker, zip_push, zip_count}
-
--- For what is outstanding one answered input is as good as another.
-pub record CountsAs (one other : AnsweredInput) : Type 0 where
-  pub grants : (number sid bytes : ℕ) → one ≡ granted number sid bytes → other ≡ granted number sid bytes
-  pub granted_by : (number sid bytes : ℕ) → other ≡ granted number sid bytes → one ≡ granted number sid bytes
-  pub number : number_of other.input ≡ number_of one.input
-  pub spends : spends_its_grant other ≡ spends_its_grant one
-  pub accepts : is_accepted other ≡ is_accepted one
+use Rattle.answers.specs.Beside.{CountsAs, AreAdmittedFor, AnswersFor}
 
 counts_back : (one other : AnsweredInput) → CountsAs one other → CountsAs other one
 counts_back one other c = record { grants = c.granted_by; granted_by = c.grants; number = sym c.number; spends = sym c.spends; accepts = sym c.accepts }
@@ -68,25 +61,6 @@ module _ (setup : LaneSetup) (taken others : List AnsweredInput) (all : AllZip C
   to_grant-as number sid bytes (Err TooManyGrants) is = let count = count-as in let many = is.3 in (is.0, unknown-as number is.1, is.2, omega arith)
   to_grant-as number sid bytes (Ok None) is = let count = count-as in let few = is.3 in (is.0, unknown-as number is.1, is.2, omega arith)
   to_grant-as number sid bytes answer is = absurd is
-
--- What was admitted in place of what: of the same flow with the same request, and the same segment
--- if the flow is selected.
-pub record IsAdmittedFor (selected : ℕ → Bool) (one other : Admitted) : Type 0 where
-  pub flow : other.flow ≡ one.flow
-  pub request : other.request ≡ one.request
-  pub segment : selected one.flow ≡ true → other.segment ≡ one.segment
-
-abbrev pub AreAdmittedFor : (ℕ → Bool) → Option Admitted → Option Admitted → Type 0
-AreAdmittedFor selected None None = Unit {0}
-AreAdmittedFor selected (Some one) (Some other) = IsAdmittedFor selected one other
-AreAdmittedFor selected None (Some other) = ⊥
-AreAdmittedFor selected (Some one) None = ⊥
-
--- An answered input in place of another.
-pub record AnswersFor (selected : ℕ → Bool) (one other : AnsweredInput) : Type 0 where
-  pub counts : CountsAs one other
-  pub admitted : AreAdmittedFor selected (admitted_by one.answer) (admitted_by other.answer)
-  pub refused : refused_by other.answer ≡ refused_by one.answer
 
 -- an answer that fits, with what it says
 abbrev pub Fitting : (ℕ → Bool) → LaneSetup → List AnsweredInput → AnsweredInput → Input → Type 0

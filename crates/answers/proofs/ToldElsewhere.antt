@@ -48,9 +48,10 @@ use Rattle.texts.specs.Happening.{name_of_input}
 use Rattle.texts.specs.Happened.{IsOfTrace, IsGivenSoFar, IsStanding, TellsStanding, TellsStandingAfter, flow_admitted, flow_decided, TellsInput, TellsDecision, Tells, HasHappened, nothing, one_more}
 use Rattle.texts.proofs.OneHappening.{entry_there, same_decision, no_decision, entries_more, its_answer, answered_with, one_input, one_decision, GivesOneSoFar}
 use Rattle.answers.specs.ToldAlike.{EntryStandsIn, is_told_for, AreGivenFor, HappenFor, for_nothing, for_more}
+use Rattle.answers.specs.Beside.{CountsAs, AreAdmittedFor, AnswersFor, InputsFor, InPlace}
 use Rattle.answers.proofs.OtherItems.{requests-same}
-use Rattle.answers.proofs.StandIns.{CountsAs, AreAdmittedFor, AnswersFor, some_answer}
-use Rattle.answers.proofs.HandedInPlace.{zip_pop, none_zipped, some_zipped, same_name, replies_same, granted_too, refused_too, admitted_too, InputsFor, InPlace, answers_for, inputs_for}
+use Rattle.answers.proofs.StandIns.{some_answer}
+use Rattle.answers.proofs.HandedInPlace.{zip_pop, none_zipped, some_zipped, same_name, replies_same, granted_too, refused_too, admitted_too, answers_for, inputs_for}
 
 module _ (selected : Selection) (made : TableSetup) (can : CanBeOpenedWithin made.channels made.rows (length made.records)) (gives : GivesOneSoFar) where
   abbrev chosen : ℕ → Bool

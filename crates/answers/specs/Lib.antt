@@ -1,3 +1,4 @@
 pub mod Bytes
 pub mod Room
 pub mod ToldAlike
+pub mod Beside
