@@ -30,3 +30,4 @@ pub mod HandedInPlace
 pub mod ToldElsewhere
 pub mod GivenBeside
 pub mod ToldOfWhole
+pub mod ClosedBeside
