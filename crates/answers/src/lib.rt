@@ -19,7 +19,7 @@
 //! Each function states a law in its contract; its body is empty or only calls another law.
 #![tactic(auto)]
 
-ghost use Rattle.std.specs.Prelude.{◌≡◌, ◌+◌, ◌*◌, ◌%◌, ◌≤◌, ◌<◌, ◌^◌, ℕ, Bool, Option, List, Ok, length, map, filter, filter_map, sum_by, take};
+ghost use Rattle.std.specs.Prelude.{◌≡◌, ◌+◌, ◌*◌, ◌%◌, ◌≤◌, ◌<◌, ◌^◌, ◌∷◌, ◌++◌, ℕ, Bool, Option, List, [], Ok, length, map, filter, filter_map, sum_by, take};
 ghost use Rattle.std.specs.List.{concat, All, AllByRecursion, AllPass, AllZip};
 ghost use Rattle.hex.specs.Hex.{decode_of, is_hex_digit};
 ghost use Rattle.docsis_wire.specs.declared.segment.Segment.{Segment};
@@ -47,7 +47,9 @@ ghost use Rattle.lane.specs.Inputs.{AnsweredInput};
 ghost use Rattle.lane.specs.Rows.{CanBeOpenedWithin};
 ghost use Rattle.bonded_flows.specs.Table.{TableSetup};
 ghost use Rattle.consumer.specs.declared.given.Given.{Given};
+ghost use Rattle.receiver.specs.declared.closing.Closed.{Closed};
 ghost use Rattle.receiver.specs.HandedIn.{HandedIn};
+ghost use Rattle.receiver.specs.Received.{IsReceived};
 ghost use Rattle.receiver.specs.Replaying.{entry_of};
 ghost use Rattle.text_lines.specs.Field.{SpellsBytes};
 ghost use Rattle.text_lines.specs.Capacities.{default_capacity};
@@ -59,12 +61,13 @@ ghost use Rattle.receiver.specs.Entries.{Entry, tag_of, incoming_in};
 ghost use Rattle.texts.specs.Selected.{report_of, IsReplayedOf};
 ghost use Rattle.texts.specs.AnyHeader.{any_header};
 ghost use Rattle.texts.specs.declared.follow.happening.Happening.{Happening};
-ghost use Rattle.texts.specs.Happened.{IsOfTrace, AreHandedIn, HasHappened, HappenedBy};
+ghost use Rattle.texts.specs.Happened.{IsOfTrace, AreHandedIn, IsGivenSoFar, Tells, HasHappened, HappenedBy};
 ghost use Rattle.texts.specs.Trace.Line.{shape_of};
 ghost use Rattle.texts.specs.Trace.Place.{Said, nothing_said, nothing_said_in, trace_format};
 ghost use Rattle.texts.specs.Replay.{IsSetupOf, IsReplayed, IsReplayedBy};
 ghost use Rattle.receiver.specs.Elsewhere.{DiffersElsewhere, AgreesOn};
 ghost use Rattle.answers.specs.ToldAlike.{EntryStandsIn, is_told_for, HappenFor};
+ghost use Rattle.answers.specs.Beside.{IsBeside, GrowsBeside, ClosesBeside};
 ghost use Rattle.answers.specs.Room.{EntryHasBytes, AreBurstsOfBytes, HasRoom};
 ghost use Rattle.answers.specs.Bytes.{AreBytes, CarryBytes, BringBytes};
 
@@ -231,6 +234,40 @@ pub fn what_is_told_of_stand_ins_is_told_of_the_whole()
 {
     bonded_flows::laws::what_came_to_a_flow_has_one_answer();
 }
+
+/// **What is told of the whole grows with stand-ins**: beside nothing that was handed in stands
+/// nothing; and with one stand-in more, one thing more of the whole is there, answered in its
+/// place, for which just the same is told of the selected flows and of none, in the same order.
+pub fn what_is_told_of_the_whole_grows_with_stand_ins()
+    ensures nothing { (selected : Selection) (made : TableSetup)
+        → IsBeside selected made [] [] [] [] [] [] }
+    ensures one_more { (selected : Selection) (made : TableSetup)
+        (others : List HandedIn) (also : List Given) (entries : List Entry)
+        (handed : List HandedIn) (given : List Given) (happened : List Happening)
+        (one : HandedIn) (e : Entry) (also_more : List Given) (telling : List Happening)
+        → CanBeOpenedWithin made.channels made.rows (length made.records)
+        → IsBeside selected made others also entries handed given happened
+        → IsOfTrace made.channels one → EntryStandsIn (is_selected selected) one e
+        → EntryHasBytes e → IsGivenSoFar made (others ++ one ∷ []) (also ++ also_more)
+        → Tells made others one telling
+        → GrowsBeside selected made others also entries handed given happened one e also_more
+        telling }
+{
+    bonded_flows::laws::what_came_to_a_flow_has_one_answer();
+}
+
+/// **What stand-ins give at the close is given of the whole**, in the same order of the selected
+/// flows and of none, and the same is counted of these flows and of each channel. The whole gives
+/// besides what its other flows have left to give.
+pub fn what_stand_ins_give_at_the_close_is_given_of_the_whole()
+    ensures { (selected : Selection) (made : TableSetup) (others : List HandedIn)
+        (also : List Given) (entries : List Entry) (handed : List HandedIn) (given : List Given)
+        (happened : List Happening) (rest : List Given) (closed : Closed)
+        → IsBeside selected made others also entries handed given happened
+        → All (IsOfTrace made.channels) others
+        → IsReceived any_header made others (also ++ rest) closed
+        → ClosesBeside selected made handed given rest closed }
+{}
 
 /// **What stands in for a trace gives a part of its text**: where the lines of a trace are read and
 /// are fewer than 2^48, and bursts of flows that aren't selected have other bytes behind the same
