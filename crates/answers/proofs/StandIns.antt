@@ -13,7 +13,7 @@ use Rattle.lane.specs.declared.refusal.Refusal.{Refusal}
 use Rattle.lane.specs.declared.refusal.Refusal.TheVariants.{GrantRange, GrantKnown, UnknownSid, TooManyGrants, NoGrant, TooLong, BadCheck, TooShort, PointerPast}
 use Rattle.lane.specs.declared.grant.OutstandingGrant.{OutstandingGrant}
 use Rattle.lane.specs.Admission.{IsMadeOf}
-use Rattle.lane.specs.Inputs.{LaneSetup, Answer, AnsweredInput, number_of, spends_its_grant, is_accepted, IsOutstanding, IsKnown, outstanding_count, IsGrant, IsAnswerToGrant, IsAnswerToBurst, IsAnswer, AreAnswered, inputs_of}
+use Rattle.lane.specs.Inputs.{LaneSetup, Answer, AnsweredInput, spends_its_grant, is_accepted, IsOutstanding, IsKnown, outstanding_count, IsGrant, IsAnswerToGrant, IsAnswerToBurst, IsAnswer, AreAnswered, inputs_of}
 use Rattle.lane.specs.Report.{admitted_by}
 use Rattle.lane.proofs.LaneTaking.{granted, answered-more}
 use Rattle.receiver.specs.Elsewhere.{StandsIn}

@@ -1,6 +1,6 @@
 -- What is told of stand-ins is told of the whole, of the selected flows and of none, in the same
 -- order.
-use Rattle.std.proofs.Common.{◌≡◌, ℕ, ◌≤◌, Bool, true, false, Option, Some, All, List, [], ◌∷◌, ◌++◌, length, map, filter, filter_map, refl, sym, ap, subst, ◌∙◌}
+use Rattle.std.proofs.Common.{◌≡◌, ℕ, ◌≤◌, Bool, true, false, Option, Some, All, List, [], ◌∷◌, ◌++◌, length, map, filter, refl, sym, ap, subst, ◌∙◌}
 use Rattle.std.specs.Prelude.{if◌then◌else◌, slice_get}
 use Rattle.std.specs.List.{AllByRecursion, AllZip, cons_option}
 use Rattle.std.proofs.lemmas.List.Elements.{All-pop, filter-append, filter_map-append}
