@@ -424,18 +424,31 @@ puts_pending after line before now under under' out out' (Ok done) is is_now set
 }
 
 -- where nothing was begun nothing is pending
-pub puts_none : {T : Type 0} (after : T → List ℕ → T → Type 0) (line : ℕ) (before now : FollowInput) (out : T) → Puts after out [] out → before.input.taker ≡ None → now ≡ before
-    → PutsHappened after line before out now out
-puts_none after line before now out put is same = record {
+pub puts_none : {T : Type 0} (after : T → List ℕ → T → Type 0) (line : ℕ) (before now : FollowInput) (out : T) → Puts after out [] out → before.input.taker ≡ None
+    → now.input.taker ≡ None → now.settings ≡ before.settings → now.input.width ≡ before.input.width → now.input.rule ≡ before.input.rule
+    → now.input.setup ≡ before.input.setup → PutsHappened after line before out now out
+puts_none after line before now out put is is_now settings width rule setup = record {
   text = [];
   put = put;
-  none = subst IsAllPut (sym (ap (λ (f : FollowInput). f.input.taker) same ∙ is)) tt;
-  settings = ap (λ (f : FollowInput). f.settings) same;
-  told = λ state has bytes. (
-    [],
-    refl,
-    subst (HasFollowedLines (with_told state [])) (sym same)
-        (subst (λ (told : List Happening). HasFollowedLines (record state { state = record { told = told; settings = state.state.settings } }) before)
-        (sym (append-nil state.state.told)) has),
-  );
+  none = subst IsAllPut (sym is_now) tt;
+  settings = settings;
+  told = λ state has bytes.
+      let lines = has.lines in
+      let taken = subst (λ (taker : Option ReceiverUnderWay). WereTaken starts_watched HasFollowed state.state state.rule state.width before.input.setup.setup taker state.said.entries)
+      is lines.taken in (
+        [],
+        refl,
+        record {
+          settings = settings ∙ has.settings;
+          lines = record {
+            width_is = width ∙ lines.width_is;
+            rule_is = rule ∙ lines.rule_is;
+            setup = subst (HasSetup state.said) (sym setup) lines.setup;
+            mailbox = ap (λ (s : SetupSoFar). s.setup.mailbox) setup ∙ lines.mailbox;
+            taken =
+                subst (λ (taker : Option ReceiverUnderWay). WereTaken starts_watched HasFollowed (with_told state []).state state.rule state.width now.input.setup.setup taker state.said.entries)
+                (sym is_now) (append-nil state.state.told ∙ taken.0, taken.1);
+          };
+        },
+      );
 }

@@ -45,10 +45,11 @@ impl<P: TakeEntries + Drop> TraceInput<P> {
     /// this rule.
     pub fn new(alloc: Global, width: Width, rule: LossRule) -> Result<TraceInput<P>, AllocError>
         requires fits { P.fits width ≡ true }
-        ensures { (state : P.State) → P.starts state
+        ensures lines { (state : P.State) → P.starts state
             → IfOk result (λ input. HasTakenLines P.starts P.has_taken
             (nothing_taken state rule width)
             input.width input.rule input.setup input.taker) }
+        ensures none { IfOk result (λ input. input.taker ≡ None) }
     {
         Ok(TraceInput {
             width,

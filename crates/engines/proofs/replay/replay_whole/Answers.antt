@@ -16,16 +16,16 @@ pub returns-in_err-lines : goal.returns-in_err-lines
 returns-in_err-lines g c =
     let p = err_from_is_err_and c.from_residual-in_err-lines.result c.from_residual-in_err-lines.ensures.1 in
     rw (p.1, p.2) (ran-unread g.R.Read.remaining g.W.Write.contents (IsReplayedOf c.args.selected.now c.args.rule) IsReplayFault taking_format _ (lines_fault _ refl)
-    c.args.reader.now c.read_lines.new.reader c.args.writer.now c.in_err-lines.field-0.0 (c.in_err-lines.ensures.cause _ (c.in_ok-input.ensures tt tt))
+    c.args.reader.now c.read_lines.new.reader c.args.writer.now c.in_err-lines.field-0.0 (c.in_err-lines.ensures.cause _ (c.in_ok-input.ensures.lines tt tt))
     c.in_err-lines.ensures.read_first)
 
 pub finish_replay-requires : goal.finish_replay-requires
-finish_replay-requires g c = let read = c.in_ok-lines.ensures.read _ (c.in_ok-input.ensures tt tt) in (read.state, read.stands)
+finish_replay-requires g c = let read = c.in_ok-lines.ensures.read _ (c.in_ok-input.ensures.lines tt tt) in (read.state, read.stands)
 
 pub returns-in_err-write_report_of : goal.returns-in_err-write_report_of
 returns-in_err-write_report_of g c =
     let p = err_from_is_err_and c.from_residual-in_err-write_report_of.result c.from_residual-in_err-write_report_of.ensures.1 in
-    let read = c.in_ok-lines.ensures.read _ (c.in_ok-input.ensures tt tt) in
+    let read = c.in_ok-lines.ensures.read _ (c.in_ok-input.ensures.lines tt tt) in
     let outcome = c.in_ok-outcome.outcome in
     rw (p.1, p.2) (ran-failed g.R.Read.remaining g.W.Write.contents (IsReplayedOf c.args.selected.now c.args.rule) IsReplayFault c.args.reader.now c.read_lines.new.reader c.args.writer.now
     c.write_report_of.new.writer read.input (report_of c.args.selected.now outcome) read.is (is_replayed_of c.args.selected.now _ _ _ c.in_ok-lines.lines outcome refl read c.in_ok-outcome.ensures)
@@ -33,7 +33,7 @@ returns-in_err-write_report_of g c =
 
 pub returns : goal.returns
 returns g c =
-    let read = c.in_ok-lines.ensures.read _ (c.in_ok-input.ensures tt tt) in
+    let read = c.in_ok-lines.ensures.read _ (c.in_ok-input.ensures.lines tt tt) in
     let outcome = c.in_ok-outcome.outcome in
     ran-written g.R.Read.remaining g.W.Write.contents (IsReplayedOf c.args.selected.now c.args.rule) IsReplayFault c.args.reader.now c.read_lines.new.reader c.args.writer.now
     c.write_report_of.new.writer read.input (report_of c.args.selected.now outcome) read.is (is_replayed_of c.args.selected.now _ _ _ c.in_ok-lines.lines outcome refl read c.in_ok-outcome.ensures)

@@ -14,17 +14,17 @@ use Rattle.texts.proofs.replay.replay_lines_by.Goals as goal
 pub returns-in_err-take_lines-clause-fault : goal.returns-in_err-take_lines-clause-fault
 returns-in_err-take_lines-clause-fault c =
     let p = err_from_is_err_and c.from_residual-in_err-take_lines.result c.from_residual-in_err-take_lines.ensures.1 in
-    let faulty = c.in_err-take_lines.ensures.fault _ (c.in_ok-lines.ensures tt tt) in
+    let faulty = c.in_err-take_lines.ensures.fault _ (c.in_ok-lines.ensures.lines tt tt) in
     rw (p.1, p.2)
     (subst (λ (input : List ℕ). IsReplayFault input (text_fault_of_parse c.in_err-take_lines.field-0.0)) c.deref.ensures.value
     (replay_fault _ c.deref.result.now c.in_err-take_lines.field-0.0 refl faulty))
 
 pub finish_replay-requires : goal.finish_replay-requires
-finish_replay-requires c = let read = c.in_ok-take_lines.ensures.read _ (c.in_ok-lines.ensures tt tt) in (read.0, read.2)
+finish_replay-requires c = let read = c.in_ok-take_lines.ensures.read _ (c.in_ok-lines.ensures.lines tt tt) in (read.0, read.2)
 
 pub returns-clause-text : goal.returns-clause-text
 returns-clause-text c =
-    let read = c.in_ok-take_lines.ensures.read _ (c.in_ok-lines.ensures tt tt) in
+    let read = c.in_ok-take_lines.ensures.read _ (c.in_ok-lines.ensures.lines tt tt) in
     let all = read_alone read.1 in
     let said = read.0.said in
     let outcome = c.in_ok-outcome.outcome in

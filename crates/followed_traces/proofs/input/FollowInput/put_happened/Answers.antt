@@ -12,4 +12,4 @@ returns-in-Some-clause-put g c =
 
 pub returns-in-None-clause-put : goal.returns-in-None-clause-put
 returns-in-None-clause-put g c =
-    puts_none g.O.PutText.after c.args.line c.args.self.now _ c.args.out.now (puts-nothing g.O.PutText.after c.args.out.now) c.in-None.is refl
+    puts_none g.O.PutText.after c.args.line c.args.self.now _ c.args.out.now (puts-nothing g.O.PutText.after c.args.out.now) c.in-None.is c.in-None.is refl refl refl refl

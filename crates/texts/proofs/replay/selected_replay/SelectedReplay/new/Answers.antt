@@ -11,5 +11,5 @@ returns c = record {
   selected_is = refl;
   others = [];
   in_place = nothing_in_place (is_selected c.args.selected.now) [] (nothing_said_in (shape_of c.args.width default_capacity)) refl refl;
-  replayed = c.in_ok-new.ensures tt tt;
+  replayed = c.in_ok-new.ensures.lines tt tt;
 }
