@@ -1,5 +1,5 @@
-"""What a burst costs a replay: of all flows, and for some flows, by whose it is. Of a flow that is left
-out its digits are looked at and not decoded, and nothing of it is joined.
+"""What a burst costs a replay and a follow: of all flows, and for some flows, by whose it is. Of a flow
+that is left out its digits are looked at and not decoded, and nothing of it is joined.
 """
 
 import functools
@@ -7,9 +7,9 @@ import itertools
 
 from shared.marginal_cost import of_one_more
 
-# The bursts are all of flow 1. These words ask for all flows, for its report, and for that of the
-# other flow.
-WORDS = {"of all flows": ["replay"], "of one that tells it": ["replay", "--flows", "1"], "of one that leaves it out": ["replay", "--flows", "0"]}
+# The bursts are all of flow 1. These words ask for all flows, for that one, and for the other.
+COMMANDS = "replay", "follow"
+WORDS = {"of all flows": [], "of one that tells it": ["--flows", "1"], "of one that leaves it out": ["--flows", "0"]}
 FEW, MANY = 100, 300
 # How many bytes of a frame follow its header.
 SIZES = (8, 1484)
@@ -29,9 +29,9 @@ def has_admitted(text, bursts):
 
 
 def measured_shards(segrx, room):
-    """How many instructions a burst takes more, by the replay and the bytes of its frame."""
+    """How many instructions a burst takes more, by the command, the flows and the bytes of its frame."""
     costs = {}
-    for size, (name, words) in itertools.product(SIZES, WORDS.items()):
+    for command, size, (name, words) in itertools.product(COMMANDS, SIZES, WORDS.items()):
         made = functools.partial(trace, size)
-        costs[f"a burst of {size + 14} bytes, in a replay {name}"] = of_one_more(segrx, words, FEW, MANY, made, has_admitted, room)
+        costs[f"a burst of {size + 14} bytes, in a {command} {name}"] = of_one_more(segrx, [command, *words], FEW, MANY, made, has_admitted, room)
     return costs

@@ -17,8 +17,7 @@ use loss_rule::LossRule;
 use receiver::{Outcome, Width};
 use std::alloc::Global;
 use std::io::{Read, Write};
-use texts::{ReplayInput, SelectedReplay, finish_replay, laws, leaves_none_out};
-use texts::{put_report, put_report_of};
+use texts::{SelectedReplay, laws, put_report, put_report_of};
 
 /// Writes the report of an outcome as it makes it. The room is empty, and no other memory is taken.
 /// What it held last is left in it.
@@ -95,47 +94,6 @@ pub fn replay_text_by<R: Read, W: Write>(
 /// read, so that a fault of the whole is a fault here, too; but of a burst that would come to no
 /// selected flow the digits behind the header are looked at and not decoded, and nothing is joined.
 pub fn replay_text_of<R: Read, W: Write>(
-    selected: &Selection,
-    rule: LossRule,
-    alloc: Global,
-    reader: &mut Device<R>,
-    writer: &mut Device<W>,
-) -> Result<(), EngineFault>
-    requires reader { IsFresh reader.old }
-    requires writer { IsFresh writer.old }
-    ensures { RunsEngine R.remaining W.contents (IsReplayedOf selected.now rule) IsReplayFault
-        reader.old reader.new writer.old writer.new result }
-{
-    if leaves_none_out(selected, usize::from(Width::PROFILE.flows())) {
-        return replay_whole(selected, rule, alloc, reader, writer);
-    }
-    replay_in_part(selected, rule, alloc, reader, writer)
-}
-
-/// Replays all that comes in, and writes the report of the flows that are selected.
-fn replay_whole<R: Read, W: Write>(
-    selected: &Selection,
-    rule: LossRule,
-    alloc: Global,
-    reader: &mut Device<R>,
-    writer: &mut Device<W>,
-) -> Result<(), EngineFault>
-    requires reader { IsFresh reader.old }
-    requires writer { IsFresh writer.old }
-    ensures { RunsEngine R.remaining W.contents (IsReplayedOf selected.now rule) IsReplayFault
-        reader.old reader.new writer.old writer.new result }
-{
-    let input = ReplayInput::new(alloc, Width::PROFILE, rule)?;
-    let lines = read_lines(alloc, input, reader)?;
-    let outcome = finish_replay(alloc, lines)?;
-    let mut room = held_room(alloc)?;
-    write_report_of(&outcome, selected, &mut room, writer)?;
-    Ok(())
-}
-
-/// Replays what comes in but for what the bursts of flows that aren't selected carry, and writes
-/// the report of those that are.
-fn replay_in_part<R: Read, W: Write>(
     selected: &Selection,
     rule: LossRule,
     alloc: Global,

@@ -14,7 +14,7 @@ ghost use Rattle.texts.specs.Follow.{lines_told};
 ghost use Rattle.texts.specs.Happened.{flow_decided};
 ghost use Rattle.texts.specs.Inside.Added.{HasAdded};
 ghost use Rattle.texts.specs.Inside.StandIn.{MayStandFor};
-ghost use Rattle.followed_traces.specs.Inside.Watched.{Watched, HasFollowed, HaveBytes};
+ghost use Rattle.followed_traces.specs.Inside.Watched.{Watched, HasFollowed};
 ghost use Rattle.followed_traces.specs.Inside.Watched.{EndsFollowing, IsNonePending};
 ghost use Rattle.followed_traces.specs.Inside.Watched.{TellsStandingOf, TellsStandingIfAny};
 ghost use Rattle.followed_traces.specs.Inside.Watched.{would_be_followed};

@@ -15,12 +15,14 @@ use text_lines::{LineFault, TakeLine};
 
 /// The lines so far of a trace that is replayed for some flows. In the place of a burst that would
 /// come to no selected flow it hands in one with the same header and zeros behind it: the digits
-/// behind the header are looked at and not decoded, and nothing of it is joined. It is for the
-/// profile's width.
+/// behind the header are looked at and not decoded, and nothing of it is joined. Where all flows
+/// are selected each burst is handed in as it comes. It is for the profile's width.
 #[derive(Drop)]
 pub struct SelectedReplay<'a> {
     input: ReplayInput,
     selected: &'a Selection,
+    /// Whether some flow isn't selected.
+    in_part: bool,
 }
 
 impl<'a> SelectedReplay<'a> {
@@ -40,6 +42,7 @@ impl<'a> SelectedReplay<'a> {
         Ok(SelectedReplay {
             input: ReplayInput::new(alloc, width, rule)?,
             selected,
+            in_part: !leaves_none_out(selected, usize::from(width.flows())),
         })
     }
 
@@ -72,7 +75,7 @@ impl<'a> TakeLine for SelectedReplay<'a> {
         replay.input.width replay.input.rule replay.input.setup replay.input.taker };
 
     fn take_line(&mut self, alloc: Global, field: &[u8], rest: &[u8]) -> Result<(), LineFault> {
-        if field == b"burst".as_slice() {
+        if self.in_part && field == b"burst".as_slice() {
             if let Some((channel, input)) = self.input.input_for(alloc, self.selected, rest)? {
                 return self.input.add_input(alloc, channel, input);
             }

@@ -5,7 +5,7 @@ use Rattle.texts.specs.Replay.{IsReplayFault}
 use Rattle.texts.specs.Selected.{IsReplayedOf, report_of}
 use Rattle.engines.proofs.EngineRan.{ran-refused, ran-unread, ran-written, ran-failed}
 use Rattle.engines.proofs.TraceText.{part_replayed, lines_fault}
-use Rattle.engines.proofs.replay.replay_in_part.Goals as goal
+use Rattle.engines.proofs.replay.replay_text_of.Goals as goal
 
 pub returns-in_err-replay : goal.returns-in_err-replay
 returns-in_err-replay g c =
