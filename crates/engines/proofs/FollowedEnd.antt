@@ -190,7 +190,7 @@ module _ (rule : LossRule) (width : Width) (settings : FollowSettings) (bytes : 
           rest = to.rest;
           closed = to.counted;
           received = to.received;
-          printed = printed_as ended.line to.last to.rest end to.counted (same ∙ has.settings_are) to.are to.counts;
+          printed = printed_as ended.line to.last to.rest end to.counted (same ∙ has.settings_are) (to.are ended.line) to.counts;
         }
 
 -- ---- what was pending, and the rest

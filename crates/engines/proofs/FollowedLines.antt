@@ -113,9 +113,9 @@ happened_for state follow has bytes put = by_taker follow.input.taker has.lines.
   by_taker : (taker : Option ReceiverUnderWay)
       → WereTaken starts_watched HasFollowed state.state state.rule state.width follow.input.setup.setup taker state.said.entries → IsAllPut taker
       → ((state.said.entries ≡ []) × (state.state.told ≡ [])) ⊎ HasHappenedFor state.rule state.width state.said state.state.told
-  by_taker None taken put = inl (taken.1, taken.0)
-  by_taker (Some now) taken put =
-      let was = taken.1.whole put.1 bytes in
+  by_taker None were put = inl (were.1, were.0)
+  by_taker (Some now) were put =
+      let was = were.1.whole put.1 bytes in
       let so_far = was.beside.so_far in
       inr (record {
         setup = follow.input.setup.setup;

@@ -459,3 +459,37 @@ fn lines_of_other_flows_are_left_out(rt: HostRuntime) -> Result<(), Fail> {
     }
     Ok(())
 }
+
+/// Two flows, and a burst of the second with a digit that is none, far behind its header.
+const BAD_DIGIT: &str = "\
+flow 100 0 16 1
+flow 101 0 16 1
+sid 0 1 1
+grant 0 1 1 48
+burst 0 1 ok 80000000000000000000001a11110123456789abcdef0123456789abcdef0123456789abcdef0g23
+";
+
+#[test]
+fn bad_digit_of_a_flow_that_is_left_out_is_a_fault(rt: HostRuntime) -> Result<(), Fail> {
+    for remainder in [0, 1] {
+        let shard = Shard {
+            remainder,
+            count: 2,
+        };
+        let settings = FollowSettings {
+            events: true,
+            selected: Selection::Shard(shard),
+        };
+        let reader = BAD_DIGIT.as_bytes();
+        let Followed { done, text } = follow_by(
+            rt.alloc(),
+            1,
+            LossRule::Decided,
+            settings,
+            reader,
+        )?;
+        assert!(rt; done == fault(5, TraceKind::NotHex));
+        assert!(rt; text.as_slice() == b"line 4 grant 0 1 granted\n".as_slice());
+    }
+    Ok(())
+}
