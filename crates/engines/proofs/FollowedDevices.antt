@@ -1,5 +1,5 @@
 -- What following a trace promises follows from what became of its pieces and of its end.
-use Rattle.std.proofs.Common.{◌≡◌, ◌≢◌, ℕ, ◌-◌, ◌^◌, ◌<◌, ◌≤◌, ◌⊎◌, inl, inr, Option, Some, None, Result, Ok, Err, Bool, true, false, List, [], ◌∷◌, ◌++◌, length, refl, sym, ap, subst, ◌∙◌, arith, append-nil, length-append}
+use Rattle.std.proofs.Common.{◌≡◌, ◌≢◌, ℕ, ◌-◌, ◌^◌, ◌<◌, ◌≤◌, ◌⊎◌, inl, inr, Option, Some, None, Result, Ok, Err, true, false, List, [], ◌∷◌, ◌++◌, length, refl, sym, ap, subst, ◌∙◌, arith, append-nil, length-append}
 use Rattle.std.specs.Prelude.{flat_map, IfSome, MatchResult}
 use Rattle.std.specs.Io.KnownBytes.{Appends, Keeps, Consumes, IsAtEnd}
 use Rattle.std.proofs.KnownBytes.{Appends-nil, Appends-trans, Consumes-nil, Consumes-trans, Consumes-kept, Consumes-all}
@@ -8,10 +8,10 @@ use Rattle.loss_rule.specs.declared.rule.LossRule.{LossRule}
 use Rattle.receiver.specs.declared.width.Width.{Width}
 use Rattle.text_lines.specs.Capacities.{default_capacity}
 use Rattle.text_lines.specs.declared.fault.TraceFault.{TraceFault}
-use Rattle.text_lines.specs.Format.{no_lines, IsFirstFaultyLine}
+use Rattle.text_lines.specs.Format.{IsFirstFaultyLine}
 use Rattle.text_lines.specs.Lines.{lines_of}
 use Rattle.texts.specs.declared.follow.settings.FollowSettings.{FollowSettings}
-use Rattle.texts.specs.Happened.{HappenedAt, HappenedBy}
+use Rattle.texts.specs.Happened.{HappenedAt}
 use Rattle.texts.specs.Follow.{told_lines, IsFollowed, IsFollowedSoFar}
 use Rattle.texts.specs.Trace.Line.{shape_of}
 use Rattle.texts.specs.Trace.Place.{nothing_said_in, trace_format}

@@ -1,5 +1,5 @@
 -- What was followed of a trace at its end.
-use Rattle.std.proofs.Common.{◌≡◌, ℕ, ◌+◌, ◌≤◌, ◌==◌, ◌-◌, Bool, true, false, inl, inr, List, [], ◌∷◌, ◌++◌, length, refl, sym, ap, subst, ◌∙◌, arith, append-nil, append_assoc, length-append}
+use Rattle.std.proofs.Common.{◌≡◌, ℕ, ◌≤◌, ◌==◌, Bool, true, false, inl, inr, List, [], ◌∷◌, ◌++◌, length, refl, sym, ap, subst, ◌∙◌, arith, append-nil, append_assoc, length-append}
 use Rattle.std.specs.Prelude.{map, flat_map, if◌then◌else◌, Option, Result, Ok, Err, MatchResult, OnOk, OnErr}
 use Rattle.std.specs.Io.KnownBytes.{Appends}
 use Rattle.std.specs.declared.alloc.AllocError.{AllocError}
@@ -34,7 +34,7 @@ use Rattle.engines.specs.declared.fault.WriteFault.{WriteFault}
 use Rattle.engines.specs.declared.follow.Follower.{Follower}
 use Rattle.engines.specs.declared.follow.ended.EndedTrace.{EndedTrace}
 use Rattle.engines.specs.Device.{inner_of, has_failed}
-use Rattle.engines.specs.Transfer.{AppendsFront, IsLeftFlushed}
+use Rattle.engines.specs.Transfer.{IsLeftFlushed}
 use Rattle.engines.specs.Writing.{IsWritten}
 use Rattle.engines.specs.Inside.Following.{HasFollowedBytes, IsLastLine, IsEndFault, all_at, HasEnded, PendsBy, ClosesBy, EndsBy}
 use Rattle.engines.proofs.NumberedHappenings.{all_of, both_at, lines_at, lines_given, numbered_more}

@@ -23,7 +23,7 @@ use Rattle.texts.proofs.OneTrace.{trace_is_determined}
 use Rattle.std.proofs.lemmas.Bool.{cases_lt, eqb-true, eqb-false}
 use Rattle.texts.specs.declared.follow.happening.Happening.{Happening}
 use Rattle.texts.specs.Happened.{HasHappened, HasHappenedFor, HappenedBy, HappenedAt, happening_of, AreNumbered}
-use Rattle.texts.specs.Follow.{told_lines, IsFollowed, IsFollowedSoFar}
+use Rattle.texts.specs.Follow.{told_lines, IsFollowedSoFar}
 use Rattle.texts.specs.Trace.Line.{shape_of}
 use Rattle.texts.specs.Trace.Place.{Said, nothing_said_in, trace_format}
 use Rattle.answers.specs.Room.{EntryHasBytes}

@@ -1,5 +1,5 @@
 -- What was written of a trace that is followed, and why no more was.
-use Rattle.std.specs.Prelude.{◌≡◌, ◌≢◌, ◌<◌, ◌≤◌, ◌^◌, ◌+◌, ◌-◌, ◌⊎◌, ◌∷◌, ◌++◌, ℕ, Bool, List, [], Option, true, false, Result, Err, IfSome, IfErr, OnOk, length}
+use Rattle.std.specs.Prelude.{◌≡◌, ◌≢◌, ◌<◌, ◌≤◌, ◌^◌, ◌+◌, ◌-◌, ◌⊎◌, ◌∷◌, ◌++◌, ℕ, List, [], Option, true, false, Result, Err, IfSome, IfErr, OnOk, length}
 use Rattle.std.specs.List.{slice_split}
 use Rattle.std.specs.Io.KnownBytes.{Appends, Consumes, IsAtEnd}
 use Rattle.loss_rule.specs.declared.rule.LossRule.{LossRule}

@@ -1,6 +1,6 @@
 -- What is put at the end of a trace that was followed is of the whole.
 use Rattle.std.proofs.Common.{◌≡◌, ℕ, Bool, true, false, List, [], ◌++◌, map, filter, refl, sym, ap, subst, ◌∙◌}
-use Rattle.std.specs.Prelude.{if◌then◌else◌, flat_map, slice_get}
+use Rattle.std.specs.Prelude.{if◌then◌else◌}
 use Rattle.std.proofs.lemmas.Option.{same_Some}
 use Rattle.answers.specs.Beside.{AreCountedAlike}
 use Rattle.answers.specs.ToldAlike.{is_told_for}
@@ -9,7 +9,6 @@ use Rattle.flow_core.specs.declared.counts.FlowCounts.{FlowCounts}
 use Rattle.flow_records.specs.declared.record.FlowRecord.{FlowRecord}
 use Rattle.flow_selection.specs.declared.selection.Selection.{Selection}
 use Rattle.flow_selection.specs.Selection.{is_selected}
-use Rattle.consumer.specs.declared.given.Given.{Given}
 use Rattle.loss_rule.specs.declared.rule.LossRule.{LossRule}
 use Rattle.receiver.specs.declared.closing.Closed.{Closed}
 use Rattle.receiver.specs.declared.setup.Setup.{Setup}
@@ -20,7 +19,7 @@ use Rattle.text_lines.specs.Putting.{numbered_texts}
 use Rattle.texts.specs.declared.follow.happening.Happening.{Happening}
 use Rattle.texts.specs.declared.follow.happening.Happening.TheVariants.{Gave}
 use Rattle.texts.specs.declared.follow.settings.FollowSettings.{FollowSettings}
-use Rattle.texts.specs.Follow.{closed_flow, closed_told, closed_lines, tally_line, lines_told}
+use Rattle.texts.specs.Follow.{closed_flow, closed_told, closed_lines, tally_line}
 use Rattle.texts.specs.Replay.{IsSetupOf}
 use Rattle.texts.specs.Trace.Place.{Said}
 use Rattle.followed_traces.specs.declared.input.Followed.{Followed}

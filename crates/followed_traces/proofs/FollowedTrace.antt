@@ -58,8 +58,8 @@ use Rattle.answers.specs.ToldAlike.{EntryStandsIn, is_told_for}
 use Rattle.answers.proofs.ToldOfWhole.{nothing_beside, one_more_beside, told_given}
 use Rattle.answers.proofs.ClosedBeside.{closes_beside}
 use Rattle.followed_traces.specs.declared.input.FollowInput.{FollowInput}
-use Rattle.followed_traces.specs.Inside.Watched.{HaveBytes, TellsStandingIn, TellsStandingOf, TellsStandingIfAny, ReceiverUnderWay, would_be_followed, Watched, starts_watched, HappensForWhole, HasFollowed, IsNonePending, EndsWhole, EndsFollowing}
-use Rattle.followed_traces.specs.Inside.Followed.{HasFollowedLines, with_told, IsAllPut, PutsHappened}
+use Rattle.followed_traces.specs.Inside.Watched.{TellsStandingIn, TellsStandingOf, TellsStandingIfAny, ReceiverUnderWay, would_be_followed, Watched, starts_watched, HappensForWhole, HasFollowed, IsNonePending, EndsFollowing}
+use Rattle.followed_traces.specs.Inside.Followed.{with_told, IsAllPut, PutsHappened}
 
 -- ---- how a flow stands
 

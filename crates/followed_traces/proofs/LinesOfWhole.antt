@@ -1,9 +1,9 @@
 -- A line that was taken of a trace that is followed.
-use Rattle.std.proofs.Common.{◌≡◌, ℕ, ◌⊎◌, inl, inr, Bool, Option, Some, None, List, [], ◌++◌, refl, sym, ap, subst, ◌∙◌}
+use Rattle.std.proofs.Common.{◌≡◌, ℕ, inl, inr, Bool, Option, Some, None, List, refl, sym, ap, subst, ◌∙◌}
 use Rattle.std.specs.Prelude.{Result, Ok, Err, OnOk}
 use Rattle.lane.specs.declared.input.Input.{Input}
 use Rattle.text_lines.specs.declared.fault.LineFault.{LineFault}
-use Rattle.texts.specs.Inside.StandIn.{IsForAnotherAt, MayStandFor, MayStandForAt}
+use Rattle.texts.specs.Inside.StandIn.{MayStandFor, MayStandForAt}
 use Rattle.texts.specs.Inside.TraceInput.{TraceState, taking_format, HasTakenLines}
 use Rattle.followed_traces.specs.declared.input.FollowInput.{FollowInput}
 use Rattle.followed_traces.specs.Inside.Watched.{ReceiverUnderWay, would_be_followed, Watched, starts_watched, HasFollowed}

@@ -1,4 +1,3 @@
-use Rattle.std.proofs.Common.{refl}
 use Rattle.engines.proofs.FollowedLines.{followed_nothing}
 use Rattle.engines.proofs.follow.Follower.new.Goals as goal
 

@@ -1,5 +1,5 @@
 -- A piece was followed, or none of it was told of.
-use Rattle.std.proofs.Common.{ℕ, Bool, [], List, refl, sym, ap, subst, ◌∙◌}
+use Rattle.std.proofs.Common.{ℕ, [], List, sym, ap, subst, ◌∙◌}
 use Rattle.std.specs.Prelude.{map, flat_map}
 use Rattle.text_lines.specs.Putting.{Puts}
 use Rattle.texts.specs.declared.follow.settings.FollowSettings.{FollowSettings}

@@ -1,5 +1,5 @@
 -- An input was handed in, in the place of one that came.
-use Rattle.std.proofs.Common.{ℕ, ◌<◌, ◌++◌, ◌∷◌, [], Option, refl, sym, ap, subst, ◌∙◌}
+use Rattle.std.proofs.Common.{ℕ, ◌<◌, ◌++◌, ◌∷◌, [], Option, sym, ap, subst, ◌∙◌}
 use Rattle.flow_selection.specs.Selection.{is_selected}
 use Rattle.lane.specs.Inputs.{AnsweredInput}
 use Rattle.receiver.specs.Entries.{came}

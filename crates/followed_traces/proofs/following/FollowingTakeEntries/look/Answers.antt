@@ -1,4 +1,4 @@
-use Rattle.std.proofs.Common.{subst, ◌∙◌}
+use Rattle.std.proofs.Common.{subst}
 use Rattle.followed_traces.specs.Inside.Watched.{ReceiverUnderWay, would_be_followed}
 use Rattle.followed_traces.proofs.FollowedTrace.{looked}
 use Rattle.followed_traces.proofs.following.FollowingTakeEntries.look.Goals as goal

@@ -1,5 +1,5 @@
 -- An input was handed in that may stand in for what the line says.
-use Rattle.std.proofs.Common.{ℕ, ◌<◌, refl, sym, ap, subst, ◌∙◌}
+use Rattle.std.proofs.Common.{◌<◌, subst, ◌∙◌}
 use Rattle.flow_selection.specs.Selection.{is_selected}
 use Rattle.receiver.specs.Entries.{came}
 use Rattle.receiver.specs.declared.width.Width.{Width}

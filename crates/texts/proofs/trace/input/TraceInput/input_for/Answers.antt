@@ -1,6 +1,6 @@
 -- Zeros behind the header stand in for a burst that would come to no selected flow, and each other
 -- burst for itself.
-use Rattle.std.proofs.Common.{ℕ, inl, inr, Option, Vec, refl, sym, subst, ◌∙◌}
+use Rattle.std.proofs.Common.{ℕ, inl, inr, Option, Vec, refl, sym, subst}
 use Rattle.std.specs.Global.{Global}
 use Rattle.std.specs.Prelude.{MatchOption}
 use Rattle.flow_selection.specs.Selection.{is_selected}
